@@ -1,0 +1,66 @@
+//! Words.
+
+use std::marker::Model;
+
+/// The number of a word.
+pub type Raw = u128;
+
+/// The greatest width of a word, in bits.
+pub const WIDTH_MAX: u8 = 128;
+
+/// The most digits of a number in a source.
+pub const DIGITS_MAX: usize = 128;
+
+/// A word: its width, from 1 to `WIDTH_MAX`, and a number below 2 to that width.
+#[derive(Clone, Copy, Debug, PartialEq, Eq)]
+pub struct Word {
+    width: u8,
+    bits: Raw,
+}
+
+impl Model for Word {
+    ghost use Rattle.safl_word.specs.Words.{Word, IsWord};
+
+    ghost Value = { Word };
+
+    ghost view = { λ w. record { width = w.width; bits = w.bits } };
+
+    ghost invariant = { λ w. IsWord (record { width = w.width; bits = w.bits }) };
+
+    ghost inverse = { λ v. record { width = v.width; bits = v.bits } };
+}
+
+impl Word {
+    ghost use Rattle.std.specs.Prelude.{◌≡◌, ◌↔◌, IsSome, IfSome};
+    ghost use Rattle.safl_word.specs.Words.{IsWord};
+
+    /// The word of this width and this number, where there is one.
+    pub fn new(width: u8, bits: Raw) -> Option<Word>
+        ensures some { IsSome result ↔ IsWord (record { width = width; bits = bits }) }
+        ensures value { IfSome result (λ w. w ≡ record { width = width; bits = bits }) }
+    {
+        if width == 0 || width > WIDTH_MAX {
+            return None;
+        }
+        if width < WIDTH_MAX && bits >> width != 0 {
+            return None;
+        }
+        Some(Word { width, bits })
+    }
+
+    /// The width, in bits.
+    pub fn width(&self) -> u8
+        ensures value { result ≡ self.now.width }
+        ensures word { IsWord self.now }
+    {
+        self.width
+    }
+
+    /// The number.
+    pub fn bits(&self) -> Raw
+        ensures value { result ≡ self.now.bits }
+        ensures word { IsWord self.now }
+    {
+        self.bits
+    }
+}
