@@ -1,0 +1,4 @@
+pub mod Netlist
+pub mod Valuations
+pub mod Runs
+pub mod Laws

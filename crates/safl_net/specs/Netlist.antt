@@ -1,0 +1,53 @@
+-- Netlists: signals in order, each with what it is, and outputs.
+use Rattle.std.specs.Prelude.{◌≡◌, ℕ, suc, List, [], ◌∷◌, Option, None, Some, cond, slice_get}
+use Rattle.std.proofs.Common.{bytes_eq}
+use Rattle.safl_net.specs.declared.cell.Op.{Op}
+
+-- an operation, and the numbers of the signals on which it works
+pub record Cell : Type 0 where
+  pub op : Op
+  pub operands : List ℕ
+
+-- an input; a register, with its number at reset and its next signal; a wire, with its cell
+pub data Kind : Type 0 where
+  Input : Kind
+  Reg : (init : ℕ) (next : Option ℕ) → Kind
+  Wire : (cell : Option Cell) → Kind
+
+pub record Signal : Type 0 where
+  pub name : List ℕ
+  pub width : ℕ
+  pub kind : Kind
+
+-- an output is a name and the number of a signal
+pub record Netlist : Type 0 where
+  pub signals : List Signal
+  pub outputs : List (List ℕ × ℕ)
+
+-- the width of a signal, or 0 where there is none
+abbrev pub width_in : Option Signal → ℕ
+width_in None = 0
+width_in (Some g) = g.width
+
+abbrev pub width_of : Netlist → ℕ → ℕ
+width_of n s = width_in (slice_get n.signals s)
+
+-- a register has a next signal, and a wire a cell
+abbrev pub IsSet : Kind → Type 0
+IsSet Input = Unit {0}
+IsSet (Reg init None) = ⊥
+IsSet (Reg init (Some m)) = Unit {0}
+IsSet (Wire None) = ⊥
+IsSet (Wire (Some c)) = Unit {0}
+
+abbrev pub AllSet : Netlist → Type 0
+AllSet n = (s : ℕ) (g : Signal) → slice_get n.signals s ≡ Some g → IsSet g.kind
+
+-- the place of the first signal of a name, counted from i on
+unfoldable pub place : List Signal → List ℕ → ℕ → Option ℕ
+place [] name i = None
+place (g ∷ gs) name i = cond (bytes_eq g.name name) (Some i) (place gs name (suc i))
+
+abbrev pub output_place : List (List ℕ × ℕ) → List ℕ → Option ℕ
+output_place [] name = None
+output_place (o ∷ os) name = cond (bytes_eq o.0 name) (Some o.1) (output_place os name)
