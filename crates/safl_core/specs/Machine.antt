@@ -1,0 +1,125 @@
+-- The call machine.
+use Rattle.std.specs.Prelude.{◌≡◌, ℕ, zero, suc, List, [], ◌∷◌, length, Option, Some, None, Bool, true, false, cond, ◌==◌, ◌&&◌, nat_le}
+use Rattle.safl_word.specs.Words.{Word}
+use Rattle.safl_check.specs.Program.{Program, arity, unit_for}
+use Rattle.safl_check.specs.Readiness.{Stage, Unsent, Sent, Returned, back_word, Answer, Ready, LoopTo, NotYet, answer, wanted}
+
+-- a unit is idle, or runs a member for the site that it serves, or delivers a word to it
+pub data Mode : Type 0 where
+  Idle : Mode
+  Runs : (member serves : ℕ) (args : List Word) → Mode
+  Delivers : (serves : ℕ) (word : Word) → Mode
+
+-- the mode of each unit and the stage of each site.
+-- Site 0 is main's: it is unsent until main was accepted, and has returned what main has returned
+pub record State : Type 0 where
+  pub unit : ℕ → Mode
+  pub site : ℕ → Stage
+
+pub data Event : Type 0 where
+  Accept : (site : ℕ) → Event
+  Finish : (function : ℕ) → Event
+  Return : (site : ℕ) → Event
+  LoopInto : (member : ℕ) → Event
+
+abbrev pub opening : State
+opening = record { unit = λ u. Idle; site = λ k. Unsent }
+
+-- f with x at i
+abbrev pub put : {A : Type 0} → (ℕ → A) → ℕ → A → ℕ → A
+put f i x j = cond (i == j) x (f j)
+
+abbrev pub is_unsent : Stage → Bool
+is_unsent Unsent = true
+is_unsent Sent = false
+is_unsent (Returned v) = false
+
+-- the returned words of the sites
+abbrev pub back : State → ℕ → Option Word
+back s zero = None
+back s (suc k) = back_word (s.site (suc k))
+
+-- what the body of a unit comes to
+abbrev pub says_as : Program → (ℕ → Option Word) → Mode → Answer
+says_as C words Idle = NotYet
+says_as C words (Runs f k args) = answer words args (C.body f)
+says_as C words (Delivers k v) = NotYet
+
+abbrev pub says : Program → State → ℕ → Answer
+says C s u = says_as C (back s) (s.unit u)
+
+-- the words with which site k of function f is wanted
+abbrev pub asked_as : Program → (ℕ → Option Word) → Mode → ℕ → ℕ → Option (List Word)
+asked_as C words Idle f k = None
+asked_as C words (Runs g j args) f k = cond (g == f) (wanted words args (C.body f) k) None
+asked_as C words (Delivers j v) f k = None
+
+-- the words with which an unsent site is wanted
+abbrev pub asked : Program → List Word → State → ℕ → Option (List Word)
+asked C args s zero = cond (is_unsent (s.site 0) && (length args == arity C C.main)) (Some args) None
+asked C args s (suc k) =
+    cond (is_unsent (s.site (suc k)) && nat_le (suc k) C.sites) (asked_as C (back s) (s.unit (C.unit (C.caller (suc k)))) (C.caller (suc k)) (suc k)) None
+
+abbrev pub serves : Mode → Option ℕ
+serves Idle = None
+serves (Runs f k args) = Some k
+serves (Delivers k v) = Some k
+
+abbrev pub Enabled : Program → List Word → State → Event → Type 0
+Enabled C args s (Accept k) = (ws : List Word) × (asked C args s k ≡ Some ws) × (s.unit (unit_for C k) ≡ Idle)
+Enabled C args s (Finish f) = (k : ℕ) × (ws : List Word) × (v : Word) × (s.unit (C.unit f) ≡ Runs f k ws) × (says C s (C.unit f) ≡ Ready v)
+Enabled C args s (Return k) = (v : Word) × (s.unit (unit_for C k) ≡ Delivers k v)
+Enabled C args s (LoopInto h) = (vs : List Word) × (says C s (C.unit h) ≡ LoopTo h vs)
+
+-- the own sites of a unit's members end
+abbrev pub ended : Program → ℕ → (ℕ → Stage) → ℕ → Stage
+ended C u site zero = site zero
+ended C u site (suc k) = cond (C.unit (C.caller (suc k)) == u) Unsent (site (suc k))
+
+abbrev pub accept : Program → State → ℕ → Option (List Word) → State
+accept C s k None = s
+accept C s k (Some ws) = record { unit = put s.unit (unit_for C k) (Runs (C.callee k) k ws); site = put s.site k Sent }
+
+abbrev pub finish : Program → State → ℕ → Mode → Answer → State
+finish C s u (Runs f k ws) (Ready v) = record { unit = put s.unit u (Delivers k v); site = ended C u s.site }
+finish C s u _ _ = s
+
+abbrev pub give_back : Program → State → ℕ → Mode → State
+give_back C s k (Delivers j v) = record { unit = put s.unit (unit_for C k) Idle; site = put s.site k (Returned v) }
+give_back C s k _ = s
+
+abbrev pub loop_into : Program → State → ℕ → Mode → Answer → State
+loop_into C s u (Runs f k ws) (LoopTo h vs) = record { unit = put s.unit u (Runs h k vs); site = ended C u s.site }
+loop_into C s u _ _ = s
+
+-- the state after an event
+abbrev pub fire : Program → List Word → State → Event → State
+fire C args s (Accept k) = accept C s k (asked C args s k)
+fire C args s (Finish f) = finish C s (C.unit f) (s.unit (C.unit f)) (says C s (C.unit f))
+fire C args s (Return k) = give_back C s k (s.unit (unit_for C k))
+fire C args s (LoopInto h) = loop_into C s (C.unit h) (s.unit (C.unit h)) (says C s (C.unit h))
+
+-- each event is enabled in turn
+unfoldable pub Legal : Program → List Word → State → List Event → Type 0
+Legal C args s [] = Unit {0}
+Legal C args s (e ∷ es) = Enabled C args s e × Legal C args (fire C args s e) es
+
+unfoldable pub after : Program → List Word → State → List Event → State
+after C args s [] = s
+after C args s (e ∷ es) = after C args (fire C args s e) es
+
+-- the word that unit u last finished, or d
+abbrev pub finished_as : Answer → Word → Word
+finished_as (Ready v) d = v
+finished_as (LoopTo h vs) d = d
+finished_as NotYet d = d
+
+abbrev pub finished : Program → State → Event → ℕ → Word → Word
+finished C s (Accept k) u d = d
+finished C s (Finish f) u d = cond (C.unit f == u) (finished_as (says C s u) d) d
+finished C s (Return k) u d = d
+finished C s (LoopInto h) u d = d
+
+unfoldable pub last_word : Program → List Word → State → List Event → ℕ → Word → Word
+last_word C args s [] u d = d
+last_word C args s (e ∷ es) u d = last_word C args (fire C args s e) es u (finished C s e u d)

@@ -1,0 +1,38 @@
+-- Which sites a term reaches, and which of them conflict.
+use Rattle.std.specs.Prelude.{◌≡◌, ◌≢◌, ℕ, ◌<◌, ◌⊎◌}
+use Rattle.safl_check.specs.Program.{Program, unit_for}
+use Rattle.safl_check.specs.Terms.{Term, Terms, Const, Var, Op, If, Let, Call, Loop, Nil, Cons}
+use Rattle.safl_check.specs.Standing.{Stands}
+
+-- site k is in reach of a term: it stands there, or it is in reach of a body of a member of a group that is called there
+pub data Reaches (C : Program) (k : ℕ) : Term → Type 0 where
+  Here : {t : Term} → Stands k t → Reaches C k t
+  Through : {t : Term} (a g : ℕ) → Stands a t → g < C.functions → C.unit g ≡ C.unit (C.callee a) → Reaches C k (C.body g) → Reaches C k t
+
+unfoldable pub ReachesIn : Program → ℕ → Terms → Type 0
+ReachesIn C k Nil = ⊥
+ReachesIn C k (Cons t ts) = Reaches C k t ⊎ ReachesIn C k ts
+
+unfoldable mutual
+  unfolding ReachesIn
+
+  -- two parallel terms in t have j in reach of the one and k in reach of the other
+  pub Apart : Program → ℕ → ℕ → Term → Type 0
+  Apart C j k (Const n) = ⊥
+  Apart C j k (Var i) = ⊥
+  Apart C j k (Op p ts) = ApartIn C j k ts
+  Apart C j k (If c a b) = Apart C j k c ⊎ (Apart C j k a ⊎ Apart C j k b)
+  Apart C j k (Let bs b) = ApartIn C j k bs ⊎ Apart C j k b
+  Apart C j k (Call f i ts) = ApartIn C j k ts
+  Apart C j k (Loop h ts) = ApartIn C j k ts
+
+  pub ApartIn : Program → ℕ → ℕ → Terms → Type 0
+  ApartIn C j k Nil = ⊥
+  ApartIn C j k (Cons t ts) = (Apart C j k t ⊎ ApartIn C j k ts) ⊎ ((Reaches C j t × ReachesIn C k ts) ⊎ (Reaches C k t × ReachesIn C j ts))
+
+pub record Conflict (C : Program) (j k : ℕ) : Type 0 where
+  pub other : j ≢ k
+  pub same : unit_for C j ≡ unit_for C k
+  pub body : ℕ
+  pub is_body : body < C.functions
+  pub apart : Apart C j k (C.body body)

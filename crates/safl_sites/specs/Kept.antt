@@ -1,0 +1,96 @@
+-- Whose words a term passes on, and which sites keep their words.
+use Rattle.std.specs.Prelude.{◌≡◌, ◌≢◌, ℕ, zero, suc, ◌+◌, List, [], ◌∷◌, ◌++◌, length, replicate, Bool, true, false, ◌||◌, ◌==◌, ◌⊎◌}
+use Rattle.safl_check.specs.Program.{Program, unit_for, arity}
+use Rattle.safl_check.specs.Terms.{Term, Terms, Const, Var, Op, If, Let, Call, Loop, Nil, Cons}
+use Rattle.safl_sites.specs.Conflicts.{Reaches, ReachesIn, Conflict}
+
+abbrev pub bool_at : List Bool → ℕ → Bool
+bool_at [] i = false
+bool_at (b ∷ bs) zero = b
+bool_at (b ∷ bs) (suc i) = bool_at bs i
+
+unfoldable mutual
+  -- site k is in Feeds of the term, where this list says it of each slot in scope
+  pub feeds : ℕ → List Bool → Term → Bool
+  feeds k fe (Const n) = false
+  feeds k fe (Var i) = bool_at fe i
+  feeds k fe (Op p ts) = feeds_any k fe ts
+  feeds k fe (If c a b) = feeds k fe c || (feeds k fe a || feeds k fe b)
+  feeds k fe (Let bs b) = feeds k (fe ++ feeds_each k fe bs) b
+  feeds k fe (Call f j ts) = j == k
+  feeds k fe (Loop h ts) = false
+
+  pub feeds_any : ℕ → List Bool → Terms → Bool
+  feeds_any k fe Nil = false
+  feeds_any k fe (Cons t ts) = feeds k fe t || feeds_any k fe ts
+
+  pub feeds_each : ℕ → List Bool → Terms → List Bool
+  feeds_each k fe Nil = []
+  feeds_each k fe (Cons t ts) = feeds k fe t ∷ feeds_each k fe ts
+
+unfoldable mutual
+  -- the slot is used in the term
+  pub Uses : ℕ → Term → Type 0
+  Uses i (Const n) = ⊥
+  Uses i (Var j) = j ≡ i
+  Uses i (Op p ts) = UsesIn i ts
+  Uses i (If c a b) = Uses i c ⊎ (Uses i a ⊎ Uses i b)
+  Uses i (Let bs b) = UsesIn i bs ⊎ Uses i b
+  Uses i (Call f j ts) = UsesIn i ts
+  Uses i (Loop h ts) = UsesIn i ts
+
+  pub UsesIn : ℕ → Terms → Type 0
+  UsesIn i Nil = ⊥
+  UsesIn i (Cons t ts) = Uses i t ⊎ UsesIn i ts
+
+unfoldable mutual
+  unfolding feeds
+
+  -- k is in Feeds of the condition of an if in the term
+  pub Decides : ℕ → List Bool → Term → Type 0
+  Decides k fe (Const n) = ⊥
+  Decides k fe (Var i) = ⊥
+  Decides k fe (Op p ts) = DecidesIn k fe ts
+  Decides k fe (If c a b) = (feeds k fe c ≡ true) ⊎ (Decides k fe c ⊎ (Decides k fe a ⊎ Decides k fe b))
+  Decides k fe (Let bs b) = DecidesIn k fe bs ⊎ Decides k (fe ++ feeds_each k fe bs) b
+  Decides k fe (Call f j ts) = DecidesIn k fe ts
+  Decides k fe (Loop h ts) = DecidesIn k fe ts
+
+  pub DecidesIn : ℕ → List Bool → Terms → Type 0
+  DecidesIn k fe Nil = ⊥
+  DecidesIn k fe (Cons t ts) = Decides k fe t ⊎ DecidesIn k fe ts
+
+-- in reach of a let's body, or of the arguments where it is a call
+unfoldable pub InBody : Program → ℕ → Term → Type 0
+unfolding ReachesIn
+InBody C k (Const n) = Reaches C k (Const n)
+InBody C k (Var i) = Reaches C k (Var i)
+InBody C k (Op p ts) = Reaches C k (Op p ts)
+InBody C k (If c a b) = Reaches C k (If c a b)
+InBody C k (Let bs b) = Reaches C k (Let bs b)
+InBody C k (Call f j ts) = ReachesIn C k ts
+InBody C k (Loop h ts) = Reaches C k (Loop h ts)
+
+unfoldable mutual
+  unfolding feeds InBody Uses
+
+  -- k is in Feeds of the binding of a slot that is used in the let's body, and j is in reach of that body
+  pub Held : Program → ℕ → ℕ → List Bool → Term → Type 0
+  Held C k j fe (Const n) = ⊥
+  Held C k j fe (Var i) = ⊥
+  Held C k j fe (Op p ts) = HeldIn C k j fe ts
+  Held C k j fe (If c a b) = Held C k j fe c ⊎ (Held C k j fe a ⊎ Held C k j fe b)
+  Held C k j fe (Let bs b) = ((i : ℕ) × (bool_at (feeds_each k fe bs) i ≡ true) × Uses (length fe + i) b × InBody C j b) ⊎ (HeldIn C k j fe bs ⊎ Held C k j (fe ++ feeds_each k fe bs) b)
+  Held C k j fe (Call f i ts) = HeldIn C k j fe ts
+  Held C k j fe (Loop h ts) = HeldIn C k j fe ts
+
+  pub HeldIn : Program → ℕ → ℕ → List Bool → Terms → Type 0
+  HeldIn C k j fe Nil = ⊥
+  HeldIn C k j fe (Cons t ts) = Held C k j fe t ⊎ HeldIn C k j fe ts
+
+-- why a site's word is kept
+pub record Kept (C : Program) (k : ℕ) : Type 0 where
+  pub because : ℕ
+  pub other : k ≢ because
+  pub same : unit_for C k ≡ unit_for C because
+  pub why : Conflict C k because ⊎ ((Decides k (replicate (arity C (C.caller k)) false) (C.body (C.caller k)) × Reaches C because (C.body (C.caller k))) ⊎ Held C k because (replicate (arity C (C.caller k)) false) (C.body (C.caller k)))
