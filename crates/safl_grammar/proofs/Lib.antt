@@ -1,0 +1,11 @@
+pub mod Sets
+pub mod Parses
+pub mod Tokens
+pub mod Follows
+pub mod Either
+pub mod Many
+pub mod Levels
+pub mod Text
+pub mod Rules
+pub mod Small
+pub mod Same
