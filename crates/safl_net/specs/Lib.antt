@@ -1,4 +1,5 @@
 pub mod Netlist
 pub mod Valuations
 pub mod Runs
+pub mod Written
 pub mod Laws
