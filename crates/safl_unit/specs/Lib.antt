@@ -1,0 +1,9 @@
+pub mod Equations
+pub mod Steps
+pub mod Done
+pub mod Arguments
+pub mod Names
+pub mod Layout
+pub mod Scheme
+pub mod Correct
+pub mod Theorem
