@@ -7,3 +7,4 @@ pub mod Fuel
 pub mod Standing
 pub mod WellFormed
 pub mod Laws
+pub mod Checked

@@ -1,6 +1,7 @@
 //! Checked programs: their terms, their meaning, and what makes a program well formed.
 #![tactic(auto)]
 
+pub mod checked;
 pub mod laws;
 pub mod term;
 
