@@ -5,5 +5,4 @@ ghost use Rattle.safl_word.specs.Laws.{GivesWords};
 /// A primitive on words gives a word, of the width that the table says.
 pub fn primitive_law()
     ensures { GivesWords }
-{
-}
+{}

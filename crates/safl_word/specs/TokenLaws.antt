@@ -1,0 +1,20 @@
+-- What is claimed of tokens.
+use Rattle.std.specs.Prelude.{◌≡◌, ◌↔◌, ℕ, List}
+use Rattle.safl_word.specs.Tokens.{HasTokens, HasLexicalFault}
+use Rattle.safl_word.specs.declared.token.Token.{Token}
+use Rattle.safl_word.specs.declared.fault.Rule.{Rule}
+
+-- a text has at most one list of tokens
+abbrev pub TokensOnce : Type 0
+TokensOnce = (text : List ℕ) (ts us : List Token) → HasTokens text ts → HasTokens text us → ts ≡ us
+
+-- a text has at most one first lexical fault
+abbrev pub LexicalFaultOnce : Type 0
+LexicalFaultOnce =
+    (text : List ℕ) (e d : Rule) (p q : ℕ) → HasLexicalFault text e p → HasLexicalFault text d q → (e ≡ d) × (p ≡ q)
+
+-- a text has a list of tokens exactly where it has no lexical fault
+abbrev pub TokensOrFault : Type 0
+TokensOrFault =
+    (text : List ℕ)
+    → ((ts : List Token) × HasTokens text ts) ↔ (¬ ((e : Rule) × (p : ℕ) × HasLexicalFault text e p))

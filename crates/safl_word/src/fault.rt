@@ -1,0 +1,36 @@
+//! Faults of a source, and want of memory.
+
+/// What is wrong with a source, by its printed number.
+#[derive(Clone, Copy, Debug, PartialEq, Eq)]
+pub enum Rule {
+    E01,
+    E02,
+    E03,
+    E04,
+    E05,
+    E06,
+    E07,
+    E08,
+    E09,
+    E10,
+    E11,
+    E12,
+    E13,
+    E14,
+    E15,
+    E16,
+}
+
+/// A fault of a source: the rule, the place as a byte's number, and two numbers that are 0 except for E11 and E12,
+/// the wanted and the found one, and for E16, the number of the limit and its value.
+#[derive(Clone, Copy, Debug, PartialEq, Eq)]
+pub struct Fault {
+    pub rule: Rule,
+    pub place: u32,
+    pub first: u32,
+    pub second: u32,
+}
+
+/// Memory ran out.
+#[derive(Clone, Copy, Debug, PartialEq, Eq)]
+pub struct NoMemory;
