@@ -1,0 +1,10 @@
+-- What was sent to a sink.
+use Rattle.std.specs.Prelude.{ℕ, ◌≡◌, List, ◌++◌, take}
+
+-- these bytes were sent after the earlier ones
+abbrev pub Sends : List ℕ → List ℕ → List ℕ → Type 0
+Sends bytes old new = new ≡ old ++ bytes
+
+-- a prefix of these bytes was sent
+abbrev pub SendsPart : List ℕ → List ℕ → List ℕ → Type 0
+SendsPart bytes old new = (count : ℕ) × (new ≡ old ++ take count bytes)

@@ -1,0 +1,17 @@
+// What a call on the outside may answer in place of its result.
+use thiserror::Error;
+
+/// The outside failed. The object that was called has counted it.
+#[derive(Clone, Copy, Debug, PartialEq, Eq, Error)]
+#[error("reading failed")]
+pub struct Failed;
+
+/// Why something could not be written.
+#[derive(Clone, Copy, Debug, PartialEq, Eq, Error)]
+pub enum OutErr {
+    /// The outside failed. The object that was called has counted it.
+    #[error("writing failed")]
+    Failed,
+    #[error("out of memory")]
+    NoMemory,
+}
