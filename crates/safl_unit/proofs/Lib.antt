@@ -20,3 +20,6 @@ pub mod CallsSeen
 pub mod NetRuns
 pub mod Theorem
 pub mod Example
+pub mod ConstantNet
+pub mod ConstantCells
+pub mod Constant

@@ -7,3 +7,4 @@ pub mod Layout
 pub mod Scheme
 pub mod Correct
 pub mod Theorem
+pub mod Constant
