@@ -52,7 +52,7 @@ if_lt false n m lt = omega arith
 half : (n k m : ℕ) → n < m → n / k < m
 half n k m lt = omega (arith, div-le_self n k)
 
-joined : (a b u v : ℕ) → a < 2 ^ u → b < 2 ^ v → a * 2 ^ v + b < 2 ^ (u + v)
+pub joined : (a b u v : ℕ) → a < 2 ^ u → b < 2 ^ v → a * 2 ^ v + b < 2 ^ (u + v)
 joined a b u v la lb =
     let m = mul-le-mul_right {m = suc a} {n = 2 ^ u} (2 ^ v) la in
     let p : 2 ^ (u + v) ≡ 2 ^ u * 2 ^ v = pow-add 2 u v in

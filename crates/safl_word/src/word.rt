@@ -1,5 +1,8 @@
 //! Words.
 
+ghost use Rattle.std.specs.Prelude.{◌≡◌, ◌^◌, ◌-◌, ◌≤◌};
+ghost use Rattle.safl_word.specs.Words.{max_width};
+
 use std::marker::Model;
 
 /// The number of a word.
@@ -31,8 +34,8 @@ impl Model for Word {
 }
 
 impl Word {
-    ghost use Rattle.std.specs.Prelude.{◌≡◌, ◌↔◌, IsSome, IfSome};
-    ghost use Rattle.safl_word.specs.Words.{IsWord};
+    ghost use Rattle.std.specs.Prelude.{◌≡◌, ◌↔◌, ◌^◌, ◌%◌, ◌≤◌, IsSome, IfSome};
+    ghost use Rattle.safl_word.specs.Words.{IsWord, max_width};
 
     /// The word of this width and this number, where there is one.
     pub fn new(width: u8, bits: Raw) -> Option<Word>
@@ -63,4 +66,33 @@ impl Word {
     {
         self.bits
     }
+
+    /// The word of this width and this number, which fits it.
+    pub fn from_parts(width: u8, bits: Raw) -> Word
+        requires { IsWord (record { width = width; bits = bits }) }
+        ensures { result ≡ record { width = width; bits = bits } }
+    {
+        Word { width, bits }
+    }
+
+    /// The word of this width, from 1 to `WIDTH_MAX`, whose number is the remainder of a number modulo 2 to the width.
+    pub fn from_low_bits(width: u8, number: Raw) -> Word
+        requires some { 1 ≤ width }
+        requires bounded { width ≤ max_width }
+        ensures { result ≡ record { width = width; bits = number % 2 ^ width } }
+    {
+        Word {
+            width,
+            bits: number & greatest(width),
+        }
+    }
+}
+
+/// The greatest number of a width from 1 to `WIDTH_MAX`, which has a one in each place.
+pub fn greatest(width: u8) -> Raw
+    requires some { 1 ≤ width }
+    requires bounded { width ≤ max_width }
+    ensures { result ≡ 2 ^ width - 1 }
+{
+    Raw::MAX >> (WIDTH_MAX - width)
 }

@@ -1,0 +1,195 @@
+//! What the primitives give.
+
+ghost use Rattle.std.specs.Prelude.{◌≡◌, ◌+◌, ◌-◌, ◌*◌, ◌/◌, ◌%◌, ◌^◌, ◌<◌, ◌≤◌, [], ◌∷◌, IsSome, map, cond, nat_lt, bit_and, bit_or, bit_xor};
+ghost use Rattle.safl_word.specs.Words.{max_width};
+ghost use Rattle.safl_word.specs.Primitives.{result_width, apply_prim, bit_of};
+
+use crate::primitive::Primitive;
+use crate::word::{Raw, WIDTH_MAX, Word, greatest};
+
+/// The width that a primitive gives on words of these widths: None exactly where the table has no row for them.
+pub fn result_width(p: Primitive, widths: &[u8]) -> Option<u8>
+    ensures { result ≡ result_width p widths.now }
+{
+    match widths {
+        [a] => width_of_one(p, *a),
+        [a, b] => width_of_two(p, *a, *b),
+        _ => None,
+    }
+}
+
+fn width_of_one(p: Primitive, a: u8) -> Option<u8>
+    ensures { result ≡ result_width p (a ∷ []) }
+{
+    match p {
+        Primitive::Not => Some(a),
+        Primitive::Bits(high, low) if low <= high && high < a => Some(high - low + 1),
+        Primitive::Ext(width) if a <= width && width <= WIDTH_MAX => Some(width),
+        _ => None,
+    }
+}
+
+fn width_of_two(p: Primitive, a: u8, b: u8) -> Option<u8>
+    ensures { result ≡ result_width p (a ∷ b ∷ []) }
+{
+    match p {
+        Primitive::Not | Primitive::Bits(_, _) | Primitive::Ext(_) => None,
+        Primitive::Eq | Primitive::Ne | Primitive::Lt | Primitive::Le | Primitive::Gt | Primitive::Ge => {
+            (a == b).then_some(1)
+        }
+        Primitive::Shl | Primitive::Shr => Some(a),
+        Primitive::Cat => a.checked_add(b).filter(|sum| *sum <= WIDTH_MAX),
+        _ => (a == b).then_some(a),
+    }
+}
+
+/// What the primitive gives on these words, where the table has a width for theirs.
+pub fn apply(p: Primitive, args: &[Word]) -> Word
+    requires { IsSome (result_width p (map (λ v. v.width) args.now)) }
+    ensures { result ≡ apply_prim p args.now }
+{
+    match args {
+        [a] => apply_to_one(p, *a),
+        [a, b] => apply_to_two(p, *a, *b),
+        _ => unreachable!(),
+    }
+}
+
+fn apply_to_one(p: Primitive, a: Word) -> Word
+    requires { IsSome (result_width p (a.width ∷ [])) }
+    ensures { result ≡ apply_prim p (a ∷ []) }
+{
+    match p {
+        Primitive::Not => complement(a),
+        Primitive::Bits(high, low) => slice(a, high, low),
+        Primitive::Ext(width) => extension(a, width),
+        _ => unreachable!(),
+    }
+}
+
+fn apply_to_two(p: Primitive, a: Word, b: Word) -> Word
+    requires { IsSome (result_width p (a.width ∷ b.width ∷ [])) }
+    ensures { result ≡ apply_prim p (a ∷ b ∷ []) }
+{
+    match p {
+        Primitive::Add => sum(a, b),
+        Primitive::Sub => difference(a, b),
+        Primitive::Mul => product(a, b),
+        Primitive::And => conjunction(a, b),
+        Primitive::Or => disjunction(a, b),
+        Primitive::Xor => exclusive(a, b),
+        Primitive::Eq => flag(a.bits() == b.bits()),
+        Primitive::Ne => flag(a.bits() != b.bits()),
+        Primitive::Lt => flag(a.bits() < b.bits()),
+        Primitive::Le => flag(a.bits() <= b.bits()),
+        Primitive::Gt => flag(a.bits() > b.bits()),
+        Primitive::Ge => flag(a.bits() >= b.bits()),
+        Primitive::Shl => left_shift(a, b),
+        Primitive::Shr => right_shift(a, b),
+        Primitive::Cat => concatenation(a, b),
+        _ => unreachable!(),
+    }
+}
+
+// A word of one bit.
+fn flag(holds: bool) -> Word
+    ensures { result ≡ record { width = 1; bits = bit_of holds } }
+{
+    Word::from_parts(1, if holds { 1 } else { 0 })
+}
+
+fn sum(a: Word, b: Word) -> Word
+    ensures { result ≡ record { width = a.width; bits = (a.bits + b.bits) % 2 ^ a.width } }
+{
+    Word::from_low_bits(a.width(), a.bits().wrapping_add(b.bits()))
+}
+
+fn difference(a: Word, b: Word) -> Word
+    requires { a.width ≡ b.width }
+    ensures { result ≡ record { width = a.width; bits = (2 ^ a.width + a.bits - b.bits) % 2 ^ a.width } }
+{
+    let subtrahend = b.bits();
+    prove!(b.width() <= WIDTH_MAX);
+    Word::from_low_bits(a.width(), a.bits().wrapping_sub(subtrahend))
+}
+
+fn product(a: Word, b: Word) -> Word
+    ensures { result ≡ record { width = a.width; bits = (a.bits * b.bits) % 2 ^ a.width } }
+{
+    Word::from_low_bits(a.width(), a.bits().wrapping_mul(b.bits()))
+}
+
+fn conjunction(a: Word, b: Word) -> Word
+    ensures { result ≡ record { width = a.width; bits = bit_and a.bits b.bits } }
+{
+    Word::from_parts(a.width(), a.bits() & b.bits())
+}
+
+fn disjunction(a: Word, b: Word) -> Word
+    requires { a.width ≡ b.width }
+    ensures { result ≡ record { width = a.width; bits = bit_or a.bits b.bits } }
+{
+    Word::from_parts(a.width(), a.bits() | b.bits())
+}
+
+fn exclusive(a: Word, b: Word) -> Word
+    requires { a.width ≡ b.width }
+    ensures { result ≡ record { width = a.width; bits = bit_xor a.bits b.bits } }
+{
+    Word::from_parts(a.width(), a.bits() ^ b.bits())
+}
+
+fn complement(a: Word) -> Word
+    ensures { result ≡ record { width = a.width; bits = 2 ^ a.width - 1 - a.bits } }
+{
+    Word::from_parts(a.width(), greatest(a.width()) - a.bits())
+}
+
+// By the width of a and more, nothing is left.
+fn left_shift(a: Word, b: Word) -> Word
+    ensures { result ≡ record { width = a.width; bits = cond (nat_lt b.bits a.width) ((a.bits * 2 ^ b.bits) % 2 ^ a.width) 0 } }
+{
+    let width = a.width();
+    if b.bits() < Raw::from(width) {
+        Word::from_low_bits(width, a.bits() << (b.bits() as u32))
+    } else {
+        Word::from_parts(width, 0)
+    }
+}
+
+fn right_shift(a: Word, b: Word) -> Word
+    ensures { result ≡ record { width = a.width; bits = cond (nat_lt b.bits a.width) (a.bits / 2 ^ b.bits) 0 } }
+{
+    let width = a.width();
+    if b.bits() < Raw::from(width) {
+        Word::from_parts(width, a.bits() >> (b.bits() as u32))
+    } else {
+        Word::from_parts(width, 0)
+    }
+}
+
+fn concatenation(a: Word, b: Word) -> Word
+    requires { a.width + b.width ≤ max_width }
+    ensures { result ≡ record { width = a.width + b.width; bits = a.bits * 2 ^ b.width + b.bits } }
+{
+    let bits = a.bits() << b.width() | b.bits();
+    Word::from_parts(a.width() + b.width(), bits)
+}
+
+fn slice(a: Word, high: u8, low: u8) -> Word
+    requires ordered { low ≤ high }
+    requires within { high < a.width }
+    ensures { result ≡ record { width = high - low + 1; bits = (a.bits / 2 ^ low) % 2 ^ (high - low + 1) } }
+{
+    prove!(a.width() <= WIDTH_MAX);
+    Word::from_low_bits(high - low + 1, a.bits() >> low)
+}
+
+fn extension(a: Word, width: u8) -> Word
+    requires wider { a.width ≤ width }
+    requires bounded { width ≤ max_width }
+    ensures { result ≡ record { width = width; bits = a.bits } }
+{
+    prove!(a.width() >= 1);
+    Word::from_parts(width, a.bits())
+}
