@@ -9,3 +9,4 @@ pub mod Order
 pub mod Widths
 pub mod Values
 pub mod TreeLemmas
+pub mod CheckedLemmas

@@ -1,8 +1,80 @@
--- A checked program, with its names.
-use Rattle.std.specs.Prelude.{List}
+-- A checked program, with its names, and the program in numbers that it is.
+use Rattle.std.specs.Prelude.{◌≡◌, ℕ, zero, suc, ◌-◌, ◌<◌, ◌≤◌, List, [], length, map, sum_by, Some, slice_get, true, codes}
+use Rattle.std.specs.Option.{option_map_or}
+use Rattle.std.specs.String.{string_bytes}
+use Rattle.safl_word.specs.Words.{no_word}
 use Rattle.safl_check.specs.declared.checked.Function.{Function}
 use Rattle.safl_check.specs.declared.checked.Site.{Site}
+use Rattle.safl_check.specs.Names.{IsName}
+use Rattle.safl_check.specs.Program.{Program, arity}
+use Rattle.safl_check.specs.Sizes.{nodes}
+use Rattle.safl_check.specs.Terms as plain
+use Rattle.safl_check.specs.Tree.{tree}
+use Rattle.safl_check.specs.WellFormed.{IsWellFormed, Spans}
 
 pub record CheckedProgram : Type 0 where
   pub functions : List Function
   pub sites : List Site
+
+-- what a function has, or a default where it is not there
+abbrev pub of_function : {A : Type 0} → (Function → A) → A → CheckedProgram → ℕ → A
+of_function has default c f = option_map_or has (slice_get c.functions f) default
+
+-- what a site has, where sites are numbered from 1; site 0 has a number of its own
+abbrev pub of_site : (Site → ℕ) → ℕ → CheckedProgram → ℕ → ℕ
+of_site has outside c zero = outside
+of_site has outside c (suc k) = option_map_or has (slice_get c.sites k) 0
+
+-- the last function
+abbrev pub main_of : CheckedProgram → ℕ
+main_of c = length c.functions - 1
+
+unfoldable pub program_of : CheckedProgram → Program
+program_of c = record {
+  functions = length c.functions;
+  sites = length c.sites;
+  main = main_of c;
+  unit = of_function (λ f. f.unit) 0 c;
+  body = of_function (λ f. tree f.body) (plain.Const no_word) c;
+  params = of_function (λ f. map (λ p. p.width) f.params.items) [] c;
+  result = of_function (λ f. f.width) 0 c;
+  caller = of_site (λ s. s.caller) 0 c;
+  callee = of_site (λ s. s.callee) (main_of c) c;
+}
+
+-- the bytes of the names
+unfoldable pub name_of : CheckedProgram → ℕ → List ℕ
+name_of = of_function (λ f. string_bytes f.name) []
+
+unfoldable pub param_names : CheckedProgram → ℕ → List (List ℕ)
+param_names = of_function (λ f. map (λ p. string_bytes p.name) f.params.items) []
+
+-- the number of the first site of a function and of those that follow it
+unfoldable pub first_site_of : CheckedProgram → ℕ → ℕ
+first_site_of c = of_function (λ f. f.first_site) (suc (length c.sites)) c
+
+-- the bounds of what a circuit is made of
+pub record IsWithinLimits (c : CheckedProgram) : Type 0 where
+  pub functions : length c.functions ≤ 1000
+  pub params : (f : ℕ) → arity (program_of c) f ≤ 16
+  pub sites : length c.sites ≤ 4000
+  pub nodes : sum_by (λ f. nodes (tree f.body)) c.functions ≤ 50000
+
+-- each name is one of the language, no two functions have one name, and no two parameters of a function
+pub record AreNamed (c : CheckedProgram) : Type 0 where
+  pub of_functions : (f : ℕ) → f < length c.functions → IsName (name_of c f)
+  pub of_main : name_of c (main_of c) ≡ codes "main"
+  pub of_functions_differ : (f g : ℕ) → f < length c.functions → g < length c.functions → name_of c f ≡ name_of c g → f ≡ g
+  pub of_params : (f i : ℕ) (name : List ℕ) → slice_get (param_names c f) i ≡ Some name → IsName name
+  pub of_params_differ : (f i j : ℕ) (name : List ℕ) → slice_get (param_names c f) i ≡ Some name → slice_get (param_names c f) j ≡ Some name → i ≡ j
+
+-- the program is well formed, within limits, and in the order of the text
+pub record IsChecked (c : CheckedProgram) : Type 0 where
+  pub formed : IsWellFormed (program_of c)
+  pub limits : IsWithinLimits c
+  -- the members of a group follow each other
+  pub groups : (f g : ℕ) → g < length c.functions → (program_of c).unit g ≤ f → f ≤ g → (program_of c).unit f ≡ (program_of c).unit g
+  -- the sites of a body follow those of the bodies before it, and all sites stand in bodies
+  pub first_site : first_site_of c 0 ≡ 1
+  pub own_sites : (f : ℕ) → f < length c.functions → Spans (program_of c) f true (first_site_of c f) (first_site_of c (suc f)) ((program_of c).body f)
+  pub names : AreNamed c

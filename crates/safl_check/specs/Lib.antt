@@ -7,4 +7,6 @@ pub mod Fuel
 pub mod Standing
 pub mod WellFormed
 pub mod Laws
+pub mod Names
+pub mod Sizes
 pub mod Checked

@@ -5,4 +5,5 @@ pub mod checked;
 pub mod laws;
 pub mod term;
 
+pub use crate::checked::{Checked, Function, Parameter, Site};
 pub use crate::term::Term;
