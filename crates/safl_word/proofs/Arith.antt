@@ -1,5 +1,5 @@
 -- The low bits of sums, differences, products and shifts.
-use Rattle.std.proofs.Common.{◌≡◌, ℕ, zero, suc, ◌+◌, ◌-◌, ◌*◌, ◌/◌, ◌%◌, ◌^◌, ◌<◌, ◌≤◌, refl, sym, ◌∙◌, ap, subst, arith}
+use Rattle.std.proofs.Common.{◌≡◌, ℕ, zero, suc, ◌+◌, ◌-◌, ◌*◌, ◌/◌, ◌%◌, ◌^◌, ◌<◌, ◌≤◌, sym, ◌∙◌, ap, subst, arith}
 use Rattle.std.proofs.Common.{bit_and, bit_or}
 use Rattle.std.proofs.lemmas.Nat.{and_mask, pow_pos, pow-add, shl_whole, or_shifted}
 use Rattle.std.proofs.lemmas.Nat.Bits.{ones_shr}
@@ -37,7 +37,7 @@ low_of_difference a b w le lt =
     let p : 2 ^ ((128 - w) + w) ≡ 2 ^ (128 - w) * 2 ^ w = pow-add 2 (128 - w) w in
     let q : 2 ^ 128 ≡ 2 ^ (128 - w) * 2 ^ w = subst (λ k. 2 ^ k ≡ 2 ^ (128 - w) * 2 ^ w) s p in
     let r : (a + (2 ^ 128 - b)) % 2 ^ w ≡ (2 ^ w + a - b) % 2 ^ w =
-      subst (λ n. (a + (n - b)) % 2 ^ w ≡ (2 ^ w + a - b) % 2 ^ w) (sym q) (apart a b (2 ^ (128 - w)) (2 ^ w) lt (pow_pos (128 - w))) in
+    subst (λ n. (a + (n - b)) % 2 ^ w ≡ (2 ^ w + a - b) % 2 ^ w) (sym q) (apart a b (2 ^ (128 - w)) (2 ^ w) lt (pow_pos (128 - w))) in
     low_of_low (a + (2 ^ 128 - b)) w le ∙ r
 
 -- a left shift loses no bit that the result keeps

@@ -37,11 +37,15 @@ limit_name (suc (suc (suc (suc (suc (suc n)))))) = []
 abbrev pub wanted_and_found : Fault → List ℕ
 wanted_and_found f = codes ": " ++ decimal f.first ++ codes " and " ++ decimal f.second
 
+-- the limit's name and its value
+abbrev pub limit_text : Fault → List ℕ
+limit_text f = codes ": " ++ limit_name f.first ++ codes " " ++ decimal f.second
+
 -- what a fault's text has behind the rule's: two numbers, or a limit's name and value
 abbrev pub detail_text : Rule → Fault → List ℕ
 detail_text rules.E11 f = wanted_and_found f
 detail_text rules.E12 f = wanted_and_found f
-detail_text rules.E16 f = codes ": " ++ limit_name f.first ++ codes " " ++ decimal f.second
+detail_text rules.E16 f = limit_text f
 detail_text _ f = []
 
 -- the text of a fault without its place

@@ -1,6 +1,7 @@
 -- Numerals: runs of digits of a base, and what they count.
-use Rattle.std.specs.Prelude.{◌≡◌, ℕ, ◌+◌, ◌-◌, ◌*◌, ◌^◌, ◌<◌, ◌≤◌, List, [], ◌∷◌, length, Bool, true, if◌then◌else◌, ◌&&◌, ◌||◌, nat_lt, nat_le}
+use Rattle.std.specs.Prelude.{◌≡◌, ℕ, ◌+◌, ◌-◌, ◌*◌, ◌^◌, ◌<◌, ◌≤◌, List, [], ◌∷◌, length, Bool, true, if◌then◌else◌, ◌&&◌, ◌||◌, ◌==◌, nat_lt, nat_le, codes, map}
 use Rattle.std.specs.List.{list_all}
+use Rattle.std.specs.Int.Digits.{digits_of}
 
 abbrev pub between : ℕ → ℕ → ℕ → Bool
 between low high c = nat_le low c && nat_le c high
@@ -28,3 +29,7 @@ pub record IsBounded (base most bound : ℕ) (w : List ℕ) : Type 0 where
   pub numeral : IsNumeral base w
   pub short : length w ≤ most
   pub small : value base w < bound
+
+-- the shortest binary digits of a number: `0` for zero, and else the digits of base two
+abbrev pub binary : ℕ → List ℕ
+binary n = if n == 0 then codes "0" else map (λ d. 48 + d) (digits_of 2 n)

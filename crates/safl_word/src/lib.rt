@@ -3,13 +3,17 @@
 
 pub mod fault;
 pub mod laws;
+pub mod numbers;
 pub mod operators;
 pub mod primitive;
+pub mod report;
 pub mod token;
 pub mod word;
 
 pub use crate::fault::{Fault, NoMemory, Rule};
-pub use crate::operators::apply;
+pub use crate::numbers::{argument, decimal, numeral, push_binary, push_decimal};
+pub use crate::operators::{apply, result_width};
 pub use crate::primitive::Primitive;
+pub use crate::report::push_fault;
 pub use crate::token::{Key, Sym, Token, TokenKind};
 pub use crate::word::{Raw, Word};

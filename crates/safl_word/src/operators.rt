@@ -34,9 +34,12 @@ fn width_of_two(p: Primitive, a: u8, b: u8) -> Option<u8>
 {
     match p {
         Primitive::Not | Primitive::Bits(_, _) | Primitive::Ext(_) => None,
-        Primitive::Eq | Primitive::Ne | Primitive::Lt | Primitive::Le | Primitive::Gt | Primitive::Ge => {
-            (a == b).then_some(1)
-        }
+        Primitive::Eq
+        | Primitive::Ne
+        | Primitive::Lt
+        | Primitive::Le
+        | Primitive::Gt
+        | Primitive::Ge => { (a == b).then_some(1) }
         Primitive::Shl | Primitive::Shr => Some(a),
         Primitive::Cat => a.checked_add(b).filter(|sum| *sum <= WIDTH_MAX),
         _ => (a == b).then_some(a),

@@ -7,6 +7,6 @@ from_parts-requires c = record {
   some = omega arith;
   bounded = omega arith;
   fits =
-    or_lt c.width.result c.bits.result c.bits-2.result (rw (c.bits.ensures.value, c.width.ensures.value) c.bits.ensures.word.fits)
+      or_lt c.width.result c.bits.result c.bits-2.result (rw (c.bits.ensures.value, c.width.ensures.value) c.bits.ensures.word.fits)
       (rw (c.bits-2.ensures.value, c.width.ensures.value, c.requires) c.bits-2.ensures.word.fits);
 }

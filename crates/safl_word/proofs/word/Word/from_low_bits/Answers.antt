@@ -1,6 +1,5 @@
 use Rattle.std.proofs.Common.{ap}
 use Rattle.safl_word.proofs.Arith.{masked}
-use Rattle.safl_word.specs.Words.{Word}
 use Rattle.safl_word.proofs.word.Word.from_low_bits.Goals as goal
 
 pub returns : goal.returns
