@@ -1,0 +1,5 @@
+pub mod Naming
+pub mod Keeping
+pub mod Tables
+pub mod Tidy
+pub mod Bounds

@@ -1,5 +1,10 @@
 pub mod Netlist
 pub mod Valuations
 pub mod Runs
-pub mod Written
 pub mod Laws
+pub mod Written
+pub mod Names
+pub mod Widths
+pub mod Making
+pub mod Rules
+pub mod Stored

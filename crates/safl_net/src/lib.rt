@@ -2,5 +2,10 @@
 #![tactic(auto)]
 
 pub mod cell;
+pub mod names;
+pub mod net;
+pub mod widths;
 
 pub use crate::cell::{Cell, Op, Sig, SigKind, WidthsDiffer};
+pub use crate::net::{Net, NetErr};
+pub use crate::widths::op_width;

@@ -1,0 +1,335 @@
+//! Nets.
+
+ghost use Rattle.std.specs.Prelude.{◌≡◌, ◌≤◌, length, IfOk, string_bytes};
+ghost use Rattle.safl_net.specs.Names.{one_wire, temp_name};
+ghost use Rattle.safl_net.specs.Making.{cell_on};
+ghost use Rattle.safl_net.specs.Stored.{kind_of, cell_of};
+
+use crate::cell::{Cell, Op, Sig, WidthsDiffer};
+use crate::names::is_good_name;
+use crate::widths::op_width;
+use arrayvec::ArrayVec;
+use indexmap::IndexMap;
+use safl_word::Word;
+use std::alloc::{AllocError, Global};
+use std::marker::Model;
+
+/// A netlist: signals in order, and outputs.
+#[derive(Drop)]
+pub struct Net {
+    alloc: Global,
+    signals: IndexMap<String, Row>,
+    outputs: IndexMap<String, Sig>,
+    wires: u32,
+}
+
+// A signal's width, and what gives it its word.
+#[derive(Drop)]
+struct Row {
+    width: u8,
+    driver: Driver,
+}
+
+// A register with its reset word and its next signal, or a wire with its cell.
+#[derive(Drop)]
+enum Driver {
+    Input,
+    Reg(Word, Option<Sig>),
+    Wire(Option<Cell>),
+}
+
+/// Why a signal or an output isn't made.
+#[derive(Clone, Copy, Debug, PartialEq, Eq, thiserror::Error)]
+pub enum NetErr {
+    #[error("the name is taken")]
+    NameTaken,
+    #[error("the name is no identifier")]
+    BadName,
+    #[error("out of memory")]
+    NoMemory,
+}
+
+impl Model for Net {
+    ghost use Rattle.safl_net.specs.Netlist.{Netlist};
+
+    ghost Value = { Netlist };
+
+    ghost use Rattle.safl_net.specs.Stored.{net_of, Keeps};
+
+    ghost view = { λ a. net_of a.signals.entries a.outputs.entries };
+
+    ghost invariant = { λ a. Keeps a.signals.entries a.outputs.entries a.wires };
+}
+
+impl Net {
+    ghost use Rattle.std.specs.Prelude.{◌≡◌, ℕ, ◌<◌, ◌≤◌, ◌^◌, [], length, true, false, Some, None, All, Ok, Err, IfOk, IfErr, OnOk, OnErr, IsOk, IsSome, ◌↔◌, unwrap_or, string_bytes};
+    ghost use Rattle.safl_net.specs.Netlist.{Netlist, Input, Reg, Wire, width_of};
+    ghost use Rattle.safl_net.specs.Names.{is_good, has_name, wires, one_wire, IsTidy};
+    ghost use Rattle.safl_net.specs.Widths.{HasWord};
+    ghost use Rattle.safl_net.specs.Making.{with_signal, with_kind, with_output, cell_on, width_on, temporary, refusal, Refuses, kind_at, name_at, numbers};
+    ghost use Rattle.safl_net.specs.Rules.{IsNetlist, KindFits};
+    ghost use Rattle.safl_net.specs.Stored.{signal_of, kind_of, ResetFits};
+
+    /// No signals.
+    pub fn new(alloc: Global) -> Net
+        ensures { result ≡ record { signals = []; outputs = [] } }
+    {
+        Net {
+            alloc,
+            signals: IndexMap::new(alloc),
+            outputs: IndexMap::new(alloc),
+            wires: 0,
+        }
+    }
+
+    /// The next signal, an input of this width, 1 to 128 bits. `BadName` exactly where the name isn't good, else
+    /// `NameTaken` exactly where a signal or an output has it; a refusal leaves the net as it was.
+    pub fn input(&mut self, name: &str, width: u8) -> Result<Sig, NetErr>
+        requires some { 1 ≤ width }
+        requires most { width ≤ 128 }
+        requires room { length self.old.signals < 4294967295 }
+        ensures added { OnOk result (self.new ≡ with_signal self.old (record { name = name.now; width = width; kind = Input })) }
+        ensures numbered { IfOk result (λ s. s.0 ≡ length self.old.signals) }
+        ensures refusal { Refuses (refusal self.old name.now) result }
+        ensures refused { OnErr result (self.new ≡ self.old) }
+    {
+        self.add(
+            name,
+            Row {
+                width,
+                driver: Driver::Input,
+            },
+        )
+    }
+
+    /// The next signal, a register with this word at reset and without a next signal. Refusals as for `input`.
+    pub fn reg(&mut self, name: &str, init: Word) -> Result<Sig, NetErr>
+        requires room { length self.old.signals < 4294967295 }
+        ensures added { OnOk result (self.new ≡ with_signal self.old (record { name = name.now; width = init.width; kind = Reg init.bits None })) }
+        ensures numbered { IfOk result (λ s. s.0 ≡ length self.old.signals) }
+        ensures refusal { Refuses (refusal self.old name.now) result }
+        ensures refused { OnErr result (self.new ≡ self.old) }
+    {
+        let width = init.width();
+        self.add(
+            name,
+            Row {
+                width,
+                driver: Driver::Reg(init, None),
+            },
+        )
+    }
+
+    /// The next signal, a wire of this width, 1 to 128 bits, without a cell. Refusals as for `input`.
+    pub fn wire(&mut self, name: &str, width: u8) -> Result<Sig, NetErr>
+        requires some { 1 ≤ width }
+        requires most { width ≤ 128 }
+        requires room { length self.old.signals < 4294967295 }
+        ensures added { OnOk result (self.new ≡ with_signal self.old (record { name = name.now; width = width; kind = Wire None })) }
+        ensures numbered { IfOk result (λ s. s.0 ≡ length self.old.signals) }
+        ensures refusal { Refuses (refusal self.old name.now) result }
+        ensures refused { OnErr result (self.new ≡ self.old) }
+    {
+        self.add(
+            name,
+            Row {
+                width,
+                driver: Driver::Wire(None),
+            },
+        )
+    }
+
+    /// The next wire, with that cell, of the width that the operation has on the operands; its name is `n$` and
+    /// its number among the wires. The net is tidy before and after. The error is want of memory.
+    pub fn temp(&mut self, op: Op, operands: &[Sig]) -> Result<Sig, AllocError>
+        requires tidy { IsTidy self.old }
+        requires known { All (λ s. s.0 < length self.old.signals) operands.now }
+        requires fits { IsSome (width_on self.old op operands.now) }
+        requires room { length self.old.signals < 4294967295 }
+        ensures added { OnOk result (self.new ≡ with_signal self.old (temporary self.old op operands.now)) }
+        ensures numbered { IfOk result (λ s. s.0 ≡ length self.old.signals) }
+        ensures tidy { IsTidy self.new }
+        ensures refused { OnErr result (self.new ≡ self.old) }
+    {
+        match self.width_on(&op, operands) {
+            Some(width) => {
+                let name = temp_name(self.alloc, self.wires)?;
+                let cell = make_cell(op, operands);
+                self.push(
+                    name,
+                    Row {
+                        width,
+                        driver: Driver::Wire(Some(cell)),
+                    },
+                )
+            }
+            None => unreachable!(),
+        }
+    }
+
+    /// Gives a wire without a cell its cell. It takes no memory. `WidthsDiffer` exactly where the operation's width
+    /// isn't the wire's; the net then stays as it was.
+    pub fn set_cell(&mut self, s: Sig, op: Op, operands: &[Sig]) -> Result<(), WidthsDiffer>
+        requires open { kind_at self.old s.0 ≡ Wire None }
+        requires known { All (λ x. x.0 < length self.old.signals) operands.now }
+        ensures variant { IsOk result ↔ (width_on self.old op operands.now ≡ Some (width_of self.old s.0)) }
+        ensures set { OnOk result (self.new ≡ with_kind self.old s.0 (Wire (Some (cell_on op operands.now)))) }
+        ensures told { IfErr result (λ e. e ≡ record { wanted = width_of self.old s.0; found = unwrap_or (width_on self.old op operands.now) 0 }) }
+        ensures refused { OnErr result (self.new ≡ self.old) }
+    {
+        let wanted = self.width(s);
+        let found = self.width_on(&op, operands);
+        if found != Some(wanted) {
+            return Err(WidthsDiffer {
+                wanted,
+                found: found.unwrap_or(0),
+            });
+        }
+        let cell = make_cell(op, operands);
+        self.set_driver(s, Driver::Wire(Some(cell)));
+        Ok(())
+    }
+
+    /// The number of signals.
+    pub fn signals(&self) -> u32
+        ensures count { result ≡ length self.now.signals }
+        ensures netlist { IsNetlist self.now }
+    {
+        self.signals.len() as u32
+    }
+
+    /// The width of a signal, in bits.
+    pub fn width(&self, s: Sig) -> u8
+        requires { s.0 < length self.now.signals }
+        ensures { result ≡ width_of self.now s.0 }
+    {
+        self.row(s).width
+    }
+
+    // What is kept of a signal.
+    fn row(&self, s: Sig) -> &Row
+        requires { s.0 < length self.now.signals }
+        ensures width { result.now.width ≡ width_of self.now s.0 }
+        ensures kind { kind_of result.now.driver ≡ kind_at self.now s.0 }
+        ensures reset { ResetFits result.now.width result.now.driver }
+    {
+        match self.signals.get_index(s.0 as usize) {
+            Some((_, row)) => row,
+            None => unreachable!(),
+        }
+    }
+
+    // The width of an operation on signals.
+    fn width_on(&self, op: &Op, operands: &[Sig]) -> Option<u8>
+        requires { All (λ s. s.0 < length self.now.signals) operands.now }
+        ensures width { result ≡ width_on self.now op.now operands.now }
+        ensures few { IsSome result → length operands.now ≤ 3 }
+        ensures word { IsSome result → HasWord op.now }
+    {
+        if operands.len() > 3 {
+            return None;
+        }
+        let mut widths: ArrayVec<u8, 3> = ArrayVec::new();
+        for s in operands {
+            widths.push(self.width(*s));
+        }
+        op_width(*op, widths.as_slice())
+    }
+
+    // A signal or an output has the name.
+    fn has_name(&self, name: &str) -> bool
+        ensures { result ≡ has_name self.now name.now }
+    {
+        self.signals.contains_key(name) || self.outputs.contains_key(name)
+    }
+
+    // One more signal, where the name may be given.
+    fn add(&mut self, name: &str, row: Row) -> Result<Sig, NetErr>
+        requires room { length self.old.signals < 4294967295 }
+        requires some { 1 ≤ row.width }
+        requires most { row.width ≤ 128 }
+        requires kind { KindFits self.old row.width (kind_of row.driver) }
+        requires reset { ResetFits row.width row.driver }
+        ensures added { OnOk result (self.new ≡ with_signal self.old (signal_of name.now row)) }
+        ensures numbered { IfOk result (λ s. s.0 ≡ length self.old.signals) }
+        ensures refusal { Refuses (refusal self.old name.now) result }
+        ensures refused { OnErr result (self.new ≡ self.old) }
+    {
+        if !is_good_name(name) {
+            return Err(NetErr::BadName);
+        }
+        if self.has_name(name) {
+            return Err(NetErr::NameTaken);
+        }
+        let Ok(text) = String::from_str(self.alloc, name) else {
+            return Err(NetErr::NoMemory);
+        };
+        match self.push(text, row) {
+            Ok(s) => Ok(s),
+            Err(_) => Err(NetErr::NoMemory),
+        }
+    }
+
+    // One more signal, of a name that is good and new.
+    fn push(&mut self, name: String, row: Row) -> Result<Sig, AllocError>
+        requires room { length self.old.signals < 4294967295 }
+        requires good { is_good (string_bytes name) ≡ true }
+        requires new { has_name self.old (string_bytes name) ≡ false }
+        requires some { 1 ≤ row.width }
+        requires most { row.width ≤ 128 }
+        requires kind { KindFits self.old row.width (kind_of row.driver) }
+        requires reset { ResetFits row.width row.driver }
+        ensures added { OnOk result (self.new ≡ with_signal self.old (signal_of (string_bytes name) row)) }
+        ensures numbered { IfOk result (λ s. s.0 ≡ length self.old.signals) }
+        ensures refused { OnErr result (self.new ≡ self.old) }
+    {
+        let number = self.signals.len() as u32;
+        let wires = self.wires + wire_count(&row.driver);
+        let Ok(_) = self.signals.insert(name, row) else {
+            return Err(AllocError);
+        };
+        self.wires = wires;
+        Ok(Sig(number))
+    }
+
+    // A signal's word comes from elsewhere; what gives it is of the same sort.
+    fn set_driver(&mut self, s: Sig, driver: Driver)
+        requires known { s.0 < length self.old.signals }
+        requires alike { one_wire (kind_of driver) ≡ one_wire (kind_at self.old s.0) }
+        requires kind { KindFits self.old (width_of self.old s.0) (kind_of driver) }
+        requires reset { ResetFits (width_of self.old s.0) driver }
+        ensures { self.new ≡ with_kind self.old s.0 (kind_of driver) }
+    {
+        match self.signals.get_index_mut(s.0 as usize) {
+            Some(row) => row.driver = driver,
+            None => unreachable!(),
+        }
+    }
+}
+
+// The operation on these operands.
+fn make_cell(op: Op, operands: &[Sig]) -> Cell
+    requires { length operands.now ≤ 3 }
+    ensures { cell_of result ≡ cell_on op operands.now }
+{
+    let mut all = ArrayVec::new();
+    for s in operands {
+        all.push(*s);
+    }
+    Cell { op, operands: all }
+}
+
+fn temp_name(alloc: Global, number: u32) -> Result<String, AllocError>
+    ensures { IfOk result (λ name. string_bytes name ≡ temp_name number) }
+{
+    format!(in alloc; "n${number}")
+}
+
+fn wire_count(driver: &Driver) -> u32
+    ensures { result ≡ one_wire (kind_of driver.now) }
+{
+    match driver {
+        Driver::Wire(_) => 1,
+        _ => 0,
+    }
+}
