@@ -1,0 +1,5 @@
+use Rattle.safl_tree.proofs.Sources.{not_both}
+use Rattle.safl_tree.proofs.laws.no_fault_beside_law.Goals as goal
+
+pub returns : goal.returns
+returns c = not_both

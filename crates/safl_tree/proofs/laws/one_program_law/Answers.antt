@@ -1,0 +1,5 @@
+use Rattle.safl_tree.proofs.Sources.{one_program}
+use Rattle.safl_tree.proofs.laws.one_program_law.Goals as goal
+
+pub returns : goal.returns
+returns c = one_program

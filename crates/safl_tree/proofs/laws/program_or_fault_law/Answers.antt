@@ -1,0 +1,5 @@
+use Rattle.safl_tree.proofs.Sources.{program_or_fault}
+use Rattle.safl_tree.proofs.laws.program_or_fault_law.Goals as goal
+
+pub returns : goal.returns
+returns c = program_or_fault

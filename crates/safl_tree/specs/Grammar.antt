@@ -1,0 +1,249 @@
+-- The grammar of a source. Above each symbol stands its production.
+use Rattle.std.specs.Prelude.{ℕ, zero, suc, List, [], ◌∷◌, ◌++◌, Option, Some, None, Bool, true, false, nat_lt, nat_le, if◌then◌else◌}
+use Rattle.safl_grammar.specs.Syntax.{Deep, Range, Syntax, nothing, token, limited, follows, either, unless, many, too_high, below}
+use Rattle.safl_word.specs.Words.{max_width}
+use Rattle.safl_word.specs.declared.token.Key.{Key}
+use Rattle.safl_word.specs.declared.token.Key.TheVariants as keys
+use Rattle.safl_word.specs.declared.token.Sym.{Sym}
+use Rattle.safl_word.specs.declared.token.Sym.TheVariants as syms
+use Rattle.safl_word.specs.declared.primitive.Primitive.{Primitive}
+use Rattle.safl_word.specs.declared.primitive.Primitive.TheVariants as prims
+use Rattle.safl_tree.specs.Tree.{Tree, Number, Sized, Variable, Choice, Binding, Cases, Applied, Called, Bound, Labelled, Parameter, Definition, trees_of, binds_of, arms_of, place_of, placed, depth}
+use Rattle.safl_tree.specs.Terminals.{Terminal, word_code, symbol_code, comes, marked, NameAt, name, NumberAt, number, SizedAt, sized, operator}
+
+-- a key and a symbol, which give their place
+abbrev pub word : Key → Syntax Terminal ℕ
+word k = token (marked (word_code k))
+
+abbrev pub symbol : Sym → Syntax Terminal ℕ
+symbol s = token (marked (symbol_code s))
+
+-- ---- limits
+
+-- a left operand may have a depth of 99 at most
+abbrev pub shallow : Tree → Primitive → Bool
+shallow a op = nat_lt (depth a) 100
+
+-- a width is 1 to the greatest
+abbrev pub is_width : ℕ → Bool
+is_width n = if nat_le 1 n then nat_le n max_width else false
+
+abbrev pub fits_width : NumberAt → Bool
+fits_width n = is_width n.value
+
+abbrev pub fits_sized : SizedAt → Bool
+fits_sized s = is_width s.width
+
+-- the number of a bit is below the greatest width
+abbrev pub fits_index : NumberAt → Bool
+fits_index n = nat_lt n.value max_width
+
+-- ---- leaves
+
+-- width := Num
+abbrev pub width : Syntax Terminal NumberAt
+width = limited Range fits_width number
+
+-- a bit's number := Num
+abbrev pub index : Syntax Terminal NumberAt
+index = limited Range fits_index number
+
+-- literal := Num
+abbrev pub literal : Syntax Terminal Tree
+literal = follows (token number) (λ n. nothing (Number n.place n.value))
+
+-- sized_literal := Sized
+abbrev pub sized_literal : Syntax Terminal Tree
+sized_literal = follows (limited Range fits_sized sized) (λ s. nothing (Sized s.place s.width s.value))
+
+-- variable := name
+abbrev pub variable : Syntax Terminal Tree
+variable = follows (token name) (λ x. nothing (Variable x.place x.name))
+
+-- ---- primary expressions, where e is an expression
+
+-- exprs := e { "," e }
+abbrev pub another : Syntax Terminal Tree → List Tree → Syntax Terminal (List Tree)
+another e xs = follows (symbol syms.Comma) (λ comma. follows e (λ x. nothing (xs ++ x ∷ [])))
+
+abbrev pub exprs : Syntax Terminal Tree → Syntax Terminal (List Tree)
+exprs e = follows e (λ x. many (another e) (x ∷ []))
+
+-- called := name "(" [ exprs ] ")"; at a `)` right after the `(` no expression would begin
+abbrev pub no_arguments : NameAt → Syntax Terminal Tree
+no_arguments f = follows (symbol syms.CloseParen) (λ closed. nothing (Called f.place f.name (trees_of [])))
+
+abbrev pub arguments : Syntax Terminal Tree → NameAt → Syntax Terminal Tree
+arguments e f = follows (exprs e) (λ xs. follows (symbol syms.CloseParen) (λ closed. nothing (Called f.place f.name (trees_of xs))))
+
+abbrev pub call : Syntax Terminal Tree → NameAt → Syntax Terminal Tree
+call e f = follows (symbol syms.OpenParen) (λ opened. either (no_arguments f) (unless (comes (symbol_code syms.CloseParen ∷ [])) (arguments e f)))
+
+abbrev pub called : Syntax Terminal Tree → Syntax Terminal Tree
+called e = follows (token name) (λ f. call e f)
+
+-- parenthesised := "(" e ")"
+abbrev pub parenthesised : Syntax Terminal Tree → Syntax Terminal Tree
+parenthesised e = follows (symbol syms.OpenParen) (λ p. follows e (λ x. follows (symbol syms.CloseParen) (λ closed. nothing (placed p x))))
+
+-- cat := "cat" "(" e "," e ")"
+abbrev pub cat : Syntax Terminal Tree → Syntax Terminal Tree
+cat e = follows (word keys.Cat) (λ p. follows (symbol syms.OpenParen) (λ opened. follows e (λ a. follows (symbol syms.Comma) (λ comma. follows e (λ b. follows (symbol syms.CloseParen) (λ closed. nothing (Applied p prims.Cat (trees_of (a ∷ b ∷ [])))))))))
+
+-- bits := "bits" "(" e "," index "," index ")"
+abbrev pub bits : Syntax Terminal Tree → Syntax Terminal Tree
+bits e = follows (word keys.Bits) (λ p. follows (symbol syms.OpenParen) (λ opened. follows e (λ a. follows (symbol syms.Comma) (λ comma. follows index (λ high. follows (symbol syms.Comma) (λ comma. follows index (λ low. follows (symbol syms.CloseParen) (λ closed. nothing (Applied p (prims.Bits high.value low.value) (trees_of (a ∷ [])))))))))))
+
+-- ext := "ext" "(" e "," width ")"
+abbrev pub ext : Syntax Terminal Tree → Syntax Terminal Tree
+ext e = follows (word keys.Ext) (λ p. follows (symbol syms.OpenParen) (λ opened. follows e (λ a. follows (symbol syms.Comma) (λ comma. follows width (λ n. follows (symbol syms.CloseParen) (λ closed. nothing (Applied p (prims.Ext n.value) (trees_of (a ∷ [])))))))))
+
+-- primary := literal | sized_literal | called | variable | parenthesised | cat | bits | ext
+abbrev pub primary : Syntax Terminal Tree → Syntax Terminal Tree
+primary e = either literal (either sized_literal (either (either (called e) variable) (either (parenthesised e) (either (cat e) (either (bits e) (ext e))))))
+
+-- ---- operators, where u is the operand of "~"
+
+-- unary := "~" u | primary
+abbrev pub inverted : Syntax Terminal Tree → Syntax Terminal Tree
+inverted u = follows (symbol syms.Tilde) (λ p. follows u (λ x. nothing (Applied p prims.Not (trees_of (x ∷ [])))))
+
+abbrev pub unary : Syntax Terminal Tree → Syntax Terminal Tree → Syntax Terminal Tree
+unary u e = either (inverted u) (primary e)
+
+-- layer := sub { operator sub }, grouped to the left; of comparisons, sub [ operator sub ]
+abbrev pub joined : ℕ → Syntax Terminal Tree → Tree → Syntax Terminal Tree
+joined k sub a = follows (limited Deep (shallow a) (operator k)) (λ op. follows sub (λ b. nothing (Applied (place_of a) op (trees_of (a ∷ b ∷ [])))))
+
+abbrev pub chained : ℕ → Syntax Terminal Tree → Syntax Terminal Tree
+chained k sub = follows sub (many (joined k sub))
+
+abbrev pub compared : ℕ → Syntax Terminal Tree → Syntax Terminal Tree
+compared k sub = follows sub (λ a. either (joined k sub a) (nothing a))
+
+abbrev pub layer : ℕ → Syntax Terminal Tree → Syntax Terminal Tree
+layer zero sub = chained zero sub
+layer (suc zero) sub = chained (suc zero) sub
+layer (suc (suc zero)) sub = chained (suc (suc zero)) sub
+layer (suc (suc (suc zero))) sub = compared 3 sub
+layer (suc (suc (suc (suc k)))) sub = chained (suc (suc (suc (suc k)))) sub
+
+-- the layers below k: product, sum, shift, comparison, and, xor, or
+abbrev pub chain : ℕ → Syntax Terminal Tree → Syntax Terminal Tree
+chain zero u = u
+chain (suc k) u = layer k (chain k u)
+
+-- ---- expressions, where e is an expression one level below
+
+-- choice := "if" e "then" e "else" e
+abbrev pub choice : Syntax Terminal Tree → Syntax Terminal Tree
+choice e = follows (word keys.If) (λ p. follows e (λ c. follows (word keys.Then) (λ thens. follows e (λ a. follows (word keys.Else) (λ elses. follows e (λ b. nothing (Choice p c a b)))))))
+
+-- bind := name [ ":" width ] "=" e
+abbrev pub written : Syntax Terminal (Option ℕ)
+written = either (follows (symbol syms.Colon) (λ colon. follows width (λ n. nothing (Some n.value)))) (nothing None)
+
+abbrev pub bind : Syntax Terminal Tree → Syntax Terminal Bound
+bind e = follows (token name) (λ x. follows written (λ w. follows (symbol syms.Assign) (λ gives. follows e (λ v. nothing (record { place = x.place; name = x.name; width = w; value = v })))))
+
+-- binding := "let" bind { "," bind } "in" e
+abbrev pub another_bind : Syntax Terminal Tree → List Bound → Syntax Terminal (List Bound)
+another_bind e bs = follows (symbol syms.Comma) (λ comma. follows (bind e) (λ b. nothing (bs ++ b ∷ [])))
+
+abbrev pub binds : Syntax Terminal Tree → Syntax Terminal (List Bound)
+binds e = follows (bind e) (λ b. many (another_bind e) (b ∷ []))
+
+abbrev pub binding : Syntax Terminal Tree → Syntax Terminal Tree
+binding e = follows (word keys.Let) (λ p. follows (binds e) (λ bs. follows (word keys.In) (λ inner. follows e (λ x. nothing (Binding p (binds_of bs) x)))))
+
+-- label := Num | Sized
+abbrev pub label : Syntax Terminal Tree
+label = either literal sized_literal
+
+-- arms := { label "=>" e "," } "default" "=>" e, where each arm is one level below the one before it
+pub record ArmList : Type 0 where
+  pub labelled : List Labelled
+  pub default : Tree
+
+abbrev pub arm : Syntax Terminal Tree → (List Labelled → Syntax Terminal ArmList) → List Labelled → Syntax Terminal ArmList
+arm e rest so_far = follows label (λ l. follows (symbol syms.Arrow) (λ gives. follows e (λ x. follows (symbol syms.Comma) (λ comma. rest (so_far ++ record { label = l; value = x } ∷ [])))))
+
+abbrev pub last_arm : Syntax Terminal Tree → List Labelled → Syntax Terminal ArmList
+last_arm e so_far = follows (word keys.Default) (λ other. follows (symbol syms.Arrow) (λ gives. follows e (λ x. nothing (record { labelled = so_far; default = x }))))
+
+abbrev pub arms : Syntax Terminal Tree → (List Labelled → Syntax Terminal ArmList) → List Labelled → Syntax Terminal ArmList
+arms e rest so_far = either (arm e rest so_far) (last_arm e so_far)
+
+-- cases := "case" e "{" arms "}"
+abbrev pub cases : Syntax Terminal Tree → (List Labelled → Syntax Terminal ArmList) → Syntax Terminal Tree
+cases e rest = follows (word keys.Case) (λ p. follows e (λ s. follows (symbol syms.OpenBrace) (λ opened. follows (rest []) (λ r. follows (symbol syms.CloseBrace) (λ closed. nothing (Cases p s (arms_of r.labelled r.default)))))))
+
+-- expr := choice | binding | cases | or
+abbrev pub expr : Syntax Terminal Tree → Syntax Terminal Tree → (List Labelled → Syntax Terminal ArmList) → Syntax Terminal Tree
+expr u e rest = either (choice e) (either (binding e) (either (cases e rest) (chain 7 u)))
+
+-- ---- levels
+
+-- An expression, the operand of "~", and the arms of a case, of at most so many nested ones.
+pub record Level : Type 1 where
+  pub operand : Syntax Terminal Tree
+  pub whole : Syntax Terminal Tree
+  pub rest : List Labelled → Syntax Terminal ArmList
+
+abbrev pub next_level : Level → Level
+next_level l = let u = unary l.operand l.whole in record { operand = u; whole = expr u l.whole l.rest; rest = arms l.whole l.rest }
+
+-- no level is left: an arm's label may still stand there
+abbrev pub last_level : Level → Level
+last_level l = record { operand = below l.operand; whole = below l.whole; rest = l.rest }
+
+abbrev pub last_but_arms : Level → Level → Level
+last_but_arms l k = record { operand = below k.operand; whole = below k.whole; rest = arms l.whole l.rest }
+
+abbrev pub no_level : Level
+no_level = record { operand = too_high; whole = too_high; rest = λ arms. too_high }
+
+-- of at most n nested expressions, where m levels are left
+unfoldable pub level : ℕ → ℕ → Level
+level zero zero = last_level no_level
+level zero (suc m) = no_level
+level (suc n) zero = last_but_arms (level n zero) (next_level (level n zero))
+level (suc n) (suc m) = next_level (level n m)
+
+-- ---- programs
+
+-- param := name ":" width
+abbrev pub param : Syntax Terminal Parameter
+param = follows (token name) (λ x. follows (symbol syms.Colon) (λ colon. follows width (λ n. nothing (record { place = x.place; name = x.name; width = n.value }))))
+
+-- params := [ param { "," param } ]
+abbrev pub another_param : List Parameter → Syntax Terminal (List Parameter)
+another_param ps = follows (symbol syms.Comma) (λ comma. follows param (λ p. nothing (ps ++ p ∷ [])))
+
+abbrev pub params : Syntax Terminal (List Parameter)
+params = either (follows param (λ p. many another_param (p ∷ []))) (nothing [])
+
+-- one := name "(" params ")" ":" width "=" e
+abbrev pub one : Bool → Syntax Terminal Tree → Syntax Terminal Definition
+one joins e = follows (token name) (λ x. follows (symbol syms.OpenParen) (λ opened. follows params (λ ps. follows (symbol syms.CloseParen) (λ closed. follows (symbol syms.Colon) (λ colon. follows width (λ n. follows (symbol syms.Assign) (λ gives. follows e (λ b. nothing (record { joined = joins; place = x.place; name = x.name; params = ps; width = n.value; body = b })))))))))
+
+-- group := "fun" one { "and" one }
+abbrev pub another_one : Syntax Terminal Tree → List Definition → Syntax Terminal (List Definition)
+another_one e ds = follows (word keys.And) (λ k. follows (one true e) (λ d. nothing (ds ++ d ∷ [])))
+
+abbrev pub group : Syntax Terminal Tree → List Definition → Syntax Terminal (List Definition)
+group e ds = follows (word keys.Fun) (λ f. follows (one false e) (λ d. many (another_one e) (ds ++ d ∷ [])))
+
+-- program := { group [ ";" ] }
+abbrev pub ended : List Definition → Syntax Terminal (List Definition)
+ended ds = either (follows (symbol syms.Semicolon) (λ s. nothing ds)) (nothing ds)
+
+abbrev pub another_group : Syntax Terminal Tree → List Definition → Syntax Terminal (List Definition)
+another_group e ds = follows (group e ds) ended
+
+abbrev pub program : Syntax Terminal Tree → Syntax Terminal (List Definition)
+program e = many (another_group e) []
+
+-- a program whose expressions nest at most n times; a body is at the first of 100 levels
+abbrev pub source : ℕ → Syntax Terminal (List Definition)
+source n = program (level n 100).whole

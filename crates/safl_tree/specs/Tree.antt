@@ -1,0 +1,113 @@
+-- Plain programs: trees of numbers and lists.
+use Rattle.std.specs.Prelude.{Bool, ℕ, ◌+◌, max, List, [], ◌∷◌, Option}
+use Rattle.safl_word.specs.declared.primitive.Primitive.{Primitive}
+
+mutual
+  -- an expression; each one has its place first, and names are bytes
+  pub data Tree : Type 0 where
+    Number : (place value : ℕ) → Tree
+    Sized : (place width value : ℕ) → Tree
+    Variable : (place : ℕ) → (name : List ℕ) → Tree
+    Choice : (place : ℕ) → (condition first second : Tree) → Tree
+    Binding : (place : ℕ) → Binds → Tree → Tree
+    Cases : (place : ℕ) → Tree → Arms → Tree
+    Applied : (place : ℕ) → Primitive → Trees → Tree
+    Called : (place : ℕ) → (name : List ℕ) → Trees → Tree
+
+  pub data Trees : Type 0 where
+    no_tree : Trees
+    a_tree : Tree → Trees → Trees
+
+  -- bindings, each with its place, its name, its width where one is written, and its value
+  pub data Binds : Type 0 where
+    no_bind : Binds
+    a_bind : (place : ℕ) → (name : List ℕ) → Option ℕ → Tree → Binds → Binds
+
+  -- labelled arms, and last the default
+  pub data Arms : Type 0 where
+    default_arm : Tree → Arms
+    an_arm : (label value : Tree) → Arms → Arms
+
+-- a binding by itself
+pub record Bound : Type 0 where
+  pub place : ℕ
+  pub name : List ℕ
+  pub width : Option ℕ
+  pub value : Tree
+
+-- a labelled arm by itself
+pub record Labelled : Type 0 where
+  pub label : Tree
+  pub value : Tree
+
+pub record Parameter : Type 0 where
+  pub place : ℕ
+  pub name : List ℕ
+  pub width : ℕ
+
+-- a definition is joined where it belongs to the group of the one before it
+pub record Definition : Type 0 where
+  pub joined : Bool
+  pub place : ℕ
+  pub name : List ℕ
+  pub params : List Parameter
+  pub width : ℕ
+  pub body : Tree
+
+abbrev pub trees_of : List Tree → Trees
+trees_of [] = no_tree
+trees_of (t ∷ ts) = a_tree t (trees_of ts)
+
+abbrev pub binds_of : List Bound → Binds
+binds_of [] = no_bind
+binds_of (b ∷ bs) = a_bind b.place b.name b.width b.value (binds_of bs)
+
+abbrev pub arms_of : List Labelled → Tree → Arms
+arms_of [] t = default_arm t
+arms_of (a ∷ arms) t = an_arm a.label a.value (arms_of arms t)
+
+abbrev pub place_of : Tree → ℕ
+place_of (Number p n) = p
+place_of (Sized p w n) = p
+place_of (Variable p x) = p
+place_of (Choice p c a b) = p
+place_of (Binding p bs t) = p
+place_of (Cases p e arms) = p
+place_of (Applied p o ts) = p
+place_of (Called p f ts) = p
+
+-- the same at another place: an expression in parentheses has that of the `(`
+abbrev pub placed : ℕ → Tree → Tree
+placed q (Number p n) = Number q n
+placed q (Sized p w n) = Sized q w n
+placed q (Variable p x) = Variable q x
+placed q (Choice p c a b) = Choice q c a b
+placed q (Binding p bs t) = Binding q bs t
+placed q (Cases p e arms) = Cases q e arms
+placed q (Applied p o ts) = Applied q o ts
+placed q (Called p f ts) = Called q f ts
+
+-- A literal, a variable and a call without arguments have depth 1, any other expression one more than its deepest part.
+abbrev mutual
+  pub depth : Tree → ℕ
+  depth (Number p n) = 1
+  depth (Sized p w n) = 1
+  depth (Variable p x) = 1
+  depth (Choice p c a b) = 1 + max (depth c) (max (depth a) (depth b))
+  depth (Binding p bs t) = 1 + max (deepest_bind bs) (depth t)
+  depth (Cases p e arms) = 1 + max (depth e) (deepest_arm arms)
+  depth (Applied p o ts) = 1 + deepest ts
+  depth (Called p f ts) = 1 + deepest ts
+
+  pub deepest : Trees → ℕ
+  deepest no_tree = 0
+  deepest (a_tree t ts) = max (depth t) (deepest ts)
+
+  pub deepest_bind : Binds → ℕ
+  deepest_bind no_bind = 0
+  deepest_bind (a_bind p x w t bs) = max (depth t) (deepest_bind bs)
+
+  -- A case stands for a let of its scrutinee over an if for each arm, whose test is that the variable equals the label (depth 2).
+  pub deepest_arm : Arms → ℕ
+  deepest_arm (default_arm t) = depth t
+  deepest_arm (an_arm l t arms) = 1 + max 2 (max (depth t) (deepest_arm arms))
