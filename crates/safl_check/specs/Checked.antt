@@ -5,7 +5,7 @@ use Rattle.std.specs.String.{string_bytes}
 use Rattle.safl_word.specs.Words.{no_word}
 use Rattle.safl_check.specs.declared.checked.Function.{Function}
 use Rattle.safl_check.specs.declared.checked.Site.{Site}
-use Rattle.safl_check.specs.Names.{IsName}
+use Rattle.safl_word.specs.Tokens.{IsName}
 use Rattle.safl_check.specs.Program.{Program, arity}
 use Rattle.safl_check.specs.Sizes.{nodes}
 use Rattle.safl_check.specs.Terms as plain

@@ -7,6 +7,5 @@ pub mod Fuel
 pub mod Standing
 pub mod WellFormed
 pub mod Laws
-pub mod Names
 pub mod Sizes
 pub mod Checked
