@@ -1,0 +1,2 @@
+pub mod RowPrograms
+mod Rows

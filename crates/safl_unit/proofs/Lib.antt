@@ -19,7 +19,9 @@ pub mod CoreOf
 pub mod CallsSeen
 pub mod NetRuns
 pub mod Theorem
-pub mod Example
+pub mod RowRuns
+pub mod Rows
+pub mod EvenRow
 pub mod ConstantNet
 pub mod ConstantCells
 pub mod Constant

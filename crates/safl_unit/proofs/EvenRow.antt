@@ -1,4 +1,4 @@
--- A program that meets the premises, and its runs by computation.
+-- A group of two members and main: the program is well formed, and its runs by computation.
 use Rattle.std.proofs.Common.{◌≡◌, ℕ, zero, suc, ◌<◌, ◌≤◌, List, [], ◌∷◌, true, false, cond, ◌==◌, refl, arith}
 use Rattle.safl_word.specs.Words.{Word, IsWord}
 use Rattle.safl_word.specs.declared.primitive.Primitive.TheVariants.{Add, Eq}
