@@ -7,7 +7,7 @@ use Rattle.safl_unit.proofs.Cycle.{steps, start_at, t, x, y, z, late, t_is, inv_
 use Rattle.safl_unit.proofs.Edge.{load_found}
 use Rattle.safl_unit.proofs.Ends.{Ended, Moved, moved_to, loop_says, loop_found, running, Running, goes_yet}
 use Rattle.safl_unit.proofs.Fate.{Holds}
-use Rattle.safl_unit.specs.Arguments.{words_seen}
+use Rattle.safl_unit.proofs.WordsSeen.{words_seen}
 use Rattle.safl_unit.specs.Equations.{Registers, Inputs, Choice, ret, go, go_words, load_in, loads, loop_words, returns, accepts, finishes, goes_on, cycle_events, next, end_word, starts_it, or_word}
 use Rattle.safl_unit.specs.Steps.{Quiet, StepsAt, input_at, registers_at, history}
 use Rattle.safl_core.proofs.Basics.{first_some, first_only, first_skip, first_zero, all_none, not_some, none_of, some_of, some_is}

@@ -16,8 +16,8 @@ use Rattle.safl_core.proofs.MachineLaws.{stops, same_calls}
 use Rattle.safl_core.specs.Interference.{OneInUse, ShownWordsServe}
 use Rattle.safl_unit.specs.Equations.{Registers, Choice, ret, accepts, finishes, goes_on, cycle_events}
 use Rattle.safl_unit.specs.Steps.{Quiet, input_at, registers_at, history}
-use Rattle.safl_unit.specs.Done.{DoneOnce}
-use Rattle.safl_unit.specs.Arguments.{words_seen}
+use Rattle.safl_unit.proofs.DoneOnce.{DoneOnce}
+use Rattle.safl_unit.proofs.WordsSeen.{words_seen}
 use Rattle.safl_unit.proofs.Cycle.{steps}
 use Rattle.safl_unit.proofs.Once.{in_time, after_done, stays}
 use Rattle.safl_unit.proofs.Arguments.{arguments_seen, starts_append}

@@ -8,8 +8,8 @@ use Rattle.safl_core.proofs.Numbered.{Numbered}
 use Rattle.safl_core.specs.Interference.{OneInUse, ShownWordsServe}
 use Rattle.safl_unit.specs.Equations.{Registers, Choice, ret}
 use Rattle.safl_unit.specs.Steps.{Quiet, StepsAt, registers_at, history}
-use Rattle.safl_unit.specs.Done.{Core, DoneOnce, Exclusive}
-use Rattle.safl_unit.specs.Arguments.{words_seen}
+use Rattle.safl_unit.proofs.DoneOnce.{Core, DoneOnce, Exclusive}
+use Rattle.safl_unit.proofs.WordsSeen.{words_seen}
 
 abbrev pub Steps : Type 0
 Steps = (C : Program) (P : Choice) → Numbered C → OneInUse C P.arbiter → ShownWordsServe C P.kept → (r0 : Registers) → Quiet r0 → (args : List Word) → length args ≡ arity C C.main → (later : ℕ → List Word) (c : ℕ) → StepsAt C P r0 args later c

@@ -82,11 +82,11 @@ module _ (w : Word) where
       ap (λ b. is_some (cond (not (r.sent (suc k)) && b) (cond (path C r 0) (wanted (on_wires C no_choice r) (r.arg 0) (plain.Const w) (suc k)) None) None)) (no_site k)
       ∙ ap (λ b. is_some (cond b (cond (path C r 0) (wanted (on_wires C no_choice r) (r.arg 0) (plain.Const w) (suc k)) None) None)) (and_right (not (r.sent (suc k))) false refl)
 
-  wires_at : (start run fin res ended looped goes word shown : ℕ) → Cells w start run fin res ended looped goes word shown → Wires C main_names no_choice n (nine start run fin res ended looped goes word shown) (registers_now C main_names no_choice n (nine start run fin res ended looped goes word shown)) (input_now C n (nine start run fin res ended looped goes word shown))
+  wires_at : (start run fin res ended looped goes word shown : ℕ) → Cells w start run fin res ended looped goes word shown → Wires C main_names no_choice n (nine start run fin res ended looped goes word shown) (registers_now C main_names n (nine start run fin res ended looped goes word shown)) (input_now C n (nine start run fin res ended looped goes word shown))
   unfolding place go body_says first answer input_numbers
   wires_at start zero fin res ended looped goes word shown c = record {
-    ends = only_zero (λ f. read n (nine start zero fin res ended looped goes word shown) (of_function main_names (codes "end$") f) ≡ bit (is_some (end_word C no_choice (registers_now C main_names no_choice n (nine start zero fin res ended looped goes word shown)) f))) c.ended_is;
-    loops = only_zero (λ f. read n (nine start zero fin res ended looped goes word shown) (of_function main_names (codes "loop$") f) ≡ bit (is_some (loop_words C no_choice (registers_now C main_names no_choice n (nine start zero fin res ended looped goes word shown)) f))) c.looped_is;
+    ends = only_zero (λ f. read n (nine start zero fin res ended looped goes word shown) (of_function main_names (codes "end$") f) ≡ bit (is_some (end_word C no_choice (registers_now C main_names n (nine start zero fin res ended looped goes word shown)) f))) c.ended_is;
+    loops = only_zero (λ f. read n (nine start zero fin res ended looped goes word shown) (of_function main_names (codes "loop$") f) ≡ bit (is_some (loop_words C no_choice (registers_now C main_names n (nine start zero fin res ended looped goes word shown)) f))) c.looped_is;
     wants = λ k pos le. absurd (omega (arith, pos, le));
     rets = λ k pos le. absurd (omega (arith, pos, le));
     arbs = λ k pos le. absurd (omega (arith, pos, le));
@@ -96,8 +96,8 @@ module _ (w : Word) where
     result = refl;
   }
   wires_at start (suc zero) fin res ended looped goes word shown c = record {
-    ends = only_zero (λ f. read n (nine start (suc zero) fin res ended looped goes word shown) (of_function main_names (codes "end$") f) ≡ bit (is_some (end_word C no_choice (registers_now C main_names no_choice n (nine start (suc zero) fin res ended looped goes word shown)) f))) c.ended_is;
-    loops = only_zero (λ f. read n (nine start (suc zero) fin res ended looped goes word shown) (of_function main_names (codes "loop$") f) ≡ bit (is_some (loop_words C no_choice (registers_now C main_names no_choice n (nine start (suc zero) fin res ended looped goes word shown)) f))) c.looped_is;
+    ends = only_zero (λ f. read n (nine start (suc zero) fin res ended looped goes word shown) (of_function main_names (codes "end$") f) ≡ bit (is_some (end_word C no_choice (registers_now C main_names n (nine start (suc zero) fin res ended looped goes word shown)) f))) c.ended_is;
+    loops = only_zero (λ f. read n (nine start (suc zero) fin res ended looped goes word shown) (of_function main_names (codes "loop$") f) ≡ bit (is_some (loop_words C no_choice (registers_now C main_names n (nine start (suc zero) fin res ended looped goes word shown)) f))) c.looped_is;
     wants = λ k pos le. absurd (omega (arith, pos, le));
     rets = λ k pos le. absurd (omega (arith, pos, le));
     arbs = λ k pos le. absurd (omega (arith, pos, le));
@@ -140,7 +140,7 @@ module _ (w : Word) (start run fin res ended looped goes word shown : ℕ) (c : 
   v = nine start run fin res ended looped goes word shown
 
   abbrev r : Registers
-  r = registers_now (C w) main_names no_choice (n w) v
+  r = registers_now (C w) main_names (n w) v
 
   abbrev i : Inputs
   i = input_now (C w) (n w) v
@@ -213,7 +213,7 @@ module _ (w : Word) (start run fin res ended looped goes word shown : ℕ) (c : 
       ∙ ap (λ b. cond (clears (C w) no_choice r 0) false b) (and_right (r.fin 0) false refl)
       ∙ not_both (clears (C w) no_choice r 0))
 
-  edge_at : Agree (C w) no_choice (registers_next (C w) main_names no_choice (n w) v) (next (C w) no_choice (input_now (C w) (n w) v) (registers_now (C w) main_names no_choice (n w) v))
+  edge_at : Agree (C w) no_choice (registers_next (C w) main_names (n w) v) (next (C w) no_choice (input_now (C w) (n w) v) (registers_now (C w) main_names (n w) v))
   unfolding place next
   edge_at = record {
     run = λ u. run_at u;
@@ -239,9 +239,9 @@ module _ (w : Word) where
     others = (codes "n$3", w.width) ∷ (codes "n$4", w.width) ∷ [];
     named = laid_wires w;
     resets = resets w;
-    wires = λ v state fits. by_nine v fits.full (λ v. Fits (n w) state v → Wires (C w) main_names no_choice (n w) v (registers_now (C w) main_names no_choice (n w) v) (input_now (C w) (n w) v))
+    wires = λ v state fits. by_nine v fits.full (λ v. Fits (n w) state v → Wires (C w) main_names no_choice (n w) v (registers_now (C w) main_names (n w) v) (input_now (C w) (n w) v))
         (λ start run fin res ended looped goes word shown f. wires_at w start run fin res ended looped goes word shown (cells w start run fin res ended looped goes word shown state f)) fits;
-    edge = λ v state fits. by_nine v fits.full (λ v. Fits (n w) state v → Agree (C w) no_choice (registers_next (C w) main_names no_choice (n w) v) (next (C w) no_choice (input_now (C w) (n w) v) (registers_now (C w) main_names no_choice (n w) v)))
+    edge = λ v state fits. by_nine v fits.full (λ v. Fits (n w) state v → Agree (C w) no_choice (registers_next (C w) main_names (n w) v) (next (C w) no_choice (input_now (C w) (n w) v) (registers_now (C w) main_names (n w) v)))
         (λ start run fin res ended looped goes word shown f. edge_at w start run fin res ended looped goes word shown (cells w start run fin res ended looped goes word shown state f)) fits;
   }
 

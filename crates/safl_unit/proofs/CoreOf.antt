@@ -7,7 +7,7 @@ use Rattle.safl_check.specs.WellFormed.{IsWellFormed}
 use Rattle.safl_core.proofs.FromWellFormed.{numbered}
 use Rattle.safl_core.proofs.PictureLaws.{one_meaning}
 use Rattle.safl_core.proofs.MachineLaws.{right, goes_on, bounded}
-use Rattle.safl_unit.specs.Done.{Core}
+use Rattle.safl_unit.proofs.DoneOnce.{Core}
 
 pub core_of : (C : Program) → IsWellFormed C → (args : List Word) → length args ≡ arity C C.main → (v : Word) (d : Main C args v) → Core C args v (3 * main_cost C args d)
 core_of C wf args sized v d = record {

@@ -1,3 +1,5 @@
+pub mod DoneOnce
+pub mod WordsSeen
 pub mod Claims
 pub mod Start
 pub mod Middle

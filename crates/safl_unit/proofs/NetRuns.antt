@@ -27,8 +27,8 @@ use Rattle.safl_net.specs.Valuations.{Valuation, Fits, read, read_output, next_s
 use Rattle.safl_net.specs.Runs.{RunFrom, GoesOn, start_number}
 use Rattle.safl_unit.specs.Names.{Names, of_function, one, bit, is_unit, as_word, as_words, numbers, registers_now, input_now}
 use Rattle.safl_unit.specs.Scheme.{Scheme, go_up}
-use Rattle.safl_unit.specs.Arguments.{words_seen}
-use Rattle.safl_unit.specs.Done.{DoneOnce, Exclusive}
+use Rattle.safl_unit.proofs.WordsSeen.{words_seen}
+use Rattle.safl_unit.proofs.DoneOnce.{DoneOnce, Exclusive}
 use Rattle.safl_unit.specs.Correct.{DoneIn, is_started, go_at, seen_at, words_seen_in, IsQuietState}
 use Rattle.safl_unit.proofs.Same.{Same}
 use Rattle.safl_unit.proofs.Typed.{edge_same, as_numbers, as_many}
@@ -72,7 +72,7 @@ module _ (C : Program) (D : Names) (P : Choice) (n : Netlist) (wf : IsWellFormed
   pub record Agreed (w : Valuation) (q : Registers) (i : Inputs) : Type 0 where
     pub state : ℕ → ℕ
     pub fits : Fits n state w
-    pub same : Same C P (registers_now C D P n w) q
+    pub same : Same C P (registers_now C D n w) q
     pub input : i ≡ input_now C n w
 
   later_start : (vs : List Valuation) (state : ℕ → ℕ) → GoesOn n state vs → (j : ℕ) (w : Valuation) → slice_get vs j ≡ Some w → start_number n w ≡ 0
@@ -80,13 +80,13 @@ module _ (C : Program) (D : Names) (P : Choice) (n : Netlist) (wf : IsWellFormed
   later_start (v ∷ vs) state goes zero w e = ap (start_number n) (sym (some_is v w e)) ∙ goes.1
   later_start (v ∷ vs) state goes (suc j) w e = later_start vs (next_state n v) goes.2 j w e
 
-  on_from : (args : List Word) (v w : Valuation) (state : ℕ → ℕ) (q q' : Registers) (i : Inputs) → Fits n state v → Same C P (registers_now C D P n v) q → i ≡ input_now C n v → q' ≡ next C P i q → Fits n (next_state n v) w → Same C P (registers_now C D P n w) q'
+  on_from : (args : List Word) (v w : Valuation) (state : ℕ → ℕ) (q q' : Registers) (i : Inputs) → Fits n state v → Same C P (registers_now C D n v) q → i ≡ input_now C n v → q' ≡ next C P i q → Fits n (next_state n v) w → Same C P (registers_now C D n w) q'
   on_from args v w state q q' i fits same input step fw =
       let a = same_then C D P n wf h1 h2 scheme args _ _ _ (regs_on C D P n wf h1 h2 scheme args v w fw) (edge_same C D P n wf scheme v state fits) in
-      let b = same_then C D P n wf h1 h2 scheme args _ _ _ a (next_same C P good (input_now C n v) (registers_now C D P n v) q same) in
-      subst (λ q'. Same C P (registers_now C D P n w) q') (sym (step ∙ ap (λ i. next C P i q) input)) b
+      let b = same_then C D P n wf h1 h2 scheme args _ _ _ a (next_same C P good (input_now C n v) (registers_now C D n v) q same) in
+      subst (λ q'. Same C P (registers_now C D n w) q') (sym (step ∙ ap (λ i. next C P i q) input)) b
 
-  tail : (args : List Word) (vs : List Valuation) (state : ℕ → ℕ) (q : ℕ → Registers) (i : ℕ → Inputs) → ((c : ℕ) → q (suc c) ≡ next C P (i c) (q c)) → ((j : ℕ) (w : Valuation) → slice_get vs j ≡ Some w → i j ≡ input_now C n w) → ((w : Valuation) → Fits n state w → Same C P (registers_now C D P n w) (q 0)) → GoesOn n state vs → (j : ℕ) (w : Valuation) → slice_get vs j ≡ Some w → Agreed w (q j) (i j)
+  tail : (args : List Word) (vs : List Valuation) (state : ℕ → ℕ) (q : ℕ → Registers) (i : ℕ → Inputs) → ((c : ℕ) → q (suc c) ≡ next C P (i c) (q c)) → ((j : ℕ) (w : Valuation) → slice_get vs j ≡ Some w → i j ≡ input_now C n w) → ((w : Valuation) → Fits n state w → Same C P (registers_now C D n w) (q 0)) → GoesOn n state vs → (j : ℕ) (w : Valuation) → slice_get vs j ≡ Some w → Agreed w (q j) (i j)
   tail args [] state q i step inputs same goes j w e = absurd (some_none w (sym e))
   tail args (v ∷ vs) state q i step inputs same goes zero w e =
       subst (λ w. Agreed w (q 0) (i 0)) (some_is v w e) (record { state = state; fits = goes.0; same = same v goes.0; input = inputs 0 v refl })
@@ -94,14 +94,14 @@ module _ (C : Program) (D : Names) (P : Choice) (n : Netlist) (wf : IsWellFormed
       tail args vs (next_state n v) (λ c. q (suc c)) (λ c. i (suc c)) (λ c. step (suc c)) (λ k x h. inputs (suc k) x h)
       (λ x fx. on_from args v x state (q 0) (q 1) (i 0) goes.0 (same v goes.0) (inputs 0 v refl) (step 0) fx) goes.2 j w e
 
-  module _ (args : List Word) (sized : AreWordsOf args (C.params C.main)) (state0 : ℕ → ℕ) (quiet0 : IsQuietState C D P n state0) (v0 : Valuation) (vs : List Valuation) (run : RunFrom n state0 (numbers args) (v0 ∷ vs)) where
+  module _ (args : List Word) (sized : AreWordsOf args (C.params C.main)) (state0 : ℕ → ℕ) (quiet0 : IsQuietState C D n state0) (v0 : Valuation) (vs : List Valuation) (run : RunFrom n state0 (numbers args) (v0 ∷ vs)) where
     many : length args ≡ arity C C.main
     many = as_many args (C.params C.main) sized
 
     abbrev r0 : Registers
-    r0 = registers_now C D P n v0
+    r0 = registers_now C D n v0
 
-    quiet : Quiet (registers_now C D P n v0)
+    quiet : Quiet (registers_now C D n v0)
     quiet = quiet0 v0 run.0
 
     abbrev later : ℕ → List Word
@@ -134,13 +134,13 @@ module _ (C : Program) (D : Names) (P : Choice) (n : Netlist) (wf : IsWellFormed
     result_is c w e =
         let a = agreed c w e in
         ap (as_word (C.result C.main)) (scheme.wires w a.state a.fits).result
-        ∙ ap (λ x. as_word x ((registers_now C D P n w).res (C.unit C.main)).bits) (sym (wf.first C.main wf.main_in).2)
+        ∙ ap (λ x. as_word x ((registers_now C D n w).res (C.unit C.main)).bits) (sym (wf.first C.main wf.main_in).2)
         ∙ a.same.res (C.unit C.main)
 
     go_is : (c : ℕ) (w : Valuation) → slice_get (v0 ∷ vs) c ≡ Some w → (k : ℕ) → k ≤ C.sites → go_up n w k ≡ go C P (r c) (input_at args later c) k
-    go_is c w e k le = by k le ∙ ap (λ i. go C P (registers_now C D P n w) i k) (sym (agreed c w e).input) ∙ go_same C P good (input_at args later c) _ _ (agreed c w e).same k
+    go_is c w e k le = by k le ∙ ap (λ i. go C P (registers_now C D n w) i k) (sym (agreed c w e).input) ∙ go_same C P good (input_at args later c) _ _ (agreed c w e).same k
       where
-        by : (k : ℕ) → k ≤ C.sites → go_up n w k ≡ go C P (registers_now C D P n w) (input_now C n w) k
+        by : (k : ℕ) → k ≤ C.sites → go_up n w k ≡ go C P (registers_now C D n w) (input_now C n w) k
         by zero le = let a = agreed c w e in one_is _ _ (scheme.wires w a.state a.fits).goes_main
         by (suc k) le = let a = agreed c w e in one_is _ _ ((scheme.wires w a.state a.fits).goes (suc k) (omega arith) le)
 
@@ -183,7 +183,7 @@ module _ (C : Program) (D : Names) (P : Choice) (n : Netlist) (wf : IsWellFormed
         let x : Exclusive C P r0 args later c = no_two_starts C P good h1 h2 r0 quiet args many later c in
         x.one j k (sym (go_is c w e j lej) ∙ a) (sym (go_is c w e k lek) ∙ b) same
 
-    rests_low : (c : ℕ) (w : Valuation) → slice_get (v0 ∷ vs) c ≡ Some w → (k : ℕ) → k ≤ C.sites → go_up n w k ≡ true → (registers_now C D P n w).run (unit_for C k) ≡ false
+    rests_low : (c : ℕ) (w : Valuation) → slice_get (v0 ∷ vs) c ≡ Some w → (k : ℕ) → k ≤ C.sites → go_up n w k ≡ true → (registers_now C D n w).run (unit_for C k) ≡ false
     rests_low c w e k le up =
         let x : Exclusive C P r0 args later c = no_two_starts C P good h1 h2 r0 quiet args many later c in
         (agreed c w e).same.run (unit_for C k) ∙ x.rests k (sym (go_is c w e k le) ∙ up)
@@ -195,7 +195,7 @@ module _ (C : Program) (D : Names) (P : Choice) (n : Netlist) (wf : IsWellFormed
         let unit : is_unit C (unit_for C k) ≡ true = and_from _ _ (lt-ltb (unit_for C k) C.functions (omega (arith, lt, first))) (eq-eqb (C.unit (unit_for C k)) (unit_for C k) (good.again (C.callee k) lt)) in
         true≢false (sym (and_from _ _ unit (ap one is)) ∙ rests_low c w e k le up)
 
-    pub quiet_then : (a c : ℕ) (v w : Valuation) → slice_get (v0 ∷ vs) a ≡ Some v → slice_get (v0 ∷ vs) c ≡ Some w → read_output n v (codes "done") ≡ 1 → a < c → Quiet (registers_now C D P n w)
+    pub quiet_then : (a c : ℕ) (v w : Valuation) → slice_get (v0 ∷ vs) a ≡ Some v → slice_get (v0 ∷ vs) c ≡ Some w → read_output n v (codes "done") ≡ 1 → a < c → Quiet (registers_now C D n w)
     quiet_then a c v w ea ec up lt =
         let q : Quiet (r c) = quiet_later C P good h1 h2 r0 quiet args many later a c (is_done a v ea up) lt in
         let s = (agreed c w ec).same in
@@ -224,7 +224,7 @@ module _ (C : Program) (D : Names) (P : Choice) (n : Netlist) (wf : IsWellFormed
         let loads_is : is_some (first (go_at C n w f) (suc C.sites)) ≡ is_some (loads C P (r c) (input_at args later c) f) =
         first_some_same (go_at C n w f) (load_in C P (r c) (input_at args later c) f) (suc C.sites)
         (λ k le. by (C.callee k == f) (go_up n w k) k (go_words C P (r c) (input_at args later c) k) (go_is c w e k (omega (arith, le)) ∙ sym (go_wants (r c) (input_at args later c) k))) in
-        let loop_is : one (read n w (of_function D (codes "loop$") f)) ≡ is_some (loop_words C P (registers_now C D P n w) f) = one_is _ _ ((scheme.wires w a.state a.fits).loops f lt) in
+        let loop_is : one (read n w (of_function D (codes "loop$") f)) ≡ is_some (loop_words C P (registers_now C D n w) f) = one_is _ _ ((scheme.wires w a.state a.fits).loops f lt) in
         ap (λ b. b || one (read n w (of_function D (codes "loop$") f))) loads_is
         ∙ ap (λ b. is_some (loads C P (r c) (input_at args later c) f) || b) (loop_is ∙ ap is_some (loop_same c w e f))
       where
@@ -235,10 +235,10 @@ module _ (C : Program) (D : Names) (P : Choice) (n : Netlist) (wf : IsWellFormed
         by true false k (Some ws) q = absurd (false≢true q)
         by false x k o q = refl
 
-        loop_same : (c : ℕ) (w : Valuation) → slice_get (v0 ∷ vs) c ≡ Some w → (f : ℕ) → loop_words C P (registers_now C D P n w) f ≡ loop_words C P (r c) f
+        loop_same : (c : ℕ) (w : Valuation) → slice_get (v0 ∷ vs) c ≡ Some w → (f : ℕ) → loop_words C P (registers_now C D n w) f ≡ loop_words C P (r c) f
         loop_same c w e f = loop_words_same C P good (input_at args later c) _ _ (agreed c w e).same f
 
-    seen_is : (f : ℕ) → f < C.functions → (c : ℕ) → c < length (v0 ∷ vs) → words_seen_in C D P n (v0 ∷ vs) f c ≡ words_seen C P r0 args later f c
+    seen_is : (f : ℕ) → f < C.functions → (c : ℕ) → c < length (v0 ∷ vs) → words_seen_in C D n (v0 ∷ vs) f c ≡ words_seen C P r0 args later f c
     unfolding words_seen_in words_seen
     seen_is f lt zero le = refl
     seen_is f lt (suc c) le =
@@ -246,12 +246,12 @@ module _ (C : Program) (D : Names) (P : Choice) (n : Netlist) (wf : IsWellFormed
         let w = get_or (v0 ∷ vs) (suc c) [] in
         let ev : slice_get (v0 ∷ vs) c ≡ Some v = slice_get-get_or (v0 ∷ vs) c [] (omega (arith, le)) in
         let ew : slice_get (v0 ∷ vs) (suc c) ≡ Some w = slice_get-get_or (v0 ∷ vs) (suc c) [] le in
-        ap (λ l. l ++ seen_at C D P n f (slice_get (v0 ∷ vs) c) (slice_get (v0 ∷ vs) (suc c))) (seen_is f lt c (omega (arith, le)))
-        ∙ ap (λ o. words_seen C P r0 args later f c ++ seen_at C D P n f o (slice_get (v0 ∷ vs) (suc c))) ev
-        ∙ ap (λ o. words_seen C P r0 args later f c ++ seen_at C D P n f (Some v) o) ew
-        ∙ ap (λ b. words_seen C P r0 args later f c ++ cond b ((registers_now C D P n w).arg f ∷ []) []) (started_is c v ev f lt)
+        ap (λ l. l ++ seen_at C D n f (slice_get (v0 ∷ vs) c) (slice_get (v0 ∷ vs) (suc c))) (seen_is f lt c (omega (arith, le)))
+        ∙ ap (λ o. words_seen C P r0 args later f c ++ seen_at C D n f o (slice_get (v0 ∷ vs) (suc c))) ev
+        ∙ ap (λ o. words_seen C P r0 args later f c ++ seen_at C D n f (Some v) o) ew
+        ∙ ap (λ b. words_seen C P r0 args later f c ++ cond b ((registers_now C D n w).arg f ∷ []) []) (started_is c v ev f lt)
         ∙ ap (λ x. words_seen C P r0 args later f c ++ cond (starts_it C P (r c) (input_at args later c) f) (x ∷ []) []) ((agreed (suc c) w ew).same.arg f lt)
 
-    pub same_lists : (v : Word) (d : Main C args v) (c : ℕ) → c < length (v0 ∷ vs) → 3 * main_cost C args d ≤ suc c → (f : ℕ) → f < C.functions → IsPermutation (main_calls C args d f) (words_seen_in C D P n (v0 ∷ vs) f c)
+    pub same_lists : (v : Word) (d : Main C args v) (c : ℕ) → c < length (v0 ∷ vs) → 3 * main_cost C args d ≤ suc c → (f : ℕ) → f < C.functions → IsPermutation (main_calls C args d f) (words_seen_in C D n (v0 ∷ vs) f c)
     same_lists v d c le long f lt =
         subst (λ l. IsPermutation (main_calls C args d f) l) (sym (seen_is f lt c le)) (calls_seen C P wf h1 h2 r0 quiet args many later v d f c lt long)

@@ -82,7 +82,7 @@ module _ (C : Program) (D : Names) (P : Choice) (n : Netlist) (wf : IsWellFormed
   hands_on : (v w : Valuation) (name : List ℕ) → Fits n (next_state n v) w → IsRegister n name → read n w name ≡ read_next n v name
   hands_on v w name fits reg = register_word (next_state n v) w name fits reg ∙ sym (ap (next_at n v) reg.found)
 
-  pub regs_on : (v w : Valuation) → Fits n (next_state n v) w → Same C P (registers_now C D P n w) (registers_next C D P n v)
+  pub regs_on : (v w : Valuation) → Fits n (next_state n v) w → Same C P (registers_now C D n w) (registers_next C D n v)
   regs_on v w fits = record {
     run = λ u. and_cong (is_unit C u) _ _ (λ is. ap one (hands_on v w _ fits (registers.run u is)));
     fin = λ u. and_cong (is_unit C u) _ _ (λ is. ap one (hands_on v w _ fits (registers.fin u is)));
@@ -123,26 +123,26 @@ module _ (C : Program) (D : Names) (P : Choice) (n : Netlist) (wf : IsWellFormed
 
   -- every valuation that fits a state shows where the events lead
   pub record Shown (es : List Event) (state : ℕ → ℕ) : Type 0 where
-    pub shows : (v : Valuation) → Fits n state v → Shows C P (after C args opening es) (registers_now C D P n v)
-    pub lasts : (v : Valuation) → Fits n state v → (u : ℕ) → (registers_now C D P n v).res u ≡ last_word C args opening es u (as_word (C.result u) 0)
+    pub shows : (v : Valuation) → Fits n state v → Shows C P (after C args opening es) (registers_now C D n v)
+    pub lasts : (v : Valuation) → Fits n state v → (u : ℕ) → (registers_now C D n v).res u ≡ last_word C args opening es u (as_word (C.result u) 0)
 
   module _ (es : List Event) (legal : Legal C args opening es) (state : ℕ → ℕ) (shown : Shown es state) (v : Valuation) (fits : Fits n state v)
       (start : one (start_number n v) ≡ true → ((after C args opening es).site 0 ≡ Unsent) × ((input_now C n v).words ≡ args) × (length args ≡ arity C C.main)) where
-    events : net_events C D n v ≡ cycle_events C P (registers_now C D P n v) (input_now C n v)
-    events = events_same v (registers_now C D P n v) (input_now C n v) (scheme.wires v state fits)
+    events : net_events C D n v ≡ cycle_events C P (registers_now C D n v) (input_now C n v)
+    events = events_same v (registers_now C D n v) (input_now C n v) (scheme.wires v state fits)
 
     pub legal_cycle : Legal C args opening (es ++ net_events C D n v)
-    legal_cycle = subst (λ l. Legal C args opening (es ++ l)) (sym events) (legal_next C P args good h1 h2 (λ u. as_word (C.result u) 0) es legal (registers_now C D P n v) (input_now C n v) (shown.shows v fits) (shown.lasts v fits) start)
+    legal_cycle = subst (λ l. Legal C args opening (es ++ l)) (sym events) (legal_next C P args good h1 h2 (λ u. as_word (C.result u) 0) es legal (registers_now C D n v) (input_now C n v) (shown.shows v fits) (shown.lasts v fits) start)
 
     pub shown_next : Shown (es ++ net_events C D n v) (next_state n v)
     shown_next = record {
-      shows = λ w fw. shows_same (after C args opening (es ++ net_events C D n v)) (registers_now C D P n w) (next C P (input_now C n v) (registers_now C D P n v)) (inv_after C args good _ legal_cycle)
-          (subst (λ l. Shows C P (after C args opening (es ++ l)) (next C P (input_now C n v) (registers_now C D P n v))) (sym events) (shows_next C P args good h1 h2 (λ u. as_word (C.result u) 0) es legal (registers_now C D P n v) (input_now C n v) (shown.shows v fits) (shown.lasts v fits) start))
+      shows = λ w fw. shows_same (after C args opening (es ++ net_events C D n v)) (registers_now C D n w) (next C P (input_now C n v) (registers_now C D n v)) (inv_after C args good _ legal_cycle)
+          (subst (λ l. Shows C P (after C args opening (es ++ l)) (next C P (input_now C n v) (registers_now C D n v))) (sym events) (shows_next C P args good h1 h2 (λ u. as_word (C.result u) 0) es legal (registers_now C D n v) (input_now C n v) (shown.shows v fits) (shown.lasts v fits) start))
           (onto w fw);
-      lasts = λ w fw u. (onto w fw).res u ∙ lasts_next C P args good h1 h2 (λ u. as_word (C.result u) 0) es legal (registers_now C D P n v) (input_now C n v) (shown.shows v fits) (shown.lasts v fits) start u ∙ ap (λ l. last_word C args opening (es ++ l) u (as_word (C.result u) 0)) (sym events);
+      lasts = λ w fw u. (onto w fw).res u ∙ lasts_next C P args good h1 h2 (λ u. as_word (C.result u) 0) es legal (registers_now C D n v) (input_now C n v) (shown.shows v fits) (shown.lasts v fits) start u ∙ ap (λ l. last_word C args opening (es ++ l) u (as_word (C.result u) 0)) (sym events);
     }
       where
-        onto : (w : Valuation) → Fits n (next_state n v) w → Same C P (registers_now C D P n w) (next C P (input_now C n v) (registers_now C D P n v))
+        onto : (w : Valuation) → Fits n (next_state n v) w → Same C P (registers_now C D n w) (next C P (input_now C n v) (registers_now C D n v))
         onto w fw = same_then _ _ _ (regs_on v w fw) (edge_same C D P n wf scheme v state fits)
 
   later : (vs : List Valuation) (es : List Event) → Legal C args opening es → (state : ℕ → ℕ) → Shown es state → GoesOn n state vs → StepsFrom C D P n args es vs
@@ -158,7 +158,7 @@ module _ (C : Program) (D : Names) (P : Choice) (n : Netlist) (wf : IsWellFormed
       absurd' : one (start_number n v) ≡ true → ((after C args opening es).site 0 ≡ Unsent) × ((input_now C n v).words ≡ args) × (length args ≡ arity C C.main)
       absurd' up = absurd (false≢true (sym (ap one goes.1) ∙ up))
 
-  pub first_quiet : (v : Valuation) → Fits n (reset_state n) v → Quiet (registers_now C D P n v)
+  pub first_quiet : (v : Valuation) → Fits n (reset_state n) v → Quiet (registers_now C D n v)
   first_quiet v fits = record {
     run = λ u. down (is_unit C u) _ (λ is. ap one (clear _ (registers.run u is)));
     fin = λ u. down (is_unit C u) _ (λ is. ap one (clear _ (registers.fin u is)));

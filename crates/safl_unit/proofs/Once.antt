@@ -7,7 +7,7 @@ use Rattle.safl_unit.proofs.Progress.{some_up}
 use Rattle.safl_unit.proofs.Rest.{quiet_if}
 use Rattle.safl_unit.proofs.Start.{ret_delivers}
 use Rattle.safl_unit.specs.Equations.{Registers, Choice, ret, go, cycle_events}
-use Rattle.safl_unit.specs.Done.{Core, DoneOnce, Exclusive}
+use Rattle.safl_unit.proofs.DoneOnce.{Core, DoneOnce, Exclusive}
 use Rattle.safl_unit.specs.Steps.{StepsAt, Quiet, input_at, registers_at, history}
 use Rattle.safl_core.proofs.Basics.{legal_append, legal_one, cond_some}
 use Rattle.safl_core.proofs.Invariant.{Inv, inv_after}

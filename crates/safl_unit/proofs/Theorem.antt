@@ -35,7 +35,7 @@ module _ (C : Program) (D : Names) (P : Choice) (n : Netlist) (wf : IsWellFormed
   h2 : ShownWordsServe C P.kept
   h2 = kept_serves C P.kept (numbered C wf) enough.keeps
 
-  module _ (state : ℕ → ℕ) (quiet0 : IsQuietState C D P n state) where
+  module _ (state : ℕ → ℕ) (quiet0 : IsQuietState C D n state) where
     comes : (args : List Word) → AreWordsOf args (C.params C.main) → (vs : List Valuation) → RunFrom n state (numbers args) vs → (v : Word) (m : ℕ) → GivesInCalls C args v m → 3 * m ≤ length vs → DoneIn n vs v (3 * m)
     comes args sized [] r v m gives long =
         let d = agree_to C args v m gives in
@@ -57,21 +57,21 @@ module _ (C : Program) (D : Names) (P : Choice) (n : Netlist) (wf : IsWellFormed
     rests args sized [] r c w e k le up is = some_none w (sym e)
     rests args sized (v0 ∷ vs) r c w e k le up is = run.rests C D P n wf h1 h2 scheme args sized state quiet0 v0 vs r c w e k le up is
 
-    quiet : QuietAfterDone C D P n state
+    quiet : QuietAfterDone C D n state
     quiet args sized [] r a c v w ea ec up lt = absurd (some_none v (sym ea))
     quiet args sized (v0 ∷ vs) r a c v w ea ec up lt = run.quiet_then C D P n wf h1 h2 scheme args sized state quiet0 v0 vs r a c v w ea ec up lt
 
-    calls : SameCalls C D P n state
+    calls : SameCalls C D n state
     calls args sized [] r v d c le long f lt = absurd (omega (arith, le))
     calls args sized (v0 ∷ vs) r v d c le long f lt = run.same_lists C D P n wf h1 h2 scheme args sized state quiet0 v0 vs r v d c le long f lt
 
     behaves : Behaves C D n state
     behaves = record { comes = comes; only = only; alone = alone; rests = rests }
 
-    runs : Runs C D P n state
+    runs : Runs C D n state
     runs = record { behaves = behaves; quiet = quiet; calls = calls }
 
-  reset_quiet : IsQuietState C D P n (reset_state n)
+  reset_quiet : IsQuietState C D n (reset_state n)
   reset_quiet v fits = first_quiet C D P n wf h1 h2 scheme [] v fits
 
   good : Numbered C

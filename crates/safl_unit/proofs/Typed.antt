@@ -223,7 +223,7 @@ free_named (p ∷ ps) (w ∷ ws) len =
     other = false_from_ne_true _ (λ t. let e = ap head ((bytes_eq-Decides (codes "in$" ++ p) (codes "start")).0 t) in absurd (omega (arith, e)))
 
 module _ (C : Program) (D : Names) (P : Choice) (n : Netlist) (wf : IsWellFormed C) (scheme : Scheme C D P n) where
-  typed_view : (get : List ℕ → ℕ) → Typed C (view C D P get)
+  typed_view : (get : List ℕ → ℕ) → Typed C (view C D get)
   typed_view get = record {
     res = λ u. refl;
     arg = λ f lt. as_widths (C.params f) (map (λ p. get (of_param D f p)) (D.params f)) (map_length (λ p. get (of_param D f p)) (D.params f) ∙ scheme.params f lt);
@@ -237,6 +237,6 @@ module _ (C : Program) (D : Names) (P : Choice) (n : Netlist) (wf : IsWellFormed
       (count_inputs n.signals v fits.full ∙ ap free_lines scheme.inputs ∙ free_named (D.params C.main) (C.params C.main) (scheme.params C.main wf.main_in))
 
   -- the edge of the scheme, in words
-  pub edge_same : (v : Valuation) (state : ℕ → ℕ) → Fits n state v → Same C P (registers_next C D P n v) (next C P (input_now C n v) (registers_now C D P n v))
+  pub edge_same : (v : Valuation) (state : ℕ → ℕ) → Fits n state v → Same C P (registers_next C D n v) (next C P (input_now C n v) (registers_now C D n v))
   edge_same v state fits =
-      agree_same C P (registers_next C D P n v) (next C P (input_now C n v) (registers_now C D P n v)) (typed_view (read_next n v)) (typed_next C P wf (registers_now C D P n v) (typed_view (read n v)) (input_now C n v) (typed_input v state fits)) (scheme.edge v state fits)
+      agree_same C P (registers_next C D n v) (next C P (input_now C n v) (registers_now C D n v)) (typed_view (read_next n v)) (typed_next C P wf (registers_now C D n v) (typed_view (read n v)) (input_now C n v) (typed_input v state fits)) (scheme.edge v state fits)

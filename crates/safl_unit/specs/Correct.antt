@@ -52,15 +52,15 @@ pub record Correct (C : Program) (D : Names) (n : Netlist) : Type 0 where
   pub behaves : Behaves C D n (reset_state n)
 
 -- a state whose registers are quiet
-abbrev pub IsQuietState : Program → Names → Choice → Netlist → (ℕ → ℕ) → Type 0
-IsQuietState C D P n state = (v : Valuation) → Fits n state v → Quiet (registers_now C D P n v)
+abbrev pub IsQuietState : Program → Names → Netlist → (ℕ → ℕ) → Type 0
+IsQuietState C D n state = (v : Valuation) → Fits n state v → Quiet (registers_now C D n v)
 
 -- the cycles of a run are steps of the machine, where these events came before
 abbrev pub StepsFrom : Program → Names → Choice → Netlist → List Word → List Event → List Valuation → Type 0
 StepsFrom C D P n args es [] = Unit {0}
 StepsFrom C D P n args es (v ∷ vs) =
-    Shows C P (after C args opening es) (registers_now C D P n v)
-    × ((u : ℕ) → (registers_now C D P n v).res u ≡ last_word C args opening es u (as_word (C.result u) 0))
+    Shows C P (after C args opening es) (registers_now C D n v)
+    × ((u : ℕ) → (registers_now C D n v).res u ≡ last_word C args opening es u (as_word (C.result u) 0))
     × Legal C args opening (es ++ net_events C D n v)
     × StepsFrom C D P n args (es ++ net_events C D n v) vs
 
@@ -68,8 +68,8 @@ abbrev pub Steps : Program → Names → Choice → Netlist → Type 0
 Steps C D P n = (args : List Word) → AreWordsOf args (C.params C.main) → (vs : List Valuation) → Run n (numbers args) vs → StepsFrom C D P n args [] vs
 
 -- after done the registers are quiet for good
-abbrev pub QuietAfterDone : Program → Names → Choice → Netlist → (ℕ → ℕ) → Type 0
-QuietAfterDone C D P n state = (args : List Word) → AreWordsOf args (C.params C.main) → (vs : List Valuation) → RunFrom n state (numbers args) vs → (a c : ℕ) (v w : Valuation) → slice_get vs a ≡ Some v → slice_get vs c ≡ Some w → read_output n v (codes "done") ≡ 1 → a < c → Quiet (registers_now C D P n w)
+abbrev pub QuietAfterDone : Program → Names → Netlist → (ℕ → ℕ) → Type 0
+QuietAfterDone C D n state = (args : List Word) → AreWordsOf args (C.params C.main) → (vs : List Valuation) → RunFrom n state (numbers args) vs → (a c : ℕ) (v w : Valuation) → slice_get vs a ≡ Some v → slice_get vs c ≡ Some w → read_output n v (codes "done") ≡ 1 → a < c → Quiet (registers_now C D n w)
 
 -- a go wire of a site of f, or its loop wire, is 1
 abbrev pub go_at : Program → Netlist → Valuation → ℕ → ℕ → Option ℕ
@@ -78,15 +78,15 @@ go_at C n v f k = cond (C.callee k == f && go_up n v k) (Some k) None
 abbrev pub is_started : Program → Names → Netlist → Valuation → ℕ → Bool
 is_started C D n v f = is_some (first (go_at C n v f) (suc C.sites)) || one (read n v (of_function D (codes "loop$") f))
 
-abbrev pub seen_at : Program → Names → Choice → Netlist → ℕ → Option Valuation → Option Valuation → List (List Word)
-seen_at C D P n f (Some v) (Some w) = cond (is_started C D n v f) ((registers_now C D P n w).arg f ∷ []) []
-seen_at C D P n f _ _ = []
+abbrev pub seen_at : Program → Names → Netlist → ℕ → Option Valuation → Option Valuation → List (List Word)
+seen_at C D n f (Some v) (Some w) = cond (is_started C D n v f) ((registers_now C D n w).arg f ∷ []) []
+seen_at C D n f _ _ = []
 
 -- the words on f's argument registers in the cycle after each cycle before c in which f is started
-unfoldable pub words_seen_in : Program → Names → Choice → Netlist → List Valuation → ℕ → ℕ → List (List Word)
-words_seen_in C D P n vs f zero = []
-words_seen_in C D P n vs f (suc c) = words_seen_in C D P n vs f c ++ seen_at C D P n f (slice_get vs c) (slice_get vs (suc c))
+unfoldable pub words_seen_in : Program → Names → Netlist → List Valuation → ℕ → ℕ → List (List Word)
+words_seen_in C D n vs f zero = []
+words_seen_in C D n vs f (suc c) = words_seen_in C D n vs f c ++ seen_at C D n f (slice_get vs c) (slice_get vs (suc c))
 
 -- are the argument lists of the evaluation, in some order
-abbrev pub SameCalls : Program → Names → Choice → Netlist → (ℕ → ℕ) → Type 0
-SameCalls C D P n state = (args : List Word) → AreWordsOf args (C.params C.main) → (vs : List Valuation) → RunFrom n state (numbers args) vs → (v : Word) (d : Main C args v) (c : ℕ) → c < length vs → 3 * main_cost C args d ≤ suc c → (f : ℕ) → f < C.functions → IsPermutation (main_calls C args d f) (words_seen_in C D P n vs f c)
+abbrev pub SameCalls : Program → Names → Netlist → (ℕ → ℕ) → Type 0
+SameCalls C D n state = (args : List Word) → AreWordsOf args (C.params C.main) → (vs : List Valuation) → RunFrom n state (numbers args) vs → (v : Word) (d : Main C args v) (c : ℕ) → c < length vs → 3 * main_cost C args d ≤ suc c → (f : ℕ) → f < C.functions → IsPermutation (main_calls C args d f) (words_seen_in C D n vs f c)

@@ -1,7 +1,5 @@
 pub mod Equations
 pub mod Steps
-pub mod Done
-pub mod Arguments
 pub mod Names
 pub mod Layout
 pub mod Scheme

@@ -3,7 +3,7 @@ use Rattle.std.specs.Prelude.{ℕ, List, [], ◌∷◌, ◌++◌, map, Bool, con
 use Rattle.std.specs.Fmt.{decimal}
 use Rattle.safl_word.specs.Words.{Word}
 use Rattle.safl_check.specs.Program.{Program}
-use Rattle.safl_unit.specs.Equations.{Registers, Inputs, Choice}
+use Rattle.safl_unit.specs.Equations.{Registers, Inputs}
 use Rattle.safl_net.specs.Netlist.{Netlist}
 use Rattle.safl_net.specs.Valuations.{Valuation, read, read_next}
 use Rattle.safl_net.specs.Runs.{start_number, input_numbers}
@@ -47,8 +47,8 @@ abbrev pub numbers : List Word → List ℕ
 numbers vs = map (λ v. v.bits) vs
 
 -- the registers by their names, where a reader `get` gives each name a number
-abbrev pub view : Program → Names → Choice → (List ℕ → ℕ) → Registers
-view C D P get = record {
+abbrev pub view : Program → Names → (List ℕ → ℕ) → Registers
+view C D get = record {
   run = λ u. is_unit C u && one (get (of_function D (codes "run$") u));
   fin = λ u. is_unit C u && one (get (of_function D (codes "fin$") u));
   res = λ u. as_word (C.result u) (cond (is_unit C u) (get (of_function D (codes "res$") u)) 0);
@@ -60,11 +60,11 @@ view C D P get = record {
 }
 
 -- the registers of a cycle, and those that it leaves
-abbrev pub registers_now : Program → Names → Choice → Netlist → Valuation → Registers
-registers_now C D P n v = view C D P (read n v)
+abbrev pub registers_now : Program → Names → Netlist → Valuation → Registers
+registers_now C D n v = view C D (read n v)
 
-abbrev pub registers_next : Program → Names → Choice → Netlist → Valuation → Registers
-registers_next C D P n v = view C D P (read_next n v)
+abbrev pub registers_next : Program → Names → Netlist → Valuation → Registers
+registers_next C D n v = view C D (read_next n v)
 
 abbrev pub input_now : Program → Netlist → Valuation → Inputs
 input_now C n v = record { start = one (start_number n v); words = as_words (C.params C.main) (input_numbers n.signals v) }

@@ -46,8 +46,8 @@ pub record Scheme (C : Program) (D : Names) (P : Choice) (n : Netlist) : Type 0 
   pub others : List Line
   pub named : each_line wire_kind n.signals ≡ layout_wires C D P ++ others
   pub resets : (s : ℕ) → reset_state n s ≡ 0
-  pub wires : (v : Valuation) (state : ℕ → ℕ) → Fits n state v → Wires C D P n v (registers_now C D P n v) (input_now C n v)
-  pub edge : (v : Valuation) (state : ℕ → ℕ) → Fits n state v → Agree C P (registers_next C D P n v) (next C P (input_now C n v) (registers_now C D P n v))
+  pub wires : (v : Valuation) (state : ℕ → ℕ) → Fits n state v → Wires C D P n v (registers_now C D n v) (input_now C n v)
+  pub edge : (v : Valuation) (state : ℕ → ℕ) → Fits n state v → Agree C P (registers_next C D n v) (next C P (input_now C n v) (registers_now C D n v))
 
 -- the events of a cycle, by its named wires
 abbrev pub ret_on : Netlist → Valuation → ℕ → Bool

@@ -15,17 +15,17 @@ use Rattle.safl_unit.specs.Correct.{Behaves, Correct, IsQuietState, Steps, Quiet
 
 -- from a state: done comes once, in time, with main's value, and no unit starts while running or twice at once;
 -- after done all is quiet; the argument registers see the calls of the evaluation
-pub record Runs (C : Program) (D : Names) (P : Choice) (n : Netlist) (state : ℕ → ℕ) : Type 0 where
+pub record Runs (C : Program) (D : Names) (n : Netlist) (state : ℕ → ℕ) : Type 0 where
   pub behaves : Behaves C D n state
-  pub quiet : QuietAfterDone C D P n state
-  pub calls : SameCalls C D P n state
+  pub quiet : QuietAfterDone C D n state
+  pub calls : SameCalls C D n state
 
 -- from reset, and from every quiet state; and from reset the cycles are steps of the machine
 pub record IsCircuit (C : Program) (D : Names) (P : Choice) (n : Netlist) : Type 0 where
   pub correct : Correct C D n
   pub steps : Steps C D P n
-  pub first : Runs C D P n (reset_state n)
-  pub again : (state : ℕ → ℕ) → IsQuietState C D P n state → Runs C D P n state
+  pub first : Runs C D n (reset_state n)
+  pub again : (state : ℕ → ℕ) → IsQuietState C D n state → Runs C D n state
 
 abbrev pub SchemesAreCircuits : Type 0
 SchemesAreCircuits = (C : Program) (D : Names) (P : Choice) (n : Netlist) → IsWellFormed C → Suffices C P.arbiter P.kept → Scheme C D P n → IsCircuit C D P n
