@@ -7,11 +7,15 @@ use Rattle.safl_word.specs.declared.primitive.Primitive.{Primitive}
 use Rattle.safl_check.specs.Terms.{Term, Const, Var, If, Let, Op, Call, Loop, Terms, Nil, Cons}
 use Rattle.safl_check.specs.Program.{Program}
 use Rattle.safl_check.specs.Meaning.{Gives, cost, costs}
-use Rattle.safl_check.specs.Readiness.{Stage, Unsent, Sent, Returned, back_word, back_of, Answer, Ready, LoopTo, NotYet, answer, answers, wanted, wanted_in, both, apply_to, loop_to, ready_from, select, with_all, or_else}
+use Rattle.safl_check.specs.Readiness.{Stage, Unsent, Sent, Returned, back_word, Answer, Ready, LoopTo, NotYet, answer, answers, wanted, wanted_in, both, apply_to, loop_to, ready_from, select, with_all, or_else}
 use Rattle.safl_check.specs.WellFormed.{Spans, SpansAll}
 use Rattle.safl_check.proofs.Shows.{Done, d_const, d_var, d_op, d_if, d_let, d_call, DoneAll, d_nil, d_cons, Tail, t_loop, t_if, t_let, Asks, a_here, a_arg, a_loop, a_op, a_cond, a_branch, a_bind, a_body, AsksIn, a_head, a_tail, done_gives, done_all_gives}
 use Rattle.safl_check.proofs.Unique.{one_value, one_list}
 use Rattle.safl_check.proofs.Places.{fits_le, fits_all_le, fits_choose, place, place_in}
+
+-- the returned words of sites of these stages
+abbrev pub back_of : (ℕ → Stage) → ℕ → Option Word
+back_of s k = back_word (s k)
 
 -- each returned site of the interval is asked by the term, and its word is right
 abbrev pub Held : Program → (ℕ → Stage) → List Word → ℕ → ℕ → Term → Type 0

@@ -16,9 +16,6 @@ back_word Unsent = None
 back_word Sent = None
 back_word (Returned v) = Some v
 
-abbrev pub back_of : (ℕ → Stage) → ℕ → Option Word
-back_of s k = back_word (s k)
-
 -- what a body comes to
 pub data Answer : Type 0 where
   Ready : (word : Word) → Answer

@@ -3,7 +3,8 @@ use Rattle.std.specs.Prelude.{◌≡◌, ℕ, suc, List, [], ◌∷◌, ◌++◌
 use Rattle.safl_word.specs.Words.{Word, no_word}
 use Rattle.safl_check.specs.Program.{Program}
 use Rattle.safl_check.specs.Meaning.{at_function}
-use Rattle.safl_check.specs.Readiness.{Stage, Unsent, Sent, Returned, back_of, Ready, LoopTo, answer, wanted}
+use Rattle.safl_check.specs.Readiness.{Stage, Unsent, Sent, Returned, Ready, LoopTo, answer, wanted}
+use Rattle.safl_check.proofs.Bridge.{back_of}
 use Rattle.safl_core.specs.Machine.{put, Event, Accept, Finish, Return, LoopInto}
 
 abbrev pub fresh : ℕ → Stage

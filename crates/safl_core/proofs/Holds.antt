@@ -8,7 +8,8 @@ use Rattle.safl_core.specs.Machine.{put}
 use Rattle.safl_check.proofs.Bridge.{Sound, View, ready, loops, waits, bridge, Wants}
 use Rattle.safl_check.proofs.Places.{place}
 use Rattle.safl_check.proofs.Shows.{Done, Tail, Asks, done_gives, tail_gives}
-use Rattle.safl_check.specs.Readiness.{Stage, Unsent, Sent, Returned, Answer, Ready, LoopTo, answer, back_of, wanted}
+use Rattle.safl_check.specs.Readiness.{Stage, Unsent, Sent, Returned, Answer, Ready, LoopTo, answer, wanted}
+use Rattle.safl_check.proofs.Bridge.{back_of}
 use Rattle.safl_check.specs.Meaning.{Gives}
 use Rattle.safl_check.specs.Program.{Program}
 use Rattle.safl_check.specs.Terms.{Term}

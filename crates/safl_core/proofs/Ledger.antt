@@ -8,7 +8,8 @@ use Rattle.safl_core.proofs.Preserved.{Fine, fine_step, fine_legal, fine_opening
 use Rattle.safl_core.proofs.Owed.{Weights, if_unsent, owed, owed_alike, done_owed, tail_owed, Marked, owed_call}
 use Rattle.safl_core.specs.Machine.{put, Event, Accept, Finish, Return, LoopInto}
 use Rattle.safl_check.proofs.Places.{place}
-use Rattle.safl_check.specs.Readiness.{Stage, Unsent, Sent, Returned, Ready, LoopTo, answer, back_of, wanted}
+use Rattle.safl_check.specs.Readiness.{Stage, Unsent, Sent, Returned, Ready, LoopTo, answer, wanted}
+use Rattle.safl_check.proofs.Bridge.{back_of}
 use Rattle.safl_check.specs.Meaning.{Main, Gives}
 use Rattle.safl_check.specs.Program.{Program}
 use Rattle.safl_check.specs.WellFormed.{IsNumbered}

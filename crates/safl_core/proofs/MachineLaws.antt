@@ -4,7 +4,8 @@ use Rattle.std.specs.List.Sorted.{IsPermutation}
 use Rattle.std.proofs.lemmas.Bool.{eq-eqb, and_from, le-leb}
 use Rattle.safl_word.specs.Words.{Word, no_word}
 use Rattle.safl_check.specs.Program.{Program, unit_for, arity}
-use Rattle.safl_check.specs.Readiness.{Stage, Unsent, Sent, Returned, back_of, Answer, LoopTo, NotYet, answer, wanted}
+use Rattle.safl_check.specs.Readiness.{Stage, Unsent, Sent, Returned, Answer, LoopTo, NotYet, answer, wanted}
+use Rattle.safl_check.proofs.Bridge.{back_of}
 use Rattle.safl_check.specs.Meaning.{Main, main_cost, main_calls, loops, at_function}
 use Rattle.safl_check.specs.WellFormed.{IsNumbered}
 use Rattle.safl_core.specs.Machine.{State, Mode, Idle, Runs, Delivers, Event, Accept, Finish, Return, LoopInto, opening, is_unsent, back, serves, says_as, says, asked_as, Enabled, accept, loop_into, fire, Legal, after}

@@ -4,7 +4,8 @@ use Rattle.std.proofs.Math.Path.{fun_ext}
 use Rattle.std.proofs.lemmas.Bool.{cases_eq, eq-eqb, ne_eqb, and_parts}
 use Rattle.safl_word.specs.Words.{Word}
 use Rattle.safl_check.specs.Program.{Program, unit_for}
-use Rattle.safl_check.specs.Readiness.{Stage, Unsent, Sent, Returned, back_word, back_of, Ready, LoopTo, NotYet, answer, wanted}
+use Rattle.safl_check.specs.Readiness.{Stage, Unsent, Sent, Returned, back_word, Ready, LoopTo, NotYet, answer, wanted}
+use Rattle.safl_check.proofs.Bridge.{back_of}
 use Rattle.safl_check.specs.Standing.{Stands}
 use Rattle.safl_core.specs.Machine.{State, Mode, Idle, Runs, Delivers, Event, Accept, Finish, Return, LoopInto, put, back, serves, says_as, says, asked_as, asked, Enabled, ended, accept, finish, give_back, loop_into, fire, Legal, after}
 use Rattle.safl_core.proofs.Numbered.{Numbered}

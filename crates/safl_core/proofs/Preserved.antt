@@ -6,7 +6,8 @@ use Rattle.safl_core.proofs.Activities.{fresh, Activity, Free, Active, Giving, S
 use Rattle.safl_core.specs.Machine.{put, Event}
 use Rattle.safl_check.proofs.Places.{place}
 use Rattle.safl_check.proofs.Shows.{Asks, Keeps, asks_keep}
-use Rattle.safl_check.specs.Readiness.{Stage, Unsent, Sent, Returned, back_of, wanted}
+use Rattle.safl_check.specs.Readiness.{Stage, Unsent, Sent, Returned, wanted}
+use Rattle.safl_check.proofs.Bridge.{back_of}
 use Rattle.safl_check.specs.Meaning.{Gives}
 use Rattle.safl_check.specs.Program.{Program}
 use Rattle.safl_check.specs.WellFormed.{IsNumbered}

@@ -8,7 +8,8 @@ use Rattle.safl_core.specs.Machine.{Event, Accept, Finish, Return, LoopInto}
 use Rattle.safl_check.proofs.Bridge.{View, ready, loops, waits, Wants}
 use Rattle.safl_check.proofs.Places.{place, fits_choose}
 use Rattle.safl_check.proofs.Shows.{Tail, t_loop, t_if, t_let}
-use Rattle.safl_check.specs.Readiness.{Stage, Unsent, Sent, Returned, Answer, Ready, LoopTo, NotYet, answer, back_of, wanted}
+use Rattle.safl_check.specs.Readiness.{Stage, Unsent, Sent, Returned, Answer, Ready, LoopTo, NotYet, answer, wanted}
+use Rattle.safl_check.proofs.Bridge.{back_of}
 use Rattle.safl_check.specs.Program.{Program}
 use Rattle.safl_check.specs.Terms.{Term}
 use Rattle.safl_check.specs.WellFormed.{Spans, IsNumbered}

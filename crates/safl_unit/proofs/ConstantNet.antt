@@ -1,12 +1,14 @@
 -- The netlist of a constant has the signals and outputs of its program's layout.
-use Rattle.std.proofs.Common.{◌≡◌, ℕ, zero, suc, ◌+◌, ◌<◌, List, [], ◌∷◌, ◌++◌, Some, None, refl, sym, ap, subst, arith}
+use Rattle.std.proofs.Common.{◌≡◌, ◌∙◌, ℕ, zero, suc, ◌+◌, ◌<◌, List, [], ◌∷◌, ◌++◌, Some, None, refl, sym, ap, subst, arith}
 use Rattle.std.specs.Prelude.{slice_get, codes}
+use Rattle.std.specs.Fmt.{decimal}
+use Rattle.std.proofs.lemmas.Fmt.{decimal_digit}
 use Rattle.safl_word.specs.Words.{Word}
 use Rattle.safl_core.specs.Picks.{first}
 use Rattle.safl_core.proofs.Basics.{some_is, some_none}
 use Rattle.safl_net.specs.Netlist.{Signal, Input, Reg, Wire, place, AllSet, IsSet, Kind}
 use Rattle.safl_net.specs.Valuations.{reset_state, reset_number, kind_reset, IsAcyclic}
-use Rattle.safl_unit.specs.Layout.{lines, each_line, input_kind, register_kind, wire_kind, layout_inputs, layout_registers, layout_wires, output_lines, layout_outputs}
+use Rattle.safl_unit.specs.Layout.{lines, each_line, input_kind, register_kind, wire_kind, layout_inputs, layout_registers, layout_wires, output_lines, layout_outputs, temporaries, HasPlan}
 use Rattle.safl_unit.specs.Constant.{constant_program, main_names, no_choice, constant_net}
 
 -- it holds of each signal with its number, counted from i on
@@ -80,4 +82,19 @@ module _ (w : Word) where
   no_loop = record {
     rank = λ s. s;
     rises = λ s t i g h c d e k o f m. one_below c.operands s i t (subst (λ l. AllBelow l s) (ap operands_of k) (operands_below s g e)) o;
+  }
+
+  -- the names of the two temporaries have the wires' numbers
+  temporaries_named : (codes "n$3", w.width) ∷ (codes "n$4", w.width) ∷ [] ≡ temporaries 3 (w.width ∷ w.width ∷ [])
+  temporaries_named =
+      ap (λ x. (codes "n$" ++ x, w.width) ∷ (codes "n$4", w.width) ∷ []) (sym (decimal_digit 3 (omega arith)))
+      ∙ ap (λ x. (codes "n$" ++ decimal 3, w.width) ∷ (codes "n$" ++ x, w.width) ∷ []) (sym (decimal_digit 4 (omega arith)))
+
+  pub has_plan : HasPlan (constant_program w) main_names no_choice (constant_net w)
+  unfolding lines
+  has_plan = record {
+    registers = laid_registers;
+    widths = w.width ∷ w.width ∷ [];
+    wires = laid_wires ∙ ap (λ l. layout_wires (constant_program w) main_names no_choice ++ l) temporaries_named;
+    direct = λ k pos le e. absurd (omega (arith, pos, le));
   }

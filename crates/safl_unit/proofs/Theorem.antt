@@ -8,7 +8,6 @@ use Rattle.safl_check.specs.WellFormed.{IsWellFormed, AreWordsOf}
 use Rattle.safl_check.proofs.Fuelled.{agree_to}
 use Rattle.safl_core.proofs.FromWellFormed.{numbered}
 use Rattle.safl_core.proofs.Basics.{some_none}
-use Rattle.safl_sites.specs.Plan.{Suffices}
 use Rattle.safl_core.specs.Interference.{OneInUse, ShownWordsServe}
 use Rattle.safl_core.proofs.Interference.{arbiter_serves}
 use Rattle.safl_core.proofs.KeptWords.{kept_serves}
@@ -19,7 +18,7 @@ use Rattle.safl_net.specs.Runs.{RunFrom}
 use Rattle.safl_unit.specs.Names.{Names, of_function, as_word, numbers, of_site}
 use Rattle.safl_unit.specs.Scheme.{Scheme, go_up}
 use Rattle.safl_unit.specs.Correct.{DoneIn, QuietAfterDone, SameCalls, Behaves, IsQuietState}
-use Rattle.safl_unit.specs.Theorem.{IsCircuit, SchemesAreCircuits, CyclesAreEvents, Runs}
+use Rattle.safl_unit.specs.Theorem.{IsCircuit, SchemesAreCircuits, ServingSchemesAreCircuits, CyclesAreEvents, Runs}
 use Rattle.safl_unit.proofs.Cycle as cycle
 use Rattle.safl_unit.proofs.NetSteps.{first_run, first_quiet}
 use Rattle.safl_unit.proofs.NetRuns as run
@@ -28,13 +27,7 @@ use Rattle.safl_core.proofs.Numbered.{Numbered}
 use Rattle.safl_unit.specs.Layout.{Line, Has, lines, each_line, register_kind, wire_kind, function_wires, site_wires, layout_wires}
 use Rattle.safl_unit.proofs.Laid.{has_left, has_right, lines_has, in_unit, unit_is, unit_lt, units}
 
-module _ (C : Program) (D : Names) (P : Choice) (n : Netlist) (wf : IsWellFormed C) (enough : Suffices C P.arbiter P.kept) (scheme : Scheme C D P n) where
-  h1 : OneInUse C P.arbiter
-  h1 = arbiter_serves C P.arbiter (numbered C wf) enough.arbiters
-
-  h2 : ShownWordsServe C P.kept
-  h2 = kept_serves C P.kept (numbered C wf) enough.keeps
-
+module _ (C : Program) (D : Names) (P : Choice) (n : Netlist) (wf : IsWellFormed C) (h1 : OneInUse C P.arbiter) (h2 : ShownWordsServe C P.kept) (scheme : Scheme C D P n) where
   module _ (state : ℕ → ℕ) (quiet0 : IsQuietState C D n state) where
     comes : (args : List Word) → AreWordsOf args (C.params C.main) → (vs : List Valuation) → RunFrom n state (numbers args) vs → (v : Word) (m : ℕ) → GivesInCalls C args v m → 3 * m ≤ length vs → DoneIn n vs v (3 * m)
     comes args sized [] r v m gives long =
@@ -108,8 +101,13 @@ module _ (C : Program) (D : Names) (P : Choice) (n : Netlist) (wf : IsWellFormed
     again = runs;
   }
 
+pub serving_schemes_are_circuits : ServingSchemesAreCircuits
+serving_schemes_are_circuits = is_circuit
+
 pub schemes_are_circuits : SchemesAreCircuits
-schemes_are_circuits = is_circuit
+schemes_are_circuits C D P n wf enough scheme =
+    let good : Numbered C = numbered C wf in
+    is_circuit C D P n wf (arbiter_serves C P.arbiter good enough.arbiters) (kept_serves C P.kept good enough.keeps) scheme
 
 pub cycles_are_events : CyclesAreEvents
 cycles_are_events C P wf h1 h2 r0 quiet args sized later c = cycle.steps C P (numbered C wf) h1 h2 r0 quiet args sized later c

@@ -7,6 +7,7 @@ use Rattle.safl_net.specs.declared.cell.Op.{Op}
 use Rattle.safl_net.specs.declared.cell.Op.TheVariants.{Const, Copy, Mux}
 use Rattle.safl_net.specs.Netlist.{Netlist, Signal, Input, Reg, Wire}
 use Rattle.safl_unit.specs.Equations.{Choice}
+use Rattle.safl_unit.specs.Layout.{HasPlan}
 use Rattle.safl_unit.specs.Names.{Names}
 use Rattle.safl_unit.specs.Theorem.{IsCircuit}
 
@@ -53,3 +54,6 @@ constant_net w = record {
 
 abbrev pub ConstantsAreCircuits : Type 0
 ConstantsAreCircuits = (w : Word) → IsWord w → IsCircuit (constant_program w) main_names no_choice (constant_net w)
+
+abbrev pub ConstantsHavePlans : Type 0
+ConstantsHavePlans = (w : Word) → HasPlan (constant_program w) main_names no_choice (constant_net w)

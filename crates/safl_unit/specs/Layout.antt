@@ -1,8 +1,10 @@
 -- The registers and named wires of a circuit, in their order.
-use Rattle.std.specs.Prelude.{ℕ, zero, suc, List, [], ◌∷◌, ◌++◌, map, cond, ◌==◌, nat_lt, codes, slice_get, ◌≡◌, ◌⊎◌}
+use Rattle.std.specs.Prelude.{ℕ, zero, suc, ◌<◌, ◌≤◌, List, [], ◌∷◌, ◌++◌, map, length, Some, false, cond, ◌==◌, nat_lt, codes, slice_get, ◌≡◌, ◌⊎◌}
+use Rattle.std.specs.Fmt.{decimal}
 use Rattle.safl_check.specs.Program.{Program, unit_for}
 use Rattle.safl_unit.specs.Equations.{Choice, many}
-use Rattle.safl_net.specs.Netlist.{Netlist, Signal, Kind, Input, Reg, Wire, width_in}
+use Rattle.safl_net.specs.declared.cell.Op.TheVariants.{Copy}
+use Rattle.safl_net.specs.Netlist.{Netlist, Signal, Kind, Input, Reg, Wire, width_in, place}
 use Rattle.safl_unit.specs.Names.{Names, of_function, of_site, of_param, is_unit}
 
 -- a name and its width
@@ -81,3 +83,26 @@ layout_outputs C = (codes "done", 1) ∷ (codes "result", C.result C.main) ∷ [
 abbrev pub Has : Line → List Line → Type 0
 Has x [] = ⊥
 Has x (y ∷ ys) = (y ≡ x) ⊎ Has x ys
+
+-- the wires after the named ones, from wire i on: each is named `n$` and its number among the wires
+abbrev pub temporaries : ℕ → List ℕ → List Line
+temporaries i [] = []
+temporaries i (w ∷ ws) = (codes "n$" ++ decimal i, w) ∷ temporaries (suc i) ws
+
+-- the signal of the one name is a copy of the signal of the other
+pub record IsCopy (n : Netlist) (name from : List ℕ) : Type 0 where
+  pub number : ℕ
+  pub signal : Signal
+  pub source : ℕ
+  pub named : place n.signals name 0 ≡ Some number
+  pub there : slice_get n.signals number ≡ Some signal
+  pub source_named : place n.signals from 0 ≡ Some source
+  pub copied : signal.kind ≡ Wire (Some (record { op = Copy; operands = source ∷ [] }))
+
+-- The registers are those of the layout and no others, the wires begin with the named ones, all further wires are
+-- temporaries, and a site whose unit has no arbiter starts by a copy of its want.
+pub record HasPlan (C : Program) (D : Names) (P : Choice) (n : Netlist) : Type 0 where
+  pub registers : each_line register_kind n.signals ≡ layout_registers C D P
+  pub widths : List ℕ
+  pub wires : each_line wire_kind n.signals ≡ layout_wires C D P ++ temporaries (length (layout_wires C D P)) widths
+  pub direct : (k : ℕ) → 0 < k → k ≤ C.sites → P.arbiter (unit_for C k) ≡ false → IsCopy n (of_site (codes "go$") k) (of_site (codes "want$") k)

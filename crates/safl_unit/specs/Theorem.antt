@@ -27,6 +27,11 @@ pub record IsCircuit (C : Program) (D : Names) (P : Choice) (n : Netlist) : Type
   pub first : Runs C D n (reset_state n)
   pub again : (state : ℕ → ℕ) → IsQuietState C D n state → Runs C D n state
 
+-- for all arbiters and kept words that the machine's states allow
+abbrev pub ServingSchemesAreCircuits : Type 0
+ServingSchemesAreCircuits = (C : Program) (D : Names) (P : Choice) (n : Netlist) → IsWellFormed C → OneInUse C P.arbiter → ShownWordsServe C P.kept → Scheme C D P n → IsCircuit C D P n
+
+-- which is so where each unit with sites in conflict has an arbiter, and each site that has to keep its word does
 abbrev pub SchemesAreCircuits : Type 0
 SchemesAreCircuits = (C : Program) (D : Names) (P : Choice) (n : Netlist) → IsWellFormed C → Suffices C P.arbiter P.kept → Scheme C D P n → IsCircuit C D P n
 

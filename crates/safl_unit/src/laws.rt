@@ -1,11 +1,17 @@
 //! Laws of circuits, over the definitions alone.
 
-ghost use Rattle.safl_unit.specs.Constant.{ConstantsAreCircuits};
-ghost use Rattle.safl_unit.specs.Theorem.{CyclesAreEvents, SchemesAreCircuits};
+ghost use Rattle.safl_unit.specs.Constant.{ConstantsAreCircuits, ConstantsHavePlans};
+ghost use Rattle.safl_unit.specs.Theorem.{CyclesAreEvents, SchemesAreCircuits, ServingSchemesAreCircuits};
 
-/// A netlist with the scheme of a well-formed program does what the program means.
+/// A netlist with the scheme of a well-formed program, whose arbiters and kept words suffice, does what the program
+/// means.
 pub fn circuit_law()
     ensures { SchemesAreCircuits }
+{}
+
+/// The same for all arbiters and kept words with which no two sites of a unit meet and shown words serve.
+pub fn serving_law()
+    ensures { ServingSchemesAreCircuits }
 {}
 
 /// The cycles of the registers are events of the call machine, from any quiet state.
@@ -13,7 +19,9 @@ pub fn cycle_law()
     ensures { CyclesAreEvents }
 {}
 
-/// Each constant's netlist is the circuit of the program whose main is this constant.
+/// Each constant's netlist is the circuit of the program whose main is this constant, with nothing but what the
+/// plan has.
 pub fn constant_law()
-    ensures { ConstantsAreCircuits }
+    ensures circuit { ConstantsAreCircuits }
+    ensures plan { ConstantsHavePlans }
 {}
