@@ -3,3 +3,5 @@ pub mod Keeping
 pub mod Tables
 pub mod Tidy
 pub mod Bounds
+pub mod Finding
+pub mod Growth

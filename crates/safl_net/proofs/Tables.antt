@@ -8,12 +8,12 @@ use Rattle.safl_net.specs.declared.cell.Sig.{Sig}
 use Rattle.safl_net.specs.declared.net.Row.{Row}
 use Rattle.safl_net.specs.declared.net.Driver.{Driver}
 use Rattle.safl_net.specs.Netlist.{Signal, Kind, Input, Reg, Wire}
-use Rattle.safl_net.specs.Names.{named_signal, named_output, has_name, one_wire, wires}
+use Rattle.safl_net.specs.Names.{is_good, named_signal, named_output, has_name, one_wire, wires}
 use Rattle.safl_net.specs.Making.{set_kind}
 use Rattle.safl_net.specs.Rules.{IsNetlist, SignalFits, KindFits}
 use Rattle.safl_net.specs.Stored.{kind_of, signal_of, signals_of, outputs_of, net_of, ResetFits, Keeps}
 use Rattle.safl_net.proofs.Naming.{pushed}
-use Rattle.safl_net.proofs.Keeping.{push_kept, set_kept}
+use Rattle.safl_net.proofs.Keeping.{push_kept, set_kept, output_kept}
 
 or_some : (a : Bool) {V : Type 0} (v : V) (o : Option V) (b : Bool) → is_some o ≡ b → is_some (cond a (Some v) o) ≡ (a || b)
 or_some true v o b e = refl
@@ -125,3 +125,16 @@ rows_set es os count i r d k here alike fits reset =
       resets = resets_set es i (driven r d) k.resets reset;
       counted = let e = k.counted in let q = ap wires p in let w = wires_set (signals_of es) i (kind_of d) (signal_of a.0 r) a.1 alike in omega (arith, e, q, w);
     }
+
+-- one more output
+pub outputs_push : (os : List (String Global × Sig)) (name : String Global) (s : Sig) → outputs_of (os ++ (name, s) ∷ []) ≡ outputs_of os ++ (string_bytes name, s.0) ∷ []
+outputs_push os name s = map_push _ os (name, s)
+
+pub outputs_kept : (es : List (String Global × Row)) (os : List (String Global × Sig)) (count : ℕ) (name : String Global) (s : Sig)
+    → Keeps es os count → length (outputs_of os) < 4294967295 → is_good (string_bytes name) ≡ true → has_name (net_of es os) (string_bytes name) ≡ false
+    → s.0 < length (signals_of es) → Keeps es (os ++ (name, s) ∷ []) count
+outputs_kept es os count name s k room good new here = record {
+    netlist = subst (λ (l : List (List ℕ × ℕ)). IsNetlist (record { signals = signals_of es; outputs = l })) (sym (outputs_push os name s)) (output_kept (net_of es os) (string_bytes name) s.0 k.netlist room good new here);
+    resets = k.resets;
+    counted = k.counted;
+  }

@@ -8,3 +8,4 @@ pub mod Widths
 pub mod Making
 pub mod Rules
 pub mod Stored
+pub mod Growth

@@ -2,6 +2,8 @@
 use Rattle.std.specs.Prelude.{◌≡◌, ℕ, zero, suc, List, [], ◌∷◌, ◌++◌, map, Option, Some, None, Result, Ok, Err, cond, unwrap_or, slice_get}
 use Rattle.std.specs.Option.{option_or}
 use Rattle.safl_net.specs.declared.cell.Sig.{Sig}
+use Rattle.safl_net.specs.declared.cell.SigKind.{SigKind}
+use Rattle.safl_net.specs.declared.cell.SigKind.TheVariants as SigKind
 use Rattle.safl_net.specs.declared.cell.Op.{Op}
 use Rattle.safl_net.specs.declared.net.NetErr.{NetErr}
 use Rattle.safl_net.specs.declared.net.NetErr.TheVariants.{NameTaken, BadName, NoMemory}
@@ -72,6 +74,12 @@ name_in (Some g) = g.name
 
 abbrev pub name_at : Netlist → ℕ → List ℕ
 name_at n s = name_in (slice_get n.signals s)
+
+-- what a signal is
+abbrev pub sort_of : Kind → SigKind
+sort_of Input = SigKind.Input
+sort_of (Reg init next) = SigKind.Reg
+sort_of (Wire cell) = SigKind.Wire
 
 -- the next signal of a register, and the cell of a wire
 abbrev pub next_in : Kind → Option ℕ

@@ -5,7 +5,7 @@ ghost use Rattle.safl_net.specs.Names.{one_wire, temp_name};
 ghost use Rattle.safl_net.specs.Making.{cell_on};
 ghost use Rattle.safl_net.specs.Stored.{kind_of, cell_of};
 
-use crate::cell::{Cell, Op, Sig, WidthsDiffer};
+use crate::cell::{Cell, Op, Sig, SigKind, WidthsDiffer};
 use crate::names::is_good_name;
 use crate::widths::op_width;
 use arrayvec::ArrayVec;
@@ -62,13 +62,14 @@ impl Model for Net {
 }
 
 impl Net {
-    ghost use Rattle.std.specs.Prelude.{◌≡◌, ℕ, ◌<◌, ◌≤◌, ◌^◌, [], length, true, false, Some, None, All, Ok, Err, IfOk, IfErr, OnOk, OnErr, IsOk, IsSome, ◌↔◌, unwrap_or, string_bytes};
+    ghost use Rattle.std.specs.Prelude.{◌≡◌, ℕ, ◌<◌, ◌≤◌, ◌^◌, [], length, true, false, Some, None, All, Ok, Err, option_copied, option_map, slice_get, IfOk, IfErr, OnOk, OnErr, IsOk, IsSome, ◌↔◌, unwrap_or, string_bytes};
     ghost use Rattle.safl_net.specs.Netlist.{Netlist, Input, Reg, Wire, width_of};
     ghost use Rattle.safl_net.specs.Names.{is_good, has_name, wires, one_wire, IsTidy};
     ghost use Rattle.safl_net.specs.Widths.{HasWord};
-    ghost use Rattle.safl_net.specs.Making.{with_signal, with_kind, with_output, cell_on, width_on, temporary, refusal, Refuses, kind_at, name_at, numbers};
+    ghost use Rattle.safl_net.specs.Making.{with_signal, with_kind, with_output, cell_on, width_on, temporary, refusal, Refuses, kind_at, name_at, numbers, sort_of, next_in, cell_in, found};
+    ghost use Rattle.safl_net.specs.Valuations.{reset_state};
     ghost use Rattle.safl_net.specs.Rules.{IsNetlist, KindFits};
-    ghost use Rattle.safl_net.specs.Stored.{signal_of, kind_of, ResetFits};
+    ghost use Rattle.safl_net.specs.Stored.{signal_of, kind_of, ResetFits, number_of, maybe_cell};
 
     /// No signals.
     pub fn new(alloc: Global) -> Net
@@ -190,6 +191,49 @@ impl Net {
         Ok(())
     }
 
+    /// Gives a register without a next signal its next signal. It takes no memory. `WidthsDiffer` exactly where the
+    /// widths differ; the net then stays as it was.
+    pub fn set_next(&mut self, r: Sig, s: Sig) -> Result<(), WidthsDiffer>
+        requires open { (kind_at self.old r.0 ≡ Reg (reset_state self.old r.0) None) }
+        requires known { s.0 < length self.old.signals }
+        ensures variant { IsOk result ↔ (width_of self.old s.0 ≡ width_of self.old r.0) }
+        ensures set { OnOk result (self.new ≡ with_kind self.old r.0 (Reg (reset_state self.old r.0) (Some s.0))) }
+        ensures told { IfErr result (λ e. e ≡ record { wanted = width_of self.old r.0; found = width_of self.old s.0 }) }
+        ensures refused { OnErr result (self.new ≡ self.old) }
+    {
+        let wanted = self.width(r);
+        let found = self.width(s);
+        if found != wanted {
+            return Err(WidthsDiffer { wanted, found });
+        }
+        let init = self.init(r);
+        self.set_driver(r, Driver::Reg(init, Some(s)));
+        Ok(())
+    }
+
+    /// The next output, which shows that signal. Refusals as for `input`.
+    pub fn output(&mut self, name: &str, s: Sig) -> Result<(), NetErr>
+        requires known { s.0 < length self.old.signals }
+        requires room { length self.old.outputs < 4294967295 }
+        ensures added { OnOk result (self.new ≡ with_output self.old name.now s.0) }
+        ensures refusal { Refuses (refusal self.old name.now) result }
+        ensures refused { OnErr result (self.new ≡ self.old) }
+    {
+        if !is_good_name(name) {
+            return Err(NetErr::BadName);
+        }
+        if self.has_name(name) {
+            return Err(NetErr::NameTaken);
+        }
+        let Ok(text) = String::from_str(self.alloc, name) else {
+            return Err(NetErr::NoMemory);
+        };
+        let Ok(_) = self.outputs.insert(text, s) else {
+            return Err(NetErr::NoMemory);
+        };
+        Ok(())
+    }
+
     /// The number of signals.
     pub fn signals(&self) -> u32
         ensures count { result ≡ length self.now.signals }
@@ -204,6 +248,101 @@ impl Net {
         ensures { result ≡ width_of self.now s.0 }
     {
         self.row(s).width
+    }
+
+    /// The name of a signal.
+    pub fn name(&self, s: Sig) -> &str
+        requires { s.0 < length self.now.signals }
+        ensures { result.now ≡ name_at self.now s.0 }
+    {
+        match self.signals.get_index(s.0 as usize) {
+            Some((name, _)) => name.as_str(),
+            None => unreachable!(),
+        }
+    }
+
+    /// What a signal is.
+    pub fn kind(&self, s: Sig) -> SigKind
+        requires { s.0 < length self.now.signals }
+        ensures { result ≡ sort_of (kind_at self.now s.0) }
+    {
+        match &self.row(s).driver {
+            Driver::Input => SigKind::Input,
+            Driver::Reg(_, _) => SigKind::Reg,
+            Driver::Wire(_) => SigKind::Wire,
+        }
+    }
+
+    /// The word of a register at reset.
+    pub fn init(&self, r: Sig) -> Word
+        requires { sort_of (kind_at self.now r.0) ≡ SigKind.Reg }
+        ensures { result ≡ record { width = width_of self.now r.0; bits = reset_state self.now r.0 } }
+    {
+        match self.row(r).driver {
+            Driver::Reg(init, _) => init,
+            _ => unreachable!(),
+        }
+    }
+
+    /// The next signal of a register, where it has one.
+    pub fn next(&self, r: Sig) -> Option<Sig>
+        requires { sort_of (kind_at self.now r.0) ≡ SigKind.Reg }
+        ensures { number_of result ≡ next_in (kind_at self.now r.0) }
+    {
+        match self.row(r).driver {
+            Driver::Reg(_, next) => next,
+            _ => unreachable!(),
+        }
+    }
+
+    /// The cell of a wire, where it has one.
+    pub fn cell(&self, s: Sig) -> Option<&Cell>
+        requires { sort_of (kind_at self.now s.0) ≡ SigKind.Wire }
+        ensures { maybe_cell (option_copied result) ≡ cell_in (kind_at self.now s.0) }
+    {
+        match &self.row(s).driver {
+            Driver::Wire(cell) => cell.as_ref(),
+            _ => unreachable!(),
+        }
+    }
+
+    /// The signal of that name, or else the signal that the output of that name shows.
+    pub fn find(&self, name: &str) -> Option<Sig>
+        ensures { number_of result ≡ found self.now name.now }
+    {
+        match self.signals.get_index_of(name) {
+            Some(i) => Some(Sig(i as u32)),
+            None => self.outputs.get(name).copied(),
+        }
+    }
+
+    /// The number of outputs.
+    pub fn outputs(&self) -> u32
+        ensures { result ≡ length self.now.outputs }
+    {
+        self.outputs.len() as u32
+    }
+
+    /// The name of an output.
+    pub fn output_name(&self, i: u32) -> &str
+        requires { i < length self.now.outputs }
+        ensures { Some result.now ≡ option_map (λ o. o.0) (slice_get self.now.outputs i) }
+    {
+        match self.outputs.get_index(i as usize) {
+            Some((name, _)) => name.as_str(),
+            None => unreachable!(),
+        }
+    }
+
+    /// The signal that an output shows.
+    pub fn output_sig(&self, i: u32) -> Sig
+        requires { i < length self.now.outputs }
+        ensures { Some result.0 ≡ option_map (λ o. o.1) (slice_get self.now.outputs i) }
+    {
+        match self.outputs.get_index(i as usize) {
+            Some((_, s)) => *s,
+            None => unreachable!(),
+        }
     }
 
     // What is kept of a signal.

@@ -1,0 +1,68 @@
+-- Names that are looked up.
+use Rattle.std.proofs.Common.{◌≡◌, ℕ, zero, suc, ◌+◌, ◌<◌, List, [], ◌∷◌, length, get_or, position, Option, Some, None, Bool, true, false, cond, ◌||◌, is_some, slice_get, String, string_bytes, bytes_eq, refl, sym, ap, subst, ◌∙◌, arith}
+use Rattle.std.specs.declared.alloc.Global.{Global}
+use Rattle.std.specs.Map.{lookup, keys_of}
+use Rattle.std.specs.Option.{option_or}
+use Rattle.std.proofs.lemmas.Slice.Eq.{bytes_eq-Decides}
+use Rattle.std.proofs.lemmas.List.Quantifiers.{position-Some}
+use Rattle.safl_net.specs.declared.cell.Sig.{Sig}
+use Rattle.safl_net.specs.declared.net.Row.{Row}
+use Rattle.safl_net.specs.Netlist.{Netlist, Signal, place, output_place}
+use Rattle.safl_net.specs.Names.{named_signal}
+use Rattle.safl_net.specs.Making.{found}
+use Rattle.safl_net.specs.Stored.{signals_of, outputs_of, net_of, number_of}
+use Rattle.safl_net.proofs.Tables.{signal_found}
+
+bytes_flip : (x y : List ℕ) → bytes_eq x y ≡ bytes_eq y x
+bytes_flip x y = by (bytes_eq x y) (bytes_eq y x) (λ e. (bytes_eq-Decides y x).1 (sym ((bytes_eq-Decides x y).0 e))) (λ e. (bytes_eq-Decides x y).1 (sym ((bytes_eq-Decides y x).0 e)))
+  where
+    by : (a b : Bool) → (a ≡ true → b ≡ true) → (b ≡ true → a ≡ true) → a ≡ b
+    by true b f g = sym (f refl)
+    by false true f g = g refl
+    by false false f g = refl
+
+first_place : (es : List (String Global × Row)) (x : List ℕ) (j i : ℕ) → i < length es
+    → ((d : String Global) → bytes_eq x (string_bytes (get_or (keys_of es) i d)) ≡ true)
+    → ((d : String Global) (k : ℕ) → k < i → bytes_eq x (string_bytes (get_or (keys_of es) k d)) ≡ false)
+    → place (signals_of es) x j ≡ Some (i + j)
+unfolding place
+first_place [] x j i h t f = absurd (omega arith)
+first_place (e ∷ es) x j zero h t f =
+    ap (λ b. cond b (Some j) (place (signals_of es) x (suc j))) (bytes_flip (string_bytes e.0) x ∙ t e.0) ∙ ap Some (omega arith)
+first_place (e ∷ es) x j (suc i) h t f =
+    ap (λ b. cond b (Some j) (place (signals_of es) x (suc j))) (bytes_flip (string_bytes e.0) x ∙ f e.0 0 (omega arith))
+    ∙ first_place es x (suc j) i (omega (arith, h)) t (λ d k l. f d (suc k) (omega (arith, l)))
+    ∙ ap Some (omega arith)
+
+no_place : (gs : List Signal) (x : List ℕ) (j : ℕ) → named_signal gs x ≡ false → place gs x j ≡ None
+unfolding place
+no_place [] x j e = refl
+no_place (g ∷ gs) x j e = by (bytes_eq x g.name) refl e (λ r. no_place gs x (suc j) r)
+  where
+    by : (b : Bool) → bytes_eq x g.name ≡ b → (b || named_signal gs x) ≡ false → (named_signal gs x ≡ false → place gs x (suc j) ≡ None) → cond (bytes_eq g.name x) (Some j) (place gs x (suc j)) ≡ None
+    by true q r k = absurd (cc)
+    by false q r k = ap (λ b. cond b (Some j) (place gs x (suc j))) (bytes_flip g.name x ∙ q) ∙ k r
+
+output_shown : (os : List (String Global × Sig)) (x : List ℕ) → number_of (lookup (λ k. bytes_eq x (string_bytes k)) os) ≡ output_place (outputs_of os) x
+output_shown [] x = refl
+output_shown (o ∷ os) x = by (bytes_eq x (string_bytes o.0)) refl (output_shown os x)
+  where
+    by : (b : Bool) → bytes_eq x (string_bytes o.0) ≡ b → number_of (lookup (λ k. bytes_eq x (string_bytes k)) os) ≡ output_place (outputs_of os) x
+      → number_of (cond b (Some o.1) (lookup (λ k. bytes_eq x (string_bytes k)) os)) ≡ cond (bytes_eq (string_bytes o.0) x) (Some o.1.0) (output_place (outputs_of os) x)
+    by true q r = ap (λ b. cond b (Some o.1.0) (output_place (outputs_of os) x)) (sym (bytes_flip (string_bytes o.0) x ∙ q))
+    by false q r = r ∙ ap (λ b. cond b (Some o.1.0) (output_place (outputs_of os) x)) (sym (bytes_flip (string_bytes o.0) x ∙ q))
+
+pub found_signal : (es : List (String Global × Row)) (os : List (String Global × Sig)) (x : List ℕ) (i : ℕ) → i < length es
+    → position (λ k. bytes_eq x (string_bytes k)) (keys_of es) ≡ Some i → Some i ≡ found (net_of es os) x
+found_signal es os x i h e =
+    sym (ap (λ o. option_or o (output_place (outputs_of os) x))
+      (first_place es x 0 i h
+        (λ d. (position-Some (λ k. bytes_eq x (string_bytes k)) (keys_of es) i d e).1)
+        (λ d. (position-Some (λ k. bytes_eq x (string_bytes k)) (keys_of es) i d e).2)
+      ∙ ap Some (omega arith)))
+
+pub found_output : (es : List (String Global × Row)) (os : List (String Global × Sig)) (x : List ℕ) (o : Option Sig)
+    → is_some (lookup (λ k. bytes_eq x (string_bytes k)) es) ≡ false → o ≡ lookup (λ k. bytes_eq x (string_bytes k)) os → number_of o ≡ found (net_of es os) x
+found_output es os x o e f =
+    ap number_of f ∙ output_shown os x
+    ∙ sym (ap (λ p. option_or p (output_place (outputs_of os) x)) (no_place (signals_of es) x 0 (sym (signal_found es x) ∙ e)))
