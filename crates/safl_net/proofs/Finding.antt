@@ -1,5 +1,5 @@
 -- Names that are looked up.
-use Rattle.std.proofs.Common.{◌≡◌, ℕ, zero, suc, ◌+◌, ◌<◌, List, [], ◌∷◌, length, get_or, position, Option, Some, None, Bool, true, false, cond, ◌||◌, is_some, slice_get, String, string_bytes, bytes_eq, refl, sym, ap, subst, ◌∙◌, arith}
+use Rattle.std.proofs.Common.{◌≡◌, ℕ, zero, suc, ◌+◌, ◌<◌, List, [], ◌∷◌, length, get_or, position, Option, Some, None, Bool, true, false, cond, ◌||◌, is_some, String, string_bytes, bytes_eq, refl, sym, ap, ◌∙◌, arith}
 use Rattle.std.specs.declared.alloc.Global.{Global}
 use Rattle.std.specs.Map.{lookup, keys_of}
 use Rattle.std.specs.Option.{option_or}
@@ -7,7 +7,7 @@ use Rattle.std.proofs.lemmas.Slice.Eq.{bytes_eq-Decides}
 use Rattle.std.proofs.lemmas.List.Quantifiers.{position-Some}
 use Rattle.safl_net.specs.declared.cell.Sig.{Sig}
 use Rattle.safl_net.specs.declared.net.Row.{Row}
-use Rattle.safl_net.specs.Netlist.{Netlist, Signal, place, output_place}
+use Rattle.safl_net.specs.Netlist.{Signal, place, output_place}
 use Rattle.safl_net.specs.Names.{named_signal}
 use Rattle.safl_net.specs.Making.{found}
 use Rattle.safl_net.specs.Stored.{signals_of, outputs_of, net_of, number_of}
@@ -48,7 +48,7 @@ output_shown [] x = refl
 output_shown (o ∷ os) x = by (bytes_eq x (string_bytes o.0)) refl (output_shown os x)
   where
     by : (b : Bool) → bytes_eq x (string_bytes o.0) ≡ b → number_of (lookup (λ k. bytes_eq x (string_bytes k)) os) ≡ output_place (outputs_of os) x
-      → number_of (cond b (Some o.1) (lookup (λ k. bytes_eq x (string_bytes k)) os)) ≡ cond (bytes_eq (string_bytes o.0) x) (Some o.1.0) (output_place (outputs_of os) x)
+        → number_of (cond b (Some o.1) (lookup (λ k. bytes_eq x (string_bytes k)) os)) ≡ cond (bytes_eq (string_bytes o.0) x) (Some o.1.0) (output_place (outputs_of os) x)
     by true q r = ap (λ b. cond b (Some o.1.0) (output_place (outputs_of os) x)) (sym (bytes_flip (string_bytes o.0) x ∙ q))
     by false q r = r ∙ ap (λ b. cond b (Some o.1.0) (output_place (outputs_of os) x)) (sym (bytes_flip (string_bytes o.0) x ∙ q))
 
@@ -56,10 +56,10 @@ pub found_signal : (es : List (String Global × Row)) (os : List (String Global 
     → position (λ k. bytes_eq x (string_bytes k)) (keys_of es) ≡ Some i → Some i ≡ found (net_of es os) x
 found_signal es os x i h e =
     sym (ap (λ o. option_or o (output_place (outputs_of os) x))
-      (first_place es x 0 i h
-        (λ d. (position-Some (λ k. bytes_eq x (string_bytes k)) (keys_of es) i d e).1)
-        (λ d. (position-Some (λ k. bytes_eq x (string_bytes k)) (keys_of es) i d e).2)
-      ∙ ap Some (omega arith)))
+    (first_place es x 0 i h
+    (λ d. (position-Some (λ k. bytes_eq x (string_bytes k)) (keys_of es) i d e).1)
+    (λ d. (position-Some (λ k. bytes_eq x (string_bytes k)) (keys_of es) i d e).2)
+    ∙ ap Some (omega arith)))
 
 pub found_output : (es : List (String Global × Row)) (os : List (String Global × Sig)) (x : List ℕ) (o : Option Sig)
     → is_some (lookup (λ k. bytes_eq x (string_bytes k)) es) ≡ false → o ≡ lookup (λ k. bytes_eq x (string_bytes k)) os → number_of o ≡ found (net_of es os) x

@@ -1,16 +1,14 @@
 -- A net that grows.
-use Rattle.std.proofs.Common.{◌≡◌, ℕ, zero, suc, ◌+◌, ◌<◌, ◌≤◌, ◌^◌, List, [], ◌∷◌, ◌++◌, map, length, length-append, All, Option, Some, None, Result, Ok, Err, IfOk, OnOk, OnErr, IsSome, is_some, unwrap_or, Bool, true, false, cond, ◌==◌, slice_get, slice_index, slice_index_or, refl, sym, ap, subst, ◌∙◌, arith, append_assoc}
+use Rattle.std.proofs.Common.{◌≡◌, ℕ, zero, suc, ◌+◌, ◌<◌, ◌≤◌, ◌^◌, List, [], ◌∷◌, ◌++◌, map, length, length-append, All, Option, Some, None, Result, Ok, Err, IfOk, OnOk, OnErr, IsSome, is_some, unwrap_or, slice_get, slice_index_or, refl, sym, ap, subst, ◌∙◌, arith, append_assoc}
 use Rattle.std.proofs.lemmas.List.{append-nil}
-use Rattle.safl_word.specs.Words.{Word}
 use Rattle.safl_net.specs.declared.cell.Sig.{Sig}
 use Rattle.safl_net.specs.declared.cell.Op.{Op}
-use Rattle.safl_net.specs.Netlist.{Netlist, Signal, Kind, Input, Reg, Wire, Cell, width_in, width_of}
-use Rattle.safl_net.specs.Valuations.{Valuation, cell_word, signal_word, Holds, Fits}
-use Rattle.safl_net.specs.Names.{temp_name, one_wire, wires}
+use Rattle.safl_net.specs.Netlist.{Netlist, Signal, Kind, Input, Reg, Wire, width_in, width_of}
+use Rattle.safl_net.specs.Valuations.{cell_word}
+use Rattle.safl_net.specs.Names.{one_wire, wires}
 use Rattle.safl_net.specs.Widths.{op_width}
-use Rattle.safl_net.specs.Making.{with_signal, with_output, with_kind, set_kind, wired, cell_on, numbers, widths, width_on, temporary, kind_in, kind_at}
-use Rattle.safl_net.specs.Growth.{Val, words, KindHolds, SignalHolds, Wired, maybe_width, width_at, Sized, HasCell, AreTemps, Grows, Says}
-use Rattle.safl_net.proofs.Tables.{wires_push}
+use Rattle.safl_net.specs.Making.{with_signal, numbers, widths, width_on, temporary}
+use Rattle.safl_net.specs.Growth.{Val, words, SignalHolds, Wired, maybe_width, width_at, Sized, HasCell, AreTemps, Grows}
 
 -- ---- growing
 
@@ -40,14 +38,14 @@ temps_append i j (x ∷ xs) ys h e k = (h.0, h.1, temps_append (suc i) j xs ys h
 
 pub grows_on : {a b c : Netlist} → Grows a b → Grows b c → Grows a c
 grows_on {a} {b} {c} g h = record {
-    more = g.more ++ h.more;
-    is = h.is ∙ ap (λ l. l ++ h.more) g.is ∙ append_assoc a.signals g.more h.more;
-    temps =
+  more = g.more ++ h.more;
+  is = h.is ∙ ap (λ l. l ++ h.more) g.is ∙ append_assoc a.signals g.more h.more;
+  temps =
       let e = ap wires g.is ∙ wires_append a.signals g.more in
       let f = temps_length (wires a.signals) g.more g.temps in
       temps_append (wires a.signals) (wires b.signals) g.more h.more g.temps (omega (arith, e, f)) h.temps;
-    outputs = h.outputs ∙ g.outputs;
-  }
+  outputs = h.outputs ∙ g.outputs;
+}
 
 pub grows_temp : (n m : Netlist) (op : Op) (xs : List Sig) → m ≡ with_signal n (temporary n op xs) → Grows n m
 grows_temp n m op xs e = subst (λ k. Grows n k) (sym e) (record { more = temporary n op xs ∷ []; is = refl; temps = (refl, tt, tt); outputs = refl })
@@ -154,11 +152,11 @@ made n m (Ok s) w op xs q a b c =
       word = λ v h. (h.each s.0 _ new).kind ∙ ap (cell_word op) (words_are v xs);
     }
 made n m (Err e) w op xs q a b c = record {
-    grows = grows_same n m c;
-    count = let e = ap (λ (k : Netlist). length k.signals) c in omega (arith, e);
-    width = tt;
-    word = tt;
-  }
+  grows = grows_same n m c;
+  count = let e = ap (λ (k : Netlist). length k.signals) c in omega (arith, e);
+  width = tt;
+  word = tt;
+}
 
 -- ---- words
 
@@ -176,6 +174,3 @@ fitting v s w (Some g) h e =
 -- a signal's word has the signal's width
 pub fits : (n : Netlist) (v : Val) (s w : ℕ) → Wired n v → width_at n s ≡ Some w → Fitting v s w
 fits n v s w h e = fitting v s w (slice_get n.signals s) (h.each s) e
-
-cell_width_same : (n : Netlist) (v : Valuation) (s : ℕ) (g : Signal) → slice_get n.signals s ≡ Some g → width_of n s ≡ g.width
-cell_width_same n v s g e = ap width_in e

@@ -5,3 +5,5 @@ pub mod Tidy
 pub mod Bounds
 pub mod Finding
 pub mod Growth
+pub mod CellWords
+pub mod Saying

@@ -134,7 +134,7 @@ pub outputs_kept : (es : List (String Global × Row)) (os : List (String Global 
     → Keeps es os count → length (outputs_of os) < 4294967295 → is_good (string_bytes name) ≡ true → has_name (net_of es os) (string_bytes name) ≡ false
     → s.0 < length (signals_of es) → Keeps es (os ++ (name, s) ∷ []) count
 outputs_kept es os count name s k room good new here = record {
-    netlist = subst (λ (l : List (List ℕ × ℕ)). IsNetlist (record { signals = signals_of es; outputs = l })) (sym (outputs_push os name s)) (output_kept (net_of es os) (string_bytes name) s.0 k.netlist room good new here);
-    resets = k.resets;
-    counted = k.counted;
-  }
+  netlist = subst (λ (l : List (List ℕ × ℕ)). IsNetlist (record { signals = signals_of es; outputs = l })) (sym (outputs_push os name s)) (output_kept (net_of es os) (string_bytes name) s.0 k.netlist room good new here);
+  resets = k.resets;
+  counted = k.counted;
+}

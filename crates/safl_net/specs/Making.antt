@@ -3,7 +3,6 @@ use Rattle.std.specs.Prelude.{◌≡◌, ℕ, zero, suc, List, [], ◌∷◌, �
 use Rattle.std.specs.Option.{option_or}
 use Rattle.safl_net.specs.declared.cell.Sig.{Sig}
 use Rattle.safl_net.specs.declared.cell.SigKind.{SigKind}
-use Rattle.safl_net.specs.declared.cell.SigKind.TheVariants as SigKind
 use Rattle.safl_net.specs.declared.cell.Op.{Op}
 use Rattle.safl_net.specs.declared.net.NetErr.{NetErr}
 use Rattle.safl_net.specs.declared.net.NetErr.TheVariants.{NameTaken, BadName, NoMemory}

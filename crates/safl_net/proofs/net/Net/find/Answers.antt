@@ -1,4 +1,4 @@
-use Rattle.std.proofs.Common.{◌≡◌, is_some, Some, None, refl, sym, ap, ◌∙◌}
+use Rattle.std.proofs.Common.{is_some, sym, ap, ◌∙◌}
 use Rattle.safl_net.specs.Netlist.{Netlist}
 use Rattle.safl_net.specs.Making.{found}
 use Rattle.safl_net.proofs.Finding.{found_signal, found_output}
