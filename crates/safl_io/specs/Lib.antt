@@ -2,3 +2,4 @@ pub mod Counts
 pub mod Told
 pub mod Shelf
 pub mod Sink
+pub mod Reading

@@ -2,9 +2,13 @@
 #![tactic(auto)]
 
 pub mod fault;
+pub mod read;
 pub mod shelf;
 pub mod sink;
+pub mod write;
 
 pub use crate::fault::{Failed, OutErr};
+pub use crate::read::{ReadErr, read_file};
 pub use crate::shelf::Shelf;
 pub use crate::sink::Sink;
+pub use crate::write::write_file;

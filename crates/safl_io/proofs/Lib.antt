@@ -1,0 +1,5 @@
+pub mod Counting
+pub mod Telling
+pub mod Pieces
+pub mod Writing
+pub mod Reading

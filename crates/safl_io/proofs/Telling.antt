@@ -1,0 +1,16 @@
+-- What is told after several calls.
+use Rattle.std.proofs.Common.{Option, Some, None}
+use Rattle.safl_io.specs.Told.{TellsOn}
+
+-- two calls, one after the other
+pub TellsOn-then : {A : Type 0} (R S T : A → A → Type 0) → ((a b c : A) → R a b → S b c → T a c) → (x y z : Option A) → TellsOn R x y → TellsOn S y z → TellsOn T x z
+TellsOn-then R S T both None y z first second = tt
+TellsOn-then R S T both (Some a) None z first second = absurd first
+TellsOn-then R S T both (Some a) (Some b) None first second = absurd second
+TellsOn-then R S T both (Some a) (Some b) (Some c) first second = both a b c first second
+
+-- less is said of one call
+pub TellsOn-map : {A : Type 0} (R T : A → A → Type 0) → ((a b : A) → R a b → T a b) → (x y : Option A) → TellsOn R x y → TellsOn T x y
+TellsOn-map R T less None y call = tt
+TellsOn-map R T less (Some a) None call = absurd call
+TellsOn-map R T less (Some a) (Some b) call = less a b call

@@ -1,0 +1,100 @@
+// Whole files, read from a shelf.
+ghost use Rattle.std.specs.Prelude.{◌≡◌, ◌≤◌, ◌<◌, ◌+◌, length, IfOk, IfSome, OnOk, IsErrOf};
+ghost use Rattle.safl_io.specs.Counts.{Rose};
+ghost use Rattle.safl_io.specs.Shelf.{IsStray};
+ghost use Rattle.safl_io.specs.Reading.{HasFile, HasLonger, IsReadSoFar};
+ghost use Rattle.safl_io.specs.declared.read.ReadErr.TheVariants as why;
+
+use crate::fault::Failed;
+use crate::shelf::Shelf;
+use std::alloc::{AllocError, Global};
+
+// How many bytes are asked for at a time.
+const PIECE: usize = 65_536;
+
+/// Why a file could not be read.
+#[derive(Clone, Copy, Debug, PartialEq, Eq)]
+pub enum ReadErr {
+    /// The shelf failed, and has counted it.
+    Failed,
+    /// The file has more bytes than the limit.
+    TooLong,
+    NoMemory,
+}
+
+impl From<Failed> for ReadErr {
+    ghost from_gives = { λ _ e. e ≡ why.Failed };
+
+    fn from(_: Failed) -> Self {
+        ReadErr::Failed
+    }
+}
+
+impl From<AllocError> for ReadErr {
+    ghost from_gives = { λ _ e. e ≡ why.NoMemory };
+
+    fn from(_: AllocError) -> Self {
+        ReadErr::NoMemory
+    }
+}
+
+/// Reads a file of at most `limit` bytes.
+pub fn read_file<S: Shelf>(
+    alloc: Global,
+    shelf: &mut S,
+    name: &str,
+    limit: u64,
+) -> Result<Vec<u8>, ReadErr>
+    ensures read { IfOk result (λ text. IfSome (S.holds shelf.old) (HasFile name.now text.items)) }
+    ensures within { IfOk result (λ text. length text.items ≤ limit) }
+    ensures too_long { IsErrOf result ReadErr.TooLong → IfSome (S.holds shelf.old) (HasLonger name.now limit) }
+    ensures failed { IsErrOf result ReadErr.Failed → Rose (S.read_faults shelf.old) (S.read_faults shelf.new) }
+
+    // Nothing held changes.
+    ensures same_files { S.holds shelf.new ≡ S.holds shelf.old }
+    ensures reads_later { S.read_faults shelf.old ≤ S.read_faults shelf.new }
+    ensures same_writes { S.write_faults shelf.new ≡ S.write_faults shelf.old }
+    ensures same_strays { ¬ IsStray (S.holds shelf.old) name.now → S.strays shelf.new ≡ S.strays shelf.old }
+    ensures strays_later { S.strays shelf.old ≤ S.strays shelf.new }
+{
+    let mut text = Vec::new(alloc);
+    let mut buffer = zeros(alloc, PIECE)?;
+    while text.len() as u64 <= limit {
+        let wanted = (limit - text.len() as u64).min(PIECE as u64 - 1) as usize + 1;
+        let count = read_more(shelf, name, &mut text, &mut buffer[..wanted])?;
+        if count == 0 {
+            return Ok(text);
+        }
+    }
+    Err(ReadErr::TooLong)
+}
+
+fn zeros(alloc: Global, count: usize) -> Result<Vec<u8>, AllocError>
+    ensures { IfOk result (λ bytes. length bytes.items ≡ count) }
+{
+    vec![in alloc; 0u8; count]
+}
+
+// Reads the next bytes of a file, of which `text` was read so far, and adds them to it.
+fn read_more<S: Shelf>(
+    shelf: &mut S,
+    name: &str,
+    text: &mut Vec<u8>,
+    buffer: &mut [u8],
+) -> Result<usize, ReadErr>
+    requires { 0 < length buffer.old }
+    ensures longer { IfOk result (λ count. length text.new.items ≡ length text.old.items + count) }
+    ensures more { OnOk result (IsReadSoFar (S.holds shelf.old) name.now text.old.items → IsReadSoFar (S.holds shelf.old) name.now text.new.items) }
+    ensures end { IfOk result (λ count. count ≡ 0 → IsReadSoFar (S.holds shelf.old) name.now text.old.items → IfSome (S.holds shelf.old) (HasFile name.now text.new.items)) }
+    ensures not_too_long { IsErrOf result ReadErr.TooLong → ⊥ }
+    ensures failed { IsErrOf result ReadErr.Failed → Rose (S.read_faults shelf.old) (S.read_faults shelf.new) }
+    ensures same_files { S.holds shelf.new ≡ S.holds shelf.old }
+    ensures reads_later { S.read_faults shelf.old ≤ S.read_faults shelf.new }
+    ensures same_writes { S.write_faults shelf.new ≡ S.write_faults shelf.old }
+    ensures same_strays { ¬ IsStray (S.holds shelf.old) name.now → S.strays shelf.new ≡ S.strays shelf.old }
+    ensures strays_later { S.strays shelf.old ≤ S.strays shelf.new }
+{
+    let count = shelf.read_at(name, text.len() as u64, buffer)?;
+    text.extend_from_slice(&buffer[..count])?;
+    Ok(count)
+}

@@ -1,0 +1,36 @@
+// Whole files, written to a shelf.
+ghost use Rattle.std.specs.Prelude.{◌≡◌, ◌≤◌, OnOk, OnErr, OnSome, IsErrOf};
+ghost use Rattle.safl_io.specs.Counts.{Rose};
+ghost use Rattle.safl_io.specs.Told.{TellsOn};
+ghost use Rattle.safl_io.specs.Shelf.{Leaves, LeavesOldOrPart};
+
+use crate::fault::OutErr;
+use crate::shelf::Shelf;
+
+// How many bytes are appended at a time.
+const PIECE: usize = 1024;
+
+/// Writes a file with exactly these bytes, in place of an old one of that name. It creates the file and
+/// appends pieces of 1,024 bytes, the last of them shorter.
+/// After an error the old file or a prefix of the bytes stands there. Other files stay as they were.
+pub fn write_file<S: Shelf>(shelf: &mut S, name: &str, bytes: &[u8]) -> Result<(), OutErr>
+    ensures written { OnOk result (TellsOn (Leaves name.now bytes.now) (S.holds shelf.old) (S.holds shelf.new)) }
+    ensures not_written { OnErr result (TellsOn (LeavesOldOrPart name.now bytes.now) (S.holds shelf.old) (S.holds shelf.new)) }
+    ensures failed { IsErrOf result OutErr.Failed → Rose (S.write_faults shelf.old) (S.write_faults shelf.new) }
+
+    ensures same_reads { S.read_faults shelf.new ≡ S.read_faults shelf.old }
+    ensures writes_later { S.write_faults shelf.old ≤ S.write_faults shelf.new }
+
+    // A shelf that tells what it holds is asked for no stray name.
+    ensures same_strays { OnSome (S.holds shelf.old) (S.strays shelf.new ≡ S.strays shelf.old) }
+    ensures strays_later { S.strays shelf.old ≤ S.strays shelf.new }
+{
+    shelf.create(name)?;
+    let mut at = 0;
+    while at < bytes.len() {
+        let end = at + (bytes.len() - at).min(PIECE);
+        shelf.append(name, &bytes[at..end])?;
+        at = end;
+    }
+    Ok(())
+}
