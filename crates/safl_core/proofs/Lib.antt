@@ -1,3 +1,4 @@
+mod Rows
 pub mod Numbered
 pub mod Basics
 pub mod Locality
