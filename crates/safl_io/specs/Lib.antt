@@ -3,3 +3,4 @@ pub mod Told
 pub mod Shelf
 pub mod Sink
 pub mod Reading
+pub mod Calls

@@ -1,6 +1,7 @@
 //! Where sources are read and netlists written: a shelf of named files, and sinks for text.
 #![tactic(auto)]
 
+mod calls;
 pub mod fault;
 pub mod read;
 pub mod shelf;

@@ -1,0 +1,20 @@
+-- Calls of a shelf or a sink in memory, of which some are to fail.
+use Rattle.std.specs.Prelude.{ℕ, List, Contains}
+use Rattle.safl_io.specs.Counts.{raised}
+
+-- how many calls there were, and the numbers of those that are to fail
+pub record Calls : Type 0 where
+  pub failing : List ℕ
+  pub made : ℕ
+
+-- the number of the next call; the first one is 1
+abbrev pub next_call : Calls → ℕ
+next_call calls = raised calls.made
+
+-- the next call is to fail
+abbrev pub Fails : Calls → Type 0
+Fails calls = Contains calls.failing (next_call calls)
+
+-- after one more call
+abbrev pub called : Calls → Calls
+called calls = record calls { made = next_call calls }
