@@ -16,7 +16,7 @@ use Rattle.safl_net.specs.Making.{widths}
 use Rattle.safl_net.specs.Rules.{IsNetlist, CellFits}
 use Rattle.safl_net.specs.Growth.{KindHolds, Wired}
 
-abbrev word_widths : List Word → List ℕ
+abbrev pub word_widths : List Word → List ℕ
 word_widths vs = map (λ (v : Word). v.width) vs
 
 picked : (P : Word → Type 0) (n : ℕ) (a b : Word) → P a → P b → P (pick n a b)

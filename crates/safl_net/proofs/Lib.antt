@@ -7,3 +7,5 @@ pub mod Finding
 pub mod Growth
 pub mod CellWords
 pub mod Saying
+pub mod OneValuation
+pub mod Existence

@@ -2,6 +2,7 @@
 #![tactic(auto)]
 
 pub mod cell;
+pub mod laws;
 pub mod names;
 pub mod net;
 pub mod widths;
