@@ -1,5 +1,5 @@
 -- Names that are looked up.
-use Rattle.std.proofs.Common.{◌≡◌, ℕ, zero, suc, ◌+◌, ◌<◌, List, [], ◌∷◌, length, get_or, position, Option, Some, None, Bool, true, false, cond, ◌||◌, is_some, String, string_bytes, bytes_eq, refl, sym, ap, ◌∙◌, arith}
+use Rattle.std.proofs.Common.{◌≡◌, ℕ, zero, suc, ◌+◌, ◌<◌, List, [], ◌∷◌, length, get_or, position, Option, Some, None, Bool, true, false, cond, ◌||◌, is_some, String, string_bytes, bytes_eq, refl, sym, ap, ◌∙◌, arith, slice_get, IfSome}
 use Rattle.std.specs.declared.alloc.Global.{Global}
 use Rattle.std.specs.Map.{lookup, keys_of}
 use Rattle.std.specs.Option.{option_or}
@@ -7,9 +7,9 @@ use Rattle.std.proofs.lemmas.Slice.Eq.{bytes_eq-Decides}
 use Rattle.std.proofs.lemmas.List.Quantifiers.{position-Some}
 use Rattle.safl_net.specs.declared.cell.Sig.{Sig}
 use Rattle.safl_net.specs.declared.net.Row.{Row}
-use Rattle.safl_net.specs.Netlist.{Signal, place, output_place}
+use Rattle.safl_net.specs.Netlist.{Netlist, Signal, place, output_place}
 use Rattle.safl_net.specs.Names.{named_signal}
-use Rattle.safl_net.specs.Making.{found}
+use Rattle.safl_net.specs.Rules.{IsNetlist}
 use Rattle.safl_net.specs.Stored.{signals_of, outputs_of, net_of, number_of}
 use Rattle.safl_net.proofs.Tables.{signal_found}
 
@@ -52,17 +52,40 @@ output_shown (o ∷ os) x = by (bytes_eq x (string_bytes o.0)) refl (output_show
     by true q r = ap (λ b. cond b (Some o.1.0) (output_place (outputs_of os) x)) (sym (bytes_flip (string_bytes o.0) x ∙ q))
     by false q r = r ∙ ap (λ b. cond b (Some o.1.0) (output_place (outputs_of os) x)) (sym (bytes_flip (string_bytes o.0) x ∙ q))
 
-pub found_signal : (es : List (String Global × Row)) (os : List (String Global × Sig)) (x : List ℕ) (i : ℕ) → i < length es
-    → position (λ k. bytes_eq x (string_bytes k)) (keys_of es) ≡ Some i → Some i ≡ found (net_of es os) x
-found_signal es os x i h e =
-    sym (ap (λ o. option_or o (output_place (outputs_of os) x))
-    (first_place es x 0 i h
-    (λ d. (position-Some (λ k. bytes_eq x (string_bytes k)) (keys_of es) i d e).1)
-    (λ d. (position-Some (λ k. bytes_eq x (string_bytes k)) (keys_of es) i d e).2)
-    ∙ ap Some (omega arith)))
+-- the place of a key among the names
+pub placed : (es : List (String Global × Row)) (x : List ℕ) (i : ℕ) → i < length es
+    → position (λ k. bytes_eq x (string_bytes k)) (keys_of es) ≡ Some i → Some i ≡ place (signals_of es) x 0
+placed es x i h e =
+    sym (first_place es x 0 i h
+        (λ d. (position-Some (λ k. bytes_eq x (string_bytes k)) (keys_of es) i d e).1)
+        (λ d. (position-Some (λ k. bytes_eq x (string_bytes k)) (keys_of es) i d e).2)
+      ∙ ap Some (omega arith))
 
-pub found_output : (es : List (String Global × Row)) (os : List (String Global × Sig)) (x : List ℕ) (o : Option Sig)
-    → is_some (lookup (λ k. bytes_eq x (string_bytes k)) es) ≡ false → o ≡ lookup (λ k. bytes_eq x (string_bytes k)) os → number_of o ≡ found (net_of es os) x
-found_output es os x o e f =
-    ap number_of f ∙ output_shown os x
-    ∙ sym (ap (λ p. option_or p (output_place (outputs_of os) x)) (no_place (signals_of es) x 0 (sym (signal_found es x) ∙ e)))
+pub not_placed : (es : List (String Global × Row)) (x : List ℕ) → is_some (lookup (λ k. bytes_eq x (string_bytes k)) es) ≡ false → None ≡ place (signals_of es) x 0
+not_placed es x e = sym (no_place (signals_of es) x 0 (sym (signal_found es x) ∙ e))
+
+pub shown : (os : List (String Global × Sig)) (x : List ℕ) (o : Option Sig) → o ≡ lookup (λ k. bytes_eq x (string_bytes k)) os → number_of o ≡ output_place (outputs_of os) x
+shown os x o e = ap number_of e ∙ output_shown os x
+
+-- what an output shows
+pub record Shows (os : List (List ℕ × ℕ)) (s : ℕ) : Type 0 where
+  pub index : ℕ
+  pub output : List ℕ × ℕ
+  pub at : slice_get os index ≡ Some output
+  pub same : output.1 ≡ s
+
+pub shows : (os : List (List ℕ × ℕ)) (x : List ℕ) (s : ℕ) → output_place os x ≡ Some s → Shows os s
+shows [] x s e = absurd (cc)
+shows (o ∷ os) x s e = by (bytes_eq o.0 x) e (λ f. shows os x s f)
+  where
+    by : (b : Bool) → cond b (Some o.1) (output_place os x) ≡ Some s → (output_place os x ≡ Some s → Shows os s) → Shows (o ∷ os) s
+    by true f k = record { index = 0; output = o; at = refl; same = cc }
+    by false f k = let q = k f in record { index = suc q.index; output = q.output; at = q.at; same = q.same }
+
+pub shown_known : (n : Netlist) (x : List ℕ) (r : Option Sig) → IsNetlist n → number_of r ≡ output_place n.outputs x → IfSome r (λ s. s.0 < length n.signals)
+shown_known n x None w e = tt
+shown_known n x (Some s) w e =
+    let q = shows n.outputs x s.0 (sym e) in
+    let f = (w.outputs q.index q.output q.at).1 in
+    let g = q.same in
+    omega (arith, f, g)

@@ -9,3 +9,4 @@ pub mod Making
 pub mod Rules
 pub mod Stored
 pub mod Growth
+pub mod Whole

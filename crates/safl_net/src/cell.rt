@@ -34,7 +34,8 @@ pub struct Cell {
 
 /// The refusal of a cell or a next signal: the width that is wanted, and the one that was found, which is
 /// 0 for an operation that its operands don't fit.
-#[derive(Clone, Copy, Debug, PartialEq, Eq)]
+#[derive(Clone, Copy, Debug, PartialEq, Eq, thiserror::Error)]
+#[error("the width is {found} and not {wanted}")]
 pub struct WidthsDiffer {
     pub wanted: u8,
     pub found: u8,

@@ -7,6 +7,9 @@ pub mod names;
 pub mod net;
 pub mod widths;
 
+#[cfg(test)]
+mod tests;
+
 pub use crate::cell::{Cell, Op, Sig, SigKind, WidthsDiffer};
 pub use crate::net::{Net, NetErr};
 pub use crate::widths::op_width;

@@ -62,8 +62,9 @@ impl Model for Net {
 }
 
 impl Net {
-    ghost use Rattle.std.specs.Prelude.{◌≡◌, ℕ, ◌<◌, ◌≤◌, ◌^◌, [], length, true, false, Some, None, All, Ok, Err, option_copied, option_map, slice_get, IfOk, IfErr, OnOk, OnErr, IsOk, IsSome, ◌↔◌, unwrap_or, string_bytes};
-    ghost use Rattle.safl_net.specs.Netlist.{Netlist, Input, Reg, Wire, width_of};
+    ghost use Rattle.std.specs.Prelude.{◌≡◌, ℕ, ◌<◌, ◌≤◌, ◌^◌, [], length, true, false, Some, None, All, Ok, Err, option_copied, option_map, slice_get, IfOk, IfErr, OnOk, OnErr, IsOk, IsSome, IsNone, IfSome, IsTrue, is_some, codes, ◌↔◌, unwrap_or, string_bytes};
+    ghost use Rattle.safl_net.specs.Netlist.{Netlist, Input, Reg, Wire, IsSet, AllSet, width_of, place, output_place};
+    ghost use Rattle.safl_net.specs.Whole.{IsWhole, IsLeastUnset, HasStart, HasDone};
     ghost use Rattle.safl_net.specs.Names.{is_good, has_name, wires, one_wire, IsTidy};
     ghost use Rattle.safl_net.specs.Widths.{HasWord};
     ghost use Rattle.safl_net.specs.Making.{with_signal, with_kind, with_output, cell_on, width_on, temporary, refusal, Refuses, kind_at, name_at, numbers, sort_of, next_in, cell_in, found};
@@ -310,10 +311,83 @@ impl Net {
     pub fn find(&self, name: &str) -> Option<Sig>
         ensures { number_of result ≡ found self.now name.now }
     {
+        match self.signal_named(name) {
+            Some(s) => Some(s),
+            None => self.output_named(name),
+        }
+    }
+
+    fn signal_named(&self, name: &str) -> Option<Sig>
+        ensures number { number_of result ≡ place self.now.signals name.now 0 }
+        ensures known { IfSome result (λ s. s.0 < length self.now.signals) }
+    {
         match self.signals.get_index_of(name) {
             Some(i) => Some(Sig(i as u32)),
-            None => self.outputs.get(name).copied(),
+            None => None,
         }
+    }
+
+    fn output_named(&self, name: &str) -> Option<Sig>
+        ensures number { number_of result ≡ output_place self.now.outputs name.now }
+        ensures known { IfSome result (λ s. s.0 < length self.now.signals) }
+    {
+        self.outputs.get(name).copied()
+    }
+
+    /// Whether each wire has a cell and each register a next signal, and there are an input `start` of width 1, an
+    /// output `done` of width 1 and an output `result`.
+    pub fn whole(&self) -> bool
+        ensures { IsTrue result ↔ IsWhole self.now }
+    {
+        self.first_unset().is_none() && self.has_start() && self.has_done() && self.has_result()
+    }
+
+    /// The least wire without a cell or register without a next signal.
+    pub fn first_unset(&self) -> Option<Sig>
+        ensures none { IsNone result ↔ AllSet self.now }
+        ensures least { IfSome result (λ s. IsLeastUnset self.now s.0) }
+    {
+        'signals: for i in 0..self.signals() {
+            if !self.is_set(Sig(i)) {
+                return Some(Sig(i));
+            }
+        }
+        None
+    }
+
+    fn is_set(&self, s: Sig) -> bool
+        requires { s.0 < length self.now.signals }
+        ensures { IsTrue result ↔ IsSet (kind_at self.now s.0) }
+    {
+        match &self.row(s).driver {
+            Driver::Input => true,
+            Driver::Reg(_, next) => next.is_some(),
+            Driver::Wire(cell) => cell.is_some(),
+        }
+    }
+
+    fn has_start(&self) -> bool
+        ensures { IsTrue result ↔ HasStart self.now }
+    {
+        match self.signal_named("start") {
+            Some(s) => self.kind(s) == SigKind::Input && self.width(s) == 1,
+            None => false,
+        }
+    }
+
+    fn has_done(&self) -> bool
+        ensures { IsTrue result ↔ HasDone self.now }
+    {
+        match self.output_named("done") {
+            Some(s) => self.width(s) == 1,
+            None => false,
+        }
+    }
+
+    fn has_result(&self) -> bool
+        ensures { result ≡ is_some (output_place self.now.outputs (codes "result")) }
+    {
+        self.output_named("result").is_some()
     }
 
     /// The number of outputs.
