@@ -1,8 +1,44 @@
-//! Laws of words, over the definitions alone.
+//! Laws of words, numbers and tokens, over the definitions alone.
 
-ghost use Rattle.safl_word.specs.Laws.{GivesWords};
+ghost use Rattle.safl_word.specs.Laws.{GivesWords, SlicesJoin, ShiftsOut, ExtensionKeeps, DecimalCounts};
+ghost use Rattle.safl_word.specs.TokenLaws.{TokensOnce, LexicalFaultOnce, TokensOrFault};
 
 /// A primitive on words gives a word, of the width that the table says.
 pub fn primitive_law()
     ensures { GivesWords }
+{}
+
+/// The concatenation of a word's high and low slice is the word.
+pub fn slices_law()
+    ensures { SlicesJoin }
+{}
+
+/// A shift by the width and more gives zero.
+pub fn shifts_law()
+    ensures { ShiftsOut }
+{}
+
+/// An extension keeps the number.
+pub fn extension_law()
+    ensures { ExtensionKeeps }
+{}
+
+/// What `push_decimal` writes is a numeral that `argument` reads as the same number.
+pub fn decimal_law()
+    ensures { DecimalCounts }
+{}
+
+/// A text has at most one list of tokens.
+pub fn tokens_law()
+    ensures { TokensOnce }
+{}
+
+/// A text has at most one first lexical fault.
+pub fn lexical_fault_law()
+    ensures { LexicalFaultOnce }
+{}
+
+/// A text has a list of tokens exactly where it has no lexical fault.
+pub fn tokens_or_fault_law()
+    ensures { TokensOrFault }
 {}

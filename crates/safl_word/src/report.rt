@@ -1,11 +1,12 @@
 //! The texts of faults.
 
-ghost use Rattle.std.specs.Prelude.{◌≡◌, ◌++◌, OnOk, OnErr};
+ghost use Rattle.std.specs.Prelude.{◌≡◌, ◌++◌, OnOk, OnErr, IfOk};
 ghost use Rattle.safl_word.specs.Faults.{rule_text, limit_name, wanted_and_found, limit_text, fault_text};
 
 use crate::fault::{Fault, NoMemory, Rule};
 use crate::numbers::push_decimal;
 use crate::word::Raw;
+use std::alloc::Global;
 
 impl Rule {
     /// The rule's number and its text.
@@ -47,17 +48,26 @@ fn limit_name(limit: u32) -> &'static str
     }
 }
 
-/// Appends the text of a fault without its place, as `E12 widths differ: 8 and 4`. Where memory runs out, what stood
-/// there stands, and perhaps a part of the text behind it.
+/// Appends the text of a fault without its place, as `E12 widths differ: 8 and 4`, and nothing where memory runs out.
 pub fn push_fault(fault: Fault, out: &mut Vec<u8>) -> Result<(), NoMemory>
     ensures ok { OnOk result (out.new.items ≡ out.old.items ++ fault_text fault) }
+    ensures err { OnErr result (out.new.items ≡ out.old.items) }
 {
-    out.extend_from_slice(fault.rule.text().as_bytes())?;
+    let text = text_of(*out.allocator(), fault)?;
+    out.extend_from_slice(&text)?;
+    Ok(())
+}
+
+fn text_of(alloc: Global, fault: Fault) -> Result<Vec<u8>, NoMemory>
+    ensures { IfOk result (λ text. text.items ≡ fault_text fault) }
+{
+    let mut text = Vec::from_slice(alloc, fault.rule.text().as_bytes())?;
     match fault.rule {
-        Rule::E11 | Rule::E12 => push_wanted_and_found(fault, out),
-        Rule::E16 => push_limit(fault, out),
-        _ => Ok(()),
+        Rule::E11 | Rule::E12 => push_wanted_and_found(fault, &mut text)?,
+        Rule::E16 => push_limit(fault, &mut text)?,
+        _ => (),
     }
+    Ok(text)
 }
 
 fn push_wanted_and_found(fault: Fault, out: &mut Vec<u8>) -> Result<(), NoMemory>

@@ -1,0 +1,5 @@
+use Rattle.safl_word.proofs.TokenLemmas.{fault_once}
+use Rattle.safl_word.proofs.laws.lexical_fault_law.Goals as goal
+
+pub returns : goal.returns
+returns c = fault_once

@@ -1,0 +1,5 @@
+use Rattle.safl_word.proofs.TokenLemmas.{tokens_once}
+use Rattle.safl_word.proofs.laws.tokens_law.Goals as goal
+
+pub returns : goal.returns
+returns c = tokens_once
