@@ -7,6 +7,8 @@ pub mod numbers;
 pub mod operators;
 pub mod primitive;
 pub mod report;
+#[cfg(test)]
+mod tests;
 pub mod token;
 pub mod word;
 

@@ -1,5 +1,8 @@
 //! Tokens of a source.
 
+ghost use Rattle.std.specs.Prelude.{◌≡◌};
+ghost use Rattle.safl_word.specs.Tokens.{key_text, sym_text};
+
 use crate::word::Raw;
 
 /// A word that is kept from names: `fun if then else let in case default cat bits ext and`.
@@ -64,4 +67,60 @@ pub struct Token {
     pub start: u32,
     pub stop: u32,
     pub kind: TokenKind,
+}
+
+impl Key {
+    /// The key as it is written.
+    pub fn text(self) -> &'static str
+        ensures { result.now ≡ key_text self }
+    {
+        match self {
+            Key::Fun => "fun",
+            Key::If => "if",
+            Key::Then => "then",
+            Key::Else => "else",
+            Key::Let => "let",
+            Key::In => "in",
+            Key::Case => "case",
+            Key::Default => "default",
+            Key::Cat => "cat",
+            Key::Bits => "bits",
+            Key::Ext => "ext",
+            Key::And => "and",
+        }
+    }
+}
+
+impl Sym {
+    /// The symbol as it is written.
+    pub fn text(self) -> &'static str
+        ensures { result.now ≡ sym_text self }
+    {
+        match self {
+            Sym::OpenParen => "(",
+            Sym::CloseParen => ")",
+            Sym::OpenBrace => "{",
+            Sym::CloseBrace => "}",
+            Sym::Comma => ",",
+            Sym::Colon => ":",
+            Sym::Semicolon => ";",
+            Sym::Assign => "=",
+            Sym::Arrow => "=>",
+            Sym::Equal => "==",
+            Sym::NotEqual => "!=",
+            Sym::Less => "<",
+            Sym::LessEqual => "<=",
+            Sym::Greater => ">",
+            Sym::GreaterEqual => ">=",
+            Sym::ShiftLeft => "<<",
+            Sym::ShiftRight => ">>",
+            Sym::Plus => "+",
+            Sym::Minus => "-",
+            Sym::Star => "*",
+            Sym::Ampersand => "&",
+            Sym::Bar => "|",
+            Sym::Caret => "^",
+            Sym::Tilde => "~",
+        }
+    }
 }
