@@ -1,5 +1,5 @@
 -- The Verilog text of a netlist, byte by byte.
-use Rattle.std.specs.Prelude.{ℕ, ◌-◌, List, [], ◌∷◌, ◌++◌, Option, None, Some, codes, slice_get}
+use Rattle.std.specs.Prelude.{ℕ, ◌-◌, List, [], ◌∷◌, ◌++◌, None, Some, codes}
 use Rattle.std.specs.List.{flat_map}
 use Rattle.std.specs.Fmt.{decimal}
 use Rattle.safl_word.specs.declared.primitive.Primitive.{Primitive}
@@ -7,17 +7,10 @@ use Rattle.safl_word.specs.declared.primitive.Primitive.TheVariants.{Add, Sub, M
 use Rattle.safl_net.specs.declared.cell.Op.{Op}
 use Rattle.safl_net.specs.declared.cell.Op.TheVariants.{Const, Copy, Mux, Apply}
 use Rattle.safl_net.specs.Netlist.{Netlist, Signal, Kind, Input, Reg, Wire, width_of}
+use Rattle.safl_net.specs.Making.{name_at}
 
 abbrev pub Text : Type 0
 Text = List ℕ
-
-abbrev pub name_in : Option Signal → Text
-name_in None = []
-name_in (Some g) = g.name
-
--- the name of a signal
-abbrev pub name_of : Netlist → ℕ → Text
-name_of n s = name_in (slice_get n.signals s)
 
 -- a number of a width: its width, 'd, and its decimal
 abbrev pub literal : ℕ → ℕ → Text
@@ -65,8 +58,11 @@ abbrev pub joined : List Text → Text
 joined (a ∷ b ∷ []) = codes "{" ++ a ++ codes ", " ++ b ++ codes "}"
 joined _ = []
 
+abbrev pub slice : ℕ → ℕ → Text
+slice high low = codes "[" ++ decimal high ++ codes ":" ++ decimal low ++ codes "]"
+
 abbrev pub sliced : ℕ → ℕ → List Text → Text
-sliced high low (a ∷ []) = a ++ codes "[" ++ decimal high ++ codes ":" ++ decimal low ++ codes "]"
+sliced high low (a ∷ []) = a ++ slice high low
 sliced high low _ = []
 
 abbrev pub applied : Primitive → List Text → Text
@@ -93,7 +89,7 @@ operation (Apply p) names = applied p names
 
 abbrev pub names_of : Netlist → List ℕ → List Text
 names_of n [] = []
-names_of n (s ∷ ss) = name_of n s ∷ names_of n ss
+names_of n (s ∷ ss) = name_at n s ∷ names_of n ss
 
 abbrev pub if_input : Kind → Text → Text
 if_input Input t = t
@@ -147,17 +143,19 @@ abbrev pub wire_assignment : Netlist → Signal → Text
 wire_assignment n g = cell_assignment n g.name g.kind
 
 abbrev pub output_assignment : Netlist → List ℕ × ℕ → Text
-output_assignment n o = assignment o.0 (name_of n o.1)
+output_assignment n o = assignment o.0 (name_at n o.1)
 
--- the update of a register at the clock's edge
+-- the update of a register at the clock's edge: its word at reset, and else its next signal
+abbrev pub reset : Text → Text → Text
+reset name word = codes "  always @(posedge clk) if (rst) " ++ name ++ codes " <= " ++ word ++ codes "; else "
+
 abbrev pub update : Text → Text → Text → Text
-update name reset next =
-    codes "  always @(posedge clk) if (rst) " ++ name ++ codes " <= " ++ reset ++ codes "; else " ++ name ++ codes " <= " ++ next ++ codes ";\n"
+update name word next = reset name word ++ name ++ codes " <= " ++ next ++ codes ";\n"
 
 abbrev pub next_update : Netlist → Text → ℕ → Kind → Text
 next_update n name width Input = []
 next_update n name width (Reg init None) = []
-next_update n name width (Reg init (Some m)) = update name (literal width init) (name_of n m)
+next_update n name width (Reg init (Some m)) = update name (literal width init) (name_at n m)
 next_update n name width (Wire cell) = []
 
 abbrev pub register_update : Netlist → Signal → Text

@@ -2,8 +2,9 @@
 #![tactic(auto)]
 
 mod cells;
+mod declarations;
 mod pieces;
-mod ports;
+mod statements;
 mod text;
 
 pub use crate::text::text_of;

@@ -1,21 +1,19 @@
 //! Pieces of text, appended to a buffer.
 
-ghost use Rattle.std.specs.Prelude.{◌≡◌, ◌++◌, ◌-◌, ◌≤◌, codes, OnOk};
-ghost use Rattle.safl_net.specs.Written.{literal, range, declaration};
+ghost use Rattle.std.specs.Prelude.{◌≡◌, ◌++◌, codes, OnOk};
+ghost use Rattle.safl_net.specs.Written.{literal, range, declaration, port, reset, update};
 
-use safl_word::{NoMemory, Raw, Word, push_decimal};
+use safl_word::{NoMemory, Raw, push_decimal};
 
 /// Appends a piece.
 pub fn push(out: &mut Vec<u8>, piece: &[u8]) -> Result<(), NoMemory>
     ensures { OnOk result (out.new.items ≡ out.old.items ++ piece.now) }
 {
-    match out.extend_from_slice(piece) {
-        Ok(()) => Ok(()),
-        Err(_) => Err(NoMemory),
-    }
+    out.extend_from_slice(piece)?;
+    Ok(())
 }
 
-/// Appends a number of a width, as its width, `'d` and its decimal.
+/// Appends a number of a width: its width, `'d` and its decimal.
 pub fn push_literal(out: &mut Vec<u8>, width: u8, bits: Raw) -> Result<(), NoMemory>
     ensures { OnOk result (out.new.items ≡ out.old.items ++ literal width bits) }
 {
@@ -24,13 +22,12 @@ pub fn push_literal(out: &mut Vec<u8>, width: u8, bits: Raw) -> Result<(), NoMem
     push_decimal(bits, out)
 }
 
-/// Appends the range of a width.
-pub fn push_range(out: &mut Vec<u8>, width: u8) -> Result<(), NoMemory>
-    requires { 1 ≤ width }
+// Appends the range of a width.
+fn push_range(out: &mut Vec<u8>, width: u8) -> Result<(), NoMemory>
     ensures { OnOk result (out.new.items ≡ out.old.items ++ range width) }
 {
     push(out, b"[")?;
-    push_decimal(Raw::from(width - 1), out)?;
+    push_decimal(Raw::from(width.saturating_sub(1)), out)?;
     push(out, b":0]")
 }
 
@@ -39,9 +36,8 @@ pub fn push_declaration(
     out: &mut Vec<u8>,
     keyword: &[u8],
     width: u8,
-    name: &[u8],
+    name: &str,
 ) -> Result<(), NoMemory>
-    requires { 1 ≤ width }
     ensures { OnOk result (out.new.items ≡ out.old.items ++ declaration keyword.now width name.now) }
 {
     push(out, b"  ")?;
@@ -49,6 +45,53 @@ pub fn push_declaration(
     push(out, b" ")?;
     push_range(out, width)?;
     push(out, b" ")?;
-    push(out, name)?;
+    push(out, name.as_bytes())?;
     push(out, b";\n")
+}
+
+/// Appends a port of the header.
+pub fn push_port(out: &mut Vec<u8>, name: &str) -> Result<(), NoMemory>
+    ensures { OnOk result (out.new.items ≡ out.old.items ++ port name.now) }
+{
+    push(out, b", ")?;
+    push(out, name.as_bytes())
+}
+
+/// Appends the front of an assignment, up to what is assigned.
+pub fn push_target(out: &mut Vec<u8>, name: &str) -> Result<(), NoMemory>
+    ensures { OnOk result (out.new.items ≡ out.old.items ++ (codes "  assign " ++ name.now ++ codes " = ")) }
+{
+    push(out, b"  assign ")?;
+    push(out, name.as_bytes())?;
+    push(out, b" = ")
+}
+
+// Appends the front of an update, up to the register behind `else`.
+fn push_reset(out: &mut Vec<u8>, name: &str, width: u8, init: Raw) -> Result<(), NoMemory>
+    ensures { OnOk result (out.new.items ≡ out.old.items ++ reset name.now (literal width init)) }
+{
+    push(out, b"  always @(posedge clk) if (rst) ")?;
+    push(out, name.as_bytes())?;
+    push(out, b" <= ")?;
+    push_literal(out, width, init)?;
+    push(out, b"; else ")?;
+    Ok(())
+}
+
+/// Appends the update of a register with that word at reset and that next signal.
+pub fn push_update(
+    out: &mut Vec<u8>,
+    name: &str,
+    width: u8,
+    init: Raw,
+    next: &str,
+) -> Result<(), NoMemory>
+    ensures { OnOk result (out.new.items ≡ out.old.items ++ update name.now (literal width init) next.now) }
+{
+    push_reset(out, name, width, init)?;
+    push(out, name.as_bytes())?;
+    push(out, b" <= ")?;
+    push(out, next.as_bytes())?;
+    push(out, b";\n")?;
+    Ok(())
 }

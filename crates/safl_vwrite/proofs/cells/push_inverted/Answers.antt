@@ -1,0 +1,5 @@
+use Rattle.safl_vwrite.proofs.Texts.{nothing_more, other_inverted}
+use Rattle.safl_vwrite.proofs.cells.push_inverted.Goals as goal
+
+pub returns-in_default-2 : goal.returns-in_default-2
+returns-in_default-2 c = nothing_more c.args.out.now.items _ (other_inverted c.args.net.now c.args.operands.now c.in_default.len_at_least)
