@@ -153,8 +153,9 @@ fn left_shift(a: Word, b: Word) -> Word
     ensures { result ≡ record { width = a.width; bits = cond (nat_lt b.bits a.width) ((a.bits * 2 ^ b.bits) % 2 ^ a.width) 0 } }
 {
     let width = a.width();
-    if b.bits() < Raw::from(width) {
-        Word::from_low_bits(width, a.bits() << (b.bits() as u32))
+    let amount = b.bits();
+    if amount < Raw::from(width) {
+        Word::from_low_bits(width, a.bits() << (amount as u32))
     } else {
         Word::from_parts(width, 0)
     }

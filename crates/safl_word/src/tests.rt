@@ -11,7 +11,7 @@ use std::test::Fail;
 type Pair = (u8, Raw);
 
 // An operator, its two operands, and what it gives: worked out by Python's whole numbers.
-const TWO: [(Primitive, Pair, Pair, Pair); 64] = [
+static TWO: [(Primitive, Pair, Pair, Pair); 64] = [
     (Primitive::Add, (1, 0x0), (1, 0x1), (1, 0x1)),
     (Primitive::Add, (8, 0x26), (8, 0x65), (8, 0x8b)),
     (
@@ -309,7 +309,7 @@ const TWO: [(Primitive, Pair, Pair, Pair); 64] = [
 ];
 
 // The same with one operand.
-const ONE: [(Primitive, Pair, Pair); 13] = [
+static ONE: [(Primitive, Pair, Pair); 13] = [
     (Primitive::Not, (1, 0x1), (1, 0x0)),
     (Primitive::Not, (7, 0x23), (7, 0x5c)),
     (
@@ -357,22 +357,30 @@ fn word(rt: &impl Abort, pair: Pair) -> Word {
     Word::new(pair.0, pair.1).expect(rt, "a word")
 }
 
-#[test]
-fn operators_give_what_python_gives(rt: HostRuntime) {
-    for (p, a, b, wanted) in TWO {
-        let (a, b) = (word(&rt, a), word(&rt, b));
+fn check_two(rt: &impl Abort, rows: &[(Primitive, Pair, Pair, Pair)]) {
+    for (p, a, b, wanted) in rows {
+        let (a, b) = (word(rt, *a), word(rt, *b));
         assert_eq!(rt;
-            result_width(p, &[a.width(), b.width()]),
+            result_width(*p, &[a.width(), b.width()]),
             Some(wanted.0),
             "{p:?}"
         );
-        assert_eq!(rt; apply(p, &[a, b]), word(&rt, wanted), "{p:?}");
+        assert_eq!(rt; apply(*p, &[a, b]), word(rt, *wanted), "{p:?}");
     }
-    for (p, a, wanted) in ONE {
-        let a = word(&rt, a);
-        assert_eq!(rt; result_width(p, &[a.width()]), Some(wanted.0), "{p:?}");
-        assert_eq!(rt; apply(p, &[a]), word(&rt, wanted), "{p:?}");
+}
+
+fn check_one(rt: &impl Abort, rows: &[(Primitive, Pair, Pair)]) {
+    for (p, a, wanted) in rows {
+        let a = word(rt, *a);
+        assert_eq!(rt; result_width(*p, &[a.width()]), Some(wanted.0), "{p:?}");
+        assert_eq!(rt; apply(*p, &[a]), word(rt, *wanted), "{p:?}");
     }
+}
+
+#[test]
+fn operators_give_what_python_gives(rt: HostRuntime) {
+    check_two(&rt, &TWO);
+    check_one(&rt, &ONE);
 }
 
 #[test]
