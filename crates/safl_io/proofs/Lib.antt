@@ -3,3 +3,5 @@ pub mod Telling
 pub mod Pieces
 pub mod Writing
 pub mod Reading
+pub mod Files
+pub mod Places

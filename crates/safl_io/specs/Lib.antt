@@ -4,3 +4,4 @@ pub mod Shelf
 pub mod Sink
 pub mod Reading
 pub mod Calls
+pub mod Stored

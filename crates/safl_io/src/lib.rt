@@ -6,6 +6,7 @@ pub mod fault;
 pub mod read;
 pub mod shelf;
 pub mod sink;
+mod stored;
 pub mod write;
 
 pub use crate::fault::{Failed, OutErr};
