@@ -5,3 +5,4 @@ pub mod Sink
 pub mod Reading
 pub mod Calls
 pub mod Stored
+pub mod MemShelf

@@ -1,4 +1,8 @@
 // What a call on the outside may answer in place of its result.
+ghost use Rattle.std.specs.Prelude.{◌≡◌};
+ghost use Rattle.safl_io.specs.declared.fault.OutErr.TheVariants as why;
+
+use std::alloc::AllocError;
 use thiserror::Error;
 
 /// The outside failed. The object that was called has counted it.
@@ -14,4 +18,12 @@ pub enum OutErr {
     Failed,
     #[error("out of memory")]
     NoMemory,
+}
+
+impl From<AllocError> for OutErr {
+    ghost from_gives = { λ _ e. e ≡ why.NoMemory };
+
+    fn from(_: AllocError) -> Self {
+        OutErr::NoMemory
+    }
 }

@@ -3,6 +3,7 @@
 
 mod calls;
 pub mod fault;
+pub mod mem_shelf;
 pub mod read;
 pub mod shelf;
 pub mod sink;
@@ -10,6 +11,7 @@ mod stored;
 pub mod write;
 
 pub use crate::fault::{Failed, OutErr};
+pub use crate::mem_shelf::MemShelf;
 pub use crate::read::{ReadErr, read_file};
 pub use crate::shelf::Shelf;
 pub use crate::sink::Sink;

@@ -1,0 +1,20 @@
+-- A shelf in memory.
+use Rattle.std.specs.Prelude.{ℕ, ◌≡◌, ◌⊎◌, ◌++◌, ◌/◌, List, length, take, IsNone, option_map}
+use Rattle.safl_io.specs.Shelf.{Files, file_of}
+use Rattle.safl_io.specs.Calls.{Calls, Fails}
+
+-- its files, its calls and its counts
+pub record Memory : Type 0 where
+  pub files : Files
+  pub calls : Calls
+  pub read_faults : ℕ
+  pub write_faults : ℕ
+  pub strays : ℕ
+
+-- the next call is to fail, or no file has that name
+abbrev pub FailsAt : Memory → List ℕ → Type 0
+FailsAt shelf name = Fails shelf.calls ⊎ IsNone (file_of shelf.files name)
+
+-- after an append that failed: the first half of the piece, rounded down, is added to the file, where there is one
+abbrev pub AppendsHalf : List ℕ → List ℕ → Files → Files → Type 0
+AppendsHalf name bytes old new = file_of new name ≡ option_map (λ had. had ++ take (length bytes / 2) bytes) (file_of old name)

@@ -1,0 +1,186 @@
+// A shelf in memory, for tests.
+ghost use Rattle.std.specs.Prelude.{◌≡◌, ◌≤◌, ◌-◌, ◌+◌, ◌++◌, ◌↔◌, ◌⊎◌, [], ◌∷◌, length, min, IfOk, IfSome, OnOk, OnErr, IsErr, IsNone, IsErrOf};
+ghost use Rattle.std.specs.Option.{option_copied};
+ghost use Rattle.safl_io.specs.Counts.{Rose};
+ghost use Rattle.safl_io.specs.Told.{TellsOn};
+ghost use Rattle.safl_io.specs.Shelf.{file_of, Leaves, LeavesOldOrEmpty, Appends, AppendsPart, Reads, ReadsFrom, IsStray, CountsStray};
+ghost use Rattle.safl_io.specs.Calls.{Fails, called};
+ghost use Rattle.safl_io.specs.MemShelf.{FailsAt, AppendsHalf};
+
+use crate::calls::{CallPlan, raise};
+use crate::fault::{Failed, OutErr};
+use crate::shelf::Shelf;
+use crate::stored::StoredFiles;
+use safl_word::NoMemory;
+use std::alloc::{AllocError, Global};
+use std::marker::Model;
+
+/// A shelf in memory. It tells what it holds.
+#[derive(Drop)]
+pub struct MemShelf {
+    files: StoredFiles,
+    calls: CallPlan,
+    read_faults: u64,
+    write_faults: u64,
+    strays: u64,
+}
+
+impl Model for MemShelf {
+    ghost use Rattle.safl_io.specs.MemShelf.{Memory};
+
+    ghost Value = { Memory };
+
+    ghost view = { λ shelf. record {
+      files = shelf.files;
+      calls = shelf.calls;
+      read_faults = shelf.read_faults;
+      write_faults = shelf.write_faults;
+      strays = shelf.strays;
+    } };
+}
+
+impl MemShelf {
+    /// A shelf with no files, no faults and no call that is to fail.
+    pub fn new(alloc: Global) -> Self
+        ensures { result ≡ record { files = []; calls = record { failing = []; made = 0 }; read_faults = 0; write_faults = 0; strays = 0 } }
+    {
+        MemShelf {
+            files: StoredFiles::new(alloc),
+            calls: CallPlan::new(alloc),
+            read_faults: 0,
+            write_faults: 0,
+            strays: 0,
+        }
+    }
+
+    /// Puts a file there, in place of an old one of that name.
+    pub fn add(&mut self, name: &str, bytes: &[u8]) -> Result<(), NoMemory>
+        ensures added { OnOk result (Leaves name.now bytes.now self.old.files self.new.files) }
+        ensures rest { self.new ≡ record self.old { files = self.new.files } }
+        ensures same { OnErr result (self.new ≡ self.old) }
+    {
+        self.files.put(name, bytes)?;
+        Ok(())
+    }
+
+    /// Lists the number of a call of the trait that is to fail. Calls are numbered from 1.
+    pub fn fail_call(&mut self, call: u64) -> Result<(), NoMemory>
+        ensures listed { OnOk result (self.new ≡ record self.old { calls = record self.old.calls { failing = self.old.calls.failing ++ call ∷ [] } }) }
+        ensures same { OnErr result (self.new ≡ self.old) }
+    {
+        self.calls.fail_call(call)?;
+        Ok(())
+    }
+
+    /// The bytes of a file, if there is one of that name. This is no call of the trait.
+    pub fn file(&self, name: &str) -> Option<&[u8]>
+        ensures { option_copied result ≡ file_of self.now.files name.now }
+    {
+        self.files.file(name)
+    }
+}
+
+impl Shelf for MemShelf {
+    ghost use Rattle.std.specs.Prelude.{Some};
+
+    ghost holds = { λ shelf. Some shelf.files };
+
+    ghost read_faults = { λ shelf. shelf.read_faults };
+
+    ghost write_faults = { λ shelf. shelf.write_faults };
+
+    ghost strays = { λ shelf. shelf.strays };
+
+    fn read_at(&mut self, name: &str, at: u64, buf: &mut [u8]) -> Result<usize, Failed>
+        ensures within { IfOk result (λ count. count ≤ length buf.old) }
+        ensures read { IfOk result (λ count. Reads name.now at count buf.new self.old.files) }
+        ensures failed { OnErr result (Rose self.old.read_faults self.new.read_faults) }
+        ensures same_files { self.new.files ≡ self.old.files }
+        ensures reads_later { self.old.read_faults ≤ self.new.read_faults }
+        ensures same_writes { self.new.write_faults ≡ self.old.write_faults }
+        ensures stray { CountsStray (Some self.old.files) name.now self.old.strays self.new.strays }
+        ensures strays_later { self.old.strays ≤ self.new.strays }
+
+        // It fails exactly on a listed call or a missing name, and reads as much as there is room for.
+        ensures fails { IsErr result ↔ FailsAt self.old name.now }
+        ensures all { IfOk result (λ count. IfSome (file_of self.old.files name.now) (λ file. count ≡ min (length buf.old) (length file - at))) }
+        ensures called { self.new.calls ≡ called self.old.calls }
+    {
+        let fails = self.calls.next_fails();
+        match self.files.file(name) {
+            None => {
+                self.strays = raise(self.strays);
+                self.read_faults = raise(self.read_faults);
+                Err(Failed)
+            }
+            Some(_) if fails => {
+                self.read_faults = raise(self.read_faults);
+                Err(Failed)
+            }
+            Some(file) => Ok(copy_from(file, at, buf)),
+        }
+    }
+
+    fn create(&mut self, name: &str) -> Result<(), OutErr>
+        ensures created { OnOk result (Leaves name.now [] self.old.files self.new.files) }
+        ensures not_created { OnErr result (self.new.files ≡ self.old.files) }
+        ensures failed { IsErrOf result OutErr.Failed → Rose self.old.write_faults self.new.write_faults }
+        ensures same_reads { self.new.read_faults ≡ self.old.read_faults }
+        ensures writes_later { self.old.write_faults ≤ self.new.write_faults }
+        ensures same_strays { self.new.strays ≡ self.old.strays }
+
+        // It fails exactly on a listed call.
+        ensures fails { IsErrOf result OutErr.Failed ↔ Fails self.old.calls }
+        ensures called { self.new.calls ≡ called self.old.calls }
+    {
+        if self.calls.next_fails() {
+            self.write_faults = raise(self.write_faults);
+            return Err(OutErr::Failed);
+        }
+        self.files.put(name, &[])?;
+        Ok(())
+    }
+
+    fn append(&mut self, name: &str, bytes: &[u8]) -> Result<(), OutErr>
+        ensures appended { OnOk result (Appends name.now bytes.now self.old.files self.new.files) }
+        ensures not_appended { OnErr result (AppendsPart name.now bytes.now self.old.files self.new.files) }
+        ensures failed { IsErrOf result OutErr.Failed → Rose self.old.write_faults self.new.write_faults }
+        ensures missing { IsStray (Some self.old.files) name.now → Rose self.old.write_faults self.new.write_faults }
+        ensures same_reads { self.new.read_faults ≡ self.old.read_faults }
+        ensures writes_later { self.old.write_faults ≤ self.new.write_faults }
+        ensures stray { CountsStray (Some self.old.files) name.now self.old.strays self.new.strays }
+        ensures strays_later { self.old.strays ≤ self.new.strays }
+
+        // It fails exactly on a listed call or a missing name, want of memory aside.
+        ensures fails { IsErrOf result OutErr.Failed → FailsAt self.old name.now }
+        ensures succeeds { OnOk result (¬ FailsAt self.old name.now) }
+        ensures half { IsErrOf result OutErr.Failed → AppendsHalf name.now bytes.now self.old.files self.new.files }
+        ensures called { self.new.calls ≡ called self.old.calls }
+    {
+        let fails = self.calls.next_fails();
+        if self.files.file(name).is_none() {
+            self.strays = raise(self.strays);
+            self.write_faults = raise(self.write_faults);
+            return Err(OutErr::Failed);
+        }
+        if fails {
+            self.files.append(name, &bytes[..bytes.len() / 2])?;
+            self.write_faults = raise(self.write_faults);
+            return Err(OutErr::Failed);
+        }
+        self.files.append(name, bytes)?;
+        Ok(())
+    }
+}
+
+// Copies bytes of a file, from an offset on, to the front of a buffer, and answers how many.
+fn copy_from(file: &[u8], at: u64, buf: &mut [u8]) -> usize
+    ensures all { result ≡ min (length buf.old) (length file.now - at) }
+    ensures read { ReadsFrom at result buf.new file.now }
+{
+    let start = at.min(file.len() as u64) as usize;
+    let rest = &file[start..];
+    let count = buf.len().min(rest.len());
+    buf[..count].copy_from_slice(&rest[..count]);
+    count
+}
