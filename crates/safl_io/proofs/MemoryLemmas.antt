@@ -1,5 +1,5 @@
 -- Calls of a shelf in memory.
-use Rattle.std.proofs.Common.{◌≡◌, ◌≤◌, ◌<◌, ◌⊎◌, ℕ, ◌+◌, ◌-◌, min, List, [], ◌++◌, length, take, drop, Option, Some, None, IsNone, MatchOption, inl, inr, refl, ap, sym, ◌∙◌, arith, length-drop}
+use Rattle.std.proofs.Common.{◌≡◌, ◌≤◌, ◌⊎◌, ℕ, ◌+◌, ◌-◌, min, List, [], ◌++◌, length, take, drop, Option, Some, None, IsNone, MatchOption, inl, inr, refl, ap, sym, ◌∙◌, arith, length-drop}
 use Rattle.std.proofs.lemmas.List.{take_at, take-append-drop, drop-drop, drop_all, append-nil, length-take-le}
 use Rattle.safl_io.specs.Shelf.{Files, file_of, ReadsFrom, AppendsPart}
 

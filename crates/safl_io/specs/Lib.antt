@@ -6,3 +6,5 @@ pub mod Reading
 pub mod Calls
 pub mod Stored
 pub mod MemShelf
+pub mod MemSink
+pub mod Adapters

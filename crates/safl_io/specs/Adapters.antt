@@ -1,0 +1,7 @@
+-- Adapters over the system, which tell nothing but their counts.
+use Rattle.std.specs.Prelude.{ℕ}
+
+-- how often reading and writing failed
+pub record FaultCounts : Type 0 where
+  pub reads : ℕ
+  pub writes : ℕ

@@ -1,0 +1,87 @@
+// A sink in memory, for tests.
+ghost use Rattle.std.specs.Prelude.{◌≡◌, ◌≤◌, ◌++◌, ◌↔◌, [], ◌∷◌, OnOk, OnErr, IsErrOf};
+ghost use Rattle.safl_io.specs.Counts.{Rose};
+ghost use Rattle.safl_io.specs.Sink.{Sends, SendsPart};
+ghost use Rattle.safl_io.specs.Calls.{Fails, called};
+ghost use Rattle.safl_io.specs.MemSink.{SendsHalf};
+
+use crate::calls::{CallPlan, raise};
+use crate::fault::OutErr;
+use crate::sink::Sink;
+use safl_word::NoMemory;
+use std::alloc::Global;
+use std::marker::Model;
+
+/// A sink in memory. It tells what was sent.
+#[derive(Drop)]
+pub struct MemSink {
+    bytes: Vec<u8>,
+    calls: CallPlan,
+    faults: u64,
+}
+
+impl Model for MemSink {
+    ghost use Rattle.safl_io.specs.MemSink.{Sent};
+
+    ghost Value = { Sent };
+
+    ghost view = { λ sink. record { bytes = sink.bytes.items; calls = sink.calls; faults = sink.faults } };
+}
+
+impl MemSink {
+    /// A sink to which nothing was sent, with no faults and no call that is to fail.
+    pub fn new(alloc: Global) -> Self
+        ensures { result ≡ record { bytes = []; calls = record { failing = []; made = 0 }; faults = 0 } }
+    {
+        MemSink {
+            bytes: Vec::new(alloc),
+            calls: CallPlan::new(alloc),
+            faults: 0,
+        }
+    }
+
+    /// Lists the number of a call of the trait that is to fail. Calls are numbered from 1.
+    pub fn fail_call(&mut self, call: u64) -> Result<(), NoMemory>
+        ensures listed { OnOk result (self.new ≡ record self.old { calls = record self.old.calls { failing = self.old.calls.failing ++ call ∷ [] } }) }
+        ensures same { OnErr result (self.new ≡ self.old) }
+    {
+        self.calls.fail_call(call)?;
+        Ok(())
+    }
+
+    /// What was sent. This is no call of the trait.
+    pub fn bytes(&self) -> &[u8]
+        ensures { result.now ≡ self.now.bytes }
+    {
+        &self.bytes
+    }
+}
+
+impl Sink for MemSink {
+    ghost use Rattle.std.specs.Prelude.{Some};
+
+    ghost sent = { λ sink. Some sink.bytes };
+
+    ghost faults = { λ sink. sink.faults };
+
+    fn put(&mut self, bytes: &[u8]) -> Result<(), OutErr>
+        ensures sent { OnOk result (Sends bytes.now self.old.bytes self.new.bytes) }
+        ensures part { OnErr result (SendsPart bytes.now self.old.bytes self.new.bytes) }
+        ensures failed { IsErrOf result OutErr.Failed → Rose self.old.faults self.new.faults }
+        ensures faults_later { self.old.faults ≤ self.new.faults }
+
+        // It fails exactly on a listed call, want of memory aside.
+        ensures fails { IsErrOf result OutErr.Failed → Fails self.old.calls }
+        ensures succeeds { OnOk result (¬ Fails self.old.calls) }
+        ensures half { IsErrOf result OutErr.Failed → SendsHalf bytes.now self.old.bytes self.new.bytes }
+        ensures called { self.new.calls ≡ called self.old.calls }
+    {
+        if self.calls.next_fails() {
+            self.bytes.extend_from_slice(&bytes[..bytes.len() / 2])?;
+            self.faults = raise(self.faults);
+            return Err(OutErr::Failed);
+        }
+        self.bytes.extend_from_slice(bytes)?;
+        Ok(())
+    }
+}
