@@ -51,3 +51,41 @@ impl<W: Write + Drop> Sink for StdSink<W> {
         }
     }
 }
+
+#[cfg(test)]
+mod tests {
+    use super::*;
+    use std::io;
+    use std::test::Fail;
+
+    // Takes two bytes at a time, and nothing more after six.
+    #[derive(Drop)]
+    struct Slow {
+        taken: Vec<u8>,
+    }
+
+    impl Write for Slow {
+        fn write(&mut self, buf: &[u8]) -> io::Result<usize> {
+            let room = 6usize.saturating_sub(self.taken.len());
+            let count = buf.len().min(2).min(room);
+            self.taken.extend_from_slice(&buf[..count])?;
+            Ok(count)
+        }
+
+        fn flush(&mut self) -> io::Result<()> {
+            Ok(())
+        }
+    }
+
+    #[test]
+    fn a_writer_that_takes_little(rt: HostRuntime) -> Result<(), Fail> {
+        let mut sink = StdSink::new(Slow {
+            taken: Vec::new(rt.alloc()),
+        });
+        assert_eq!(rt; sink.put(b"hello"), Ok(()));
+        assert_eq!(rt; sink.put(b""), Ok(()));
+        assert_eq!(rt; sink.put(b"abc"), Err(OutErr::Failed));
+        assert_eq!(rt; sink.writer.taken.as_slice(), b"helloa".as_slice());
+        Ok(())
+    }
+}
