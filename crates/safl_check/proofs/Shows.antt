@@ -1,7 +1,7 @@
 -- What partial evaluation shows, as relations.
 use Rattle.std.proofs.Common.{◌≡◌, ℕ, List, [], ◌∷◌, ◌++◌}
 use Rattle.safl_check.specs.Readiness.{Stage, Returned}
-use Rattle.safl_check.specs.Meaning.{Gives, g_const, g_var, g_op, g_if, g_let, g_call, g_loop, GivesAll, g_nil, g_cons}
+use Rattle.safl_check.specs.Meaning.{Gives, gives_const, gives_var, gives_op, gives_if, gives_let, gives_call, gives_loop, GivesAll, gives_nil, gives_cons}
 use Rattle.safl_check.specs.Program.{Program}
 use Rattle.safl_check.specs.Terms.{Term, Const, Var, If, Let, Op, Call, Loop, Terms, Nil, Cons}
 use Rattle.safl_word.specs.declared.primitive.Primitive.{Primitive}
@@ -78,18 +78,18 @@ mutual
 
 mutual
   pub done_gives : (p : Program) (s : ℕ → Stage) {env : List Word} {t : Term} {v : Word} → Done p s env t v → Gives p env t v
-  done_gives p s d_const = g_const
-  done_gives p s d_var = g_var
-  done_gives p s (d_op ds) = g_op (done_all_gives p s ds)
-  done_gives p s (d_if c d) = g_if (done_gives p s c) (done_gives p s d)
-  done_gives p s (d_let ds d) = g_let (done_all_gives p s ds) (done_gives p s d)
-  done_gives p s (d_call ds e g) = g_call (done_all_gives p s ds) g
+  done_gives p s d_const = gives_const
+  done_gives p s d_var = gives_var
+  done_gives p s (d_op ds) = gives_op (done_all_gives p s ds)
+  done_gives p s (d_if c d) = gives_if (done_gives p s c) (done_gives p s d)
+  done_gives p s (d_let ds d) = gives_let (done_all_gives p s ds) (done_gives p s d)
+  done_gives p s (d_call ds e g) = gives_call (done_all_gives p s ds) g
 
   pub done_all_gives : (p : Program) (s : ℕ → Stage) {env : List Word} {ts : Terms} {vs : List Word} → DoneAll p s env ts vs → GivesAll p env ts vs
-  done_all_gives p s d_nil = g_nil
-  done_all_gives p s (d_cons d ds) = g_cons (done_gives p s d) (done_all_gives p s ds)
+  done_all_gives p s d_nil = gives_nil
+  done_all_gives p s (d_cons d ds) = gives_cons (done_gives p s d) (done_all_gives p s ds)
 
 pub tail_gives : (p : Program) (s : ℕ → Stage) {env : List Word} {t : Term} {h : ℕ} {ws : List Word} (v : Word) → Tail p s env t h ws → Gives p ws (p.body h) v → Gives p env t v
-tail_gives p s v (t_loop ds) g = g_loop (done_all_gives p s ds) g
-tail_gives p s v (t_if c t) g = g_if (done_gives p s c) (tail_gives p s v t g)
-tail_gives p s v (t_let ds t) g = g_let (done_all_gives p s ds) (tail_gives p s v t g)
+tail_gives p s v (t_loop ds) g = gives_loop (done_all_gives p s ds) g
+tail_gives p s v (t_if c t) g = gives_if (done_gives p s c) (tail_gives p s v t g)
+tail_gives p s v (t_let ds t) g = gives_let (done_all_gives p s ds) (tail_gives p s v t g)

@@ -1,4 +1,4 @@
--- The same meaning as a function of a number of calls, which hands on what is left.
+-- The same meaning as a function: it is given a number of calls, and hands on how many are left.
 use Rattle.std.specs.Prelude.{◌≡◌, ℕ, zero, suc, List, [], ◌∷◌, ◌++◌}
 use Rattle.safl_check.specs.Program.{Program}
 use Rattle.safl_check.specs.Terms.{Term, Const, Var, If, Let, Op, Call, Loop, Terms, Nil, Cons}
@@ -34,26 +34,28 @@ with_head (Gave v m) go = with_rest (go m) v
 abbrev pub Apply : Type 0
 Apply = ℕ → ℕ → List Word → Outcome
 
+-- parts are evaluated from left to right, and each is given what the one before it left
 abbrev mutual
   pub eval : Program → Apply → Term → ℕ → List Word → Outcome
-  eval p ap (Const w) n env = Gave w n
-  eval p ap (Var i) n env = Gave (slot env i) n
-  eval p ap (If c a b) n env = with_word (eval p ap c n env) (λ u m. choose u (eval p ap a m env) (eval p ap b m env))
-  eval p ap (Let ts b) n env = with_words (eval_all p ap ts n env) (λ us m. eval p ap b m (env ++ us))
-  eval p ap (Op o ts) n env = with_words (eval_all p ap ts n env) (λ vs m. Gave (apply_prim o vs) m)
-  eval p ap (Call f k ts) n env = with_words (eval_all p ap ts n env) (λ us m. ap m f us)
-  eval p ap (Loop h ts) n env = with_words (eval_all p ap ts n env) (λ us m. ap m h us)
+  eval C ap (Const w) n env = Gave w n
+  eval C ap (Var i) n env = Gave (slot env i) n
+  eval C ap (If c a b) n env = with_word (eval C ap c n env) (λ u m. choose u (eval C ap a m env) (eval C ap b m env))
+  eval C ap (Let ts b) n env = with_words (eval_all C ap ts n env) (λ us m. eval C ap b m (env ++ us))
+  eval C ap (Op o ts) n env = with_words (eval_all C ap ts n env) (λ vs m. Gave (apply_prim o vs) m)
+  eval C ap (Call f k ts) n env = with_words (eval_all C ap ts n env) (λ us m. ap m f us)
+  eval C ap (Loop h ts) n env = with_words (eval_all C ap ts n env) (λ us m. ap m h us)
 
   pub eval_all : Program → Apply → Terms → ℕ → List Word → Outcomes
-  eval_all p ap Nil n env = Words [] n
-  eval_all p ap (Cons t ts) n env = with_head (eval p ap t n env) (λ m. eval_all p ap ts m env)
+  eval_all C ap Nil n env = Words [] n
+  eval_all C ap (Cons t ts) n env = with_head (eval C ap t n env) (λ m. eval_all C ap ts m env)
 
--- applications nested at most d deep. Each takes one of n, so d = n is deep enough
+-- Without a call left there is nothing. Else an application takes one, and the body is evaluated with the arguments as
+-- env. At most d applications are open at a time; since each takes one of n, d = n is deep enough
 abbrev pub apply : Program → ℕ → Apply
-apply p zero n f us = Nothing
-apply p (suc d) zero f us = Nothing
-apply p (suc d) (suc n) f us = eval p (apply p d) (p.body f) n us
+apply C zero n f us = Nothing
+apply C (suc d) zero f us = Nothing
+apply C (suc d) (suc n) f us = eval C (apply C d) (C.body f) n us
 
--- main on args gives v in n calls
+-- main on args gives v in n calls: nothing is left of n
 abbrev pub GivesInCalls : Program → List Word → Word → ℕ → Type 0
-GivesInCalls p args v n = apply p n n (p.callee 0) args ≡ Gave v 0
+GivesInCalls C args v n = apply C n n (C.callee 0) args ≡ Gave v 0

@@ -3,7 +3,7 @@ use Rattle.std.specs.Prelude.{◌≡◌, ℕ, ◌⊎◌}
 use Rattle.safl_check.specs.Terms.{Term, Const, Var, Op, If, Let, Call, Loop, Terms, Nil, Cons}
 
 unfoldable mutual
-  -- site k stands in the term
+  -- site k stands in the term: it is the site of a call there
   pub Stands : ℕ → Term → Type 0
   Stands k (Const n) = ⊥
   Stands k (Var i) = ⊥

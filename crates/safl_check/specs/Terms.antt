@@ -1,10 +1,11 @@
--- Terms of bodies.
+-- Terms of bodies, as plain trees.
 use Rattle.std.specs.Prelude.{ℕ}
 use Rattle.safl_word.specs.Words.{Word}
 use Rattle.safl_word.specs.declared.primitive.Primitive.{Primitive}
 
 mutual
-  -- slots count the parameters first, then the bindings around
+  -- Slots count the parameters first, then the bindings of the lets around, the outer ones first.
+  -- A call has the function and its site; a loop is a tail call of a member of the own group, and no site
   pub data Term : Type 0 where
     Const : (word : Word) → Term
     Var : (slot : ℕ) → Term
@@ -12,7 +13,6 @@ mutual
     If : (c a b : Term) → Term
     Let : (bound : Terms) (body : Term) → Term
     Call : (callee site : ℕ) (args : Terms) → Term
-    -- a tail call to a member of the own group
     Loop : (member : ℕ) (args : Terms) → Term
 
   pub data Terms : Type 0 where

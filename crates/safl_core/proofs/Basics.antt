@@ -1,11 +1,17 @@
 -- Lists of events, sweeps over numbers, and first places.
 use Rattle.std.proofs.Common.{◌≡◌, ℕ, zero, suc, ◌<◌, ◌≤◌, List, [], ◌∷◌, ◌++◌, Option, Some, None, Bool, true, false, cond, ◌&&◌, nat_lt, is_some, refl, sym, ap, ◌∙◌, subst, ⊎_elim, arith, append-nil}
 use Rattle.std.proofs.lemmas.Bool.{cases_Bool, cases_eq, true≢false, false≢true, lt-ltb, le-ltb, ltb-true, ltb-false, and_right, eq-eqb, ne_eqb}
-use Rattle.safl_core.specs.Machine.{is_unsent, State, Event, Enabled, fire, Legal, after, last_word, put}
+use Rattle.safl_core.specs.Machine.{Mode, Idle, Runs, Delivers, is_unsent, State, Event, Enabled, fire, Legal, after, last_word, put}
 use Rattle.safl_core.specs.Picks.{first, picks}
 use Rattle.safl_check.specs.Readiness.{or_else, Stage, Unsent, Sent, Returned}
 use Rattle.safl_check.specs.Program.{Program}
 use Rattle.safl_word.specs.Words.{Word}
+
+-- the site that a unit serves
+abbrev pub serves : Mode → Option ℕ
+serves Idle = None
+serves (Runs f k args) = Some k
+serves (Delivers k v) = Some k
 
 pub put_at : {A : Type 0} (f : ℕ → A) (i j : ℕ) (x : A) → i ≡ j → put f i x j ≡ x
 put_at f i j x e = rw (eq-eqb i j e)

@@ -4,7 +4,8 @@ use Rattle.std.proofs.lemmas.Bool.{cases_eq, cases_order, eq-eqb, ne_eqb, falseâ
 use Rattle.safl_core.proofs.Bodies.{or_some, settled, settled_in, wanted_stands, wanted_stands_in}
 use Rattle.safl_core.proofs.Invariant.{Inv, inv_after, Asks, found}
 use Rattle.safl_core.proofs.Numbered.{Numbered}
-use Rattle.safl_core.specs.Machine.{State, Mode, Idle, Runs, Delivers, opening, after, serves, back}
+use Rattle.safl_core.specs.Machine.{State, Mode, Idle, Runs, Delivers, opening, after, back}
+use Rattle.safl_core.proofs.Basics.{serves}
 use Rattle.safl_sites.specs.Conflicts.{Reaches, Here, Through, ReachesIn, Apart, ApartIn, Conflict}
 use Rattle.safl_core.specs.Interference.{Busy, OneInUse}
 use Rattle.safl_check.proofs.Once.{Once, OnceIn}

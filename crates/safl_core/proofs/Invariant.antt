@@ -4,7 +4,8 @@ use Rattle.std.proofs.lemmas.Bool.{cases_eq, eqb-true, eq-eqb, ne_eqb, leb-true,
 use Rattle.safl_core.proofs.Basics.{put_at, put_off, some_none, some_of, some_is, cond_some, unsent_is}
 use Rattle.safl_core.proofs.Bodies.{wanted_grows, settled, goes_stands, wanted_sized, goes_sized}
 use Rattle.safl_core.proofs.Numbered.{Numbered}
-use Rattle.safl_core.specs.Machine.{State, Mode, Idle, Runs, Delivers, Event, Accept, Finish, Return, LoopInto, opening, Enabled, Legal, after, fire, accept, finish, give_back, loop_into, ended, serves, back, put, asked, asked_as, says, says_as}
+use Rattle.safl_core.specs.Machine.{State, Mode, Idle, Runs, Delivers, Event, Accept, Finish, Return, LoopInto, opening, Enabled, Legal, after, fire, accept, finish, give_back, loop_into, ended, back, put, asked, asked_as, says, says_as}
+use Rattle.safl_core.proofs.Basics.{serves}
 use Rattle.safl_check.specs.Readiness.{Answer, Ready, LoopTo, NotYet, answer, wanted, Unsent, Sent, Returned, back_word}
 use Rattle.safl_check.specs.Program.{Program, unit_for, arity}
 use Rattle.safl_check.specs.Standing.{Stands}

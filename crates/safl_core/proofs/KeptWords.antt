@@ -7,7 +7,8 @@ use Rattle.safl_core.proofs.Bodies.{wanted_stands}
 use Rattle.safl_core.proofs.Invariant.{Inv, inv_after, inv_fire, inv_open}
 use Rattle.safl_core.proofs.Locality.{answer_local, wanted_local}
 use Rattle.safl_core.proofs.Numbered.{Numbered}
-use Rattle.safl_core.specs.Machine.{State, Mode, Idle, Runs, Delivers, Event, Accept, Finish, Return, LoopInto, opening, Enabled, Legal, after, fire, accept, finish, give_back, loop_into, ended, put, serves, back, says, says_as, finished, finished_as, last_word}
+use Rattle.safl_core.specs.Machine.{State, Mode, Idle, Runs, Delivers, Event, Accept, Finish, Return, LoopInto, opening, Enabled, Legal, after, fire, accept, finish, give_back, loop_into, ended, put, back, says, says_as, finished, finished_as, last_word}
+use Rattle.safl_core.proofs.Basics.{serves}
 use Rattle.safl_core.proofs.Effects.{Before, agree_refl, effect}
 use Rattle.safl_core.proofs.Interference.{Sound, sent_live, wanted_here, sound_at}
 use Rattle.safl_core.proofs.Positions.{Under, under_reaches, found_after}

@@ -8,7 +8,8 @@ use Rattle.safl_check.specs.Readiness.{Stage, Unsent, Sent, Returned, Answer, Lo
 use Rattle.safl_check.proofs.Bridge.{back_of}
 use Rattle.safl_check.specs.Meaning.{Main, main_cost, main_calls, loops, at_function}
 use Rattle.safl_check.specs.WellFormed.{IsNumbered}
-use Rattle.safl_core.specs.Machine.{State, Mode, Idle, Runs, Delivers, Event, Accept, Finish, Return, LoopInto, opening, is_unsent, back, serves, says_as, says, asked_as, Enabled, accept, loop_into, fire, Legal, after}
+use Rattle.safl_core.specs.Machine.{State, Mode, Idle, Runs, Delivers, Event, Accept, Finish, Return, LoopInto, opening, is_unsent, back, says_as, says, asked_as, Enabled, accept, loop_into, fire, Legal, after}
+use Rattle.safl_core.proofs.Basics.{serves}
 use Rattle.safl_core.specs.Starts.{event_start, starts_of, listed, goes_with}
 use Rattle.safl_core.proofs.Numbered.{Numbered}
 use Rattle.safl_core.proofs.Basics.{put_at}

@@ -7,7 +7,8 @@ use Rattle.safl_check.specs.Program.{Program, unit_for}
 use Rattle.safl_check.specs.Readiness.{Stage, Unsent, Sent, Returned, back_word, Ready, LoopTo, NotYet, answer, wanted}
 use Rattle.safl_check.proofs.Bridge.{back_of}
 use Rattle.safl_check.specs.Standing.{Stands}
-use Rattle.safl_core.specs.Machine.{State, Mode, Idle, Runs, Delivers, Event, Accept, Finish, Return, LoopInto, put, back, serves, says_as, says, asked_as, asked, Enabled, ended, accept, finish, give_back, loop_into, fire, Legal, after}
+use Rattle.safl_core.specs.Machine.{State, Mode, Idle, Runs, Delivers, Event, Accept, Finish, Return, LoopInto, put, back, says_as, says, asked_as, asked, Enabled, ended, accept, finish, give_back, loop_into, fire, Legal, after}
+use Rattle.safl_core.proofs.Basics.{serves}
 use Rattle.safl_core.proofs.Numbered.{Numbered}
 use Rattle.safl_core.proofs.Basics.{put_at, put_off, some_is, cond_some, unsent_is}
 use Rattle.safl_core.proofs.Locality.{answer_local, wanted_local}

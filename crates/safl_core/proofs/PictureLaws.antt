@@ -12,7 +12,7 @@ use Rattle.safl_core.proofs.Progress.{progress, over}
 use Rattle.safl_core.specs.Machine.{Event, Accept, Finish, Return, LoopInto}
 use Rattle.safl_check.proofs.Unique.{one_value}
 use Rattle.safl_check.specs.Readiness.{Stage, Returned}
-use Rattle.safl_check.specs.Meaning.{Main, main_cost, main_calls, at_function, calls, calls_all, Gives, GivesAll, g_const, g_var, g_op, g_if, g_let, g_call, g_loop, g_nil, g_cons, cost, costs, loops, loops_all}
+use Rattle.safl_check.specs.Meaning.{Main, main_cost, main_calls, at_function, calls, calls_all, Gives, GivesAll, gives_const, gives_var, gives_op, gives_if, gives_let, gives_call, gives_loop, gives_nil, gives_cons, cost, costs, loops, loops_all}
 use Rattle.safl_check.specs.Program.{Program}
 use Rattle.safl_check.specs.Terms.{Term}
 use Rattle.safl_check.specs.WellFormed.{IsNumbered}
@@ -26,17 +26,17 @@ ones = record { accept = λ f ws. 1; loop = λ f ws. 1; finish = 1; give = 1 }
 
 mutual
   owed_ones : (p : Program) {env : List Word} {t : Term} {v : Word} (d : Gives p env t v) → owed p ones fresh d + 2 * loops p d ≡ 3 * cost p d
-  owed_ones p g_const = refl
-  owed_ones p g_var = refl
-  owed_ones p (g_op ds) = owed_ones_all p ds
-  owed_ones p (g_if c d) = omega (arith, owed_ones p c, owed_ones p d)
-  owed_ones p (g_let ds d) = omega (arith, owed_ones_all p ds, owed_ones p d)
-  owed_ones p (g_call ds d) = omega (arith, owed_ones_all p ds, owed_ones p d)
-  owed_ones p (g_loop ds d) = omega (arith, owed_ones_all p ds, owed_ones p d)
+  owed_ones p gives_const = refl
+  owed_ones p gives_var = refl
+  owed_ones p (gives_op ds) = owed_ones_all p ds
+  owed_ones p (gives_if c d) = omega (arith, owed_ones p c, owed_ones p d)
+  owed_ones p (gives_let ds d) = omega (arith, owed_ones_all p ds, owed_ones p d)
+  owed_ones p (gives_call ds d) = omega (arith, owed_ones_all p ds, owed_ones p d)
+  owed_ones p (gives_loop ds d) = omega (arith, owed_ones_all p ds, owed_ones p d)
 
   owed_ones_all : (p : Program) {env : List Word} {ts : _} {vs : List Word} (d : GivesAll p env ts vs) → owed_all p ones fresh d + 2 * loops_all p d ≡ 3 * costs p d
-  owed_ones_all p g_nil = refl
-  owed_ones_all p (g_cons d ds) = omega (arith, owed_ones p d, owed_ones_all p ds)
+  owed_ones_all p gives_nil = refl
+  owed_ones_all p (gives_cons d ds) = omega (arith, owed_ones p d, owed_ones_all p ds)
 
 counts_one : (p : Program) (e : Event) (t : Scene) → counts p ones e t ≡ 1
 counts_one p (Accept k) t = refl
@@ -79,17 +79,17 @@ at_words f ws = record { accept = λ g us. times ws (at_function f g us); loop =
 
 mutual
   owed_calls : (p : Program) (f : ℕ) (ws : List Word) {env : List Word} {t : Term} {v : Word} (d : Gives p env t v) → owed p (at_words f ws) fresh d ≡ times ws (calls p f d)
-  owed_calls p f ws g_const = refl
-  owed_calls p f ws g_var = refl
-  owed_calls p f ws (g_op ds) = owed_calls_all p f ws ds
-  owed_calls p f ws (g_if c d) = omega (arith, owed_calls p f ws c, owed_calls p f ws d, sum_by-append (is_words ws) (calls p f c) (calls p f d))
-  owed_calls p f ws (g_let ds d) = omega (arith, owed_calls_all p f ws ds, owed_calls p f ws d, sum_by-append (is_words ws) (calls_all p f ds) (calls p f d))
-  owed_calls p f ws (g_call {f = g} {us = us} ds d) = omega (arith, owed_calls_all p f ws ds, owed_calls p f ws d, sum_by-append (is_words ws) (calls_all p f ds) (at_function f g us ++ calls p f d), sum_by-append (is_words ws) (at_function f g us) (calls p f d))
-  owed_calls p f ws (g_loop {h = g} {us = us} ds d) = omega (arith, owed_calls_all p f ws ds, owed_calls p f ws d, sum_by-append (is_words ws) (calls_all p f ds) (at_function f g us ++ calls p f d), sum_by-append (is_words ws) (at_function f g us) (calls p f d))
+  owed_calls p f ws gives_const = refl
+  owed_calls p f ws gives_var = refl
+  owed_calls p f ws (gives_op ds) = owed_calls_all p f ws ds
+  owed_calls p f ws (gives_if c d) = omega (arith, owed_calls p f ws c, owed_calls p f ws d, sum_by-append (is_words ws) (calls p f c) (calls p f d))
+  owed_calls p f ws (gives_let ds d) = omega (arith, owed_calls_all p f ws ds, owed_calls p f ws d, sum_by-append (is_words ws) (calls_all p f ds) (calls p f d))
+  owed_calls p f ws (gives_call {f = g} {us = us} ds d) = omega (arith, owed_calls_all p f ws ds, owed_calls p f ws d, sum_by-append (is_words ws) (calls_all p f ds) (at_function f g us ++ calls p f d), sum_by-append (is_words ws) (at_function f g us) (calls p f d))
+  owed_calls p f ws (gives_loop {h = g} {us = us} ds d) = omega (arith, owed_calls_all p f ws ds, owed_calls p f ws d, sum_by-append (is_words ws) (calls_all p f ds) (at_function f g us ++ calls p f d), sum_by-append (is_words ws) (at_function f g us) (calls p f d))
 
   owed_calls_all : (p : Program) (f : ℕ) (ws : List Word) {env : List Word} {ts : _} {vs : List Word} (d : GivesAll p env ts vs) → owed_all p (at_words f ws) fresh d ≡ times ws (calls_all p f d)
-  owed_calls_all p f ws g_nil = refl
-  owed_calls_all p f ws (g_cons d ds) = omega (arith, owed_calls p f ws d, owed_calls_all p f ws ds, sum_by-append (is_words ws) (calls p f d) (calls_all p f ds))
+  owed_calls_all p f ws gives_nil = refl
+  owed_calls_all p f ws (gives_cons d ds) = omega (arith, owed_calls p f ws d, owed_calls_all p f ws ds, sum_by-append (is_words ws) (calls p f d) (calls_all p f ds))
 
 counts_applied : (p : Program) (f : ℕ) (ws : List Word) (e : Event) (t : Scene) → counts p (at_words f ws) e t ≡ times ws (applied_by p f e t)
 counts_applied p f ws (Accept k) t = refl
@@ -116,17 +116,17 @@ starting = record { accept = λ f ws. 1; loop = λ f ws. 1; finish = 0; give = 0
 
 mutual
   owed_starting : (p : Program) {env : List Word} {t : Term} {v : Word} (d : Gives p env t v) → owed p starting fresh d ≡ cost p d
-  owed_starting p g_const = refl
-  owed_starting p g_var = refl
-  owed_starting p (g_op ds) = owed_starting_all p ds
-  owed_starting p (g_if c d) = omega (arith, owed_starting p c, owed_starting p d)
-  owed_starting p (g_let ds d) = omega (arith, owed_starting_all p ds, owed_starting p d)
-  owed_starting p (g_call ds d) = omega (arith, owed_starting_all p ds, owed_starting p d)
-  owed_starting p (g_loop ds d) = omega (arith, owed_starting_all p ds, owed_starting p d)
+  owed_starting p gives_const = refl
+  owed_starting p gives_var = refl
+  owed_starting p (gives_op ds) = owed_starting_all p ds
+  owed_starting p (gives_if c d) = omega (arith, owed_starting p c, owed_starting p d)
+  owed_starting p (gives_let ds d) = omega (arith, owed_starting_all p ds, owed_starting p d)
+  owed_starting p (gives_call ds d) = omega (arith, owed_starting_all p ds, owed_starting p d)
+  owed_starting p (gives_loop ds d) = omega (arith, owed_starting_all p ds, owed_starting p d)
 
   owed_starting_all : (p : Program) {env : List Word} {ts : _} {vs : List Word} (d : GivesAll p env ts vs) → owed_all p starting fresh d ≡ costs p d
-  owed_starting_all p g_nil = refl
-  owed_starting_all p (g_cons d ds) = omega (arith, owed_starting p d, owed_starting_all p ds)
+  owed_starting_all p gives_nil = refl
+  owed_starting_all p (gives_cons d ds) = omega (arith, owed_starting p d, owed_starting_all p ds)
 
 abbrev pub start_count : Event → ℕ
 start_count (Accept k) = 1

@@ -4,7 +4,8 @@ use Rattle.std.proofs.lemmas.Bool.{cases_eq, cases_order, eq-eqb, ne_eqb, falseâ
 use Rattle.safl_core.proofs.Bodies.{or_some, settled, settled_in, wanted_stands, wanted_stands_in}
 use Rattle.safl_core.proofs.Invariant.{Inv, Asks}
 use Rattle.safl_core.proofs.Numbered.{Numbered}
-use Rattle.safl_core.specs.Machine.{State, serves, back}
+use Rattle.safl_core.specs.Machine.{State, back}
+use Rattle.safl_core.proofs.Basics.{serves}
 use Rattle.safl_core.proofs.Effects.{Before, BeforeIn}
 use Rattle.safl_core.proofs.Interference.{Sound, SoundIn, sound_c, sound_x, sound_y, sound_bs, sound_body, sound_args, sound_head, sound_rest, select_of, one_branch, with_of, some_at, Live, sent_live, wanted_here, sound_at, stands_at, caller_lt, climb}
 use Rattle.safl_sites.specs.Conflicts.{Reaches, Here, Through, ReachesIn, Apart, ApartIn, Conflict}

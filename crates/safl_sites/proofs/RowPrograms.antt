@@ -41,6 +41,10 @@ nested = main_over (Call 0 1 (just (Call 0 2 (just (Var 0))))) 2
 abbrev pub bound : Program
 bound = main_over (Let (just (Call 0 1 (just (Var 0)))) (Op Add (Cons (Call 0 2 (just (Var 1))) (just (Var 1))))) 2
 
+-- let x = f(a), y = f(a + 1) in x + y
+abbrev pub paired : Program
+paired = main_over (Let (Cons (Call 0 1 (just (Var 0))) (just (Call 0 2 (just next)))) (Op Add (Cons (Var 1) (just (Var 2))))) 2
+
 -- fun g(x:8):8 = x and main of one parameter: let x = (if f(a) == 0 then 1 else g(2)) in f(3)
 abbrev pub decided : Program
 decided = record {

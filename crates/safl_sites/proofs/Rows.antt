@@ -7,7 +7,7 @@ use Rattle.safl_check.specs.Standing.{Stands}
 use Rattle.safl_sites.specs.Conflicts.{Reaches, Here, Through, ReachesIn, Apart, ApartIn, Conflict}
 use Rattle.safl_sites.specs.Kept.{bool_at, feeds, Uses, Decides, InBody, Held, Kept}
 use Rattle.safl_sites.specs.Plan.{HasArbiter}
-use Rattle.safl_sites.proofs.RowPrograms.{byte, just, next, sum, nested, bound, decided}
+use Rattle.safl_sites.proofs.RowPrograms.{byte, just, next, sum, nested, bound, paired, decided}
 
 one_two : (x y : ℕ) → x ≡ 1 → y ≡ 2 → x ≡ y → ⊥
 one_two x y p q e = absurd (omega (arith, e, p, q))
@@ -16,6 +16,11 @@ one_two x y p q e = absurd (omega (arith, e, p, q))
 sum_conflict : Conflict sum 1 2
 unfolding Apart ReachesIn Stands
 sum_conflict = record { other = one_two 1 2 refl refl; same = refl; body = 1; is_body = omega arith; apart = inr (inl (Here (inl refl), inl (Here (inl refl)))) }
+
+-- so are the bindings of a let
+paired_conflict : Conflict paired 1 2
+unfolding Apart ReachesIn Stands
+paired_conflict = record { other = one_two 1 2 refl refl; same = refl; body = 1; is_body = omega arith; apart = inl (inr (inl (Here (inl refl), inl (Here (inl refl))))) }
 
 sum_arbiter : HasArbiter sum 0
 sum_arbiter = record { one = 1; other = 2; conflict = sum_conflict; unit = refl }

@@ -4,13 +4,16 @@ use Rattle.safl_check.specs.Program.{Program, unit_for, arity}
 use Rattle.safl_check.specs.Terms.{Term, Terms, Const, Var, Op, If, Let, Call, Loop, Nil, Cons}
 use Rattle.safl_sites.specs.Conflicts.{Reaches, ReachesIn, Conflict}
 
+-- the i-th of a list, or false
 abbrev pub bool_at : List Bool → ℕ → Bool
 bool_at [] i = false
 bool_at (b ∷ bs) zero = b
 bool_at (b ∷ bs) (suc i) = bool_at bs i
 
 unfoldable mutual
-  -- site k is in Feeds of the term, where this list says it of each slot in scope
+  -- Site k feeds the term, where the list says of each slot in scope whether k feeds it: a call is fed by its own site
+  -- alone, an operator and an if by what feeds their parts, a let by what feeds its body, a variable by what feeds its
+  -- binding; a constant, a parameter and a loop by nothing
   pub feeds : ℕ → List Bool → Term → Bool
   feeds k fe (Const n) = false
   feeds k fe (Var i) = bool_at fe i
@@ -46,7 +49,7 @@ unfoldable mutual
 unfoldable mutual
   unfolding feeds
 
-  -- k is in Feeds of the condition of an if in the term
+  -- k feeds the condition of an if in the term
   pub Decides : ℕ → List Bool → Term → Type 0
   Decides k fe (Const n) = ⊥
   Decides k fe (Var i) = ⊥
@@ -60,7 +63,7 @@ unfoldable mutual
   DecidesIn k fe Nil = ⊥
   DecidesIn k fe (Cons t ts) = Decides k fe t ⊎ DecidesIn k fe ts
 
--- in reach of a let's body, or of the arguments where it is a call
+-- k is in reach of a let's body; where the body is itself a call, of one of its arguments
 unfoldable pub InBody : Program → ℕ → Term → Type 0
 unfolding ReachesIn
 InBody C k (Const n) = Reaches C k (Const n)
@@ -74,7 +77,7 @@ InBody C k (Loop h ts) = Reaches C k (Loop h ts)
 unfoldable mutual
   unfolding feeds InBody Uses
 
-  -- k is in Feeds of the binding of a slot that is used in the let's body, and j is in reach of that body
+  -- in a let of the term k feeds the binding of a slot that is used in the body, and j is in reach of that body
   pub Held : Program → ℕ → ℕ → List Bool → Term → Type 0
   Held C k j fe (Const n) = ⊥
   Held C k j fe (Var i) = ⊥
@@ -88,9 +91,20 @@ unfoldable mutual
   HeldIn C k j fe Nil = ⊥
   HeldIn C k j fe (Cons t ts) = Held C k j fe t ⊎ HeldIn C k j fe ts
 
--- why a site's word is kept
+-- the body in which site k stands, and its parameters, which no site feeds
+abbrev pub home : Program → ℕ → Term
+home C k = C.body (C.caller k)
+
+abbrev pub unfed : Program → ℕ → List Bool
+unfed C k = replicate (arity C (C.caller k)) false
+
+-- Why site k keeps its word: because of another site of its unit, with which it conflicts; or which is in reach of the
+-- body in which k stands, where k feeds a condition of that body; or which is in reach of the body of a let there, where
+-- k feeds a binding that this body uses
 pub record Kept (C : Program) (k : ℕ) : Type 0 where
   pub because : ℕ
   pub other : k ≢ because
   pub same : unit_for C k ≡ unit_for C because
-  pub why : Conflict C k because ⊎ ((Decides k (replicate (arity C (C.caller k)) false) (C.body (C.caller k)) × Reaches C because (C.body (C.caller k))) ⊎ Held C k because (replicate (arity C (C.caller k)) false) (C.body (C.caller k)))
+  pub why : Conflict C k because
+      ⊎ ((Decides k (unfed C k) (home C k) × Reaches C because (home C k))
+      ⊎ Held C k because (unfed C k) (home C k))

@@ -4,19 +4,19 @@ use Rattle.safl_check.specs.Program.{Program, unit_for}
 use Rattle.safl_sites.specs.Conflicts.{Conflict}
 use Rattle.safl_sites.specs.Kept.{Kept}
 
--- two sites of the unit conflict
+-- unit u needs an arbiter: two of its sites conflict
 pub record HasArbiter (C : Program) (u : ℕ) : Type 0 where
   pub one : ℕ
   pub other : ℕ
   pub conflict : Conflict C one other
   pub unit : unit_for C one ≡ u
 
--- arbiter and kept decide the two
+-- arbiter tells exactly which units need one, and kept which sites keep their words
 pub record IsPlan (C : Program) (arbiter kept : ℕ → Bool) : Type 0 where
   pub arbiters : (u : ℕ) → (arbiter u ≡ true) ↔ HasArbiter C u
   pub keeps : (k : ℕ) → 0 < k → k ≤ C.sites → (kept k ≡ true) ↔ Kept C k
 
--- arbiter and kept have at least those that the plan has
+-- each unit that needs an arbiter has one, and each site that has to keep its word does
 pub record Suffices (C : Program) (arbiter kept : ℕ → Bool) : Type 0 where
   pub arbiters : (j k : ℕ) → Conflict C j k → arbiter (unit_for C j) ≡ true
   pub keeps : (k : ℕ) → 0 < k → k ≤ C.sites → Kept C k → kept k ≡ true

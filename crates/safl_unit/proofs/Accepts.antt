@@ -8,7 +8,8 @@ use Rattle.safl_unit.specs.Steps.{is_running, is_delivering}
 use Rattle.safl_core.proofs.Basics.{put_at, put_off, sweep, first_none, first_only, first_skip, first_zero, all_none, none_of, some_none, some_of, some_is, cond_some, unsent_is, mask_other, mask_skip, mask_at}
 use Rattle.safl_core.proofs.Invariant.{Inv}
 use Rattle.safl_core.proofs.Numbered.{Numbered}
-use Rattle.safl_core.specs.Machine.{State, Mode, Idle, Runs, Delivers, Accept, Enabled, Legal, after, fire, serves, put, back, asked, asked_as, is_unsent}
+use Rattle.safl_core.specs.Machine.{State, Mode, Idle, Runs, Delivers, Accept, Enabled, Legal, after, fire, put, back, asked, asked_as, is_unsent}
+use Rattle.safl_core.proofs.Basics.{serves}
 use Rattle.safl_core.specs.Picks.{first}
 use Rattle.safl_core.specs.Interference.{Busy}
 use Rattle.safl_check.specs.Readiness.{Unsent, Sent, back_word}

@@ -14,7 +14,8 @@ use Rattle.safl_unit.specs.Steps.{Shows, Quiet, is_running, is_delivering, is_se
 use Rattle.safl_core.proofs.Basics.{after_append, legal_append, last_append, mask_all}
 use Rattle.safl_core.proofs.Invariant.{Inv, inv_after}
 use Rattle.safl_core.proofs.Numbered.{Numbered}
-use Rattle.safl_core.specs.Machine.{State, Mode, Idle, Runs, Delivers, Event, Accept, Return, LoopInto, opening, Enabled, Legal, after, last_word, finished, serves}
+use Rattle.safl_core.specs.Machine.{State, Mode, Idle, Runs, Delivers, Event, Accept, Return, LoopInto, opening, Enabled, Legal, after, last_word, finished}
+use Rattle.safl_core.proofs.Basics.{serves}
 use Rattle.safl_core.specs.Picks.{picks, first}
 use Rattle.safl_core.specs.Interference.{OneInUse, ShownWordsServe}
 use Rattle.safl_check.specs.Readiness.{Stage, Unsent, Sent, Returned}

@@ -8,7 +8,8 @@ use Rattle.safl_unit.specs.Steps.{Shows, is_sent, is_returned}
 use Rattle.safl_core.proofs.Basics.{last_append, first_none, cond_cong, none_of, some_none, unsent_is}
 use Rattle.safl_core.proofs.Invariant.{Inv}
 use Rattle.safl_core.proofs.Numbered.{Numbered}
-use Rattle.safl_core.specs.Machine.{State, Mode, Idle, Runs, Delivers, Event, Return, opening, Legal, after, serves, back, asked, asked_as, last_word, is_unsent}
+use Rattle.safl_core.specs.Machine.{State, Mode, Idle, Runs, Delivers, Event, Return, opening, Legal, after, back, asked, asked_as, last_word, is_unsent}
+use Rattle.safl_core.proofs.Basics.{serves}
 use Rattle.safl_core.specs.Picks.{picks}
 use Rattle.safl_core.specs.Interference.{shown, shown_as, ShownWordsServe}
 use Rattle.safl_check.specs.Readiness.{Answer, NotYet, answer, wanted, Stage, Unsent, Sent, Returned}

@@ -12,7 +12,8 @@ use Rattle.safl_unit.specs.Steps.{StepsAt, Quiet, input_at, registers_at, histor
 use Rattle.safl_core.proofs.Basics.{legal_append, legal_one, cond_some}
 use Rattle.safl_core.proofs.Invariant.{Inv, inv_after}
 use Rattle.safl_core.proofs.Numbered.{Numbered}
-use Rattle.safl_core.specs.Machine.{State, Event, Accept, opening, Enabled, after, serves, is_unsent}
+use Rattle.safl_core.specs.Machine.{State, Event, Accept, opening, Enabled, after, is_unsent}
+use Rattle.safl_core.proofs.Basics.{serves}
 use Rattle.safl_core.specs.Interference.{OneInUse, ShownWordsServe}
 use Rattle.safl_check.specs.Readiness.{Stage, Unsent, Sent, Returned}
 use Rattle.safl_check.specs.Program.{Program, unit_for, arity}

@@ -4,7 +4,8 @@ use Rattle.safl_unit.specs.Equations.{Registers, Choice}
 use Rattle.safl_unit.specs.Steps.{Shows, Quiet, is_running, is_delivering, is_sent, is_returned}
 use Rattle.safl_core.proofs.Invariant.{Inv}
 use Rattle.safl_core.proofs.Numbered.{Numbered}
-use Rattle.safl_core.specs.Machine.{State, Mode, Idle, Runs, Delivers, serves}
+use Rattle.safl_core.specs.Machine.{State, Mode, Idle, Runs, Delivers}
+use Rattle.safl_core.proofs.Basics.{serves}
 use Rattle.safl_check.specs.Readiness.{Stage, Unsent, Sent, Returned}
 use Rattle.safl_check.specs.Program.{Program}
 use Rattle.safl_word.specs.Words.{Word}

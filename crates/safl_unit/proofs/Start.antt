@@ -6,7 +6,8 @@ use Rattle.safl_unit.specs.Steps.{Shows, is_delivering, is_sent, is_returned}
 use Rattle.safl_core.proofs.Basics.{put_at, put_off, sweep}
 use Rattle.safl_core.proofs.Invariant.{Inv}
 use Rattle.safl_core.proofs.Numbered.{Numbered}
-use Rattle.safl_core.specs.Machine.{State, Mode, Idle, Runs, Delivers, Return, Enabled, Legal, after, fire, serves, put}
+use Rattle.safl_core.specs.Machine.{State, Mode, Idle, Runs, Delivers, Return, Enabled, Legal, after, fire, put}
+use Rattle.safl_core.proofs.Basics.{serves}
 use Rattle.safl_check.specs.Readiness.{Stage, Unsent, Sent, Returned}
 use Rattle.safl_check.specs.Program.{Program, unit_for}
 use Rattle.safl_word.specs.Words.{Word}

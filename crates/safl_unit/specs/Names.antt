@@ -8,11 +8,12 @@ use Rattle.safl_net.specs.Netlist.{Netlist}
 use Rattle.safl_net.specs.Valuations.{Valuation, read, read_next}
 use Rattle.safl_net.specs.Runs.{start_number, input_numbers}
 
--- the names of a program's functions and parameters
+-- the names of a program's functions, and of their parameters
 pub record Names : Type 0 where
   pub name : ℕ → List ℕ
   pub params : ℕ → List (List ℕ)
 
+-- a name with a head: of a function, of a site, and of the register of a parameter
 abbrev pub of_function : Names → List ℕ → ℕ → List ℕ
 of_function D head f = head ++ D.name f
 
@@ -22,19 +23,21 @@ of_site head k = head ++ decimal k
 abbrev pub of_param : Names → ℕ → List ℕ → List ℕ
 of_param D f p = codes "arg$" ++ (D.name f ++ (codes "$" ++ p))
 
+-- a number of one bit as a truth value, and back
 abbrev pub one : ℕ → Bool
 one w = w == 1
 
 abbrev pub bit : Bool → ℕ
 bit b = cond b 1 0
 
+-- u is the number of a unit; k is the number of a site
 abbrev pub is_unit : Program → ℕ → Bool
 is_unit C u = nat_lt u C.functions && C.unit u == u
 
 abbrev pub is_site : Program → ℕ → Bool
 is_site C k = nat_lt 0 k && nat_le k C.sites
 
--- a number as a word of a width
+-- numbers as words of these widths, and back
 abbrev pub as_word : ℕ → ℕ → Word
 as_word width bits = record { width = width; bits = bits }
 
@@ -46,7 +49,7 @@ as_words (w ∷ ws) (b ∷ bs) = as_word w b ∷ as_words ws bs
 abbrev pub numbers : List Word → List ℕ
 numbers vs = map (λ v. v.bits) vs
 
--- the registers by their names, where a reader `get` gives each name a number
+-- the registers by their names, where `get` gives each name its number; what is no unit or site has no registers
 abbrev pub view : Program → Names → (List ℕ → ℕ) → Registers
 view C D get = record {
   run = λ u. is_unit C u && one (get (of_function D (codes "run$") u));
@@ -66,5 +69,6 @@ registers_now C D n v = view C D (read n v)
 abbrev pub registers_next : Program → Names → Netlist → Valuation → Registers
 registers_next C D n v = view C D (read_next n v)
 
+-- the inputs of a cycle
 abbrev pub input_now : Program → Netlist → Valuation → Inputs
 input_now C n v = record { start = one (start_number n v); words = as_words (C.params C.main) (input_numbers n.signals v) }

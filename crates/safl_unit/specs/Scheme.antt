@@ -1,4 +1,4 @@
--- What a netlist has to do to be the circuit of a program: its names, and in each cycle its wires and edges.
+-- The scheme of a circuit: what a netlist has to be and to do in each cycle, for any state and any inputs.
 use Rattle.std.specs.Prelude.{◌≡◌, ℕ, zero, suc, ◌<◌, ◌≤◌, List, ◌++◌, length, Some, Bool, true, is_some, slice_get, codes}
 use Rattle.safl_check.specs.Program.{Program, unit_for}
 use Rattle.safl_core.specs.Machine.{Event, Accept, Finish, Return, LoopInto}
@@ -9,7 +9,7 @@ use Rattle.safl_net.specs.Valuations.{Valuation, Fits, read, read_output, reset_
 use Rattle.safl_unit.specs.Names.{Names, of_function, of_site, one, bit, numbers, registers_now, registers_next, input_now}
 use Rattle.safl_unit.specs.Layout.{Line, layout_registers, layout_wires, layout_inputs, layout_outputs, input_kind, register_kind, wire_kind, each_line, output_lines}
 
--- the registers hold equal numbers, where they exist
+-- the registers hold equal numbers, where they exist: at in units of several members, keep at kept sites
 pub record Agree (C : Program) (P : Choice) (r q : Registers) : Type 0 where
   pub run : (u : ℕ) → r.run u ≡ q.run u
   pub fin : (u : ℕ) → r.fin u ≡ q.fin u
@@ -20,7 +20,7 @@ pub record Agree (C : Program) (P : Choice) (r q : Registers) : Type 0 where
   pub got : (k : ℕ) → 0 < k → r.got k ≡ q.got k
   pub keep : (k : ℕ) → 0 < k → k ≤ C.sites → P.kept k ≡ true → (r.keep k).bits ≡ (q.keep k).bits
 
--- the named wires of a cycle have the words that the registers and inputs give them
+-- the named wires and outputs of a cycle have the numbers that the registers and inputs give them
 pub record Wires (C : Program) (D : Names) (P : Choice) (n : Netlist) (v : Valuation) (r : Registers) (i : Inputs) : Type 0 where
   pub ends : (f : ℕ) → f < C.functions → read n v (of_function D (codes "end$") f) ≡ bit (is_some (end_word C P r f))
   pub loops : (f : ℕ) → f < C.functions → read n v (of_function D (codes "loop$") f) ≡ bit (is_some (loop_words C P r f))
@@ -32,6 +32,8 @@ pub record Wires (C : Program) (D : Names) (P : Choice) (n : Netlist) (v : Valua
   pub done : read_output n v (codes "done") ≡ bit (ret C r 0)
   pub result : read_output n v (codes "result") ≡ (r.res (C.unit C.main)).bits
 
+-- The netlist is whole and acyclic, has the ports, registers and named wires of the layout, and resets to 0. In every
+-- valuation that fits any state the named wires are as the equations say, and each register's next number too
 pub record Scheme (C : Program) (D : Names) (P : Choice) (n : Netlist) : Type 0 where
   pub whole : AllSet n
   pub acyclic : IsAcyclic n

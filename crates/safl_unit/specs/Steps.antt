@@ -1,4 +1,4 @@
--- A cycle of the circuit is a list of events of the machine.
+-- What registers show of the machine, cycle by cycle: each cycle is a list of events.
 use Rattle.std.specs.Prelude.{◌≡◌, ℕ, zero, suc, ◌<◌, ◌++◌, List, [], Bool, true, false, ◌==◌}
 use Rattle.safl_unit.specs.Equations.{Registers, Inputs, Choice, many, next, cycle_events}
 use Rattle.safl_core.specs.Machine.{State, Mode, Idle, Runs, Delivers, Event, opening, Legal, after, last_word}
@@ -26,7 +26,10 @@ is_returned Unsent = false
 is_returned Sent = false
 is_returned (Returned v) = true
 
--- the registers show the state
+-- The registers show the state. run is 1 exactly for running units, and fin for delivering ones, whose res holds the
+-- word. In a running unit of several members at is 1 exactly for the one that runs, and its arguments are on its
+-- registers. sent is 0 exactly for unsent sites, and got is 1 exactly for those that have returned; where such a site is
+-- kept, keep holds its word
 pub record Shows (C : Program) (P : Choice) (s : State) (r : Registers) : Type 0 where
   pub run : (u : ℕ) → r.run u ≡ is_running (s.unit u)
   pub fin : (u : ℕ) → r.fin u ≡ is_delivering (s.unit u)
@@ -37,19 +40,19 @@ pub record Shows (C : Program) (P : Choice) (s : State) (r : Registers) : Type 0
   pub got : (k : ℕ) → 0 < k → r.got k ≡ is_returned (s.site k)
   pub keep : (k : ℕ) (v : Word) → 0 < k → P.kept k ≡ true → s.site k ≡ Returned v → r.keep k ≡ v
 
--- a quiet state of the registers; what the others hold is free
+-- quiet registers: nothing runs, nothing has just finished, and no site is sent or returned; what else they hold is free
 pub record Quiet (r : Registers) : Type 0 where
   pub run : (u : ℕ) → r.run u ≡ false
   pub fin : (u : ℕ) → r.fin u ≡ false
   pub sent : (k : ℕ) → 0 < k → r.sent k ≡ false
   pub got : (k : ℕ) → 0 < k → r.got k ≡ false
 
--- the inputs of a run: start is 1 in cycle 0 alone, and holds the arguments there
+-- the inputs of a run: start is 1 in cycle 0 alone, the ports hold the arguments there, and any words later
 abbrev pub input_at : List Word → (ℕ → List Word) → ℕ → Inputs
 input_at args later zero = record { start = true; words = args }
 input_at args later (suc c) = record { start = false; words = later c }
 
--- the registers of cycle c from those of cycle 0, and the events of the cycles before c
+-- the registers of cycle c, from those of cycle 0, and the events of the cycles before c
 unfoldable pub registers_at : Program → Choice → Registers → List Word → (ℕ → List Word) → ℕ → Registers
 registers_at C P r0 args later zero = r0
 registers_at C P r0 args later (suc c) = next C P (input_at args later c) (registers_at C P r0 args later c)
@@ -59,6 +62,8 @@ unfolding registers_at
 history C P r0 args later zero = []
 history C P r0 args later (suc c) = history C P r0 args later c ++ cycle_events C P (registers_at C P r0 args later c) (input_at args later c)
 
+-- The events of the cycles before c are legal, the registers of cycle c show the state to which they lead, and each res
+-- holds the word that its unit finished last, or what it held in cycle 0
 pub record StepsAt (C : Program) (P : Choice) (r0 : Registers) (args : List Word) (later : ℕ → List Word) (c : ℕ) : Type 0 where
   pub legal : Legal C args opening (history C P r0 args later c)
   pub shows : Shows C P (after C args opening (history C P r0 args later c)) (registers_at C P r0 args later c)

@@ -1,4 +1,4 @@
--- The last theorem: a netlist with the scheme of a well-formed program does what the program means.
+-- The main theorem: a netlist with the scheme of a well-formed program does what the program means.
 use Rattle.std.specs.Prelude.{◌≡◌, ℕ, List, length}
 use Rattle.safl_word.specs.Words.{Word}
 use Rattle.safl_check.specs.Program.{Program, arity}
@@ -13,14 +13,14 @@ use Rattle.safl_unit.specs.Names.{Names}
 use Rattle.safl_unit.specs.Scheme.{Scheme}
 use Rattle.safl_unit.specs.Correct.{Behaves, Correct, IsQuietState, Steps, QuietAfterDone, SameCalls}
 
--- from a state: done comes once, in time, with main's value, and no unit starts while running or twice at once;
--- after done all is quiet; the argument registers see the calls of the evaluation
+-- From a state: done comes once, in time, with main's value, and never without one, and no unit starts while it runs or
+-- twice at once; after done all is quiet; the argument registers see the calls of the evaluation
 pub record Runs (C : Program) (D : Names) (n : Netlist) (state : ℕ → ℕ) : Type 0 where
   pub behaves : Behaves C D n state
   pub quiet : QuietAfterDone C D n state
   pub calls : SameCalls C D n state
 
--- from reset, and from every quiet state; and from reset the cycles are steps of the machine
+-- so from reset and from every quiet state; and from reset the cycles are steps of the machine
 pub record IsCircuit (C : Program) (D : Names) (P : Choice) (n : Netlist) : Type 0 where
   pub correct : Correct C D n
   pub steps : Steps C D P n

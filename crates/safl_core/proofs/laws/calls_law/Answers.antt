@@ -3,4 +3,4 @@ use Rattle.safl_core.proofs.MachineLaws as law
 use Rattle.safl_core.proofs.laws.calls_law.Goals as goal
 
 pub returns : goal.returns
-returns c = λ C wf args es v w d legal e f. law.same_calls C C.functions (numbered C wf) wf.numbered args es legal v w d e f
+returns c = λ C wf args es legal v w d e f. law.same_calls C C.functions (numbered C wf) wf.numbered args es legal v w d e f
