@@ -1,0 +1,117 @@
+-- How the circuits of parts make the circuit of a term: pure facts on options and bits.
+use Rattle.std.proofs.Common.{◌≡◌, ℕ, zero, suc, List, [], ◌∷◌, ◌++◌, map, Option, Some, None, Bool, true, false, not, ◌&&◌, cond, ◌==◌, refl, sym, ap, ◌∙◌, arith}
+use Rattle.std.proofs.lemmas.Bool.{ne_eqb}
+use Rattle.safl_word.specs.Words.{Word, pick, choose}
+use Rattle.safl_check.specs.Readiness.{Answer, Ready, LoopTo, NotYet, word_of, both, ready_from, apply_to, loop_to, select, with_all, or_else}
+use Rattle.safl_lower.specs.Entries.{gate}
+
+-- ---- options
+
+pub or_assoc : {A : Type 0} (x y z : Option A) → or_else (or_else x y) z ≡ or_else x (or_else y z)
+or_assoc None y z = refl
+or_assoc (Some a) y z = refl
+
+pub or_none : {A : Type 0} (x : Option A) → or_else x None ≡ x
+or_none None = refl
+or_none (Some a) = refl
+
+pub gate_or : {A : Type 0} (b : Bool) (x y : Option A) → gate b (or_else x y) ≡ or_else (gate b x) (gate b y)
+gate_or true x y = refl
+gate_or false x y = refl
+
+pub gate_none : {A : Type 0} (b : Bool) → gate {A = A} b None ≡ None
+gate_none true = refl
+gate_none false = refl
+
+pub gate_gate : {A : Type 0} (a b : Bool) (x : Option A) → gate a (gate b x) ≡ gate (a && b) x
+gate_gate true b x = refl
+gate_gate false b x = refl
+
+-- ---- the branch that a word selects
+
+pick_is : {A : Type 0} (n : ℕ) (a b : A) → pick n a b ≡ cond (n == 1) a b
+pick_is zero a b = refl
+pick_is (suc zero) a b = refl
+pick_is (suc (suc n)) a b = ap (λ (t : Bool). cond t a b) (sym (ne_eqb (suc (suc n)) 1 (λ e. absurd (omega (arith, e)))))
+
+pub choose_is : {A : Type 0} (w : Word) (a b : A) → choose w a b ≡ cond (w.bits == 1) a b
+choose_is w a b = pick_is w.bits a b
+
+-- ---- an if: r and w are the readiness and the word of the condition
+
+abbrev pub sel : Bool → Word → Answer → Type 0
+sel r w a = gate r (Some w) ≡ word_of a
+
+-- value
+pub if_value : (r : Bool) (w : Word) (c a b : Answer) (ra rb : Bool) (wa wb : Word) → gate r (Some w) ≡ word_of c → gate ra (Some wa) ≡ word_of a → gate rb (Some wb) ≡ word_of b
+    → gate (r && cond (w.bits == 1) ra rb) (Some (cond (w.bits == 1) wa wb)) ≡ word_of (select c NotYet a b)
+if_value true w (Ready x) a b ra rb wa wb e f g = by (w.bits == 1) ∙ ap word_of (sym (choose_is w a b)) ∙ ap (λ (y : Word). word_of (choose y a b)) (some_word e)
+  where
+    some_word : {x y : Word} → Some x ≡ Some y → x ≡ y
+    some_word e = cc
+
+    by : (t : Bool) → gate (cond t ra rb) (Some (cond t wa wb)) ≡ word_of (cond t a b)
+    by true = f
+    by false = g
+if_value true w (LoopTo h vs) a b ra rb wa wb e f g = absurd (cc)
+if_value true w NotYet a b ra rb wa wb e f g = absurd (cc)
+if_value false w (Ready x) a b ra rb wa wb e f g = absurd (cc)
+if_value false w (LoopTo h vs) a b ra rb wa wb e f g = refl
+if_value false w NotYet a b ra rb wa wb e f g = refl
+
+-- wants (and tail calls) below the two paths
+pub if_wants : {A : Type 0} (p q r : Bool) (w : Word) (c : Answer) (x y : Option A) → gate r (Some w) ≡ word_of c
+    → or_else (gate (((p && r) && (w.bits == 1)) && q) x) (gate (((p && r) && not (w.bits == 1)) && q) y) ≡ gate (p && q) (select c None x y)
+if_wants false q r w c x y e = sym (gate_none' {B = _} (select c None x y))
+  where
+    gate_none' : {B : Type 0} (o : Option B) → gate false o ≡ None
+    gate_none' o = refl
+if_wants true q true w (Ready x) a b e = by (w.bits == 1) ∙ ap (gate q) (sym (choose_is w a b)) ∙ ap (λ (y : Word). gate q (choose y a b)) (some_word e)
+  where
+    some_word : {x y : Word} → Some x ≡ Some y → x ≡ y
+    some_word e = cc
+
+    by : (t : Bool) → or_else (gate (t && q) a) (gate (not t && q) b) ≡ gate q (cond t a b)
+    by true = or_none (gate q a)
+    by false = refl
+if_wants true q true w (LoopTo h vs) a b e = absurd (cc)
+if_wants true q true w NotYet a b e = absurd (cc)
+if_wants true q false w (Ready x) a b e = absurd (cc)
+if_wants true q false w (LoopTo h vs) a b e = sym (gate_none q)
+if_wants true q false w NotYet a b e = sym (gate_none q)
+
+-- ---- a let: r and ws are the readiness and the words of the bindings
+
+pub let_value : (r s : Bool) (ws : List Word) (o : Option (List Word)) (w : Word) (go : List Word → Answer) → gate r (Some ws) ≡ o → gate s (Some w) ≡ word_of (go ws)
+    → gate (r && s) (Some w) ≡ word_of (with_all o NotYet go)
+let_value true s ws (Some x) w go e f = f ∙ ap (λ (l : List Word). word_of (go l)) (some_words e)
+  where
+    some_words : {x y : List Word} → Some x ≡ Some y → x ≡ y
+    some_words e = cc
+let_value true s ws None w go e f = absurd (cc)
+let_value false s ws None w go e f = refl
+let_value false s ws (Some x) w go e f = absurd (cc)
+
+pub let_wants : {A : Type 0} (p q r : Bool) (ws : List Word) (o : Option (List Word)) (go : List Word → Option A) → gate r (Some ws) ≡ o
+    → gate ((p && r) && q) (go ws) ≡ gate (p && q) (with_all o None go)
+let_wants false q r ws o go e = refl
+let_wants true q true ws (Some x) go e = ap (λ (l : List Word). gate q (go l)) (some_words e)
+  where
+    some_words : {x y : List Word} → Some x ≡ Some y → x ≡ y
+    some_words e = cc
+let_wants true q true ws None go e = absurd (cc)
+let_wants true q false ws None go e = sym (gate_none q)
+let_wants true q false ws (Some x) go e = absurd (cc)
+
+-- ---- lists of parts
+
+-- the words so far, and one more
+abbrev pub and_then : Option (List Word) → Option Word → Option (List Word)
+and_then None o = None
+and_then (Some vs) None = None
+and_then (Some vs) (Some w) = Some (vs ++ w ∷ [])
+
+pub join : (r s : Bool) (ws : List Word) (w : Word) → and_then (gate r (Some ws)) (gate s (Some w)) ≡ gate (r && s) (Some (ws ++ w ∷ []))
+join true true ws w = refl
+join true false ws w = refl
+join false s ws w = refl

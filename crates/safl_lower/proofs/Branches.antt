@@ -1,0 +1,241 @@
+-- The circuit of a branch and of a let from the circuits of its parts.
+use Rattle.std.proofs.Common.{◌≡◌, ℕ, zero, suc, ◌+◌, ◌-◌, ◌*◌, ◌<◌, ◌≤◌, List, [], ◌∷◌, ◌++◌, map, length, Option, Some, None, Bool, true, false, not, ◌&&◌, cond, ◌==◌, T, slice_get, get_or, refl, sym, ap, subst, ◌∙◌, arith, append_assoc, length-append}
+use Rattle.safl_word.specs.Words.{Word, IsWord, slot, choose, pick}
+use Rattle.safl_word.specs.declared.primitive.Primitive.{Primitive}
+use Rattle.safl_word.specs.Primitives.{apply_prim, result_width}
+use Rattle.safl_check.specs.Terms.{Term, Const, Var, Op, If, Let, Call, Loop, Terms, Nil, Cons}
+use Rattle.safl_check.specs.Readiness.{Answer, Ready, LoopTo, NotYet, word_of, both, ready_from, apply_to, loop_to, select, with_all, or_else, answer, answers, wanted, wanted_in}
+use Rattle.safl_net.specs.declared.cell.Sig.{Sig}
+use Rattle.safl_net.specs.Netlist.{Netlist}
+use Rattle.safl_net.specs.Growth.{Val, words, Wired, width_at, Sized, Grows}
+use Rattle.safl_net.proofs.Growth.{grows_on, grows_none, wired_before, width_kept, sized_kept, sized_more}
+use Rattle.safl_lower.specs.declared.parts.Ports.{Ports}
+use Rattle.safl_lower.specs.declared.parts.Lowered.{Lowered}
+use Rattle.safl_lower.specs.declared.parts.LoweredAll.{LoweredAll}
+use Rattle.safl_lower.specs.declared.parts.Out.{Out}
+use Rattle.safl_lower.specs.declared.parts.TailCall.{TailCall}
+use Rattle.safl_lower.specs.Bits.{on, is_ready, BitAt, ReadyAt}
+use Rattle.safl_lower.specs.Typing.{Owner, Typed, TypedAll, nodes, nodes_in, sites_of, sites_in}
+use Rattle.safl_lower.specs.Entries.{gate, asked, went, Told, site_of, member_of, Between, WantsFit, LoopsFit, OutFits, cost}
+use Rattle.safl_lower.specs.Lowering.{port_of, returned_word, back_of, was_sent, sent_of, open_at, shown, gathered, goes_of, Setting, Shaped, ShapedAll, Lowers, LowersAll, Shows, goes_with, Enters, Leaves}
+use Rattle.safl_lower.proofs.Arms.{or_assoc, or_none, gate_or, gate_none, if_value, if_wants, let_value, let_wants, and_then, join}
+use Rattle.safl_lower.proofs.Kept.{ready_kept, shaped_kept, shaped_all_kept, setting_on, setting_kept, setting_below}
+use Rattle.safl_lower.proofs.Typing.{test_typed, yes_typed, no_typed, bound_typed, body_typed, parts_typed, args_typed, next_typed, first_typed, rest_typed}
+use Rattle.safl_lower.proofs.Gathered.{words_more, stays, stays_by, and_true, pick_ap, no_goes, no_more, more_twice, map_end, wants_kept, loops_kept, out_kept, wants_end, loops_end, told_by, told_more, never_is, gate_is_none, if_first, if_second, let_second, taken_tells, cost_end, between_end, between_same, some_nodes}
+
+-- ---- an if
+
+if_asked : {A : Type 0} (p q r : Bool) (w : Word) (pc : Answer) (py pn : Bool) (x0 x1 x2 x3 wc wa wb : Option A)
+    → gate r (Some w) ≡ word_of pc → py ≡ ((p && r) && (w.bits == 1)) → pn ≡ ((p && r) && not (w.bits == 1))
+    → x1 ≡ or_else x0 (gate (p && q) wc) → x2 ≡ or_else x1 (gate (py && q) wa) → x3 ≡ or_else x2 (gate (pn && q) wb)
+    → x3 ≡ or_else x0 (gate (p && q) (or_else wc (select pc None wa wb)))
+if_asked p q r w pc py pn x0 x1 x2 x3 wc wa wb e y n e1 e2 e3 =
+    let ga = gate (py && q) wa in
+    let gb = gate (pn && q) wb in
+    let gc = gate (p && q) wc in
+    e3 ∙ ap (λ (x : Option _). or_else x gb) e2 ∙ or_assoc x1 ga gb
+    ∙ ap (λ (x : Option _). or_else x (or_else ga gb)) e1 ∙ or_assoc x0 gc (or_else ga gb)
+    ∙ ap (λ (x : Option _). or_else x0 (or_else gc x))
+    (ap (λ (b : Bool). or_else (gate (b && q) wa) gb) y
+    ∙ ap (λ (b : Bool). or_else (gate (((p && r) && (w.bits == 1)) && q) wa) (gate (b && q) wb)) n
+    ∙ if_wants p q r w pc wa wb e)
+    ∙ ap (or_else x0) (sym (gate_or (p && q) wc (select pc None wa wb)))
+
+goes_select : (x y z : Answer) → goes_of (select x NotYet y z) ≡ select x None (goes_of y) (goes_of z)
+goes_select (Ready w) y z = pick_ap goes_of w.bits y z
+goes_select (LoopTo h vs) y z = refl
+goes_select NotYet y z = refl
+
+without : {A : Type 0} (x y z : Option A) (p : Bool) → x ≡ or_else y (gate p z) → x ≡ or_else y (gate (p && true) z)
+without x y z p e = e ∙ ap (λ (b : Bool). or_else y (gate b z)) (sym (and_true p))
+
+pub record Branches (path : Sig) (n m : Netlist) (test : Lowered) (yes no : Sig) : Type 0 where
+  pub grows : Grows n m
+  pub count : length m.signals ≤ length n.signals + 4
+  pub yes_bit : BitAt m yes
+  pub no_bit : BitAt m no
+  pub yes_on : (v : Val) → Wired m v → on v yes ≡ ((on v path && is_ready v test.ready) && on v test.value)
+  pub no_on : (v : Val) → Wired m v → on v no ≡ ((on v path && is_ready v test.ready) && not (on v test.value))
+
+pub record Chosen (n m : Netlist) (test yes no r : Lowered) : Type 0 where
+  pub grows : Grows n m
+  pub count : length m.signals ≤ length n.signals + 5
+  pub shape : (w : ℕ) → Shaped n yes w → Shaped n no w → Shaped m r w
+  pub value : (v : Val) → Wired m v → v r.value.0 ≡ cond (on v test.value) (v yes.value.0) (v no.value.0)
+  pub ready : (v : Val) → Wired m v → is_ready v r.ready ≡ (is_ready v test.ready && cond (on v test.value) (is_ready v yes.ready) (is_ready v no.ready))
+
+pub lowers_if : {P : Ports} {slots : List Sig} {path py pn : Sig} {n0 n1 n2 n3 n4 n5 : Netlist} {o0 o1 o2 o3 : Out} {test yes no r : Lowered} {c a b : Term}
+    → Lowers P slots path n0 n1 o0 o1 test c → Branches path n1 n2 test py pn → Lowers P slots py n2 n3 o1 o2 yes a → Lowers P slots pn n3 n4 o2 o3 no b → Chosen n4 n5 test yes no r
+    → Lowers P slots path n0 n5 o0 o3 r (If c a b)
+unfolding answer wanted
+lowers_if {P} {slots} {path} {py} {pn} {n0} {n1} {n2} {n3} {n4} {n5} {o0} {o1} {o2} {o3} {test} {yes} {no} {r} {c} {a} {b} hc hp ha hb hr = record {
+  quiet = λ F env w t. hb.quiet F env w (no_typed t) ∙ ha.quiet F env w (yes_typed t) ∙ hc.quiet F env 1 (test_typed t);
+  cheap = λ F tail env w t. let i = ap cost (hc.quiet F env 1 (test_typed t)) in let j = ha.cheap F tail env w (yes_typed t) in let k = hb.cheap F tail env w (no_typed t) in omega (arith, i, j, k);
+  within = λ F tail env w s t x.
+      let s2 = setting_on (grows_on hc.grows hp.grows) s hp.yes_bit in
+      let s3 = setting_on ha.grows s2 (width_kept ha.grows pn.0 1 hp.no_bit) in
+      hb.within F tail env w s3 (no_typed t) (ha.within F tail env w s2 (yes_typed t) (hc.within F false env 1 s (test_typed t) x));
+  more = hc.more ++ (ha.more ++ hb.more);
+  loops_more = more_twice o0.loops.items o1.loops.items o3.loops.items hc.more (ha.more ++ hb.more) hc.loops_more (more_twice o1.loops.items o2.loops.items o3.loops.items ha.more hb.more ha.loops_more hb.loops_more);
+  told = λ F tail scope w t v w5.
+      let w4 = wired_before hr.grows w5 in
+      let w3 = wired_before hb.grows w4 in
+      let w2 = wired_before ha.grows w3 in
+      let w1 = wired_before hp.grows w2 in
+      let back = back_of v P in
+      let env = words v slots in
+      let pc = answer back env c in
+      let ga = goes_of (answer back env a) in
+      let gb = goes_of (answer back env b) in
+      let all = gate (on v path) (select pc None ga gb) in
+      subst (Told v (hc.more ++ (ha.more ++ hb.more))) (ap (gate (on v path)) (sym (goes_select pc (answer back env a) (answer back env b))))
+      (told_more v hc.more (ha.more ++ hb.more) all
+      (told_by v hc.more (gate (on v path) (goes_of pc)) all (λ z q. never_is z (gate (on v path) (goes_of pc)) (gate_is_none (on v path) (goes_of pc) (no_goes back c env (test_typed t))) q) (hc.told F false scope 1 (test_typed t) v w1))
+      (told_more v ha.more hb.more all
+      (told_by v ha.more (gate (on v py) ga) all (λ z q. if_first (on v path) (is_ready v test.ready) (v test.value.0) pc ga gb (on v py) (on v pn) z (hc.value v w1) (hp.yes_on v w2) (hp.no_on v w2) q) (ha.told F tail scope w (yes_typed t) v w3))
+      (told_by v hb.more (gate (on v pn) gb) all (λ z q. if_second (on v path) (is_ready v test.ready) (v test.value.0) pc ga gb (on v py) (on v pn) z (hc.value v w1) (hp.yes_on v w2) (hp.no_on v w2) q) (hb.told F tail scope w (no_typed t) v w4))));
+  sites = more_twice (map site_of o0.wants.items) (map site_of o1.wants.items) (map site_of o3.wants.items) (sites_of c) (sites_of a ++ sites_of b) hc.sites (more_twice (map site_of o1.wants.items) (map site_of o2.wants.items) (map site_of o3.wants.items) (sites_of a) (sites_of b) ha.sites hb.sites);
+  fits = λ F tail env w s t x.
+      let s2 = setting_on (grows_on hc.grows hp.grows) s hp.yes_bit in
+      let s3 = setting_on ha.grows s2 (width_kept ha.grows pn.0 1 hp.no_bit) in
+      out_kept hr.grows (hb.fits F tail env w s3 (no_typed t) (ha.fits F tail env w s2 (yes_typed t) (out_kept hp.grows (hc.fits F false env 1 s (test_typed t) x))));
+  grows = grows_on hc.grows (grows_on hp.grows (grows_on ha.grows (grows_on hb.grows hr.grows)));
+  count = let i = hc.count in let j = hp.count in let k = ha.count in let l = hb.count in let m = hr.count in omega arith;
+  shape = λ F tail env w s t.
+      let s2 = setting_on (grows_on hc.grows hp.grows) s hp.yes_bit in
+      let s3 = setting_on ha.grows s2 (width_kept ha.grows pn.0 1 hp.no_bit) in
+      hr.shape w (shaped_kept hb.grows yes w (ha.shape F tail env w s2 (yes_typed t))) (hb.shape F tail env w s3 (no_typed t));
+  value = λ v w5.
+      let w4 = wired_before hr.grows w5 in
+      let w3 = wired_before hb.grows w4 in
+      let w1 = wired_before hp.grows (wired_before ha.grows w3) in
+      let back = back_of v P in
+      let env = words v slots in
+      ap (λ (x : Bool). gate x (Some (v r.value.0))) (hr.ready v w5)
+      ∙ ap (λ (x : Word). gate (is_ready v test.ready && cond (on v test.value) (is_ready v yes.ready) (is_ready v no.ready)) (Some x)) (hr.value v w5)
+      ∙ if_value (is_ready v test.ready) (v test.value.0) (answer back env c) (answer back env a) (answer back env b) (is_ready v yes.ready) (is_ready v no.ready) (v yes.value.0) (v no.value.0) (hc.value v w1) (ha.value v w3) (hb.value v w4);
+  wants = λ F tail scope w t v w5 k.
+      let w4 = wired_before hr.grows w5 in
+      let w3 = wired_before hb.grows w4 in
+      let w2 = wired_before ha.grows w3 in
+      let w1 = wired_before hp.grows w2 in
+      let back = back_of v P in
+      let env = words v slots in
+      if_asked (on v path) (not (sent_of v P k)) (is_ready v test.ready) (v test.value.0) (answer back env c) (on v py) (on v pn) (asked v o0.wants.items k) (asked v o1.wants.items k) (asked v o2.wants.items k) (asked v o3.wants.items k) (wanted back env c k) (wanted back env a k) (wanted back env b k)
+      (hc.value v w1) (hp.yes_on v w2) (hp.no_on v w2) (hc.wants F false scope 1 (test_typed t) v w1 k) (ha.wants F tail scope w (yes_typed t) v w3 k) (hb.wants F tail scope w (no_typed t) v w4 k);
+  loops = λ F tail scope w t v w5.
+      let w4 = wired_before hr.grows w5 in
+      let w3 = wired_before hb.grows w4 in
+      let w2 = wired_before ha.grows w3 in
+      let w1 = wired_before hp.grows w2 in
+      let back = back_of v P in
+      let env = words v slots in
+      let pc = answer back env c in
+      let x0 = went v o0.loops.items in
+      if_asked (on v path) true (is_ready v test.ready) (v test.value.0) pc (on v py) (on v pn) x0 (went v o1.loops.items) (went v o2.loops.items) (went v o3.loops.items) (goes_of pc) (goes_of (answer back env a)) (goes_of (answer back env b))
+      (hc.value v w1) (hp.yes_on v w2) (hp.no_on v w2) (without (went v o1.loops.items) x0 (goes_of pc) (on v path) (hc.loops F false scope 1 (test_typed t) v w1)) (without (went v o2.loops.items) (went v o1.loops.items) (goes_of (answer back env a)) (on v py) (ha.loops F tail scope w (yes_typed t) v w3)) (without (went v o3.loops.items) (went v o2.loops.items) (goes_of (answer back env b)) (on v pn) (hb.loops F tail scope w (no_typed t) v w4))
+      ∙ ap (λ (u : Bool). or_else x0 (gate u (or_else (goes_of pc) (select pc None (goes_of (answer back env a)) (goes_of (answer back env b)))))) (and_true (on v path))
+      ∙ ap (λ (o : Option (ℕ × List Word)). or_else x0 (gate (on v path) (or_else o (select pc None (goes_of (answer back env a)) (goes_of (answer back env b)))))) (no_goes back c env (test_typed t))
+      ∙ ap (λ (o : Option (ℕ × List Word)). or_else x0 (gate (on v path) o)) (sym (goes_select pc (answer back env a) (answer back env b)));
+}
+
+-- ---- a let
+
+goes_with_all : (o : Option (List Word)) (go : List Word → Answer) → goes_of (with_all o NotYet go) ≡ with_all o None (λ vs. goes_of (go vs))
+goes_with_all None go = refl
+goes_with_all (Some vs) go = refl
+
+let_asked : {A : Type 0} (p q r i : Bool) (ws : List Word) (o : Option (List Word)) (go : List Word → Option A) (x0 x1 x2 wb w : Option A)
+    → gate r (Some ws) ≡ o → i ≡ (p && r) → w ≡ go ws
+    → x1 ≡ or_else x0 (gate (p && q) wb) → x2 ≡ or_else x1 (gate (i && q) w)
+    → x2 ≡ or_else x0 (gate (p && q) (or_else wb (with_all o None go)))
+let_asked p q r i ws o go x0 x1 x2 wb w e f g e1 e2 =
+    e2 ∙ ap (λ (x : Option _). or_else x (gate (i && q) w)) e1 ∙ or_assoc x0 (gate (p && q) wb) (gate (i && q) w)
+    ∙ ap (λ (x : Option _). or_else x0 (or_else (gate (p && q) wb) x))
+    (ap (λ (b : Bool). gate (b && q) w) f ∙ ap (λ (x : Option _). gate ((p && r) && q) x) g ∙ let_wants p q r ws o go e)
+    ∙ ap (or_else x0) (sym (gate_or (p && q) wb (with_all o None go)))
+
+pub record Inner (path : Sig) (n m : Netlist) (ready : Option Sig) (inner : Sig) : Type 0 where
+  pub grows : Grows n m
+  pub count : length m.signals ≤ length n.signals + 1
+  pub bit : BitAt m inner
+  pub is : (v : Val) → Wired m v → on v inner ≡ (on v path && is_ready v ready)
+
+pub record Both (n m : Netlist) (q r s : Option Sig) : Type 0 where
+  pub grows : Grows n m
+  pub count : length m.signals ≤ length n.signals + 1
+  pub bit : ReadyAt m s
+  pub is : (v : Val) → Wired m v → is_ready v s ≡ (is_ready v q && is_ready v r)
+
+pub lowers_let : {P : Ports} {slots : List Sig} {path inner : Sig} {n0 n1 n2 n3 n4 : Netlist} {o0 o1 o2 : Out} {bound : LoweredAll} {body : Lowered} {ready : Option Sig} {bs : Terms} {b : Term}
+    → LowersAll P slots path n0 n1 o0 o1 bound bs → Inner path n1 n2 bound.ready inner → Lowers P (slots ++ bound.values.items) inner n2 n3 o1 o2 body b → Both n3 n4 bound.ready body.ready ready
+    → Lowers P slots path n0 n4 o0 o2 (record { ready = ready; value = body.value }) (Let bs b)
+unfolding answer wanted
+lowers_let {P} {slots} {path} {inner} {n0} {n1} {n2} {n3} {n4} {o0} {o1} {o2} {bound} {body} {ready} {bs} {b} hs hi hb hr = record {
+  quiet = λ F env w t. hb.quiet F (env ++ t.width.0) w (body_typed t) ∙ hs.quiet F env t.width.0 (bound_typed t);
+  cheap = λ F tail env w t. let i = ap cost (hs.quiet F env t.width.0 (bound_typed t)) in let j = hb.cheap F tail (env ++ t.width.0) w (body_typed t) in omega (arith, i, j);
+  within = λ F tail env w s t x.
+      let a = hs.shape F env t.width.0 s (bound_typed t) in
+      let k = setting_below bound.values.items t.width.0 (grows_on hs.grows hi.grows) s hi.bit (sized_kept hi.grows bound.values.items t.width.0 a.widths) in
+      hb.within F tail (env ++ t.width.0) w k (body_typed t) (between_same P.first_member (P.first_member + P.members) o0.loops.items o1.loops.items (hs.quiet F env t.width.0 (bound_typed t)) x);
+  more = hs.more ++ hb.more;
+  loops_more = more_twice o0.loops.items o1.loops.items o2.loops.items hs.more hb.more hs.loops_more hb.loops_more;
+  told = λ F tail scope w t v w4.
+      let w3 = wired_before hr.grows w4 in
+      let w2 = wired_before hb.grows w3 in
+      let w1 = wired_before hi.grows w2 in
+      let back = back_of v P in
+      let env = words v slots in
+      let ws = words v bound.values.items in
+      let o = answers back env bs in
+      let go = λ (vs : List Word). goes_of (answer back (env ++ vs) b) in
+      let x = goes_of (answer back (words v (slots ++ bound.values.items)) b) in
+      let all = gate (on v path) (with_all o None go) in
+      subst (Told v (hs.more ++ hb.more)) (ap (gate (on v path)) (sym (goes_with_all o (λ vs. answer back (env ++ vs) b))))
+      (told_more v hs.more hb.more all
+      (told_by v hs.more None all (λ z q. never_is z None refl q) (hs.told F scope t.width.0 (bound_typed t) v w1))
+      (told_by v hb.more (gate (on v inner) x) all (λ z q. let_second (on v path) (is_ready v bound.ready) (on v inner) ws o go x z (hs.value v w1) (hi.is v w2) (ap (λ (l : List Word). goes_of (answer back l b)) (words_more v slots bound.values.items)) q) (hb.told F tail (scope ++ t.width.0) w (body_typed t) v w3)));
+  sites = more_twice (map site_of o0.wants.items) (map site_of o1.wants.items) (map site_of o2.wants.items) (sites_in bs) (sites_of b) hs.sites hb.sites;
+  fits = λ F tail env w s t x.
+      let a = hs.shape F env t.width.0 s (bound_typed t) in
+      let k = setting_below bound.values.items t.width.0 (grows_on hs.grows hi.grows) s hi.bit (sized_kept hi.grows bound.values.items t.width.0 a.widths) in
+      out_kept hr.grows (hb.fits F tail (env ++ t.width.0) w k (body_typed t) (out_kept hi.grows (hs.fits F env t.width.0 s (bound_typed t) x)));
+  grows = grows_on hs.grows (grows_on hi.grows (grows_on hb.grows hr.grows));
+  count = let i = hs.count in let j = hi.count in let k = hb.count in let l = hr.count in omega arith;
+  shape = λ F tail env w s t.
+      let a = hs.shape F env t.width.0 s (bound_typed t) in
+      let k = setting_below bound.values.items t.width.0 (grows_on hs.grows hi.grows) s hi.bit (sized_kept hi.grows bound.values.items t.width.0 a.widths) in
+      record { ready = hr.bit; width = width_kept hr.grows body.value.0 w (hb.shape F tail (env ++ t.width.0) w k (body_typed t)).width };
+  value = λ v w4.
+      let w3 = wired_before hr.grows w4 in
+      let w1 = wired_before hi.grows (wired_before hb.grows w3) in
+      let back = back_of v P in
+      let env = words v slots in
+      let ws = words v bound.values.items in
+      ap (λ (x : Bool). gate x (Some (v body.value.0))) (hr.is v w4)
+      ∙ let_value (is_ready v bound.ready) (is_ready v body.ready) ws (answers back env bs) (v body.value.0) (λ vs. answer back (env ++ vs) b) (hs.value v w1)
+      (hb.value v w3 ∙ ap (λ (l : List Word). word_of (answer back l b)) (words_more v slots bound.values.items));
+  wants = λ F tail scope w t v w4 k.
+      let w3 = wired_before hr.grows w4 in
+      let w2 = wired_before hb.grows w3 in
+      let w1 = wired_before hi.grows w2 in
+      let back = back_of v P in
+      let env = words v slots in
+      let ws = words v bound.values.items in
+      let_asked (on v path) (not (sent_of v P k)) (is_ready v bound.ready) (on v inner) ws (answers back env bs) (λ vs. wanted back (env ++ vs) b k) (asked v o0.wants.items k) (asked v o1.wants.items k) (asked v o2.wants.items k) (wanted_in back env bs k) (wanted back (words v (slots ++ bound.values.items)) b k)
+      (hs.value v w1) (hi.is v w2) (ap (λ (l : List Word). wanted back l b k) (words_more v slots bound.values.items)) (hs.wants F scope t.width.0 (bound_typed t) v w1 k) (hb.wants F tail (scope ++ t.width.0) w (body_typed t) v w3 k);
+  loops = λ F tail scope w t v w4.
+      let w3 = wired_before hr.grows w4 in
+      let w2 = wired_before hb.grows w3 in
+      let w1 = wired_before hi.grows w2 in
+      let back = back_of v P in
+      let env = words v slots in
+      let ws = words v bound.values.items in
+      let x0 = went v o0.loops.items in
+      let o = answers back env bs in
+      let_asked (on v path) true (is_ready v bound.ready) (on v inner) ws o (λ vs. goes_of (answer back (env ++ vs) b)) x0 (went v o1.loops.items) (went v o2.loops.items) None (goes_of (answer back (words v (slots ++ bound.values.items)) b))
+      (hs.value v w1) (hi.is v w2) (ap (λ (l : List Word). goes_of (answer back l b)) (words_more v slots bound.values.items)) (hs.loops F scope t.width.0 (bound_typed t) v w1 ∙ stays x0 (on v path && true)) (without (went v o2.loops.items) (went v o1.loops.items) (goes_of (answer back (words v (slots ++ bound.values.items)) b)) (on v inner) (hb.loops F tail (scope ++ t.width.0) w (body_typed t) v w3))
+      ∙ ap (λ (c : Bool). or_else x0 (gate c (with_all o None (λ vs. goes_of (answer back (env ++ vs) b))))) (and_true (on v path))
+      ∙ ap (λ (y : Option (ℕ × List Word)). or_else x0 (gate (on v path) y)) (sym (goes_with_all o (λ vs. answer back (env ++ vs) b)));
+}
+

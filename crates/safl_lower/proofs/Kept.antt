@@ -1,0 +1,93 @@
+-- What stays as the net grows, and one more call or tail call.
+use Rattle.std.proofs.Common.{◌≡◌, ℕ, T, ◌+◌, List, [], ◌∷◌, ◌++◌, Option, Some, None, Bool, true, false, ◌&&◌, cond, ◌==◌, refl, sym, ap, ◌∙◌}
+use Rattle.std.proofs.Math.Dec.{eqb_refl}
+use Rattle.safl_word.specs.Words.{Word}
+use Rattle.safl_check.specs.Readiness.{or_else}
+use Rattle.safl_net.specs.declared.cell.Sig.{Sig}
+use Rattle.safl_net.specs.Netlist.{Netlist}
+use Rattle.safl_net.specs.Growth.{Val, width_at, Sized, Grows}
+use Rattle.safl_net.proofs.Growth.{width_kept, sized_kept, sized_more}
+use Rattle.safl_lower.specs.declared.parts.SitePorts.{SitePorts}
+use Rattle.safl_lower.specs.declared.parts.Ports.{Ports}
+use Rattle.safl_lower.specs.declared.parts.Want.{Want}
+use Rattle.safl_lower.specs.declared.parts.TailCall.{TailCall}
+use Rattle.safl_lower.specs.declared.parts.Lowered.{Lowered}
+use Rattle.safl_lower.specs.declared.parts.LoweredAll.{LoweredAll}
+use Rattle.safl_lower.specs.Bits.{on, BitAt, ReadyAt}
+use Rattle.safl_lower.specs.Typing.{Owner}
+use Rattle.safl_lower.specs.Entries.{gate, asks, asked, goes, went}
+use Rattle.safl_lower.specs.Lowering.{Sited, Setting, Shaped, ShapedAll, goes_with}
+use Rattle.safl_lower.proofs.Arms.{or_none, or_assoc}
+
+pub ready_kept : {a b : Netlist} → Grows a b → (r : Option Sig) → ReadyAt a r → ReadyAt b r
+ready_kept g None h = tt
+ready_kept g (Some s) h = width_kept g s.0 1 h
+
+pub shaped_kept : {a b : Netlist} → Grows a b → (r : Lowered) (w : ℕ) → Shaped a r w → Shaped b r w
+shaped_kept g r w h = record { ready = ready_kept g r.ready h.ready; width = width_kept g r.value.0 w h.width }
+
+pub shaped_all_kept : {a b : Netlist} → Grows a b → (r : LoweredAll) (ws : List ℕ) → ShapedAll a r ws → ShapedAll b r ws
+shaped_all_kept g r ws h = record { ready = ready_kept g r.ready h.ready; widths = sized_kept g r.values.items ws h.widths }
+
+pub swap_and : (a b : Bool) → (a && b) ≡ (b && a)
+swap_and true true = refl
+swap_and true false = refl
+swap_and false true = refl
+swap_and false false = refl
+
+pub mux_on : (t : Bool) (x a b : Word) → x ≡ cond t a b → (x.bits == 1) ≡ cond t (a.bits == 1) (b.bits == 1)
+mux_on true x a b e = ap (λ (w : Word). w.bits == 1) e
+mux_on false x a b e = ap (λ (w : Word). w.bits == 1) e
+
+true_from : (b : Bool) → T b → b ≡ true
+true_from true h = refl
+true_from false h = absurd h
+
+pub same : (w : ℕ) → (w == w) ≡ true
+same w = true_from (w == w) (eqb_refl w)
+
+-- ---- sites
+
+pub sited_kept : {a b : Netlist} → Grows a b → (p : SitePorts) (w : ℕ) → Sited a p w → Sited b p w
+sited_kept g p w h = record { sent = width_kept g p.sent.0 1 h.sent; returned = width_kept g p.returned.0 1 h.returned; value = width_kept g p.value.0 w h.value }
+
+pub setting_on : {a b : Netlist} {F : Owner} {P : Ports} {slots : List Sig} {env : List ℕ} {path q : Sig} → Grows a b → Setting a F P slots env path → BitAt b q → Setting b F P slots env q
+setting_on {F = F} {P = P} {slots = slots} {env = env} g s h = record {
+  path_bit = h;
+  slots_sized = sized_kept g slots env s.slots_sized;
+  first = s.first;
+  last = s.last;
+  sites_sized = λ i p e. sited_kept g p (F.program.result (F.program.callee (P.first_site + i))) (s.sites_sized i p e);
+  members = s.members;
+  some = s.some;
+  most = s.most;
+}
+
+pub setting_kept : {a b : Netlist} {F : Owner} {P : Ports} {slots : List Sig} {env : List ℕ} {path : Sig} → Grows a b → Setting a F P slots env path → Setting b F P slots env path
+setting_kept {path = path} g s = setting_on g s (width_kept g path.0 1 s.path_bit)
+
+-- below a let, on the path of its body
+pub setting_below : {a b : Netlist} {F : Owner} {P : Ports} {slots : List Sig} {env : List ℕ} {path q : Sig} (xs : List Sig) (ws : List ℕ) → Grows a b → Setting a F P slots env path → BitAt b q → Sized b xs ws → Setting b F P (slots ++ xs) (env ++ ws) q
+setting_below {b = b} {slots = slots} {env = env} xs ws g s h z =
+    let k = setting_on g s h in
+    record { path_bit = h; slots_sized = sized_more b slots xs env ws k.slots_sized z; first = k.first; last = k.last; sites_sized = k.sites_sized; members = k.members; some = k.some; most = k.most }
+
+-- ---- one more want, one more tail call
+
+pub asked_end : (v : Val) (es : List Want) (e : Want) (j : ℕ) → asked v (es ++ e ∷ []) j ≡ or_else (asked v es j) (asks v e j)
+asked_end v [] e j = or_none (asks v e j)
+asked_end v (x ∷ es) e j = ap (or_else (asks v x j)) (asked_end v es e j) ∙ sym (or_assoc (asks v x j) (asked v es j) (asks v e j))
+
+pub went_end : (v : Val) (es : List TailCall) (e : TailCall) → went v (es ++ e ∷ []) ≡ or_else (went v es) (goes v e)
+went_end v [] e = or_none (goes v e)
+went_end v (x ∷ es) e = ap (or_else (goes v x)) (went_end v es e) ∙ sym (or_assoc (goes v x) (went v es) (goes v e))
+
+pub three_gates : {A : Type 0} (a w b r : Bool) (x : Option A) → w ≡ (b && r) → gate (a && w) x ≡ gate a (gate b (gate r x))
+three_gates false w b r x e = refl
+three_gates true w true r x e = ap (λ (t : Bool). gate t x) e
+three_gates true w false r x e = ap (λ (t : Bool). gate t x) e
+
+pub goes_gate : (h : ℕ) (ws : List Word) (w b r : Bool) → w ≡ (b && r) → gate w (Some (h, ws)) ≡ gate b (goes_with h (gate r (Some ws)))
+goes_gate h ws w true true e = ap (λ (t : Bool). gate t (Some (h, ws))) e
+goes_gate h ws w true false e = ap (λ (t : Bool). gate t (Some (h, ws))) e
+goes_gate h ws w false r e = ap (λ (t : Bool). gate t (Some (h, ws))) e

@@ -1,0 +1,128 @@
+-- The circuits of a constant, of a slot and of an operator.
+use Rattle.std.proofs.Common.{◌≡◌, ℕ, zero, suc, ◌+◌, ◌-◌, ◌*◌, ◌<◌, ◌≤◌, List, [], ◌∷◌, ◌++◌, map, length, Option, Some, None, Bool, true, false, not, ◌&&◌, cond, ◌==◌, T, slice_get, get_or, refl, sym, ap, subst, ◌∙◌, arith, append_assoc, length-append}
+use Rattle.safl_word.specs.Words.{Word, IsWord, slot, choose, pick}
+use Rattle.safl_word.specs.declared.primitive.Primitive.{Primitive}
+use Rattle.safl_word.specs.Primitives.{apply_prim, result_width}
+use Rattle.safl_check.specs.Terms.{Term, Const, Var, Op, If, Let, Call, Loop, Terms, Nil, Cons}
+use Rattle.safl_check.specs.Readiness.{Answer, Ready, LoopTo, NotYet, word_of, both, ready_from, apply_to, loop_to, select, with_all, or_else, answer, answers, wanted, wanted_in}
+use Rattle.safl_net.specs.declared.cell.Sig.{Sig}
+use Rattle.safl_net.specs.Netlist.{Netlist}
+use Rattle.safl_net.specs.Growth.{Val, words, Wired, width_at, Sized, Grows}
+use Rattle.safl_net.proofs.Growth.{grows_on, grows_none, wired_before, width_kept, sized_kept, sized_more}
+use Rattle.safl_lower.specs.declared.parts.Ports.{Ports}
+use Rattle.safl_lower.specs.declared.parts.Lowered.{Lowered}
+use Rattle.safl_lower.specs.declared.parts.LoweredAll.{LoweredAll}
+use Rattle.safl_lower.specs.declared.parts.Out.{Out}
+use Rattle.safl_lower.specs.declared.parts.TailCall.{TailCall}
+use Rattle.safl_lower.specs.Bits.{on, is_ready, BitAt, ReadyAt}
+use Rattle.safl_lower.specs.Typing.{Owner, Typed, TypedAll, nodes, nodes_in, sites_of, sites_in}
+use Rattle.safl_lower.specs.Entries.{gate, asked, went, Told, site_of, member_of, Between, WantsFit, LoopsFit, OutFits, cost}
+use Rattle.safl_lower.specs.Lowering.{port_of, returned_word, back_of, was_sent, sent_of, open_at, shown, gathered, goes_of, Setting, Shaped, ShapedAll, Lowers, LowersAll, Shows, goes_with, Enters, Leaves}
+use Rattle.safl_lower.proofs.Arms.{or_assoc, or_none, gate_or, gate_none, if_value, if_wants, let_value, let_wants, and_then, join}
+use Rattle.safl_lower.proofs.Kept.{ready_kept, shaped_kept, shaped_all_kept, setting_on, setting_kept, setting_below}
+use Rattle.safl_lower.proofs.Typing.{test_typed, yes_typed, no_typed, bound_typed, body_typed, parts_typed, args_typed, next_typed, first_typed, rest_typed}
+use Rattle.safl_lower.proofs.Gathered.{words_more, stays, stays_by, and_true, pick_ap, no_goes, no_more, more_twice, map_end, wants_kept, loops_kept, out_kept, wants_end, loops_end, told_by, told_more, never_is, gate_is_none, if_first, if_second, let_second, taken_tells, cost_end, between_end, between_same, some_nodes}
+
+-- ---- leaves
+
+pub lowers_const : {P : Ports} {slots : List Sig} {path s : Sig} {n0 n1 : Netlist} {o : Out} {w : Word}
+    → Grows n0 n1 → length n1.signals ≤ length n0.signals + 1 → width_at n1 s.0 ≡ Some w.width → ((v : Val) → Wired n1 v → v s.0 ≡ w)
+    → Lowers P slots path n0 n1 o o (record { ready = None; value = s }) (Const w)
+unfolding answer wanted
+lowers_const {P} {slots} {path} {s} {n0} {n1} {o} {w} g c x y = record {
+  quiet = λ F env n t. refl;
+  cheap = λ F tail env n t. omega arith;
+  within = λ F tail env n s t x. x;
+  more = [];
+  loops_more = no_more o.loops.items;
+  told = λ F tail env n t v h. tt;
+  sites = no_more (map site_of o.wants.items);
+  fits = λ F tail env n s t x. out_kept g x;
+  grows = g;
+  count = omega arith;
+  shape = λ F tail env n h t. record { ready = tt; width = x ∙ ap (λ (k : ℕ). Some k) t.width.1 };
+  value = λ v h. ap (λ (u : Word). Some u) (y v h);
+  wants = λ F tail env n t v h k. stays (asked v o.wants.items k) _;
+  loops = λ F tail env n t v h. stays (went v o.loops.items) _;
+}
+
+slot_width : (n : Netlist) (slots : List Sig) (env : List ℕ) (i w : ℕ) (s : Sig) → Sized n slots env → slice_get env i ≡ Some w → slice_get slots i ≡ Some s → width_at n s.0 ≡ Some w
+slot_width n [] [] i w s h e f = absurd (cc)
+slot_width n [] (x ∷ env) i w s h e f = absurd h
+slot_width n (a ∷ slots) [] i w s h e f = absurd h
+slot_width n (a ∷ slots) (x ∷ env) zero w s h e f =
+    let g : a ≡ s = cc in
+    subst (λ (y : Sig). width_at n y.0 ≡ Some w) g (h.0 ∙ e)
+slot_width n (a ∷ slots) (x ∷ env) (suc i) w s h e f = slot_width n slots env i w s h.1 e f
+
+pub slot_within : (n : Netlist) (slots : List Sig) (env : List ℕ) (i w : ℕ) → Sized n slots env → slice_get env i ≡ Some w → i < length slots
+slot_within n [] [] i w h e = absurd (cc)
+slot_within n [] (x ∷ env) i w h e = absurd h
+slot_within n (a ∷ slots) [] i w h e = absurd h
+slot_within n (a ∷ slots) (x ∷ env) zero w h e = omega arith
+slot_within n (a ∷ slots) (x ∷ env) (suc i) w h e = let k = slot_within n slots env i w h.1 e in omega arith
+
+slot_word : (v : Val) (slots : List Sig) (i : ℕ) (s : Sig) → slice_get slots i ≡ Some s → v s.0 ≡ slot (words v slots) i
+slot_word v [] i s e = absurd (cc)
+slot_word v (a ∷ slots) zero s e = let g : s ≡ a = cc in ap (λ (y : Sig). v y.0) g
+slot_word v (a ∷ slots) (suc i) s e = slot_word v slots i s e
+
+pub lowers_var : {P : Ports} {slots : List Sig} {path s : Sig} {n : Netlist} {o : Out} {i : ℕ} → slice_get slots i ≡ Some s
+    → Lowers P slots path n n o o (record { ready = None; value = s }) (Var i)
+unfolding answer wanted
+lowers_var {P} {slots} {path} {s} {n} {o} {i} e = record {
+  quiet = λ F env n t. refl;
+  cheap = λ F tail env n t. omega arith;
+  within = λ F tail env n s t x. x;
+  more = [];
+  loops_more = no_more o.loops.items;
+  told = λ F tail env w t v h. tt;
+  sites = no_more (map site_of o.wants.items);
+  fits = λ F tail env w s t x. x;
+  grows = grows_none n;
+  count = omega arith;
+  shape = λ F tail env w h t. record { ready = tt; width = slot_width n slots env i w s h.slots_sized t.width e };
+  value = λ v h. ap (λ (u : Word). Some u) (slot_word v slots i s e);
+  wants = λ F tail env n t v h k. stays (asked v o.wants.items k) _;
+  loops = λ F tail env w t v h. stays (went v o.loops.items) _;
+}
+
+-- ---- an operator
+
+goes_op : (p : Primitive) (o : Option (List Word)) → goes_of (apply_to p o) ≡ None
+goes_op p None = refl
+goes_op p (Some vs) = refl
+
+applied : (p : Primitive) (r : Bool) (ws : List Word) (o : Option (List Word)) → gate r (Some ws) ≡ o → gate r (Some (apply_prim p ws)) ≡ word_of (apply_to p o)
+applied p true ws None e = absurd (cc)
+applied p true ws (Some vs) e = let g : ws ≡ vs = cc in ap (λ (l : List Word). Some (apply_prim p l)) g
+applied p false ws None e = refl
+applied p false ws (Some vs) e = absurd (cc)
+
+pub lowers_op : {P : Ports} {slots : List Sig} {path s : Sig} {n0 n1 n2 : Netlist} {o0 o1 : Out} {all : LoweredAll} {p : Primitive} {ts : Terms}
+    → LowersAll P slots path n0 n1 o0 o1 all ts → Grows n1 n2 → length n2.signals ≤ length n1.signals + 1
+    → ((ws : List ℕ) (w : ℕ) → Sized n1 all.values.items ws → result_width p ws ≡ Some w → width_at n2 s.0 ≡ Some w)
+    → ((v : Val) → Wired n2 v → v s.0 ≡ apply_prim p (words v all.values.items))
+    → Lowers P slots path n0 n2 o0 o1 (record { ready = all.ready; value = s }) (Op p ts)
+unfolding answer wanted
+lowers_op {P} {slots} {path} {s} {n0} {n1} {n2} {o0} {o1} {all} {p} {ts} hs g c x y = record {
+  quiet = λ F env w t. hs.quiet F env t.width.0 (parts_typed t);
+  cheap = λ F tail env w t. let i = ap cost (hs.quiet F env t.width.0 (parts_typed t)) in omega (arith, i);
+  within = λ F tail env w s t x. between_same P.first_member (P.first_member + P.members) o0.loops.items o1.loops.items (hs.quiet F env t.width.0 (parts_typed t)) x;
+  more = hs.more;
+  loops_more = hs.loops_more;
+  told = λ F tail env w t v h. told_by v hs.more None _ (λ z q. never_is z None refl q) (hs.told F env t.width.0 (parts_typed t) v (wired_before g h));
+  sites = hs.sites;
+  fits = λ F tail env w s t x. out_kept g (hs.fits F env t.width.0 s (parts_typed t) x);
+  grows = grows_on hs.grows g;
+  count = let i = hs.count in omega arith;
+  shape = λ F tail env w h t.
+      let a = hs.shape F env t.width.0 h (parts_typed t) in
+      record { ready = ready_kept g all.ready a.ready; width = x t.width.0 w a.widths t.width.2 };
+  value = λ v h.
+      ap (λ (u : Word). gate (is_ready v all.ready) (Some u)) (y v h)
+      ∙ applied p (is_ready v all.ready) (words v all.values.items) (answers (back_of v P) (words v slots) ts) (hs.value v (wired_before g h));
+  wants = λ F tail env w t v h k. hs.wants F env t.width.0 (parts_typed t) v (wired_before g h) k;
+  loops = λ F tail env w t v h. hs.loops F env t.width.0 (parts_typed t) v (wired_before g h) ∙ stays_by _ _ (on v path) (goes_op p (answers (back_of v P) (words v slots) ts));
+}
+

@@ -1,0 +1,17 @@
+pub mod Arms
+pub mod Typing
+pub mod Kept
+pub mod Gathered
+pub mod Branches
+pub mod Leaves
+pub mod Calls
+pub mod Lists
+pub mod Able
+pub mod Trees
+pub mod Walk
+pub mod Laid
+pub mod Members
+pub mod Gathering
+pub mod Whole
+pub mod BitWords
+pub mod Extending

@@ -1,0 +1,71 @@
+-- The last step of each kind of term in the walk down a body.
+use Rattle.std.proofs.Common.{◌≡◌, ℕ, ◌+◌, ◌<◌, ◌≤◌, List, [], ◌∷◌, ◌++◌, length, Option, Some, None, Bool, false, not, ◌&&◌, cond, ◌==◌, Result, Ok, Err, IfOk, OnOk, slice_get, refl, sym, ap, subst, ◌∙◌, arith}
+use Rattle.safl_word.specs.Words.{Word}
+use Rattle.safl_check.specs.declared.term.Term as declared
+use Rattle.safl_check.specs.Terms.{Term, Terms, If, Call, Loop}
+use Rattle.safl_check.specs.Readiness.{or_else}
+use Rattle.safl_check.specs.Tree.{tree, forest}
+use Rattle.safl_net.specs.declared.cell.Sig.{Sig}
+use Rattle.safl_net.specs.Netlist.{Netlist}
+use Rattle.safl_net.specs.Growth.{Val, words, Wired, width_at, Sized, Grows}
+use Rattle.safl_net.proofs.Growth.{grows_on}
+use Rattle.safl_lower.specs.declared.parts.Ports.{Ports}
+use Rattle.safl_lower.specs.declared.parts.Lowered.{Lowered}
+use Rattle.safl_lower.specs.declared.parts.LoweredAll.{LoweredAll}
+use Rattle.safl_lower.specs.declared.parts.Out.{Out}
+use Rattle.safl_lower.specs.Bits.{on, is_ready, BitAt, ReadyAt}
+use Rattle.safl_lower.specs.Typing.{Owner}
+use Rattle.safl_lower.specs.Entries.{gate, asked, went}
+use Rattle.safl_lower.specs.Lowering.{gathered, open_at, Setting, Shaped, Lowers, LowersAll, Shows, goes_with, Enters, Leaves}
+use Rattle.safl_lower.proofs.Branches.{Branches, Chosen, lowers_if}
+use Rattle.safl_lower.proofs.Calls.{Asked, Gone, lowers_call, lowers_loop}
+use Rattle.safl_lower.proofs.Able.{call_shape}
+
+module _ {P : Ports} {path : Sig} {n m : Netlist} {o p : Out} where
+  -- the same of another name of the slots and of the term
+  pub renamed : {s slots : List Sig} {r : Lowered} {x y : declared.Term} → s ≡ slots → x ≡ y → Lowers P s path n m o p r (tree x) → Lowers P slots path n m o p r (tree y)
+  renamed {s} {slots} {r} {x} {y} e f h = subst (λ (l : List Sig). Lowers P l path n m o p r (tree y)) e (subst (λ (z : declared.Term). Lowers P s path n m o p r (tree z)) f h)
+
+  pub renamed_all : {s slots : List Sig} {r : LoweredAll} {xs ys : List declared.Term} → s ≡ slots → xs ≡ ys → LowersAll P s path n m o p r (forest xs) → LowersAll P slots path n m o p r (forest ys)
+  renamed_all {s} {slots} {r} {xs} {ys} e f h = subst (λ (l : List Sig). LowersAll P l path n m o p r (forest ys)) e (subst (λ (z : List declared.Term). LowersAll P s path n m o p r (forest z)) f h)
+
+pub done_if : {E : Type 0} {P : Ports} {slots : List Sig} {path py pn : Sig} {n0 n1 n2 n3 n4 n5 : Netlist} {o0 o1 o2 o3 : Out} {test yes no : Lowered} {c a b t : Term} (res : Result Lowered E)
+    → t ≡ If c a b
+    → Lowers P slots path n0 n1 o0 o1 test c → Branches path n1 n2 test py pn → Lowers P slots py n2 n3 o1 o2 yes a → Lowers P slots pn n3 n4 o2 o3 no b
+    → Grows n4 n5 → length n5.signals ≤ length n4.signals + 5
+    → ((w : ℕ) → Shaped n4 yes w → Shaped n4 no w → IfOk res (λ r. Shaped n5 r w))
+    → IfOk res (λ r. (v : Val) → Wired n5 v → v r.value.0 ≡ cond (on v test.value) (v yes.value.0) (v no.value.0))
+    → IfOk res (λ r. (v : Val) → Wired n5 v → is_ready v r.ready ≡ (is_ready v test.ready && cond (on v test.value) (is_ready v yes.ready) (is_ready v no.ready)))
+    → IfOk res (λ r. Lowers P slots path n0 n5 o0 o3 r t)
+done_if {P = P} {slots = slots} {path = path} {n0 = n0} {n5 = n5} {o0 = o0} {o3 = o3} (Ok r) e hc hp ha hb g c s v q =
+    subst (λ (x : Term). Lowers P slots path n0 n5 o0 o3 r x) (sym e) (lowers_if hc hp ha hb (record { grows = g; count = c; shape = s; value = v; ready = q }))
+done_if (Err x) e hc hp ha hb g c s v q = tt
+
+pub done_call : {E : Type 0} {P : Ports} {slots : List Sig} {path : Sig} {n0 n1 n2 : Netlist} {o0 o1 : Out} (o2 : Out) {all : LoweredAll} (f k : ℕ) {ts : Terms} {t : Term} (res : Result Lowered E)
+    → t ≡ Call f k ts
+    → LowersAll P slots path n0 n1 o0 o1 all ts
+    → Grows n1 n2 → length n2.signals ≤ length n1.signals + 3
+    → IfOk res (λ r. Shows P k r)
+    → IfOk res (λ _. Enters n2 o1.wants.items o2.wants.items k all)
+    → OnOk res (o2.loops.items ≡ o1.loops.items)
+    → IfOk res (λ r. (v : Val) → Wired n2 v → (j : ℕ) → asked v o2.wants.items j ≡ or_else (asked v o1.wants.items j) (gate (k == j) (gate (open_at v P path k) (gathered v all))))
+    → IfOk res (λ r. Lowers P slots path n0 n2 o0 o2 r t)
+done_call {P = P} {slots = slots} {path = path} {n0 = n0} {n2 = n2} {o0 = o0} o2 f k (Ok r) e hs g c sh en lo wa =
+    subst (λ (x : Term). Lowers P slots path n0 n2 o0 o2 r x) (sym e)
+    (lowers_call hs (record { grows = g; count = c; given = sh; entry = en; loops = lo; wants = wa }) (λ F tail env w s q. call_shape F tail env w (grows_on hs.grows g) sh s q))
+done_call o2 f k (Err x) e hs g c sh en lo wa = tt
+
+pub done_loop : {E : Type 0} {P : Ports} {slots : List Sig} {path : Sig} {n0 n1 n2 : Netlist} {o0 o1 : Out} (o2 : Out) {all : LoweredAll} {h : ℕ} {ts : Terms} {t : Term} (res : Result Lowered E)
+    → t ≡ Loop h ts
+    → LowersAll P slots path n0 n1 o0 o1 all ts
+    → Grows n1 n2 → length n2.signals ≤ length n1.signals + 3
+    → IfOk res (λ r. Shaped n2 r P.width)
+    → IfOk res (λ r. (v : Val) → Wired n2 v → is_ready v r.ready ≡ false)
+    → IfOk res (λ _. Leaves n2 o1.loops.items o2.loops.items path h all)
+    → OnOk res (o2.wants.items ≡ o1.wants.items)
+    → IfOk res (λ r. (v : Val) → Wired n2 v → went v o2.loops.items ≡ or_else (went v o1.loops.items) (gate (on v path) (goes_with h (gathered v all))))
+    → IfOk res (λ r. Lowers P slots path n0 n2 o0 o2 r t)
+done_loop {P = P} {slots = slots} {path = path} {n0 = n0} {n2 = n2} {o0 = o0} o2 (Ok r) e hs g c sh ne en wa lo =
+    subst (λ (x : Term). Lowers P slots path n0 n2 o0 o2 r x) (sym e)
+    (lowers_loop hs (record { grows = g; count = c; shape = sh; entry = en; never = ne; wants = wa; loops = lo }))
+done_loop o2 (Err x) e hs g c sh ne en wa lo = tt

@@ -1,0 +1,130 @@
+-- The circuit of a body from that of its term.
+use Rattle.std.proofs.Common.{Vec, Global, ◌⊎◌, inl, inr, ◌≡◌, ℕ, zero, suc, ◌+◌, ◌*◌, ◌<◌, ◌≤◌, List, [], ◌∷◌, ◌++◌, map, length, Option, Some, None, Bool, true, false, not, ◌&&◌, ◌==◌, slice_get, refl, sym, ap, subst, ◌∙◌, arith}
+use Rattle.safl_word.specs.Words.{Word}
+use Rattle.safl_check.specs.Terms.{Term}
+use Rattle.safl_check.specs.Readiness.{word_of, answer, wanted, or_else}
+use Rattle.safl_net.specs.declared.cell.Sig.{Sig}
+use Rattle.safl_net.specs.Netlist.{Netlist}
+use Rattle.safl_net.specs.Growth.{Val, words, Wired, width_at, Grows}
+use Rattle.safl_net.proofs.Growth.{grows_on, wired_before, width_kept}
+use Rattle.safl_lower.specs.declared.parts.Ports.{Ports}
+use Rattle.safl_lower.specs.declared.parts.Body.{Body}
+use Rattle.safl_lower.specs.declared.parts.Lowered.{Lowered}
+use Rattle.safl_lower.specs.declared.parts.Rows.{Rows}
+use Rattle.safl_lower.specs.declared.parts.Out.{Out}
+use Rattle.safl_lower.specs.declared.parts.Want.{Want}
+use Rattle.safl_lower.specs.declared.parts.TailCall.{TailCall}
+use Rattle.safl_lower.specs.Bits.{on, is_ready, BitAt, ReadyAt}
+use Rattle.safl_lower.specs.Typing.{Owner, Typed, nodes, sites_of}
+use Rattle.safl_lower.specs.Entries.{gate, asked, went, Told, site_of, member_of, Between, OutFits, WantsFit, LoopsFit, cost}
+use Rattle.safl_lower.specs.Lowering.{back_of, sent_of, open_at, shown, goes_of, Setting, Lowerable, Lowers}
+use Rattle.safl_lower.specs.Rows.{Apart, Listed, given, to_member, RowFits, Untaken, Spreads, Merged}
+use Rattle.safl_lower.specs.Bodies.{IsBody, CanLower, NeverTaken, BodyFits, Bodies}
+use Rattle.safl_lower.proofs.Arms.{gate_gate}
+use Rattle.safl_lower.proofs.Typing.{places}
+use Rattle.safl_lower.proofs.Gathered.{wants_kept, loops_kept}
+use Rattle.safl_lower.proofs.Members.{member_told}
+
+pub lowerable : {n : Netlist} {P : Ports} {args : List Sig} {run : Sig} {t : Term} → CanLower n P args run t → Lowerable n P args run t
+lowerable {t = t} h = record { owner = h.owner; tail = true; env = h.env; width = h.width; setting = h.setting; typed = h.body.typed; room = let r = h.room in omega (arith, r) }
+
+-- the calls of a body are those of its sites
+pub sites_first : {P : Ports} {slots : List Sig} {path : Sig} {n m : Netlist} {o p : Out} {r : Lowered} {t : Term} → o.wants.items ≡ [] → Lowers P slots path n m o p r t → map site_of p.wants.items ≡ sites_of t
+sites_first {t = t} e h = h.sites ∙ ap (λ (l : List Want). map site_of l ++ sites_of t) e
+
+empty_fits : (F : Owner) (n : Netlist) (o : Out) → o.wants.items ≡ [] → o.loops.items ≡ [] → OutFits F n o
+empty_fits F n o e f = record { wants = subst (WantsFit F n) (sym e) tt; loops = subst (LoopsFit F n) (sym f) tt }
+
+pub in_range : {A : Type 0} (xs : List A) (i : ℕ) (x : A) → slice_get xs i ≡ Some x → i < length xs
+in_range [] i x e = absurd (cc)
+in_range (y ∷ xs) zero x e = omega arith
+in_range (y ∷ xs) (suc i) x e = let h = in_range xs i x e in omega (arith, h)
+
+module _ {P : Ports} {args : List Sig} {run : Sig} {n0 n1 : Netlist} {o p : Out} {r : Lowered} {t : Term} (ew : o.wants.items ≡ []) (el : o.loops.items ≡ []) (c : CanLower n0 P args run t) (h : Lowers P args run n0 n1 o p r t) where
+  pub spread_apart : Apart (map site_of p.wants.items)
+  spread_apart = let b = c.body.typed in subst Apart (sym (sites_first ew h)) (places c.owner.program c.owner.function true b.low b.high t b.spans).apart
+
+  pub spread_within : Between P.first_site (P.first_site + length P.sites.items) (map site_of p.wants.items)
+  spread_within =
+      let b = c.body.typed in
+      let s = c.setting in
+      let low : P.first_site ≡ b.low = s.first ∙ sym c.body.from in
+      let high : P.first_site + length P.sites.items ≡ b.high = s.last ∙ sym c.body.upto in
+      subst (λ (i : ℕ). Between i (P.first_site + length P.sites.items) (map site_of p.wants.items)) (sym low)
+      (subst (λ (i : ℕ). Between b.low i (map site_of p.wants.items)) (sym high)
+      (subst (Between b.low b.high) (sym (sites_first ew h)) (places c.owner.program c.owner.function true b.low b.high t b.spans).between))
+
+  pub merge_fit : (n : Netlist) → Grows n1 n → (F : Owner) × LoopsFit F n p.loops.items
+  merge_fit n g = (c.owner, loops_kept c.owner p.loops.items g (h.fits c.owner true c.env c.width c.setting c.body.typed (empty_fits c.owner n0 o ew el)).loops)
+
+  pub merge_within : Between P.first_member (P.first_member + P.members) (map member_of p.loops.items)
+  merge_within = h.within c.owner true c.env c.width c.setting c.body.typed (subst (λ (l : List TailCall). Between P.first_member (P.first_member + P.members) (map member_of l)) (sym el) tt)
+
+  pub merge_cost : cost p.loops.items ≤ nodes t
+  merge_cost = let i = h.cheap c.owner true c.env c.width c.body.typed in let j = ap cost el in omega (arith, i, j)
+
+  pub result_ready : ReadyAt n1 r.ready
+  result_ready = (h.shape c.owner true c.env c.width c.setting c.body.typed).ready
+
+to_gate : (h : ℕ) (b : Bool) (x : Option (ℕ × List Word)) → to_member h (gate b x) ≡ gate b (to_member h x)
+to_gate h true x = refl
+to_gate h false x = refl
+
+-- each site of the interval is called
+all_listed : (F : Owner) (P : Ports) (env : List ℕ) (w : ℕ) (t : Term) (es : List Want) → map site_of es ≡ sites_of t → P.first_site ≡ F.first → P.first_site + length P.sites.items ≡ F.last → IsBody F env t w → (i : ℕ) → i < length P.sites.items → Listed (P.first_site + i) (map site_of es)
+all_listed F P env w t es e first last b i l =
+    let low : b.typed.low ≡ P.first_site = b.from ∙ sym first in
+    let high : b.typed.high ≡ P.first_site + length P.sites.items = b.upto ∙ sym last in
+    subst (Listed (P.first_site + i)) (sym e) ((places F.program F.function true b.typed.low b.typed.high t b.typed.spans).listed (P.first_site + i) (omega (arith, low)) (omega (arith, high, l)))
+
+never_or : (n m : Netlist) (z l : Sig) (a : List Sig) (ws : List ℕ) → BitAt m z → ((v : Val) → Wired m v → on v z ≡ false) → Untaken z l a ⊎ RowFits m l a ws → NeverTaken m l a ⊎ RowFits m l a ws
+never_or n m z l a ws b off (inl u) = inl (record { bit = subst (BitAt m) (sym u.0) b; off = λ v w. ap (on v) u.0 ∙ off v w; none = u.1 })
+never_or n m z l a ws b off (inr f) = inr f
+
+pub bodies : {P : Ports} {args : List Sig} {run : Sig} {n0 n1 n2 n3 n4 : Netlist} {o p : Out} {r : Lowered} {t : Term} (ends off : Sig) (s m : Rows)
+    → o.wants.items ≡ [] → o.loops.items ≡ [] → CanLower n0 P args run t
+    → Lowers P args run n0 n1 o p r t
+    → Grows n1 n2 → length n2.signals ≤ length n1.signals + 1 → BitAt n2 ends → ((v : Val) → Wired n2 v → on v ends ≡ (on v run && is_ready v r.ready))
+    → Grows n2 n3 → length n3.signals ≤ length n2.signals + 1 → BitAt n3 off → ((v : Val) → Wired n3 v → on v off ≡ false)
+    → Spreads off P.first_site (length P.sites.items) p.wants.items s
+    → Grows n3 n4 → length n4.signals ≤ length n3.signals + cost p.loops.items → Merged off P.first_member P.members n3 n4 p.loops.items m
+    → Bodies P args run n0 n4 (record { ends = ends; value = r.value; wants = s.bits; site_args = s.args; loops = m.bits; loop_args = m.args }) t
+bodies {P} {args} {run} {n0} {n1} {n2} {n3} {n4} {o} {p} {r} {t} ends off s m ew el c h g2 c2 b2 is g3 c3 bz z sp g4 c4 me = record {
+  grows = grows_on h.grows (grows_on g2 (grows_on g3 g4));
+  count = let i = h.count in let j = merge_cost ew el c h in omega (arith, i, j, c2, c3, c4);
+  wants_length = sp.bits_length;
+  site_args_length = sp.args_length;
+  loops_length = me.bits_length;
+  loop_args_length = me.args_length;
+  fits = λ F env w st b.
+      let out = h.fits F true env w st b.typed (empty_fits F n0 o ew el) in
+      let g = grows_on g2 (grows_on g3 g4) in
+      record {
+        ends = width_kept (grows_on g3 g4) ends.0 1 b2;
+        value = width_kept g r.value.0 w (h.shape F true env w st b.typed).width;
+        wants = λ i l a x y.
+            let n = in_range s.bits.items i l x in
+            let k = sp.bits_length in
+            sp.fits F n4 (wants_kept F p.wants.items g out.wants) i l a (all_listed F P env w t p.wants.items (sites_first ew h) st.first st.last b i (omega (arith, n, k))) x y;
+        loops = λ i l a x y.
+            never_or n0 n4 off l a.items (F.program.params (P.first_member + i)) (width_kept g4 off.0 1 bz) (λ v w4. z v (wired_before g4 w4)) (me.fits F (loops_kept F p.loops.items (grows_on g2 g3) out.loops) i l a x y);
+      };
+  ends = λ v w4.
+      let w2 = wired_before g3 (wired_before g4 w4) in
+      let w1 = wired_before g2 w2 in
+      ap (λ (b : Bool). gate b (Some (v r.value.0))) (is v w2) ∙ sym (gate_gate (on v run) (is_ready v r.ready) (Some (v r.value.0))) ∙ ap (gate (on v run)) (h.value v w1);
+  wants = λ F env w b v w4 i.
+      let w3 = wired_before g4 w4 in
+      let w1 = wired_before g2 (wired_before g3 w3) in
+      let k = P.first_site + i in
+      sp.told v (z v w3) i ∙ h.wants F true env w b.typed v w1 k
+      ∙ ap (λ (l : List Want). or_else (asked v l k) (gate (open_at v P run k) (wanted (back_of v P) (words v args) t k))) ew;
+  loops = λ F env w b v w4 i.
+      let w3 = wired_before g4 w4 in
+      let w1 = wired_before g2 (wired_before g3 w3) in
+      let k = P.first_member + i in
+      let x = gate (on v run) (goes_of (answer (back_of v P) (words v args) t)) in
+      let told = subst (λ (l : List TailCall). Told v l x) (sym (h.loops_more ∙ ap (λ (l : List TailCall). l ++ h.more) el)) (h.told F true env w b.typed v w1) in
+      let first = h.loops F true env w b.typed v w1 ∙ ap (λ (l : List TailCall). or_else (went v l) x) el in
+      me.told v w4 (z v w3) i ∙ member_told v p.loops.items x k told first ∙ to_gate k (on v run) (goes_of (answer (back_of v P) (words v args) t));
+}

@@ -1,0 +1,11 @@
+use Rattle.std.proofs.Common.{◌≡◌, [], ◌∷◌, Some, refl}
+use Rattle.safl_lower.proofs.BitWords.{not_on}
+use Rattle.safl_lower.proofs.gates.not_bit.Goals as goal
+
+pub operate-requires-clause-sized : goal.operate-requires-clause-sized
+operate-requires-clause-sized c = (1 ∷ [], 1, (c.requires.bit, tt), refl)
+
+pub returns : goal.returns
+returns c =
+    let e = c.operate.ensures in
+    record { tidy = e.tidy; grows = e.grows; count = e.count; width = e.width (1 ∷ []) 1 (c.requires.bit, tt) refl; value = not_on c.args.net.now c.operate.new.net c.operate.result c.args.a c.requires.bit e.grows e.value }

@@ -1,0 +1,69 @@
+use Rattle.std.proofs.Common.{◌≡◌, ap, ◌∙◌, ◌++◌, ◌-◌, ℕ, [], ◌∷◌, ◌==◌, ◌&&◌, ◌<◌, not, Bool, Option, Some, slice_get, length, refl, sym, subst, arith}
+use Rattle.std.proofs.lemmas.Option.{slice_get_read}
+use Rattle.safl_net.specs.Growth.{words}
+use Rattle.safl_net.proofs.Growth.{grows_on, wired_before, width_kept}
+use Rattle.safl_check.specs.Readiness.{or_else}
+use Rattle.safl_lower.specs.declared.parts.SitePorts.{SitePorts}
+use Rattle.safl_lower.specs.declared.parts.Want.{Want}
+use Rattle.safl_lower.specs.Bits.{on, is_ready, BitAt}
+use Rattle.safl_lower.specs.Entries.{asked}
+use Rattle.safl_lower.specs.Lowering.{was_sent, open_at}
+use Rattle.safl_lower.proofs.Whole.{in_range}
+use Rattle.safl_lower.proofs.Kept.{asked_end, three_gates, ready_kept}
+use Rattle.safl_lower.proofs.joins.ask.Goals as goal
+
+pub index-port-requires : goal.index-port-requires
+index-port-requires c =
+    let s = c.requires.site in
+    let h = in_range c.args.ports.now.sites.items (c.args.site - c.args.ports.now.first_site) s.port s.at in
+    omega (arith, h, c.args.ports.now.sites.ok.0)
+
+pub not_bit-requires-clause-bit : goal.not_bit-requires-clause-bit
+not_bit-requires-clause-bit c =
+    let s = c.requires.site in
+    let h = in_range c.args.ports.now.sites.items (c.args.site - c.args.ports.now.first_site) s.port s.at in
+    let at = slice_get_read c.args.ports.now.sites.items (length c.args.ports.now.sites.items) (c.args.site - c.args.ports.now.first_site) c.index-port.result.now refl h c.index-port.ensures in
+    let same : s.port ≡ c.index-port.result.now = cc in
+    subst (λ (p : SitePorts). BitAt c.args.net.now p.sent) same s.sent
+
+pub and_bit-requires-clause-first : goal.and_bit-requires-clause-first
+and_bit-requires-clause-first c = width_kept c.not_bit.ensures.grows c.args.path.0 1 c.requires.path
+
+pub and_ready-requires-clause-second : goal.and_ready-requires-clause-second
+and_ready-requires-clause-second c = ready_kept (grows_on c.not_bit.ensures.grows c.and_bit.ensures.grows) c.args.all.ready c.requires.all
+
+pub returns-clause-given : goal.returns-clause-given
+returns-clause-given c =
+    let s = c.requires.site in
+    let h = in_range c.args.ports.now.sites.items (c.args.site - c.args.ports.now.first_site) s.port s.at in
+    record { port = c.index-port.result.now; at = slice_get_read c.args.ports.now.sites.items (length c.args.ports.now.sites.items) (c.args.site - c.args.ports.now.first_site) c.index-port.result.now refl h c.index-port.ensures; is = refl }
+
+pub returns-clause-wants : goal.returns-clause-wants
+returns-clause-wants c = λ v w j.
+    let s = c.requires.site in
+    let h = in_range c.args.ports.now.sites.items (c.args.site - c.args.ports.now.first_site) s.port s.at in
+    let at = slice_get_read c.args.ports.now.sites.items (length c.args.ports.now.sites.items) (c.args.site - c.args.ports.now.first_site) c.index-port.result.now refl h c.index-port.ensures in
+    let e : Want = record { site = c.args.site; want = c.in_ok-want.want; args = c.args.all.values } in
+    let u = wired_before c.and_ready.ensures.grows w in
+    let t = wired_before c.and_bit.ensures.grows u in
+    ap (λ l. asked v l j) c.in_ok-push.ensures.items
+    ∙ asked_end v c.args.out.now.wants.items e j
+    ∙ ap (or_else (asked v c.args.out.now.wants.items j)) (three_gates (c.args.site == j) (on v c.in_ok-want.want) (open_at v c.args.ports.now c.args.path c.args.site) (is_ready v c.args.all.ready) (Some (words v c.args.all.values.items))
+    (c.in_ok-want.ensures.value v w
+    ∙ ap (λ (b : Bool). b && is_ready v c.args.all.ready) (c.in_ok-free.ensures.value v u
+    ∙ ap (λ (b : Bool). on v c.args.path && b) (c.in_ok-unsent.ensures.value v t ∙ sym (ap (λ (o : Option SitePorts). not (was_sent v o)) at)))))
+
+pub returns-clause-entry : goal.returns-clause-entry
+returns-clause-entry c = record { want = c.in_ok-want.want; is = c.in_ok-push.ensures.items; bit = c.in_ok-want.ensures.width }
+
+pub returns-in_err-free-clause-grows : goal.returns-in_err-free-clause-grows
+returns-in_err-free-clause-grows c = grows_on c.not_bit.ensures.grows c.and_bit.ensures.grows
+
+pub returns-in_err-want-clause-grows : goal.returns-in_err-want-clause-grows
+returns-in_err-want-clause-grows c = grows_on c.not_bit.ensures.grows (grows_on c.and_bit.ensures.grows c.and_ready.ensures.grows)
+
+pub returns-in_err-push-clause-grows : goal.returns-in_err-push-clause-grows
+returns-in_err-push-clause-grows c = grows_on c.not_bit.ensures.grows (grows_on c.and_bit.ensures.grows c.and_ready.ensures.grows)
+
+pub returns-clause-grows : goal.returns-clause-grows
+returns-clause-grows c = grows_on c.not_bit.ensures.grows (grows_on c.and_bit.ensures.grows c.and_ready.ensures.grows)

@@ -1,0 +1,75 @@
+-- The calls and the tail calls of a body, as they are gathered, under a valuation.
+use Rattle.std.specs.Prelude.{◌≡◌, ℕ, ◌+◌, ◌<◌, ◌≤◌, List, [], ◌∷◌, map, length, Option, Some, None, Bool, true, ◌&&◌, cond, ◌==◌}
+use Rattle.safl_word.specs.Words.{Word}
+use Rattle.safl_check.specs.Readiness.{or_else}
+use Rattle.safl_net.specs.Netlist.{Netlist}
+use Rattle.safl_net.specs.Growth.{Val, words, Sized}
+use Rattle.safl_lower.specs.declared.parts.Want.{Want}
+use Rattle.safl_lower.specs.declared.parts.TailCall.{TailCall}
+use Rattle.safl_lower.specs.declared.parts.Out.{Out}
+use Rattle.safl_lower.specs.Bits.{on, BitAt}
+use Rattle.safl_lower.specs.Typing.{Owner}
+
+-- where the bit is 1
+abbrev pub gate : {A : Type 0} → Bool → Option A → Option A
+gate b o = cond b o None
+
+-- the words that one call asks site k for
+abbrev pub asks : Val → Want → ℕ → Option (List Word)
+asks v e k = gate ((e.site == k) && on v e.want) (Some (words v e.args.items))
+
+-- the words that the first of the calls asks site k for
+abbrev pub asked : Val → List Want → ℕ → Option (List Word)
+asked v [] k = None
+asked v (e ∷ es) k = or_else (asks v e k) (asked v es k)
+
+-- where one tail call goes, and where the first goes that is made
+abbrev pub goes : Val → TailCall → Option (ℕ × List Word)
+goes v e = gate (on v e.taken) (Some (e.member, words v e.args.items))
+
+abbrev pub went : Val → List TailCall → Option (ℕ × List Word)
+went v [] = None
+went v (e ∷ es) = or_else (goes v e) (went v es)
+
+-- each tail call that is made goes there
+abbrev pub Told : Val → List TailCall → Option (ℕ × List Word) → Type 0
+Told v [] x = Unit {0}
+Told v (e ∷ es) x = (on v e.taken ≡ true → Some (e.member, words v e.args.items) ≡ x) × Told v es x
+
+abbrev pub site_of : Want → ℕ
+site_of e = e.site
+
+abbrev pub member_of : TailCall → ℕ
+member_of e = e.member
+
+-- each number is `low` or more, and less than `high`
+abbrev pub Between : ℕ → ℕ → List ℕ → Type 0
+Between low high [] = Unit {0}
+Between low high (k ∷ ks) = (low ≤ k) × (k < high) × Between low high ks
+
+-- a call has a bit, and arguments of its callee's widths
+pub record WantFits (F : Owner) (n : Netlist) (e : Want) : Type 0 where
+  pub bit : BitAt n e.want
+  pub sized : Sized n e.args.items (F.program.params (F.program.callee e.site))
+
+-- a tail call has a bit, and arguments of its member's widths
+pub record LoopFits (F : Owner) (n : Netlist) (e : TailCall) : Type 0 where
+  pub bit : BitAt n e.taken
+  pub sized : Sized n e.args.items (F.program.params e.member)
+
+abbrev pub WantsFit : Owner → Netlist → List Want → Type 0
+WantsFit F n [] = Unit {0}
+WantsFit F n (e ∷ es) = WantFits F n e × WantsFit F n es
+
+abbrev pub LoopsFit : Owner → Netlist → List TailCall → Type 0
+LoopsFit F n [] = Unit {0}
+LoopsFit F n (e ∷ es) = LoopFits F n e × LoopsFit F n es
+
+pub record OutFits (F : Owner) (n : Netlist) (o : Out) : Type 0 where
+  pub wants : WantsFit F n o.wants.items
+  pub loops : LoopsFit F n o.loops.items
+
+-- the most signals that it takes to merge the tail calls: a bit and its arguments for each
+abbrev pub cost : List TailCall → ℕ
+cost [] = 0
+cost (e ∷ es) = 1 + length e.args.items + cost es

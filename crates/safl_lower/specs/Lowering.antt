@@ -1,0 +1,172 @@
+-- What the circuit of a term gives, under each valuation that the net allows.
+use Rattle.std.specs.Prelude.{◌≡◌, ℕ, ◌+◌, ◌-◌, ◌*◌, ◌<◌, ◌≤◌, List, [], ◌∷◌, ◌++◌, map, length, Option, Some, None, Bool, false, not, ◌&&◌, slice_get}
+use Rattle.safl_word.specs.Words.{Word, max_width}
+use Rattle.safl_check.specs.Terms.{Term, Terms}
+use Rattle.safl_check.specs.Readiness.{Answer, Ready, LoopTo, NotYet, word_of, or_else, answer, answers, wanted, wanted_in}
+use Rattle.safl_net.specs.declared.cell.Sig.{Sig}
+use Rattle.safl_net.specs.Netlist.{Netlist}
+use Rattle.safl_net.specs.Growth.{Val, words, Wired, width_at, Sized, Grows}
+use Rattle.safl_lower.specs.declared.parts.SitePorts.{SitePorts}
+use Rattle.safl_lower.specs.declared.parts.Ports.{Ports}
+use Rattle.safl_lower.specs.declared.parts.Lowered.{Lowered}
+use Rattle.safl_lower.specs.declared.parts.LoweredAll.{LoweredAll}
+use Rattle.safl_lower.specs.declared.parts.TailCall.{TailCall}
+use Rattle.safl_lower.specs.declared.parts.Want.{Want}
+use Rattle.safl_lower.specs.declared.parts.Out.{Out}
+use Rattle.safl_lower.specs.Bits.{on, is_ready, BitAt, ReadyAt}
+use Rattle.safl_lower.specs.Typing.{Owner, Typed, TypedAll, nodes, nodes_in, sites_of, sites_in}
+use Rattle.safl_lower.specs.Entries.{gate, asked, went, Told, site_of, member_of, Between, OutFits, cost}
+
+-- the ports of a site
+abbrev pub port_of : Ports → ℕ → Option SitePorts
+port_of P k = slice_get P.sites.items (k - P.first_site)
+
+-- the word of a site, where it has returned
+abbrev pub returned_word : Val → Option SitePorts → Option Word
+returned_word v None = None
+returned_word v (Some p) = gate (on v p.returned) (Some (v p.value.0))
+
+abbrev pub back_of : Val → Ports → ℕ → Option Word
+back_of v P k = returned_word v (port_of P k)
+
+-- the site's call was sent
+abbrev pub was_sent : Val → Option SitePorts → Bool
+was_sent v None = false
+was_sent v (Some p) = on v p.sent
+
+abbrev pub sent_of : Val → Ports → ℕ → Bool
+sent_of v P k = was_sent v (port_of P k)
+
+-- the path is there, and the site's call wasn't sent
+abbrev pub open_at : Val → Ports → Sig → ℕ → Bool
+open_at v P path k = on v path && not (sent_of v P k)
+
+-- a term's word and a list's words, where they are ready
+abbrev pub shown : Val → Lowered → Option Word
+shown v r = gate (is_ready v r.ready) (Some (v r.value.0))
+
+abbrev pub gathered : Val → LoweredAll → Option (List Word)
+gathered v r = gate (is_ready v r.ready) (Some (words v r.values.items))
+
+-- the member to which a body goes on, and the arguments
+abbrev pub goes_of : Answer → Option (ℕ × List Word)
+goes_of (Ready v) = None
+goes_of (LoopTo h vs) = Some (h, vs)
+goes_of NotYet = None
+
+-- ---- what has to be there
+
+-- a site's ports are two bits and a word of this width
+pub record Sited (n : Netlist) (p : SitePorts) (w : ℕ) : Type 0 where
+  pub sent : BitAt n p.sent
+  pub returned : BitAt n p.returned
+  pub value : width_at n p.value.0 ≡ Some w
+
+-- site k has ports
+pub record HasPorts (n : Netlist) (P : Ports) (k : ℕ) : Type 0 where
+  pub from : P.first_site ≤ k
+  pub port : SitePorts
+  pub at : port_of P k ≡ Some port
+  pub sent : BitAt n port.sent
+
+-- the path is a bit, the slots have their widths, the ports are those of the owner's sites, each of its callee's
+-- width, and the group's members are the functions of the owner's unit, which have one width
+pub record Setting (n : Netlist) (F : Owner) (P : Ports) (slots : List Sig) (env : List ℕ) (path : Sig) : Type 0 where
+  pub path_bit : BitAt n path
+  pub slots_sized : Sized n slots env
+  pub first : P.first_site ≡ F.first
+  pub last : P.first_site + length P.sites.items ≡ F.last
+  pub sites_sized : (i : ℕ) (p : SitePorts) → slice_get P.sites.items i ≡ Some p → Sited n p (F.program.result (F.program.callee (P.first_site + i)))
+  pub members : (h : ℕ) → h < F.program.functions → F.program.unit h ≡ F.program.unit F.function → (P.first_member ≤ h) × (h < P.first_member + P.members) × (F.program.result h ≡ P.width)
+  pub some : 1 ≤ P.width
+  pub most : P.width ≤ max_width
+
+-- a term that stands in an owner's body, in a net with room for its circuit
+pub record Lowerable (n : Netlist) (P : Ports) (slots : List Sig) (path : Sig) (t : Term) : Type 0 where
+  pub owner : Owner
+  pub tail : Bool
+  pub env : List ℕ
+  pub width : ℕ
+  pub setting : Setting n owner P slots env path
+  pub typed : Typed owner tail env t width
+  pub room : length n.signals + 31 * nodes t < 4294967295
+
+pub record LowerableAll (n : Netlist) (P : Ports) (slots : List Sig) (path : Sig) (ts : Terms) : Type 0 where
+  pub owner : Owner
+  pub env : List ℕ
+  pub widths : List ℕ
+  pub setting : Setting n owner P slots env path
+  pub typed : TypedAll owner env ts widths
+  pub room : length n.signals + 31 * nodes_in ts < 4294967295
+
+-- ---- what is there then
+
+pub record Shaped (n : Netlist) (r : Lowered) (w : ℕ) : Type 0 where
+  pub ready : ReadyAt n r.ready
+  pub width : width_at n r.value.0 ≡ Some w
+
+pub record ShapedAll (n : Netlist) (r : LoweredAll) (ws : List ℕ) : Type 0 where
+  pub ready : ReadyAt n r.ready
+  pub widths : Sized n r.values.items ws
+
+-- the circuit of a term, with the calls and tail calls before and after it
+pub record Lowers (P : Ports) (slots : List Sig) (path : Sig) (old new : Netlist) (o p : Out) (r : Lowered) (t : Term) : Type 0 where
+  pub grows : Grows old new
+  pub count : length new.signals + 4 ≤ length old.signals + 31 * nodes t
+  pub shape : (F : Owner) (tail : Bool) (env : List ℕ) (w : ℕ) → Setting old F P slots env path → Typed F tail env t w → Shaped new r w
+  -- it is ready where the term is, with the term's word
+  pub value : (v : Val) → Wired new v → shown v r ≡ word_of (answer (back_of v P) (words v slots) t)
+  -- each site that wasn't sent is wanted where the term has its path and wants it, with the same words
+  pub wants : (F : Owner) (tail : Bool) (env : List ℕ) (w : ℕ) → Typed F tail env t w → (v : Val) → Wired new v → (k : ℕ) → asked v p.wants.items k ≡ or_else (asked v o.wants.items k) (gate (open_at v P path k) (wanted (back_of v P) (words v slots) t k))
+  -- the first tail call that is made is the term's, where it has its path and goes on
+  pub loops : (F : Owner) (tail : Bool) (env : List ℕ) (w : ℕ) → Typed F tail env t w → (v : Val) → Wired new v → went v p.loops.items ≡ or_else (went v o.loops.items) (gate (on v path) (goes_of (answer (back_of v P) (words v slots) t)))
+  pub sites : map site_of p.wants.items ≡ map site_of o.wants.items ++ sites_of t
+  pub fits : (F : Owner) (tail : Bool) (env : List ℕ) (w : ℕ) → Setting old F P slots env path → Typed F tail env t w → OutFits F old o → OutFits F new p
+  -- outside tail position no tail call stands
+  pub quiet : (F : Owner) (env : List ℕ) (w : ℕ) → Typed F false env t w → p.loops.items ≡ o.loops.items
+  pub cheap : (F : Owner) (tail : Bool) (env : List ℕ) (w : ℕ) → Typed F tail env t w → cost p.loops.items ≤ cost o.loops.items + nodes t
+  pub within : (F : Owner) (tail : Bool) (env : List ℕ) (w : ℕ) → Setting old F P slots env path → Typed F tail env t w → Between P.first_member (P.first_member + P.members) (map member_of o.loops.items) → Between P.first_member (P.first_member + P.members) (map member_of p.loops.items)
+  pub more : List TailCall
+  pub loops_more : p.loops.items ≡ o.loops.items ++ more
+  -- every tail call that is made is the term's
+  pub told : (F : Owner) (tail : Bool) (env : List ℕ) (w : ℕ) → Typed F tail env t w → (v : Val) → Wired new v → Told v more (gate (on v path) (goes_of (answer (back_of v P) (words v slots) t)))
+
+-- the circuits of a list of terms, all with the same path
+pub record LowersAll (P : Ports) (slots : List Sig) (path : Sig) (old new : Netlist) (o p : Out) (r : LoweredAll) (ts : Terms) : Type 0 where
+  pub grows : Grows old new
+  pub count : length new.signals ≤ length old.signals + 31 * nodes_in ts
+  pub shape : (F : Owner) (env : List ℕ) (ws : List ℕ) → Setting old F P slots env path → TypedAll F env ts ws → ShapedAll new r ws
+  pub value : (v : Val) → Wired new v → gathered v r ≡ answers (back_of v P) (words v slots) ts
+  pub wants : (F : Owner) (env : List ℕ) (ws : List ℕ) → TypedAll F env ts ws → (v : Val) → Wired new v → (k : ℕ) → asked v p.wants.items k ≡ or_else (asked v o.wants.items k) (gate (open_at v P path k) (wanted_in (back_of v P) (words v slots) ts k))
+  pub loops : (F : Owner) (env : List ℕ) (ws : List ℕ) → TypedAll F env ts ws → (v : Val) → Wired new v → went v p.loops.items ≡ went v o.loops.items
+  pub sites : map site_of p.wants.items ≡ map site_of o.wants.items ++ sites_in ts
+  pub fits : (F : Owner) (env : List ℕ) (ws : List ℕ) → Setting old F P slots env path → TypedAll F env ts ws → OutFits F old o → OutFits F new p
+  pub quiet : (F : Owner) (env : List ℕ) (ws : List ℕ) → TypedAll F env ts ws → p.loops.items ≡ o.loops.items
+  pub long : length r.values.items ≤ nodes_in ts
+  pub more : List TailCall
+  pub loops_more : p.loops.items ≡ o.loops.items ++ more
+  pub told : (F : Owner) (env : List ℕ) (ws : List ℕ) → TypedAll F env ts ws → (v : Val) → Wired new v → Told v more None
+
+-- ---- a call and a tail call
+
+-- what the ports of a call show
+pub record Shows (P : Ports) (k : ℕ) (r : Lowered) : Type 0 where
+  pub port : SitePorts
+  pub at : port_of P k ≡ Some port
+  pub is : r ≡ record { ready = Some port.returned; value = port.value }
+
+abbrev pub goes_with : ℕ → Option (List Word) → Option (ℕ × List Word)
+goes_with h None = None
+goes_with h (Some vs) = Some (h, vs)
+
+-- one more call, and one more tail call
+pub record Enters (n : Netlist) (o p : List Want) (k : ℕ) (all : LoweredAll) : Type 0 where
+  pub want : Sig
+  pub is : p ≡ o ++ record { site = k; want = want; args = all.values } ∷ []
+  pub bit : BitAt n want
+
+pub record Leaves (n : Netlist) (o p : List TailCall) (path : Sig) (h : ℕ) (all : LoweredAll) : Type 0 where
+  pub taken : Sig
+  pub made : (v : Val) → Wired n v → on v taken ≡ (on v path && is_ready v all.ready)
+  pub is : p ≡ o ++ record { member = h; taken = taken; args = all.values } ∷ []
+  pub bit : BitAt n taken

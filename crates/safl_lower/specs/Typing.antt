@@ -1,0 +1,60 @@
+-- What a term is in the body of a function.
+use Rattle.std.specs.Prelude.{ℕ, ◌+◌, ◌≤◌, List, [], ◌∷◌, ◌++◌, Bool}
+use Rattle.safl_check.specs.Program.{Program}
+use Rattle.safl_check.specs.Terms.{Term, Const, Var, Op, If, Let, Call, Loop, Terms, Nil, Cons}
+use Rattle.safl_check.specs.WellFormed.{Spans, SpansAll, HasWidth, HaveWidths}
+
+-- a function of a program, whose body's sites are `first` up to `last`
+pub record Owner : Type 0 where
+  pub program : Program
+  pub function : ℕ
+  pub first : ℕ
+  pub last : ℕ
+
+-- in the owner's body, at a tail position or not, the term's sites stand in text order among the body's, and it
+-- has this width where the slots have these
+pub record Typed (F : Owner) (tail : Bool) (slots : List ℕ) (t : Term) (w : ℕ) : Type 0 where
+  pub low : ℕ
+  pub high : ℕ
+  pub from : F.first ≤ low
+  pub upto : high ≤ F.last
+  pub spans : Spans F.program F.function tail low high t
+  pub width : HasWidth F.program slots t w
+
+pub record TypedAll (F : Owner) (slots : List ℕ) (ts : Terms) (ws : List ℕ) : Type 0 where
+  pub low : ℕ
+  pub high : ℕ
+  pub from : F.first ≤ low
+  pub upto : high ≤ F.last
+  pub spans : SpansAll F.program F.function low high ts
+  pub widths : HaveWidths F.program slots ts ws
+
+abbrev mutual
+  -- the number of terms in a term
+  pub nodes : Term → ℕ
+  nodes (Const w) = 1
+  nodes (Var i) = 1
+  nodes (Op p ts) = 1 + nodes_in ts
+  nodes (If c a b) = 1 + nodes c + nodes a + nodes b
+  nodes (Let bs b) = 1 + nodes_in bs + nodes b
+  nodes (Call f k ts) = 1 + nodes_in ts
+  nodes (Loop h ts) = 1 + nodes_in ts
+
+  pub nodes_in : Terms → ℕ
+  nodes_in Nil = 0
+  nodes_in (Cons t ts) = nodes t + nodes_in ts
+
+abbrev mutual
+  -- the sites of a term, each call after its arguments
+  pub sites_of : Term → List ℕ
+  sites_of (Const w) = []
+  sites_of (Var i) = []
+  sites_of (Op p ts) = sites_in ts
+  sites_of (If c a b) = sites_of c ++ (sites_of a ++ sites_of b)
+  sites_of (Let bs b) = sites_in bs ++ sites_of b
+  sites_of (Call f k ts) = sites_in ts ++ k ∷ []
+  sites_of (Loop h ts) = sites_in ts
+
+  pub sites_in : Terms → List ℕ
+  sites_in Nil = []
+  sites_in (Cons t ts) = sites_of t ++ sites_in ts
