@@ -193,4 +193,3 @@ lowers_loop {P} {slots} {path} {n0} {n1} {n2} {o0} {o1} {o2} {all} {h} {ts} {r} 
       ∙ ap (λ (y : Option (List Word)). or_else (went v o0.loops.items) (gate (on v path) (goes_with h y))) (hs.value v w1)
       ∙ ap (λ (y : Option (ℕ × List Word)). or_else (went v o0.loops.items) (gate (on v path) y)) (goes_go_to h (answers (back_of v P) (words v slots) ts));
 }
-

@@ -176,4 +176,3 @@ some_nodes (If c a b) = omega arith
 some_nodes (Let bs b) = omega arith
 some_nodes (Call f k ts) = omega arith
 some_nodes (Loop h ts) = omega arith
-

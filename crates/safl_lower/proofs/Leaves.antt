@@ -100,7 +100,7 @@ applied p false ws None e = refl
 applied p false ws (Some vs) e = absurd (cc)
 
 pub lowers_op : {P : Ports} {slots : List Sig} {path s : Sig} {n0 n1 n2 : Netlist} {o0 o1 : Out} {all : LoweredAll} {p : Primitive} {ts : Terms}
-    → LowersAll P slots path n0 n1 o0 o1 all ts → Grows n1 n2 → length n2.signals ≤ length n1.signals + 1
+    → LowersAll P slots path n0 n1 o0 o1 all ts → Grows n1 n2 → length n2.signals ≤ length n1.signals + 2
     → ((ws : List ℕ) (w : ℕ) → Sized n1 all.values.items ws → result_width p ws ≡ Some w → width_at n2 s.0 ≡ Some w)
     → ((v : Val) → Wired n2 v → v s.0 ≡ apply_prim p (words v all.values.items))
     → Lowers P slots path n0 n2 o0 o1 (record { ready = all.ready; value = s }) (Op p ts)
@@ -125,4 +125,3 @@ lowers_op {P} {slots} {path} {s} {n0} {n1} {n2} {o0} {o1} {all} {p} {ts} hs g c 
   wants = λ F tail env w t v h k. hs.wants F env t.width.0 (parts_typed t) v (wired_before g h) k;
   loops = λ F tail env w t v h. hs.loops F env t.width.0 (parts_typed t) v (wired_before g h) ∙ stays_by _ _ (on v path) (goes_op p (answers (back_of v P) (words v slots) ts));
 }
-

@@ -1,11 +1,14 @@
 //! Bodies of functions as circuits.
 #![tactic(auto)]
 
+mod body;
 mod gates;
 mod joins;
-pub mod parts;
 mod merge;
+pub mod parts;
 mod primitives;
 mod spread;
+mod terms;
 
+pub use crate::body::lower;
 pub use crate::parts::{Body, Ports, SitePorts};

@@ -1,5 +1,6 @@
 use Rattle.std.proofs.Common.{◌≡◌, ◌+◌, ◌-◌, ◌<◌, ◌≤◌, List, [], ◌∷◌, ◌++◌, length, length-append, refl, sym, ap, subst, ◌∙◌, arith}
 use Rattle.safl_net.specs.declared.cell.Sig.{Sig}
+use Rattle.safl_net.proofs.Growth.{grows_on}
 use Rattle.safl_lower.proofs.Laid.{AllZero, AllEmpty, zeros_end, empties_end}
 use Rattle.safl_lower.proofs.Gathering.{merging_start, merging_step, merging_end, last_in, last_fits, last_row, last_room}
 use Rattle.safl_lower.proofs.merge.merge.Goals as goal
@@ -34,3 +35,25 @@ add_call-requires-clause-room c = last_room c.pop.new.self.items c.in-Some.call 
 
 pub calls-preserved : goal.calls-preserved
 calls-preserved c = record { tidy = c.add_call.ensures.tidy; merging = merging_step c.pop.new.self.items c.in-Some.call c.in-Some.ensures.items c.calls.invariant.merging c.add_call.ensures.grows c.in_ok-add_call.ensures.added c.add_call.ensures.count }
+
+pub overflow_sub-place : goal.overflow_sub-place
+overflow_sub-place c = let h = last_in c.pop.new.self.items c.in-Some.call c.in-Some.ensures.items c.calls.invariant.merging in let i = h.0 in omega (arith, i)
+
+pub add_call-requires-clause-bits : goal.add_call-requires-clause-bits
+add_call-requires-clause-bits c =
+    let h = last_in c.pop.new.self.items c.in-Some.call c.in-Some.ensures.items c.calls.invariant.merging in
+    let i = h.0 in
+    let j = h.1 in
+    let w = c.calls.invariant.merging.bits_length in
+    omega (arith, i, j, w)
+
+pub add_call-requires-clause-args : goal.add_call-requires-clause-args
+add_call-requires-clause-args c =
+    let h = last_in c.pop.new.self.items c.in-Some.call c.in-Some.ensures.items c.calls.invariant.merging in
+    let i = h.0 in
+    let j = h.1 in
+    let w = c.calls.invariant.merging.args_length in
+    omega (arith, i, j, w)
+
+pub returns-in_err-add_call-clause-grows : goal.returns-in_err-add_call-clause-grows
+returns-in_err-add_call-clause-grows c = grows_on c.calls.invariant.merging.grows c.add_call.ensures.grows

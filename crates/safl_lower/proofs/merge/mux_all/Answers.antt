@@ -69,3 +69,9 @@ returns-clause-value c = λ v h.
     c.loop-i.invariant.value v h
     ∙ ap (λ (l : List Sig). cond (on v c.args.test) (words v l) (words v (take c.loop-i.i c.args.second.now))) (take_all c.args.first.now c.loop-i.i (omega (arith, c.loop-i-test.false)))
     ∙ ap (λ (l : List Sig). cond (on v c.args.test) (words v c.args.first.now) (words v l)) (take_all c.args.second.now c.loop-i.i (omega (arith, x, y, c.loop-i-test.false)))
+
+pub returns-in_err-s-clause-grows : goal.returns-in_err-s-clause-grows
+returns-in_err-s-clause-grows c = grows_on c.loop-i.invariant.grows c.mux.ensures.grows
+
+pub returns-in_err-push-clause-grows : goal.returns-in_err-push-clause-grows
+returns-in_err-push-clause-grows c = grows_on c.loop-i.invariant.grows c.mux.ensures.grows

@@ -1,4 +1,4 @@
-use Rattle.std.proofs.Common.{◌≡◌, ◌+◌, ◌<◌, ◌≤◌, List, [], ◌∷◌, ◌++◌, length, length-append, sym, ap, subst, ◌∙◌, arith}
+use Rattle.std.proofs.Common.{rules, ◌≡◌, ◌+◌, ◌<◌, ◌≤◌, List, [], ◌∷◌, ◌++◌, length, length-append, sym, ap, subst, ◌∙◌, arith}
 use Rattle.safl_net.specs.declared.cell.Sig.{Sig}
 use Rattle.safl_lower.proofs.Laid.{AllZero, zeros_end, so_far_start, so_far_step, so_far_end, last_within}
 use Rattle.safl_lower.proofs.spread.spread.Goals as goal
@@ -23,3 +23,27 @@ calls-init c =
 
 pub calls-preserved : goal.calls-preserved
 calls-preserved c = so_far_step c.pop.new.self.items c.in-Some.call c.in-Some.ensures.items c.calls.invariant
+
+pub overflow_sub-place : goal.overflow_sub-place
+overflow_sub-place c = let h = last_within c.pop.new.self.items c.in-Some.call c.in-Some.ensures.items c.calls.invariant in let i = h.0 in omega (arith, i)
+
+pub index_mut-requires : goal.index_mut-requires
+index_mut-requires c =
+    let h = last_within c.pop.new.self.items c.in-Some.call c.in-Some.ensures.items c.calls.invariant in
+    let i = h.0 in
+    let j = h.1 in
+    let w = c.calls.invariant.bits_length in
+    omega (arith, i, j, w, c.calls.bits.ok.0)
+
+pub index_mut-requires-in-Some : goal.index_mut-requires-in-Some
+index_mut-requires-in-Some c =
+    let h = last_within c.pop.new.self.items c.in-Some.call c.in-Some.ensures.items c.calls.invariant in
+    let i = h.0 in
+    let j = h.1 in
+    let w = c.calls.invariant.args_length in
+    omega (arith, i, j, w, c.calls.args.ok.0)
+
+pub returns : goal.returns
+returns c =
+    let e : c.calls.left.items ≡ [] = search rules in
+    so_far_end c.args.zero c.args.first c.args.count c.args.calls.items c.calls.left.items (record { bits = c.calls.bits; args = c.calls.args }) e c.calls.invariant

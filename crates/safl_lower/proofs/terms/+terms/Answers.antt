@@ -1,0 +1,446 @@
+use Rattle.std.proofs.Common.{rules, ◌≡◌, ℕ, ◌+◌, ◌*◌, ◌<◌, ◌≤◌, List, [], ◌∷◌, ◌++◌, length, take, drop, suc, Option, Some, None, slice_get, refl, sym, ap, subst, ◌∙◌, arith}
+use Rattle.std.proofs.lemmas.Option.{slice_get_read}
+use Rattle.safl_word.specs.Primitives.{apply_prim, result_width}
+use Rattle.safl_net.specs.declared.cell.Sig.{Sig}
+use Rattle.safl_net.specs.Netlist.{Netlist}
+use Rattle.safl_net.specs.Growth.{words, Sized}
+use Rattle.safl_net.proofs.Growth.{grows_on, width_kept, grows_none}
+use Rattle.safl_check.specs.declared.term.Term as declared
+use Rattle.safl_check.specs.Terms.{Term, Terms, Const, Var, Op, If, Let, Call, Loop, Nil, Cons}
+use Rattle.safl_check.specs.Tree.{tree, forest}
+use Rattle.safl_check.proofs.TreeLemmas.{tree-Op, tree-Loop, tree-Call, tree-Let}
+use Rattle.safl_lower.specs.Typing.{nodes, nodes_in}
+use Rattle.safl_lower.specs.Lowering.{Lowerable, LowerableAll, Shaped, Lowers, LowersAll}
+use Rattle.safl_lower.proofs.Kept.{ready_kept, shaped_kept}
+use Rattle.safl_lower.proofs.Branches.{Branches, Inner, Both, lowers_let}
+use Rattle.safl_lower.proofs.Leaves.{lowers_const, lowers_var, lowers_op}
+use Rattle.safl_lower.proofs.Lists.{lowers_none, lowers_more}
+use Rattle.safl_lower.proofs.Able
+use Rattle.safl_lower.proofs.Members.{take_all}
+use Rattle.safl_lower.proofs.Trees.{forest_more, forest_at, smaller_at}
+use Rattle.safl_lower.proofs.Walk.{renamed, renamed_all, done_if, done_call, done_loop}
+use Rattle.safl_lower.proofs.terms.+terms.Goals as goal
+
+-- ---- a list of terms
+
+pub lower_all-loop-t-init : goal.lower_all-loop-t-init
+lower_all-loop-t-init t c = record { tidy = c.requires.tidy; lowered = lowers_none refl c.new-values.ensures.items; same = refl }
+
+pub lower_all-lower_term-requires : goal.lower_all-lower_term-requires
+lower_all-lower_term-requires t c =
+    let at = slice_get_read c.args.ts.now (length c.args.ts.now) c.loop-t.t-index c.t-item.result refl c.loop-t-test.true c.t-item.is in
+    let able = subst (λ (x : Terms). LowerableAll c.args.net.now c.args.ports.now c.args.slots.now.items c.args.path x) (forest_at c.args.ts.now c.loop-t.t-index c.t-item.result at) c.requires.able in
+    let smaller : 2 * nodes (tree c.t-item.result) < 2 * nodes_in (forest c.args.ts.now) + 1 = smaller_at c.args.ts.now c.loop-t.t-index c.t-item.result at in
+    let ok : Lowerable c.loop-t.net c.args.ports.now c.loop-t.slots.items c.args.path (tree c.t-item.result) = subst (λ (s : List Sig). Lowerable c.loop-t.net c.args.ports.now s c.args.path (tree c.t-item.result)) (sym c.loop-t.invariant.same)
+    (Able.able_at (forest (drop (suc c.loop-t.t-index) c.args.ts.now)) able c.loop-t.invariant.lowered) in
+    search rules
+
+pub lower_all-both_ready-requires-clause-first : goal.lower_all-both_ready-requires-clause-first
+lower_all-both_ready-requires-clause-first t c =
+    let at = slice_get_read c.args.ts.now (length c.args.ts.now) c.loop-t.t-index c.t-item.result refl c.loop-t-test.true c.t-item.is in
+    let able = subst (λ (x : Terms). LowerableAll c.args.net.now c.args.ports.now c.args.slots.now.items c.args.path x) (forest_at c.args.ts.now c.loop-t.t-index c.t-item.result at) c.requires.able in
+    ready_kept c.lower_term.ensures.kept c.loop-t.ready (Able.front_ready (Cons (tree c.t-item.result) (forest (drop (suc c.loop-t.t-index) c.args.ts.now))) able c.loop-t.invariant.lowered)
+
+pub lower_all-both_ready-requires-clause-second : goal.lower_all-both_ready-requires-clause-second
+lower_all-both_ready-requires-clause-second t c =
+    let at = slice_get_read c.args.ts.now (length c.args.ts.now) c.loop-t.t-index c.t-item.result refl c.loop-t-test.true c.t-item.is in
+    let able = subst (λ (x : Terms). LowerableAll c.args.net.now c.args.ports.now c.args.slots.now.items c.args.path x) (forest_at c.args.ts.now c.loop-t.t-index c.t-item.result at) c.requires.able in
+    Able.one_ready (Able.able_at (forest (drop (suc c.loop-t.t-index) c.args.ts.now)) able c.loop-t.invariant.lowered) (renamed c.loop-t.invariant.same refl c.in_ok-one.ensures.done)
+
+pub lower_all-both_ready-requires-clause-room : goal.lower_all-both_ready-requires-clause-room
+lower_all-both_ready-requires-clause-room t c =
+    let at = slice_get_read c.args.ts.now (length c.args.ts.now) c.loop-t.t-index c.t-item.result refl c.loop-t-test.true c.t-item.is in
+    let able = subst (λ (x : Terms). LowerableAll c.args.net.now c.args.ports.now c.args.slots.now.items c.args.path x) (forest_at c.args.ts.now c.loop-t.t-index c.t-item.result at) c.requires.able in
+    let a = (Able.able_at (forest (drop (suc c.loop-t.t-index) c.args.ts.now)) able c.loop-t.invariant.lowered).room in
+    let b = c.in_ok-one.ensures.done.count in
+    omega (arith, a, b)
+
+pub lower_all-loop-t-preserved : goal.lower_all-loop-t-preserved
+lower_all-loop-t-preserved t c =
+    let at = slice_get_read c.args.ts.now (length c.args.ts.now) c.loop-t.t-index c.t-item.result refl c.loop-t-test.true c.t-item.is in
+    record {
+      tidy = c.in_ok-ready.ensures.tidy;
+      lowered = subst (λ (x : Terms). LowersAll c.args.ports.now c.args.slots.now.items c.args.path c.args.net.now c.both_ready.new.net c.args.out.now c.lower_term.new.out (record { ready = c.in_ok-ready.ready; values = c.push.new.self }) x)
+          (sym (forest_more c.args.ts.now c.loop-t.t-index c.t-item.result at))
+          (lowers_more c.loop-t.invariant.lowered (renamed c.loop-t.invariant.same refl c.in_ok-one.ensures.done)
+          (record { grows = c.in_ok-ready.ensures.grows; count = c.in_ok-ready.ensures.count; bit = c.in_ok-ready.ensures.width; is = c.in_ok-ready.ensures.value })
+          c.in_ok-push.ensures.items);
+      same = c.in_ok-one.ensures.slots ∙ c.loop-t.invariant.same;
+    }
+
+pub lower_all-returns-clause-done : goal.lower_all-returns-clause-done
+lower_all-returns-clause-done t c =
+    let end = c.loop-t-test.false in
+    subst (λ (l : List declared.Term). LowersAll c.args.ports.now c.args.slots.now.items c.args.path c.args.net.now c.loop-t.net c.args.out.now c.loop-t.out (record { ready = c.loop-t.ready; values = c.loop-t.values }) (forest l))
+    (take_all c.args.ts.now c.loop-t.t-index (omega (arith, end))) c.loop-t.invariant.lowered
+
+-- ---- a constant, a slot
+
+pub lower_term-returns-in_ok-value-in-Const-clause-done : goal.lower_term-returns-in_ok-value-in-Const-clause-done
+lower_term-returns-in_ok-value-in-Const-clause-done t c =
+    let h = c.in_ok-value-in-Const.ensures in
+    subst (λ (x : Term). Lowers c.args.ports.now c.args.slots.now.items c.args.path c.args.net.now c.constant.new.net c.args.out.now c.args.out.now (record { ready = None; value = c.in_ok-value-in-Const.value }) x) (sym (ap tree c.in-Const.is))
+    (lowers_const h.grows h.count h.width h.value)
+
+pub lower_term-index-requires : goal.lower_term-index-requires
+lower_term-index-requires t c =
+    let a = Able.able_var (subst (λ (x : Term). Lowerable c.args.net.now c.args.ports.now c.args.slots.now.items c.args.path x) (ap tree c.in-Var.is) c.requires.able) in
+    omega (arith, c.args.slots.now.ok.0)
+
+pub lower_term-returns-in-Var-clause-done : goal.lower_term-returns-in-Var-clause-done
+lower_term-returns-in-Var-clause-done t c =
+    let a = Able.able_var (subst (λ (x : Term). Lowerable c.args.net.now c.args.ports.now c.args.slots.now.items c.args.path x) (ap tree c.in-Var.is) c.requires.able) in
+    let at = slice_get_read c.args.slots.now.items (length c.args.slots.now.items) c.in-Var.i c.index.result.now refl a c.index.ensures in
+    subst (λ (x : Term). Lowers c.args.ports.now c.args.slots.now.items c.args.path c.args.net.now c.args.net.now c.args.out.now c.args.out.now (record { ready = None; value = c.index.result.now }) x) (sym (ap tree c.in-Var.is))
+    (lowers_var at)
+
+-- ---- an operator
+
+pub lower_term-lower_all-requires-in-Op : goal.lower_term-lower_all-requires-in-Op
+lower_term-lower_all-requires-in-Op t c =
+    let e = ap tree c.in-Op.is ∙ tree-Op c.in-Op.p c.in-Op.ts in
+    let smaller : 2 * nodes_in (forest c.deref-in-Op.result.now) + 1 < 2 * nodes (tree c.args.t.now) = omega (arith, ap nodes e, ap (λ (l : List declared.Term). nodes_in (forest l)) c.deref-in-Op.ensures.value) in
+    let ok : LowerableAll c.args.net.now c.args.ports.now c.args.slots.now.items c.args.path (forest c.deref-in-Op.result.now) = subst (λ (l : List declared.Term). LowerableAll c.args.net.now c.args.ports.now c.args.slots.now.items c.args.path (forest l)) (sym c.deref-in-Op.ensures.value) (Able.able_parts (subst (λ (x : Term). Lowerable c.args.net.now c.args.ports.now c.args.slots.now.items c.args.path x) e c.requires.able)) in
+    search rules
+
+pub lower_term-apply-requires-clause-sized : goal.lower_term-apply-requires-clause-sized
+lower_term-apply-requires-clause-sized t c =
+    let e = ap tree c.in-Op.is ∙ tree-Op c.in-Op.p c.in-Op.ts in
+    let hs = renamed_all refl c.deref-in-Op.ensures.value c.in_ok-all-in-Op.ensures.done in
+    subst (λ (xs : List Sig). (ws : List ℕ) × (w : ℕ) × Sized c.lower_all-in-Op.new.net xs ws × (result_width c.in-Op.p ws ≡ Some w)) (sym c.deref-in-Op-2.ensures.value) (Able.parts_sized (subst (λ (x : Term). Lowerable c.args.net.now c.args.ports.now c.args.slots.now.items c.args.path x) e c.requires.able) hs)
+
+pub lower_term-apply-requires-clause-room : goal.lower_term-apply-requires-clause-room
+lower_term-apply-requires-clause-room t c =
+    let e = ap tree c.in-Op.is ∙ tree-Op c.in-Op.p c.in-Op.ts in
+    let hs = renamed_all refl c.deref-in-Op.ensures.value c.in_ok-all-in-Op.ensures.done in
+    let a = subst (λ (x : Term). Lowerable c.args.net.now c.args.ports.now c.args.slots.now.items c.args.path x) e c.requires.able in
+    let r = a.room in
+    let b = hs.count in
+    omega (arith, r, b)
+
+pub lower_term-returns-in_ok-value-in-Op-clause-done : goal.lower_term-returns-in_ok-value-in-Op-clause-done
+lower_term-returns-in_ok-value-in-Op-clause-done t c =
+    let e = ap tree c.in-Op.is ∙ tree-Op c.in-Op.p c.in-Op.ts in
+    let hs = renamed_all refl c.deref-in-Op.ensures.value c.in_ok-all-in-Op.ensures.done in
+    let h = c.in_ok-value-in-Op.ensures in
+    let d = c.deref-in-Op-2.ensures.value in
+    subst (λ (x : Term). Lowers c.args.ports.now c.args.slots.now.items c.args.path c.args.net.now c.apply.new.net c.args.out.now c.lower_all-in-Op.new.out (record { ready = c.in_ok-all-in-Op.all.ready; value = c.in_ok-value-in-Op.value }) x) (sym e)
+    (lowers_op hs h.grows h.count (λ ws w p q. h.width ws w (subst (λ (xs : List Sig). Sized c.lower_all-in-Op.new.net xs ws) (sym d) p) q) (λ v w. h.value v w ∙ ap (λ (xs : List Sig). apply_prim c.in-Op.p (words v xs)) d))
+
+-- ---- a call
+
+pub lower_term-lower_all-requires-in-Call : goal.lower_term-lower_all-requires-in-Call
+lower_term-lower_all-requires-in-Call t c =
+    let e = ap tree c.in-Call.is ∙ tree-Call c.in-Call.field-0 c.in-Call.k c.in-Call.ts in
+    let smaller : 2 * nodes_in (forest c.deref-in-Call.result.now) + 1 < 2 * nodes (tree c.args.t.now) = omega (arith, ap nodes e, ap (λ (l : List declared.Term). nodes_in (forest l)) c.deref-in-Call.ensures.value) in
+    let ok : LowerableAll c.args.net.now c.args.ports.now c.args.slots.now.items c.args.path (forest c.deref-in-Call.result.now) = subst (λ (l : List declared.Term). LowerableAll c.args.net.now c.args.ports.now c.args.slots.now.items c.args.path (forest l)) (sym c.deref-in-Call.ensures.value) (Able.able_args (subst (λ (x : Term). Lowerable c.args.net.now c.args.ports.now c.args.slots.now.items c.args.path x) e c.requires.able)) in
+    search rules
+
+pub lower_term-ask-requires-clause-path : goal.lower_term-ask-requires-clause-path
+lower_term-ask-requires-clause-path t c =
+    let e = ap tree c.in-Call.is ∙ tree-Call c.in-Call.field-0 c.in-Call.k c.in-Call.ts in
+    Able.path_kept c.requires.able c.lower_all-in-Call.ensures.kept
+
+pub lower_term-ask-requires-clause-all : goal.lower_term-ask-requires-clause-all
+lower_term-ask-requires-clause-all t c =
+    let e = ap tree c.in-Call.is ∙ tree-Call c.in-Call.field-0 c.in-Call.k c.in-Call.ts in
+    let hs = renamed_all refl c.deref-in-Call.ensures.value c.in_ok-all-in-Call.ensures.done in
+    Able.args_ready (subst (λ (x : Term). Lowerable c.args.net.now c.args.ports.now c.args.slots.now.items c.args.path x) e c.requires.able) hs
+
+pub lower_term-ask-requires-clause-site : goal.lower_term-ask-requires-clause-site
+lower_term-ask-requires-clause-site t c =
+    let e = ap tree c.in-Call.is ∙ tree-Call c.in-Call.field-0 c.in-Call.k c.in-Call.ts in
+    Able.args_site (subst (λ (x : Term). Lowerable c.args.net.now c.args.ports.now c.args.slots.now.items c.args.path x) e c.requires.able) c.lower_all-in-Call.ensures.kept
+
+pub lower_term-ask-requires-clause-room : goal.lower_term-ask-requires-clause-room
+lower_term-ask-requires-clause-room t c =
+    let e = ap tree c.in-Call.is ∙ tree-Call c.in-Call.field-0 c.in-Call.k c.in-Call.ts in
+    let hs = renamed_all refl c.deref-in-Call.ensures.value c.in_ok-all-in-Call.ensures.done in
+    let a = subst (λ (x : Term). Lowerable c.args.net.now c.args.ports.now c.args.slots.now.items c.args.path x) e c.requires.able in
+    let r = a.room in
+    let b = hs.count in
+    omega (arith, r, b)
+
+pub lower_term-returns-in_ok-all-in-Call-clause-done : goal.lower_term-returns-in_ok-all-in-Call-clause-done
+lower_term-returns-in_ok-all-in-Call-clause-done t c =
+    let e = ap tree c.in-Call.is ∙ tree-Call c.in-Call.field-0 c.in-Call.k c.in-Call.ts in
+    let hs = renamed_all refl c.deref-in-Call.ensures.value c.in_ok-all-in-Call.ensures.done in
+    let h = c.ask.ensures in
+    done_call c.ask.new.out c.in-Call.field-0 c.in-Call.k c.ask.result e hs h.grows h.count h.given h.entry h.loops h.wants
+
+-- ---- a tail call
+
+pub lower_term-lower_all-requires-in-Loop : goal.lower_term-lower_all-requires-in-Loop
+lower_term-lower_all-requires-in-Loop t c =
+    let e = ap tree c.in-Loop.is ∙ tree-Loop c.in-Loop.h c.in-Loop.ts in
+    let smaller : 2 * nodes_in (forest c.deref-in-Loop.result.now) + 1 < 2 * nodes (tree c.args.t.now) = omega (arith, ap nodes e, ap (λ (l : List declared.Term). nodes_in (forest l)) c.deref-in-Loop.ensures.value) in
+    let ok : LowerableAll c.args.net.now c.args.ports.now c.args.slots.now.items c.args.path (forest c.deref-in-Loop.result.now) = subst (λ (l : List declared.Term). LowerableAll c.args.net.now c.args.ports.now c.args.slots.now.items c.args.path (forest l)) (sym c.deref-in-Loop.ensures.value) (Able.able_next (subst (λ (x : Term). Lowerable c.args.net.now c.args.ports.now c.args.slots.now.items c.args.path x) e c.requires.able)) in
+    search rules
+
+pub lower_term-go_on-requires-clause-path : goal.lower_term-go_on-requires-clause-path
+lower_term-go_on-requires-clause-path t c =
+    Able.path_kept c.requires.able c.lower_all-in-Loop.ensures.kept
+
+pub lower_term-go_on-requires-clause-all : goal.lower_term-go_on-requires-clause-all
+lower_term-go_on-requires-clause-all t c =
+    let e = ap tree c.in-Loop.is ∙ tree-Loop c.in-Loop.h c.in-Loop.ts in
+    let hs = renamed_all refl c.deref-in-Loop.ensures.value c.in_ok-all-in-Loop.ensures.done in
+    Able.next_ready (subst (λ (x : Term). Lowerable c.args.net.now c.args.ports.now c.args.slots.now.items c.args.path x) e c.requires.able) hs
+
+pub lower_term-go_on-requires-clause-room : goal.lower_term-go_on-requires-clause-room
+lower_term-go_on-requires-clause-room t c =
+    let e = ap tree c.in-Loop.is ∙ tree-Loop c.in-Loop.h c.in-Loop.ts in
+    let hs = renamed_all refl c.deref-in-Loop.ensures.value c.in_ok-all-in-Loop.ensures.done in
+    let a = subst (λ (x : Term). Lowerable c.args.net.now c.args.ports.now c.args.slots.now.items c.args.path x) e c.requires.able in
+    let r = a.room in
+    let b = hs.count in
+    omega (arith, r, b)
+
+pub lower_term-returns-in_ok-all-in-Loop-clause-done : goal.lower_term-returns-in_ok-all-in-Loop-clause-done
+lower_term-returns-in_ok-all-in-Loop-clause-done t c =
+    let e = ap tree c.in-Loop.is ∙ tree-Loop c.in-Loop.h c.in-Loop.ts in
+    let hs = renamed_all refl c.deref-in-Loop.ensures.value c.in_ok-all-in-Loop.ensures.done in
+    let h = c.go_on.ensures in
+    done_loop c.go_on.new.out c.go_on.result e hs h.grows h.count h.shape h.never h.entry h.wants h.loops
+
+-- ---- an if
+
+pub lower_term-lower_term-requires : goal.lower_term-lower_term-requires
+lower_term-lower_term-requires t c =
+    let e = ap tree c.in-If.is in
+    let a = subst (λ (x : Term). Lowerable c.args.net.now c.args.ports.now c.args.slots.now.items c.args.path x) e c.requires.able in
+    let smaller : 2 * nodes (tree c.deref.result.now) < 2 * nodes (tree c.args.t.now) = omega (arith, ap nodes e, ap (λ (x : declared.Term). nodes (tree x)) c.deref.ensures) in
+    let ok : Lowerable c.args.net.now c.args.ports.now c.args.slots.now.items c.args.path (tree c.deref.result.now) = subst (λ (x : declared.Term). Lowerable c.args.net.now c.args.ports.now c.args.slots.now.items c.args.path (tree x)) (sym c.deref.ensures) (Able.able_test a) in
+    search rules
+
+pub lower_term-branch_paths-requires-clause-path : goal.lower_term-branch_paths-requires-clause-path
+lower_term-branch_paths-requires-clause-path t c =
+    Able.path_kept c.requires.able c.lower_term.ensures.kept
+
+pub lower_term-branch_paths-requires-clause-test : goal.lower_term-branch_paths-requires-clause-test
+lower_term-branch_paths-requires-clause-test t c =
+    let e = ap tree c.in-If.is in
+    let a = subst (λ (x : Term). Lowerable c.args.net.now c.args.ports.now c.args.slots.now.items c.args.path x) e c.requires.able in
+    let hc = renamed refl c.deref.ensures c.in_ok-test-in-If.ensures.done in
+    Able.test_shape a hc
+
+pub lower_term-lower_term-requires-in-If : goal.lower_term-lower_term-requires-in-If
+lower_term-lower_term-requires-in-If t c =
+    let e = ap tree c.in-If.is in
+    let a = subst (λ (x : Term). Lowerable c.args.net.now c.args.ports.now c.args.slots.now.items c.args.path x) e c.requires.able in
+    let hc = renamed refl c.deref.ensures c.in_ok-test-in-If.ensures.done in
+    let p = c.in_ok-paths-in-If.ensures in
+    let hp : Branches c.args.path c.lower_term.new.net c.branch_paths.new.net c.in_ok-test-in-If.test c.in_ok-paths-in-If.paths.yes c.in_ok-paths-in-If.paths.no = record { grows = p.grows; count = p.count; yes_bit = p.widths.0; no_bit = p.widths.1; yes_on = p.yes; no_on = p.no } in
+    let smaller : 2 * nodes (tree c.deref-in-If.result.now) < 2 * nodes (tree c.args.t.now) = omega (arith, ap nodes e, ap (λ (x : declared.Term). nodes (tree x)) c.deref-in-If.ensures) in
+    let ok : Lowerable c.branch_paths.new.net c.args.ports.now c.lower_term.new.slots.items c.in_ok-paths-in-If.paths.yes (tree c.deref-in-If.result.now) = subst (λ (x : declared.Term). Lowerable c.branch_paths.new.net c.args.ports.now c.lower_term.new.slots.items c.in_ok-paths-in-If.paths.yes (tree x)) (sym c.deref-in-If.ensures)
+    (subst (λ (s : List Sig). Lowerable c.branch_paths.new.net c.args.ports.now s c.in_ok-paths-in-If.paths.yes (tree c.in-If.a.value)) (sym c.in_ok-test-in-If.ensures.slots) (Able.able_yes a hc hp)) in
+    search rules
+
+pub lower_term-lower_term-requires-in-If-2 : goal.lower_term-lower_term-requires-in-If-2
+lower_term-lower_term-requires-in-If-2 t c =
+    let e = ap tree c.in-If.is in
+    let a = subst (λ (x : Term). Lowerable c.args.net.now c.args.ports.now c.args.slots.now.items c.args.path x) e c.requires.able in
+    let hc = renamed refl c.deref.ensures c.in_ok-test-in-If.ensures.done in
+    let p = c.in_ok-paths-in-If.ensures in
+    let hp : Branches c.args.path c.lower_term.new.net c.branch_paths.new.net c.in_ok-test-in-If.test c.in_ok-paths-in-If.paths.yes c.in_ok-paths-in-If.paths.no = record { grows = p.grows; count = p.count; yes_bit = p.widths.0; no_bit = p.widths.1; yes_on = p.yes; no_on = p.no } in
+    let s1 = c.in_ok-test-in-If.ensures.slots in
+    let ha = renamed s1 c.deref-in-If.ensures c.in_ok-yes-in-If.ensures.done in
+    let smaller : 2 * nodes (tree c.deref-in-If-2.result.now) < 2 * nodes (tree c.args.t.now) = omega (arith, ap nodes e, ap (λ (x : declared.Term). nodes (tree x)) c.deref-in-If-2.ensures) in
+    let ok : Lowerable c.lower_term-in-If.new.net c.args.ports.now c.lower_term-in-If.new.slots.items c.in_ok-paths-in-If.paths.no (tree c.deref-in-If-2.result.now) = subst (λ (x : declared.Term). Lowerable c.lower_term-in-If.new.net c.args.ports.now c.lower_term-in-If.new.slots.items c.in_ok-paths-in-If.paths.no (tree x)) (sym c.deref-in-If-2.ensures)
+    (subst (λ (s : List Sig). Lowerable c.lower_term-in-If.new.net c.args.ports.now s c.in_ok-paths-in-If.paths.no (tree c.in-If.b.value)) (sym (c.in_ok-yes-in-If.ensures.slots ∙ s1)) (Able.able_no a hc hp ha)) in
+    search rules
+
+pub lower_term-choose-requires-clause-test : goal.lower_term-choose-requires-clause-test
+lower_term-choose-requires-clause-test t c =
+    let e = ap tree c.in-If.is in
+    let a = subst (λ (x : Term). Lowerable c.args.net.now c.args.ports.now c.args.slots.now.items c.args.path x) e c.requires.able in
+    let hc = renamed refl c.deref.ensures c.in_ok-test-in-If.ensures.done in
+    let p = c.in_ok-paths-in-If.ensures in
+    let hp : Branches c.args.path c.lower_term.new.net c.branch_paths.new.net c.in_ok-test-in-If.test c.in_ok-paths-in-If.paths.yes c.in_ok-paths-in-If.paths.no = record { grows = p.grows; count = p.count; yes_bit = p.widths.0; no_bit = p.widths.1; yes_on = p.yes; no_on = p.no } in
+    let s1 = c.in_ok-test-in-If.ensures.slots in
+    let ha = renamed s1 c.deref-in-If.ensures c.in_ok-yes-in-If.ensures.done in
+    let s2 = c.in_ok-yes-in-If.ensures.slots ∙ s1 in
+    let hb = renamed s2 c.deref-in-If-2.ensures c.in_ok-no-in-If.ensures.done in
+    shaped_kept (grows_on hp.grows (grows_on ha.grows hb.grows)) c.in_ok-test-in-If.test 1 (Able.test_shape a hc)
+
+pub lower_term-choose-requires-clause-branches : goal.lower_term-choose-requires-clause-branches
+lower_term-choose-requires-clause-branches t c =
+    let e = ap tree c.in-If.is in
+    let a = subst (λ (x : Term). Lowerable c.args.net.now c.args.ports.now c.args.slots.now.items c.args.path x) e c.requires.able in
+    let hc = renamed refl c.deref.ensures c.in_ok-test-in-If.ensures.done in
+    let p = c.in_ok-paths-in-If.ensures in
+    let hp : Branches c.args.path c.lower_term.new.net c.branch_paths.new.net c.in_ok-test-in-If.test c.in_ok-paths-in-If.paths.yes c.in_ok-paths-in-If.paths.no = record { grows = p.grows; count = p.count; yes_bit = p.widths.0; no_bit = p.widths.1; yes_on = p.yes; no_on = p.no } in
+    let s1 = c.in_ok-test-in-If.ensures.slots in
+    let ha = renamed s1 c.deref-in-If.ensures c.in_ok-yes-in-If.ensures.done in
+    let s2 = c.in_ok-yes-in-If.ensures.slots ∙ s1 in
+    let hb = renamed s2 c.deref-in-If-2.ensures c.in_ok-no-in-If.ensures.done in
+    (a.width, shaped_kept hb.grows c.in_ok-yes-in-If.yes a.width (Able.yes_shape a hc hp ha), Able.no_shape a hc hp ha hb)
+
+pub lower_term-choose-requires-clause-room : goal.lower_term-choose-requires-clause-room
+lower_term-choose-requires-clause-room t c =
+    let e = ap tree c.in-If.is in
+    let a = subst (λ (x : Term). Lowerable c.args.net.now c.args.ports.now c.args.slots.now.items c.args.path x) e c.requires.able in
+    let hc = renamed refl c.deref.ensures c.in_ok-test-in-If.ensures.done in
+    let p = c.in_ok-paths-in-If.ensures in
+    let hp : Branches c.args.path c.lower_term.new.net c.branch_paths.new.net c.in_ok-test-in-If.test c.in_ok-paths-in-If.paths.yes c.in_ok-paths-in-If.paths.no = record { grows = p.grows; count = p.count; yes_bit = p.widths.0; no_bit = p.widths.1; yes_on = p.yes; no_on = p.no } in
+    let s1 = c.in_ok-test-in-If.ensures.slots in
+    let ha = renamed s1 c.deref-in-If.ensures c.in_ok-yes-in-If.ensures.done in
+    let s2 = c.in_ok-yes-in-If.ensures.slots ∙ s1 in
+    let hb = renamed s2 c.deref-in-If-2.ensures c.in_ok-no-in-If.ensures.done in
+    let r = a.room in
+    let k = hc.count in
+    let l = hp.count in
+    let m = ha.count in
+    let n = hb.count in
+    omega (arith, r, k, l, m, n)
+
+pub lower_term-returns-in_ok-no-in-If-clause-done : goal.lower_term-returns-in_ok-no-in-If-clause-done
+lower_term-returns-in_ok-no-in-If-clause-done t c =
+    let e = ap tree c.in-If.is in
+    let hc = renamed refl c.deref.ensures c.in_ok-test-in-If.ensures.done in
+    let p = c.in_ok-paths-in-If.ensures in
+    let hp : Branches c.args.path c.lower_term.new.net c.branch_paths.new.net c.in_ok-test-in-If.test c.in_ok-paths-in-If.paths.yes c.in_ok-paths-in-If.paths.no = record { grows = p.grows; count = p.count; yes_bit = p.widths.0; no_bit = p.widths.1; yes_on = p.yes; no_on = p.no } in
+    let s1 = c.in_ok-test-in-If.ensures.slots in
+    let ha = renamed s1 c.deref-in-If.ensures c.in_ok-yes-in-If.ensures.done in
+    let s2 = c.in_ok-yes-in-If.ensures.slots ∙ s1 in
+    let hb = renamed s2 c.deref-in-If-2.ensures c.in_ok-no-in-If.ensures.done in
+    let h = c.choose.ensures in
+    done_if c.choose.result e hc hp ha hb h.grows h.count h.shape h.value h.ready
+
+-- ---- a let
+
+pub lower_term-lower_all-requires : goal.lower_term-lower_all-requires
+lower_term-lower_all-requires t c =
+    let e = ap tree c.in-Let.is ∙ tree-Let c.in-Let.field-0 c.in-Let.ts c.in-Let.b in
+    let a = subst (λ (x : Term). Lowerable c.args.net.now c.args.ports.now c.args.slots.now.items c.args.path x) e c.requires.able in
+    let smaller : 2 * nodes_in (forest c.deref-in-Let.result.now) + 1 < 2 * nodes (tree c.args.t.now) = omega (arith, ap nodes e, ap (λ (l : List declared.Term). nodes_in (forest l)) c.deref-in-Let.ensures.value) in
+    let ok : LowerableAll c.args.net.now c.args.ports.now c.args.slots.now.items c.args.path (forest c.deref-in-Let.result.now) = subst (λ (l : List declared.Term). LowerableAll c.args.net.now c.args.ports.now c.args.slots.now.items c.args.path (forest l)) (sym c.deref-in-Let.ensures.value) (Able.able_bound a) in
+    search rules
+
+pub lower_term-and_ready-requires-clause-first : goal.lower_term-and_ready-requires-clause-first
+lower_term-and_ready-requires-clause-first t c =
+    Able.path_kept c.requires.able c.lower_all.ensures.kept
+
+pub lower_term-and_ready-requires-clause-second : goal.lower_term-and_ready-requires-clause-second
+lower_term-and_ready-requires-clause-second t c =
+    let e = ap tree c.in-Let.is ∙ tree-Let c.in-Let.field-0 c.in-Let.ts c.in-Let.b in
+    let a = subst (λ (x : Term). Lowerable c.args.net.now c.args.ports.now c.args.slots.now.items c.args.path x) e c.requires.able in
+    let hs = renamed_all refl c.deref-in-Let.ensures.value c.in_ok-bound-in-Let.ensures.done in
+    Able.bound_shape a hs
+
+pub lower_term-and_ready-requires-clause-room : goal.lower_term-and_ready-requires-clause-room
+lower_term-and_ready-requires-clause-room t c =
+    let e = ap tree c.in-Let.is ∙ tree-Let c.in-Let.field-0 c.in-Let.ts c.in-Let.b in
+    let a = subst (λ (x : Term). Lowerable c.args.net.now c.args.ports.now c.args.slots.now.items c.args.path x) e c.requires.able in
+    let hs = renamed_all refl c.deref-in-Let.ensures.value c.in_ok-bound-in-Let.ensures.done in
+    let r = a.room in
+    let b = hs.count in
+    omega (arith, r, b)
+
+pub lower_term-lower_term-requires-in-Let : goal.lower_term-lower_term-requires-in-Let
+lower_term-lower_term-requires-in-Let t c =
+    let e = ap tree c.in-Let.is ∙ tree-Let c.in-Let.field-0 c.in-Let.ts c.in-Let.b in
+    let a = subst (λ (x : Term). Lowerable c.args.net.now c.args.ports.now c.args.slots.now.items c.args.path x) e c.requires.able in
+    let hs = renamed_all refl c.deref-in-Let.ensures.value c.in_ok-bound-in-Let.ensures.done in
+    let q = c.in_ok-inner-in-Let.ensures in
+    let hi : Inner c.args.path c.lower_all.new.net c.and_ready.new.net c.in_ok-bound-in-Let.bound.ready c.in_ok-inner-in-Let.inner = record { grows = q.grows; count = q.count; bit = q.width; is = q.value } in
+    let s3 = c.in_ok-extend_from_slice-in-Let.ensures.items ∙ ap (λ (l : List Sig). c.lower_all.new.slots.items ++ l) c.deref-in-Let-2.ensures.value ∙ ap (λ (l : List Sig). l ++ c.in_ok-bound-in-Let.bound.values.items) c.in_ok-bound-in-Let.ensures.slots in
+    let smaller : 2 * nodes (tree c.deref-in-Let-3.result.now) < 2 * nodes (tree c.args.t.now) = omega (arith, ap nodes e, ap (λ (x : declared.Term). nodes (tree x)) c.deref-in-Let-3.ensures) in
+    let ok : Lowerable c.and_ready.new.net c.args.ports.now c.extend_from_slice.new.self.items c.in_ok-inner-in-Let.inner (tree c.deref-in-Let-3.result.now) = subst (λ (x : declared.Term). Lowerable c.and_ready.new.net c.args.ports.now c.extend_from_slice.new.self.items c.in_ok-inner-in-Let.inner (tree x)) (sym c.deref-in-Let-3.ensures)
+    (subst (λ (s : List Sig). Lowerable c.and_ready.new.net c.args.ports.now s c.in_ok-inner-in-Let.inner (tree c.in-Let.b.value)) (sym s3) (Able.able_inner a hs hi)) in
+    search rules
+
+pub lower_term-both_ready-requires-clause-first : goal.lower_term-both_ready-requires-clause-first
+lower_term-both_ready-requires-clause-first t c =
+    let e = ap tree c.in-Let.is ∙ tree-Let c.in-Let.field-0 c.in-Let.ts c.in-Let.b in
+    let a = subst (λ (x : Term). Lowerable c.args.net.now c.args.ports.now c.args.slots.now.items c.args.path x) e c.requires.able in
+    let hs = renamed_all refl c.deref-in-Let.ensures.value c.in_ok-bound-in-Let.ensures.done in
+    ready_kept (grows_on c.and_ready.ensures.grows c.lower_term-in-Let.ensures.kept) c.in_ok-bound-in-Let.bound.ready (Able.bound_shape a hs)
+
+pub lower_term-both_ready-requires-clause-second : goal.lower_term-both_ready-requires-clause-second
+lower_term-both_ready-requires-clause-second t c =
+    let e = ap tree c.in-Let.is ∙ tree-Let c.in-Let.field-0 c.in-Let.ts c.in-Let.b in
+    let a = subst (λ (x : Term). Lowerable c.args.net.now c.args.ports.now c.args.slots.now.items c.args.path x) e c.requires.able in
+    let hs = renamed_all refl c.deref-in-Let.ensures.value c.in_ok-bound-in-Let.ensures.done in
+    let q = c.in_ok-inner-in-Let.ensures in
+    let hi : Inner c.args.path c.lower_all.new.net c.and_ready.new.net c.in_ok-bound-in-Let.bound.ready c.in_ok-inner-in-Let.inner = record { grows = q.grows; count = q.count; bit = q.width; is = q.value } in
+    let s3 = c.in_ok-extend_from_slice-in-Let.ensures.items ∙ ap (λ (l : List Sig). c.lower_all.new.slots.items ++ l) c.deref-in-Let-2.ensures.value ∙ ap (λ (l : List Sig). l ++ c.in_ok-bound-in-Let.bound.values.items) c.in_ok-bound-in-Let.ensures.slots in
+    let hb = renamed s3 c.deref-in-Let-3.ensures c.in_ok-body-in-Let.ensures.done in
+    (Able.body_shape a hs hi hb).ready
+
+pub lower_term-both_ready-requires-clause-room : goal.lower_term-both_ready-requires-clause-room
+lower_term-both_ready-requires-clause-room t c =
+    let e = ap tree c.in-Let.is ∙ tree-Let c.in-Let.field-0 c.in-Let.ts c.in-Let.b in
+    let a = subst (λ (x : Term). Lowerable c.args.net.now c.args.ports.now c.args.slots.now.items c.args.path x) e c.requires.able in
+    let hs = renamed_all refl c.deref-in-Let.ensures.value c.in_ok-bound-in-Let.ensures.done in
+    let q = c.in_ok-inner-in-Let.ensures in
+    let hi : Inner c.args.path c.lower_all.new.net c.and_ready.new.net c.in_ok-bound-in-Let.bound.ready c.in_ok-inner-in-Let.inner = record { grows = q.grows; count = q.count; bit = q.width; is = q.value } in
+    let s3 = c.in_ok-extend_from_slice-in-Let.ensures.items ∙ ap (λ (l : List Sig). c.lower_all.new.slots.items ++ l) c.deref-in-Let-2.ensures.value ∙ ap (λ (l : List Sig). l ++ c.in_ok-bound-in-Let.bound.values.items) c.in_ok-bound-in-Let.ensures.slots in
+    let hb = renamed s3 c.deref-in-Let-3.ensures c.in_ok-body-in-Let.ensures.done in
+    let r = a.room in
+    let k = hs.count in
+    let l = hi.count in
+    let m = hb.count in
+    omega (arith, r, k, l, m)
+
+pub lower_term-returns-in_ok-ready-in-Let-clause-done : goal.lower_term-returns-in_ok-ready-in-Let-clause-done
+lower_term-returns-in_ok-ready-in-Let-clause-done t c =
+    let e = ap tree c.in-Let.is ∙ tree-Let c.in-Let.field-0 c.in-Let.ts c.in-Let.b in
+    let hs = renamed_all refl c.deref-in-Let.ensures.value c.in_ok-bound-in-Let.ensures.done in
+    let q = c.in_ok-inner-in-Let.ensures in
+    let hi : Inner c.args.path c.lower_all.new.net c.and_ready.new.net c.in_ok-bound-in-Let.bound.ready c.in_ok-inner-in-Let.inner = record { grows = q.grows; count = q.count; bit = q.width; is = q.value } in
+    let s3 = c.in_ok-extend_from_slice-in-Let.ensures.items ∙ ap (λ (l : List Sig). c.lower_all.new.slots.items ++ l) c.deref-in-Let-2.ensures.value ∙ ap (λ (l : List Sig). l ++ c.in_ok-bound-in-Let.bound.values.items) c.in_ok-bound-in-Let.ensures.slots in
+    let hb = renamed s3 c.deref-in-Let-3.ensures c.in_ok-body-in-Let.ensures.done in
+    let b = c.in_ok-ready-in-Let.ensures in
+    subst (λ (x : Term). Lowers c.args.ports.now c.args.slots.now.items c.args.path c.args.net.now c.both_ready.new.net c.args.out.now c.lower_term-in-Let.new.out (record { ready = c.in_ok-ready-in-Let.ready; value = c.in_ok-body-in-Let.body.value }) x) (sym e)
+    (lowers_let hs hi hb (record { grows = b.grows; count = b.count; bit = b.width; is = b.value }))
+
+-- ---- the net grows
+
+pub lower_all-returns-in_err-one-clause-kept : goal.lower_all-returns-in_err-one-clause-kept
+lower_all-returns-in_err-one-clause-kept t c = grows_on c.loop-t.invariant.lowered.grows c.lower_term.ensures.kept
+
+pub lower_all-returns-in_err-ready-clause-kept : goal.lower_all-returns-in_err-ready-clause-kept
+lower_all-returns-in_err-ready-clause-kept t c = grows_on c.loop-t.invariant.lowered.grows (grows_on c.lower_term.ensures.kept c.both_ready.ensures.grows)
+
+pub lower_all-returns-in_err-push-clause-kept : goal.lower_all-returns-in_err-push-clause-kept
+lower_all-returns-in_err-push-clause-kept t c = grows_on c.loop-t.invariant.lowered.grows (grows_on c.lower_term.ensures.kept c.both_ready.ensures.grows)
+
+pub lower_term-returns-in_err-paths-in-If-clause-kept : goal.lower_term-returns-in_err-paths-in-If-clause-kept
+lower_term-returns-in_err-paths-in-If-clause-kept t c = grows_on c.lower_term.ensures.kept c.branch_paths.ensures.grows
+
+pub lower_term-returns-in_err-yes-in-If-clause-kept : goal.lower_term-returns-in_err-yes-in-If-clause-kept
+lower_term-returns-in_err-yes-in-If-clause-kept t c = grows_on c.lower_term.ensures.kept (grows_on c.branch_paths.ensures.grows c.lower_term-in-If.ensures.kept)
+
+pub lower_term-returns-in_err-no-in-If-clause-kept : goal.lower_term-returns-in_err-no-in-If-clause-kept
+lower_term-returns-in_err-no-in-If-clause-kept t c = grows_on c.lower_term.ensures.kept (grows_on c.branch_paths.ensures.grows (grows_on c.lower_term-in-If.ensures.kept c.lower_term-in-If-2.ensures.kept))
+
+pub lower_term-returns-in_ok-no-in-If-clause-kept : goal.lower_term-returns-in_ok-no-in-If-clause-kept
+lower_term-returns-in_ok-no-in-If-clause-kept t c = grows_on c.lower_term.ensures.kept (grows_on c.branch_paths.ensures.grows (grows_on c.lower_term-in-If.ensures.kept (grows_on c.lower_term-in-If-2.ensures.kept c.choose.ensures.grows)))
+
+pub lower_term-returns-in_err-inner-in-Let-clause-kept : goal.lower_term-returns-in_err-inner-in-Let-clause-kept
+lower_term-returns-in_err-inner-in-Let-clause-kept t c = grows_on c.lower_all.ensures.kept c.and_ready.ensures.grows
+
+pub lower_term-returns-in_err-extend_from_slice-in-Let-clause-kept : goal.lower_term-returns-in_err-extend_from_slice-in-Let-clause-kept
+lower_term-returns-in_err-extend_from_slice-in-Let-clause-kept t c = grows_on c.lower_all.ensures.kept c.and_ready.ensures.grows
+
+pub lower_term-returns-in_err-body-in-Let-clause-kept : goal.lower_term-returns-in_err-body-in-Let-clause-kept
+lower_term-returns-in_err-body-in-Let-clause-kept t c = grows_on c.lower_all.ensures.kept (grows_on c.and_ready.ensures.grows c.lower_term-in-Let.ensures.kept)
+
+pub lower_term-returns-in_err-ready-in-Let-clause-kept : goal.lower_term-returns-in_err-ready-in-Let-clause-kept
+lower_term-returns-in_err-ready-in-Let-clause-kept t c = grows_on c.lower_all.ensures.kept (grows_on c.and_ready.ensures.grows (grows_on c.lower_term-in-Let.ensures.kept c.both_ready.ensures.grows))
+
+pub lower_term-returns-in_ok-ready-in-Let-clause-kept : goal.lower_term-returns-in_ok-ready-in-Let-clause-kept
+lower_term-returns-in_ok-ready-in-Let-clause-kept t c = grows_on c.lower_all.ensures.kept (grows_on c.and_ready.ensures.grows (grows_on c.lower_term-in-Let.ensures.kept c.both_ready.ensures.grows))
+
+pub lower_term-returns-in_err-value-in-Op-clause-kept : goal.lower_term-returns-in_err-value-in-Op-clause-kept
+lower_term-returns-in_err-value-in-Op-clause-kept t c = grows_on c.lower_all-in-Op.ensures.kept c.apply.ensures.grows
+
+pub lower_term-returns-in_ok-value-in-Op-clause-kept : goal.lower_term-returns-in_ok-value-in-Op-clause-kept
+lower_term-returns-in_ok-value-in-Op-clause-kept t c = grows_on c.lower_all-in-Op.ensures.kept c.apply.ensures.grows
+
+pub lower_term-returns-in_ok-all-in-Call-clause-kept : goal.lower_term-returns-in_ok-all-in-Call-clause-kept
+lower_term-returns-in_ok-all-in-Call-clause-kept t c = grows_on c.lower_all-in-Call.ensures.kept c.ask.ensures.grows
+
+pub lower_term-returns-in_ok-all-in-Loop-clause-kept : goal.lower_term-returns-in_ok-all-in-Loop-clause-kept
+lower_term-returns-in_ok-all-in-Loop-clause-kept t c = grows_on c.lower_all-in-Loop.ensures.kept c.go_on.ensures.grows

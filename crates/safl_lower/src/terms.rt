@@ -1,0 +1,109 @@
+//! Terms as circuits.
+
+ghost use Rattle.std.specs.Prelude.{◌≡◌, ℕ, ◌+◌, ◌*◌, ◌<◌, ◌≤◌, ◌++◌, length, IfOk, OnOk};
+ghost use Rattle.safl_check.specs.Tree.{tree, forest};
+ghost use Rattle.safl_net.specs.Names.{IsTidy};
+ghost use Rattle.safl_net.specs.Growth.{Grows};
+ghost use Rattle.safl_lower.specs.Lowering.{Lowerable, LowerableAll, Lowers, LowersAll};
+
+use crate::gates::{and_ready, both_ready, constant};
+use crate::joins::{ask, branch_paths, choose, go_on};
+use crate::parts::{Lowered, LoweredAll, Out, Ports};
+use crate::primitives::apply;
+use safl_check::Term;
+use safl_net::{Net, Sig};
+use std::alloc::{AllocError, Global};
+
+/// The circuit of a term, whose path is `path`; `slots` hold the parameters and the bindings around it.
+#[cycle(terms)]
+pub fn lower_term(
+    alloc: Global,
+    net: &mut Net,
+    out: &mut Out,
+    slots: &mut Vec<Sig>,
+    ports: &Ports,
+    path: Sig,
+    t: &Term,
+) -> Result<Lowered, AllocError>
+    requires tidy { IsTidy net.old }
+    requires able { Lowerable net.old ports.now slots.old.items path (tree t.now) }
+    ensures tidy { IsTidy net.new }
+    ensures kept { Grows net.old net.new }
+    ensures slots { OnOk result (slots.new.items ≡ slots.old.items) }
+    ensures done { IfOk result (λ r. Lowers ports.now slots.old.items path net.old net.new out.old out.new r (tree t.now)) }
+{
+    match t {
+        Term::Const(w) => {
+            let value = constant(net, *w)?;
+            Ok(Lowered { ready: None, value })
+        }
+        Term::Var(i) => Ok(Lowered {
+            ready: None,
+            value: slots[*i as usize],
+        }),
+        Term::If(c, a, b) => {
+            let test = lower_term(alloc, net, out, slots, ports, path, c)?;
+            let paths = branch_paths(net, path, test)?;
+            let yes = lower_term(alloc, net, out, slots, ports, paths.yes, a)?;
+            let no = lower_term(alloc, net, out, slots, ports, paths.no, b)?;
+            choose(net, test, yes, no)
+        }
+        Term::Let(_, ts, b) => {
+            let bound = lower_all(alloc, net, out, slots, ports, path, ts)?;
+            let inner = and_ready(net, path, bound.ready)?;
+            let depth = slots.len();
+            slots.extend_from_slice(&bound.values)?;
+            let body = lower_term(alloc, net, out, slots, ports, inner, b)?;
+            slots.truncate(depth);
+            let ready = both_ready(net, bound.ready, body.ready)?;
+            Ok(Lowered {
+                ready,
+                value: body.value,
+            })
+        }
+        Term::Op(p, ts) => {
+            let all = lower_all(alloc, net, out, slots, ports, path, ts)?;
+            let value = apply(net, *p, &all.values)?;
+            Ok(Lowered {
+                ready: all.ready,
+                value,
+            })
+        }
+        Term::Call(_, k, ts) => {
+            let all = lower_all(alloc, net, out, slots, ports, path, ts)?;
+            ask(net, out, ports, path, *k, all)
+        }
+        Term::Loop(h, ts) => {
+            let all = lower_all(alloc, net, out, slots, ports, path, ts)?;
+            go_on(net, out, ports.width, path, *h, all)
+        }
+    }
+}
+
+// The circuits of a list of terms, all with the same path.
+#[cycle(terms)]
+fn lower_all(
+    alloc: Global,
+    net: &mut Net,
+    out: &mut Out,
+    slots: &mut Vec<Sig>,
+    ports: &Ports,
+    path: Sig,
+    ts: &[Term],
+) -> Result<LoweredAll, AllocError>
+    requires tidy { IsTidy net.old }
+    requires able { LowerableAll net.old ports.now slots.old.items path (forest ts.now) }
+    ensures tidy { IsTidy net.new }
+    ensures kept { Grows net.old net.new }
+    ensures slots { OnOk result (slots.new.items ≡ slots.old.items) }
+    ensures done { IfOk result (λ r. LowersAll ports.now slots.old.items path net.old net.new out.old out.new r (forest ts.now)) }
+{
+    let mut values = Vec::new(alloc);
+    let mut ready = None;
+    for t in ts {
+        let one = lower_term(alloc, net, out, slots, ports, path, t)?;
+        ready = both_ready(net, ready, one.ready)?;
+        values.push(one.value)?;
+    }
+    Ok(LoweredAll { ready, values })
+}
