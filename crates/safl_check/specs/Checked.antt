@@ -55,16 +55,16 @@ first_site_of c = of_function (λ f. f.first_site) (suc (length c.sites)) c
 
 -- the bounds of what a circuit is made of
 pub record IsWithinLimits (c : CheckedProgram) : Type 0 where
-  pub functions : length c.functions ≤ 1000
+  pub functions : (program_of c).functions ≤ 1000
   pub params : (f : ℕ) → arity (program_of c) f ≤ 16
-  pub sites : length c.sites ≤ 4000
+  pub sites : (program_of c).sites ≤ 4000
   pub nodes : sum_by (λ f. nodes (tree f.body)) c.functions ≤ 50000
 
 -- each name is one of the language, no two functions have one name, and no two parameters of a function
 pub record AreNamed (c : CheckedProgram) : Type 0 where
-  pub of_functions : (f : ℕ) → f < length c.functions → IsName (name_of c f)
-  pub of_main : name_of c (main_of c) ≡ codes "main"
-  pub of_functions_differ : (f g : ℕ) → f < length c.functions → g < length c.functions → name_of c f ≡ name_of c g → f ≡ g
+  pub of_functions : (f : ℕ) → f < (program_of c).functions → IsName (name_of c f)
+  pub of_main : name_of c (program_of c).main ≡ codes "main"
+  pub of_functions_differ : (f g : ℕ) → f < (program_of c).functions → g < (program_of c).functions → name_of c f ≡ name_of c g → f ≡ g
   pub of_params : (f i : ℕ) (name : List ℕ) → slice_get (param_names c f) i ≡ Some name → IsName name
   pub of_params_differ : (f i j : ℕ) (name : List ℕ) → slice_get (param_names c f) i ≡ Some name → slice_get (param_names c f) j ≡ Some name → i ≡ j
 
@@ -73,8 +73,8 @@ pub record IsChecked (c : CheckedProgram) : Type 0 where
   pub formed : IsWellFormed (program_of c)
   pub limits : IsWithinLimits c
   -- the members of a group follow each other
-  pub groups : (f g : ℕ) → g < length c.functions → (program_of c).unit g ≤ f → f ≤ g → (program_of c).unit f ≡ (program_of c).unit g
+  pub groups : (f g : ℕ) → g < (program_of c).functions → (program_of c).unit g ≤ f → f ≤ g → (program_of c).unit f ≡ (program_of c).unit g
   -- the sites of a body follow those of the bodies before it, and all sites stand in bodies
   pub first_site : first_site_of c 0 ≡ 1
-  pub own_sites : (f : ℕ) → f < length c.functions → Spans (program_of c) f true (first_site_of c f) (first_site_of c (suc f)) ((program_of c).body f)
+  pub own_sites : (f : ℕ) → f < (program_of c).functions → Spans (program_of c) f true (first_site_of c f) (first_site_of c (suc f)) ((program_of c).body f)
   pub names : AreNamed c
