@@ -1,2 +1,7 @@
 pub mod RowPrograms
 mod Rows
+pub mod RowLemmas
+pub mod AddsLemmas
+pub mod PartLemmas
+pub mod ReachLemmas
+pub mod TermLemmas

@@ -1,3 +1,6 @@
+pub mod Rows
+pub mod Parts
 pub mod Conflicts
+pub mod Reach
 pub mod Kept
 pub mod Plan

@@ -1,0 +1,149 @@
+-- The parts of a term that is part of a body are parts of it.
+use Rattle.std.proofs.Common.{◌≡◌, ℕ, suc, ◌+◌, ◌<◌, ◌≤◌, List, [], ◌∷◌, ◌++◌, length, length-append, refl, sym, ap, subst, arith}
+use Rattle.safl_word.specs.declared.primitive.Primitive.{Primitive}
+use Rattle.safl_check.specs.Program.{Program}
+use Rattle.safl_check.specs.Terms.{Term, Terms, Op, If, Let, Call, Loop, Nil, Cons}
+use Rattle.safl_check.specs.WellFormed.{HaveWidths}
+use Rattle.safl_check.proofs.Places.{fits_le, fits_all_le}
+use Rattle.safl_check.specs.declared.term.Term as declared
+use Rattle.safl_check.specs.Tree.{tree, forest}
+use Rattle.safl_sites.specs.declared.row.Row.{Row}
+use Rattle.safl_sites.specs.Parts.{IsPart, ArePart, terms_in}
+use Rattle.safl_sites.specs.Reach.{MayReach, MayReachIn}
+
+pub have_length : (C : Program) (slots : List ℕ) (ts : Terms) (ws : List ℕ) → HaveWidths C slots ts ws → length ws ≡ terms_in ts
+have_length C slots Nil [] h = refl
+have_length C slots Nil (w ∷ ws) h = absurd h
+have_length C slots (Cons t ts) [] h = absurd h
+have_length C slots (Cons t ts) (w ∷ ws) h = ap suc (have_length C slots ts ws h.1)
+
+first_rest : (C : Program) (g n : ℕ) (t : Term) (ts : Terms) (h : ArePart C g n (Cons t ts)) (ws : List ℕ) → HaveWidths C h.scope (Cons t ts) ws → IsPart C g n t × ArePart C g n ts
+first_rest C g n t ts h [] p = absurd p
+first_rest C g n t ts h (w ∷ ws) p =
+    let (m, x, y) = h.spans in
+    let e1 = fits_le C g _ h.lo m t x in
+    let e2 = fits_all_le C g m h.hi ts y in (
+      record { tail = _; lo = h.lo; hi = m; spans = x; least = h.least; most = omega (arith, e2, h.most); scope = h.scope; count = h.count; width = w; typed = p.0 },
+      record { lo = m; hi = h.hi; spans = y; least = omega (arith, e1, h.least); most = h.most; scope = h.scope; count = h.count; widths = ws; typed = p.1 },
+    )
+
+-- a call of a lower unit, at a site of the program
+pub record IsCall (C : Program) (g f k : ℕ) : Type 0 where
+  pub callee : C.callee k ≡ f
+  pub least : 1 ≤ k
+  pub most : k ≤ C.sites
+  pub lower : C.unit f < C.unit g
+  pub within : f < C.functions
+
+module _ {C : Program} {g n : ℕ} where
+  part_cond : {c a b : Term} → IsPart C g n (If c a b) → IsPart C g n c
+  part_cond {c} {a} {b} h =
+      let (m, k, x, y, z) = h.spans in
+      let e1 = fits_le C g h.tail m k a y in
+      let e2 = fits_le C g h.tail k h.hi b z in
+      record { tail = _; lo = h.lo; hi = m; spans = x; least = h.least; most = omega (arith, e1, e2, h.most); scope = h.scope; count = h.count; width = 1; typed = h.typed.0 }
+
+  part_then : {c a b : Term} → IsPart C g n (If c a b) → IsPart C g n a
+  part_then {c} {a} {b} h =
+      let (m, k, x, y, z) = h.spans in
+      let e1 = fits_le C g _ h.lo m c x in
+      let e2 = fits_le C g h.tail k h.hi b z in
+      record { tail = h.tail; lo = m; hi = k; spans = y; least = omega (arith, e1, h.least); most = omega (arith, e2, h.most); scope = h.scope; count = h.count; width = h.width; typed = h.typed.1 }
+
+  part_else : {c a b : Term} → IsPart C g n (If c a b) → IsPart C g n b
+  part_else {c} {a} {b} h =
+      let (m, k, x, y, z) = h.spans in
+      let e1 = fits_le C g _ h.lo m c x in
+      let e2 = fits_le C g h.tail m k a y in
+      record { tail = h.tail; lo = k; hi = h.hi; spans = z; least = omega (arith, e1, e2, h.least); most = h.most; scope = h.scope; count = h.count; width = h.width; typed = h.typed.2 }
+
+  part_bound : {ts : Terms} {b : Term} → IsPart C g n (Let ts b) → ArePart C g n ts
+  part_bound {ts} {b} h =
+      let (m, x, y) = h.spans in
+      let (ws, p, q) = h.typed in
+      let e1 = fits_le C g h.tail m h.hi b y in
+      record { lo = h.lo; hi = m; spans = x; least = h.least; most = omega (arith, e1, h.most); scope = h.scope; count = h.count; widths = ws; typed = p }
+
+  part_body : {ts : Terms} {b : Term} → IsPart C g n (Let ts b) → IsPart C g (n + terms_in ts) b
+  part_body {ts} {b} h =
+      let (m, x, y) = h.spans in
+      let (ws, p, q) = h.typed in
+      let e1 = fits_all_le C g h.lo m ts x in
+      let e2 = have_length C h.scope ts ws p in
+      record {
+        tail = h.tail;
+        lo = m;
+        hi = h.hi;
+        spans = y;
+        least = omega (arith, e1, h.least);
+        most = h.most;
+        scope = h.scope ++ ws;
+        count = omega (arith, length-append h.scope ws, h.count, e2);
+        width = h.width;
+        typed = q;
+      }
+
+  part_op : {o : Primitive} {ts : Terms} → IsPart C g n (Op o ts) → ArePart C g n ts
+  part_op h = record { lo = h.lo; hi = h.hi; spans = h.spans; least = h.least; most = h.most; scope = h.scope; count = h.count; widths = h.typed.0; typed = h.typed.1 }
+
+  part_args : {f k : ℕ} {ts : Terms} → IsPart C g n (Call f k ts) → ArePart C g n ts
+  part_args {f} {k} {ts} h =
+      let (e, e1, e2, lt, s) = h.spans in
+      record { lo = suc h.lo; hi = h.hi; spans = s; least = omega arith; most = h.most; scope = h.scope; count = h.count; widths = _; typed = h.typed.0 }
+
+  part_loop : {f : ℕ} {ts : Terms} → IsPart C g n (Loop f ts) → ArePart C g n ts
+  part_loop h = record { lo = h.lo; hi = h.hi; spans = h.spans.2; least = h.least; most = h.most; scope = h.scope; count = h.count; widths = _; typed = h.typed.0 }
+
+  part_first : {t : Term} {ts : Terms} → ArePart C g n (Cons t ts) → IsPart C g n t
+  part_first {t} {ts} h = (first_rest C g n t ts h h.widths h.typed).0
+
+  part_rest : {t : Term} {ts : Terms} → ArePart C g n (Cons t ts) → ArePart C g n ts
+  part_rest {t} {ts} h = (first_rest C g n t ts h h.widths h.typed).1
+
+  pub part_call : {f k : ℕ} {ts : Terms} → IsPart C g n (Call f k ts) → IsCall C g f k
+  part_call {f} {k} {ts} h =
+      let (e, e1, e2, lt, s) = h.spans in
+      let u = fits_all_le C g (suc h.lo) h.hi ts s in
+      record { callee = e1; least = omega (arith, h.least); most = omega (arith, u, h.most); lower = lt; within = h.typed.2 }
+
+-- the same with the rows of the units that may be called
+module _ {C : Program} {units : List Row} {n : ℕ} where
+  pub may_cond : {c a b : Term} → MayReach C units n (If c a b) → MayReach C units n c
+  may_cond h = record { caller = h.caller; part = part_cond h.part; below = h.below; few = h.few }
+
+  pub may_then : {c a b : Term} → MayReach C units n (If c a b) → MayReach C units n a
+  may_then h = record { caller = h.caller; part = part_then h.part; below = h.below; few = h.few }
+
+  pub may_else : {c a b : Term} → MayReach C units n (If c a b) → MayReach C units n b
+  may_else h = record { caller = h.caller; part = part_else h.part; below = h.below; few = h.few }
+
+  pub may_bound : {ts : Terms} {b : Term} → MayReach C units n (Let ts b) → MayReachIn C units n ts
+  may_bound h = record { caller = h.caller; parts = part_bound h.part; below = h.below; few = h.few }
+
+  pub may_body : {ts : Terms} {b : Term} → MayReach C units n (Let ts b) → MayReach C units (n + terms_in ts) b
+  may_body h = record { caller = h.caller; part = part_body h.part; below = h.below; few = h.few }
+
+  pub may_op : {o : Primitive} {ts : Terms} → MayReach C units n (Op o ts) → MayReachIn C units n ts
+  may_op h = record { caller = h.caller; parts = part_op h.part; below = h.below; few = h.few }
+
+  pub may_args : {f k : ℕ} {ts : Terms} → MayReach C units n (Call f k ts) → MayReachIn C units n ts
+  may_args h = record { caller = h.caller; parts = part_args h.part; below = h.below; few = h.few }
+
+  pub may_loop : {f : ℕ} {ts : Terms} → MayReach C units n (Loop f ts) → MayReachIn C units n ts
+  may_loop h = record { caller = h.caller; parts = part_loop h.part; below = h.below; few = h.few }
+
+  pub may_first : {t : Term} {ts : Terms} → MayReachIn C units n (Cons t ts) → MayReach C units n t
+  may_first h = record { caller = h.caller; part = part_first h.parts; below = h.below; few = h.few }
+
+  pub may_rest : {t : Term} {ts : Terms} → MayReachIn C units n (Cons t ts) → MayReachIn C units n ts
+  may_rest h = record { caller = h.caller; parts = part_rest h.parts; below = h.below; few = h.few }
+
+  pub may_call : {f k : ℕ} {ts : Terms} (h : MayReach C units n (Call f k ts)) → IsCall C h.caller f k
+  may_call h = part_call h.part
+
+  -- the same of another name of the term
+  pub may_tree : {x y : declared.Term} → x ≡ y → MayReach C units n (tree y) → (m : ℕ) × MayReach C units m (tree x)
+  may_tree e h = (n, subst (λ (z : declared.Term). MayReach C units n (tree z)) (sym e) h)
+
+  pub may_forest : {xs ys : List declared.Term} → xs ≡ ys → MayReachIn C units n (forest ys) → (m : ℕ) × MayReachIn C units m (forest xs)
+  may_forest e h = (n, subst (λ (z : List declared.Term). MayReachIn C units n (forest z)) (sym e) h)

@@ -1,0 +1,50 @@
+//! Which sites are in reach of a term.
+
+ghost use Rattle.std.specs.Prelude.{◌≡◌, ℕ};
+ghost use Rattle.safl_check.specs.Checked.{program_of, IsChecked};
+ghost use Rattle.safl_check.specs.Tree.{tree, forest};
+ghost use Rattle.safl_sites.specs.Conflicts.{Reaches, ReachesIn};
+ghost use Rattle.safl_sites.specs.Reach.{MayReach, MayReachIn};
+ghost use Rattle.safl_sites.specs.Rows.{Has, Adds};
+
+use crate::row::Row;
+use safl_check::{Checked, Term};
+
+/// Puts the sites in reach of a term into a set. `units` has the sites in reach of the bodies of each unit.
+#[cycle(reach)]
+pub fn reach(c: &Checked, units: &[Row], t: &Term, row: &mut Row)
+    requires { (slots : ℕ) × MayReach (program_of c.now) units.now slots (tree t.now) }
+    ensures { (k : ℕ) → Adds (Has row.old k) (Has row.new k) (Reaches (program_of c.now) k (tree t.now)) }
+{
+    match t {
+        Term::Const(_) => {}
+        Term::Var(_) => {}
+        Term::If(condition, a, b) => {
+            reach(c, units, condition, row);
+            reach(c, units, a, row);
+            reach(c, units, b, row);
+        }
+        Term::Let(_, bound, body) => {
+            reach_in(c, units, bound, row);
+            reach(c, units, body, row);
+        }
+        Term::Op(_, ts) => reach_in(c, units, ts, row),
+        Term::Call(f, k, ts) => {
+            row.insert(*k);
+            row.union(&units[c.unit(*f) as usize]);
+            reach_in(c, units, ts, row);
+        }
+        Term::Loop(_, ts) => reach_in(c, units, ts, row),
+    }
+}
+
+#[cycle(reach)]
+pub fn reach_in(c: &Checked, units: &[Row], ts: &[Term], row: &mut Row)
+    requires { (slots : ℕ) × MayReachIn (program_of c.now) units.now slots (forest ts.now) }
+    ensures { (k : ℕ) → Adds (Has row.old k) (Has row.new k) (ReachesIn (program_of c.now) k (forest ts.now)) }
+{
+    if let Some((first, rest)) = ts.split_first() {
+        reach(c, units, first, row);
+        reach_in(c, units, rest, row);
+    }
+}
