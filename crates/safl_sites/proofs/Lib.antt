@@ -5,3 +5,4 @@ pub mod AddsLemmas
 pub mod PartLemmas
 pub mod ReachLemmas
 pub mod TermLemmas
+pub mod MarkLemmas

@@ -2,5 +2,6 @@ pub mod Rows
 pub mod Parts
 pub mod Conflicts
 pub mod Reach
+pub mod Parallel
 pub mod Kept
 pub mod Plan

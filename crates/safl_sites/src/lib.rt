@@ -2,5 +2,6 @@
 #![tactic(auto)]
 
 pub mod laws;
+mod parallel;
 mod reach;
 mod row;

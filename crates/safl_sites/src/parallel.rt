@@ -1,0 +1,55 @@
+//! Which sites are in reach of a term that stands before a parallel one.
+
+ghost use Rattle.std.specs.Prelude.{ℕ, ◌<◌, List, length};
+ghost use Rattle.safl_check.specs.Checked.{program_of};
+ghost use Rattle.safl_check.specs.Tree.{tree, forest};
+ghost use Rattle.safl_sites.specs.Parallel.{Marked, MarkedIn};
+ghost use Rattle.safl_sites.specs.Reach.{MayReach, MayReachIn};
+ghost use Rattle.safl_sites.specs.Rows.{Has, HasAt, Adds};
+
+use crate::reach::reach;
+use crate::row::Row;
+use safl_check::{Checked, Term};
+
+/// Puts into the row of each site in a term what is in reach of the parallel terms before it: of those in the
+/// term, and of those around it, which `before` has.
+#[cycle(mark)]
+pub fn mark(c: &Checked, units: &[Row], t: &Term, before: &Row, rows: &mut [Row])
+    requires may { (slots : ℕ) × MayReach (program_of c.now) units.now slots (tree t.now) }
+    requires room { (program_of c.now).sites < length rows.old }
+    ensures { (b k : ℕ) → Adds (HasAt rows.old b k) (HasAt rows.new b k) (Marked (program_of c.now) (Has before.now k) k b (tree t.now)) }
+{
+    match t {
+        Term::Const(_) => {}
+        Term::Var(_) => {}
+        Term::If(condition, a, b) => {
+            mark(c, units, condition, before, rows);
+            mark(c, units, a, before, rows);
+            mark(c, units, b, before, rows);
+        }
+        Term::Let(_, bound, body) => {
+            mark_in(c, units, bound, before, rows);
+            mark(c, units, body, before, rows);
+        }
+        Term::Op(_, ts) => mark_in(c, units, ts, before, rows),
+        Term::Call(_, k, ts) => {
+            rows[*k as usize].union(before);
+            mark_in(c, units, ts, before, rows);
+        }
+        Term::Loop(_, ts) => mark_in(c, units, ts, before, rows),
+    }
+}
+
+#[cycle(mark)]
+fn mark_in(c: &Checked, units: &[Row], ts: &[Term], before: &Row, rows: &mut [Row])
+    requires may { (slots : ℕ) × MayReachIn (program_of c.now) units.now slots (forest ts.now) }
+    requires room { (program_of c.now).sites < length rows.old }
+    ensures { (b k : ℕ) → Adds (HasAt rows.old b k) (HasAt rows.new b k) (MarkedIn (program_of c.now) (Has before.now k) k b (forest ts.now)) }
+{
+    if let Some((first, rest)) = ts.split_first() {
+        mark(c, units, first, before, rows);
+        let mut later = *before;
+        reach(c, units, first, &mut later);
+        mark_in(c, units, rest, &later, rows);
+    }
+}
