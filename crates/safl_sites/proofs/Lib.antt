@@ -6,3 +6,4 @@ pub mod PartLemmas
 pub mod ReachLemmas
 pub mod TermLemmas
 pub mod MarkLemmas
+pub mod TouchLemmas

@@ -172,3 +172,6 @@ has_within a j h = elim (cases_lt (j / 64) (length a.words)) [
   | inl f ↦ f
   | inr f ↦ absurd (zero-not-one (bit_at-zero (j % 64)) (ap (λ w. bit_at w (j % 64)) (sym (get_or_past a.words (j / 64) 0 f)) ∙ bit_of_has a j h))
 ]
+
+pub no_row_has : (k : ℕ) → Has (record { words = [] }) k → ⊥
+no_row_has k h = zero-not-one (bit_at-zero (k % 64)) (bit_of_has (record { words = [] }) k h)

@@ -4,4 +4,5 @@ pub mod Conflicts
 pub mod Reach
 pub mod Parallel
 pub mod Kept
+pub mod Touched
 pub mod Plan

@@ -5,3 +5,4 @@ pub mod laws;
 mod parallel;
 mod reach;
 mod row;
+mod touched;

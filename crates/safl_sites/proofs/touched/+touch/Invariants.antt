@@ -1,0 +1,10 @@
+use Rattle.std.proofs.Common.{◌+◌, ◌*◌}
+use Rattle.safl_check.specs.Sizes.{nodes, nodes_in}
+use Rattle.safl_check.specs.Tree.{tree, forest}
+use Rattle.safl_sites.proofs.touched.+touch.Given as goal
+
+abbrev pub decreases-touch : goal.decreases-touch
+decreases-touch l = 2 * nodes (tree l.t.now)
+
+abbrev pub decreases-touch_in : goal.decreases-touch_in
+decreases-touch_in l = 2 * nodes_in (forest l.ts.now) + 1

@@ -1,0 +1,46 @@
+//! Which sites' words are in the slots that a term uses.
+
+ghost use Rattle.std.specs.Prelude.{ℕ};
+ghost use Rattle.safl_check.specs.Tree.{tree, forest};
+ghost use Rattle.safl_sites.specs.Rows.{Has, Adds};
+ghost use Rattle.safl_sites.specs.Touched.{IsTouched, IsTouchedIn};
+
+use crate::row::Row;
+use safl_check::Term;
+
+/// Puts into a set what the rows of the slots have that are used in a term, from a first slot on.
+#[cycle(touch)]
+pub fn touch(slots: &[Row], low: u32, t: &Term, row: &mut Row)
+    ensures { (k : ℕ) → Adds (Has row.old k) (Has row.new k) (IsTouched slots.now low k (tree t.now)) }
+{
+    match t {
+        Term::Const(_) => {}
+        Term::Var(slot) => {
+            if low <= *slot && (*slot as usize) < slots.len() {
+                row.union(&slots[*slot as usize]);
+            }
+        }
+        Term::If(condition, a, b) => {
+            touch(slots, low, condition, row);
+            touch(slots, low, a, row);
+            touch(slots, low, b, row);
+        }
+        Term::Let(_, bound, body) => {
+            touch_in(slots, low, bound, row);
+            touch(slots, low, body, row);
+        }
+        Term::Op(_, ts) => touch_in(slots, low, ts, row),
+        Term::Call(_, _, ts) => touch_in(slots, low, ts, row),
+        Term::Loop(_, ts) => touch_in(slots, low, ts, row),
+    }
+}
+
+#[cycle(touch)]
+fn touch_in(slots: &[Row], low: u32, ts: &[Term], row: &mut Row)
+    ensures { (k : ℕ) → Adds (Has row.old k) (Has row.new k) (IsTouchedIn slots.now low k (forest ts.now)) }
+{
+    if let Some((first, rest)) = ts.split_first() {
+        touch(slots, low, first, row);
+        touch_in(slots, low, rest, row);
+    }
+}
