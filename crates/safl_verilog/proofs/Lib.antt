@@ -1,0 +1,9 @@
+pub mod Runs
+pub mod Closing
+pub mod Bytes
+pub mod Symbols
+pub mod Found
+pub mod Cutting
+pub mod Texts
+pub mod Grammar
+pub mod Readings

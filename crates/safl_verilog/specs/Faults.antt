@@ -1,0 +1,296 @@
+-- The rules on files: the faults of a file, in the order in which they count. The first one is the file's.
+use Rattle.std.specs.Prelude.{ℕ, ◌+◌, ◌^◌, List, [], ◌∷◌, ◌++◌, map, drop, length, Option, None, Some, Bool, true, false, not, ◌==◌, ◌&&◌, ◌||◌, nat_lt, nat_le, unwrap_or, if◌then◌else◌, codes}
+use Rattle.std.specs.List.{flat_map}
+use Rattle.std.proofs.Common.{bytes_eq}
+use Rattle.safl_word.specs.Words.{max_width}
+use Rattle.safl_word.specs.Numerals.{value}
+use Rattle.safl_word.specs.Tokens.{base_of, digits_max, value_bound}
+use Rattle.safl_word.specs.declared.primitive.Primitive.TheVariants as prims
+use Rattle.safl_net.specs.declared.cell.Op.{Op}
+use Rattle.safl_net.specs.declared.cell.Op.TheVariants as ops
+use Rattle.safl_net.specs.Widths.{op_width}
+use Rattle.safl_verilog.specs.declared.token.Sort.{Sort}
+use Rattle.safl_verilog.specs.declared.token.Sort.TheVariants as sorts
+use Rattle.safl_verilog.specs.declared.fault.VRule.{VRule}
+use Rattle.safl_verilog.specs.declared.fault.VRule.TheVariants as rules
+use Rattle.safl_verilog.specs.declared.fault.VFault.{VFault}
+use Rattle.safl_verilog.specs.Files.{Spot, Expression, Literal, Plain, Inverted, Binary, Choice, Joined, Slice, Declaration, Statement, Assign, Always, File}
+
+abbrev pub at : VRule → ℕ → VFault
+at rule place = record { rule = rule; place = place; first = 0; second = 0 }
+
+abbrev pub where_not : Bool → VFault → List VFault
+where_not true f = []
+where_not false f = f ∷ []
+
+-- ---- numbers
+
+-- at most so many digits, and a value below the bound
+abbrev pub is_short : ℕ → List ℕ → Bool
+is_short base w = nat_le (length w) digits_max && nat_lt (value base w) value_bound
+
+-- a sized number's digits before the `'`, and what stands behind it
+abbrev pub before_quote : List ℕ → List ℕ
+before_quote [] = []
+before_quote (c ∷ w) = if c == 39 then [] else c ∷ before_quote w
+
+abbrev pub behind_quote : List ℕ → List ℕ
+behind_quote [] = []
+behind_quote (c ∷ w) = if c == 39 then w else behind_quote w
+
+abbrev pub base_at : List ℕ → ℕ
+base_at [] = 10
+base_at (c ∷ w) = unwrap_or (base_of c) 10
+
+-- its width and its value
+abbrev pub literal_width : List ℕ → ℕ
+literal_width w = value 10 (before_quote w)
+
+abbrev pub literal_value : List ℕ → ℕ
+literal_value w = value (base_at (behind_quote w)) (drop 1 (behind_quote w))
+
+-- the width is 1 to the greatest, and the value fits it
+abbrev pub is_word : ℕ → ℕ → Bool
+is_word width bits = nat_le 1 width && nat_le width max_width && nat_lt bits (2 ^ width)
+
+abbrev pub is_literal : List ℕ → Bool
+is_literal w =
+    is_short 10 (before_quote w) && is_short (base_at (behind_quote w)) (drop 1 (behind_quote w)) && is_word (literal_width w) (literal_value w)
+
+abbrev pub number_faults : Spot → List VFault
+number_faults n = where_not (is_short 10 n.bytes) (at rules.V06 n.place)
+
+abbrev pub literal_faults : Spot → List VFault
+literal_faults l = where_not (is_literal l.bytes) (at rules.V06 l.place)
+
+-- a range is n down to 0, with n below the greatest width
+abbrev pub is_range : Spot → Spot → Bool
+is_range high low = nat_lt (value 10 high.bytes) max_width && (value 10 low.bytes == 0)
+
+abbrev pub range_faults : Option (Spot × Spot) → List VFault
+range_faults None = []
+range_faults (Some r) = number_faults r.0 ++ where_not (is_range r.0 r.1) (at rules.V05 r.0.place) ++ number_faults r.1
+
+abbrev pub declared_number_faults : Declaration → List VFault
+declared_number_faults d = range_faults d.range
+
+abbrev pub expression_number_faults : Expression → List VFault
+expression_number_faults (Literal l) = literal_faults l
+expression_number_faults (Slice a high low) = number_faults high ++ number_faults low
+expression_number_faults (Plain a) = []
+expression_number_faults (Inverted a) = []
+expression_number_faults (Binary p a b) = []
+expression_number_faults (Choice a b c) = []
+expression_number_faults (Joined a b) = []
+
+abbrev pub stated_number_faults : Statement → List VFault
+stated_number_faults (Assign x e) = expression_number_faults e
+stated_number_faults (Always clock reset target initial second source) = literal_faults initial
+
+abbrev pub all_number_faults : File → List VFault
+all_number_faults f = flat_map declared_number_faults f.declarations ++ flat_map stated_number_faults f.statements
+
+-- ---- names
+
+abbrev pub among : List Spot → List ℕ → Bool
+among [] name = false
+among (x ∷ xs) name = bytes_eq x.bytes name || among xs name
+
+-- names of the list that stand among those before them
+abbrev pub repeat_faults : List Spot → List Spot → List VFault
+repeat_faults before [] = []
+repeat_faults before (x ∷ xs) = where_not (not (among before x.bytes)) (at rules.V03 x.place) ++ repeat_faults (before ++ x ∷ []) xs
+
+abbrev pub declared_names : List Declaration → List Spot
+declared_names ds = map (λ (d : Declaration). d.name) ds
+
+abbrev pub all_repeat_faults : File → List VFault
+all_repeat_faults f = repeat_faults [] f.header ++ repeat_faults [] (declared_names f.declarations)
+
+-- ---- ports
+
+-- the declaration of a name, if there is one
+abbrev pub find : List Declaration → List ℕ → Option Declaration
+find [] name = None
+find (d ∷ ds) name = if bytes_eq d.name.bytes name then Some d else find ds name
+
+abbrev pub is_input : Sort → Bool
+is_input sorts.Input = true
+is_input sorts.Output = false
+is_input sorts.Reg = false
+is_input sorts.Wire = false
+
+abbrev pub is_output : Sort → Bool
+is_output sorts.Input = false
+is_output sorts.Output = true
+is_output sorts.Reg = false
+is_output sorts.Wire = false
+
+abbrev pub is_reg : Sort → Bool
+is_reg sorts.Input = false
+is_reg sorts.Output = false
+is_reg sorts.Reg = true
+is_reg sorts.Wire = false
+
+abbrev pub is_wire : Sort → Bool
+is_wire sorts.Input = false
+is_wire sorts.Output = false
+is_wire sorts.Reg = false
+is_wire sorts.Wire = true
+
+abbrev pub is_port : Sort → Bool
+is_port s = is_input s || is_output s
+
+-- whether a name is declared, and passes the test
+abbrev pub passes : (Declaration → Bool) → Option Declaration → Bool
+passes p None = false
+passes p (Some d) = p d
+
+-- a missing range means width 1
+abbrev pub range_width : Option (Spot × Spot) → ℕ
+range_width None = 1
+range_width (Some r) = value 10 r.0.bytes + 1
+
+abbrev pub width_in : Option Declaration → ℕ
+width_in None = 0
+width_in (Some d) = range_width d.range
+
+-- the width of a name
+abbrev pub width_of : List Declaration → List ℕ → ℕ
+width_of ds name = width_in (find ds name)
+
+abbrev pub header_faults : File → Spot → List VFault
+header_faults f x = where_not (passes (λ d. is_port d.sort) (find f.declarations x.bytes)) (at rules.V10 x.place)
+
+abbrev pub port_faults : File → Declaration → List VFault
+port_faults f d = where_not (not (is_port d.sort) || among f.header d.name.bytes) (at rules.V10 d.name.place)
+
+-- the ports that each file has: `clk`, `rst` and `start` are inputs of width 1, `done` an output of width 1, and `result` an output
+abbrev pub has_bit : List Declaration → (Sort → Bool) → List ℕ → Bool
+has_bit ds p name = passes (λ d. p d.sort && (range_width d.range == 1)) (find ds name)
+
+abbrev pub has_ports : List Declaration → Bool
+has_ports ds =
+    has_bit ds is_input (codes "clk") && has_bit ds is_input (codes "rst") && has_bit ds is_input (codes "start")
+    && has_bit ds is_output (codes "done") && passes (λ d. is_output d.sort) (find ds (codes "result"))
+
+abbrev pub all_port_faults : File → List VFault
+all_port_faults f =
+    flat_map (header_faults f) f.header ++ flat_map (port_faults f) f.declarations ++ where_not (has_ports f.declarations) (at rules.V10 0)
+
+-- ---- statements
+
+abbrev pub is_clock : List ℕ → Bool
+is_clock name = bytes_eq name (codes "clk")
+
+abbrev pub is_reset : List ℕ → Bool
+is_reset name = bytes_eq name (codes "rst")
+
+-- an input other than the clock and the reset
+abbrev pub is_data : Declaration → Bool
+is_data d = is_input d.sort && not (is_clock d.name.bytes) && not (is_reset d.name.bytes)
+
+-- such an input, a register or a wire
+abbrev pub is_signal : Declaration → Bool
+is_signal d = is_data d || is_reg d.sort || is_wire d.sort
+
+abbrev pub is_target : Declaration → Bool
+is_target d = is_wire d.sort || is_output d.sort
+
+abbrev pub unfit_faults : List Declaration → Spot → List VFault
+unfit_faults ds x = where_not (passes is_signal (find ds x.bytes)) (at rules.V04 x.place)
+
+-- what an expression does, and with which names
+abbrev pub operation : Expression → Op
+operation (Literal l) = ops.Const (record { width = literal_width l.bytes; bits = literal_value l.bytes })
+operation (Plain a) = ops.Copy
+operation (Inverted a) = ops.Apply prims.Not
+operation (Binary p a b) = ops.Apply p
+operation (Choice a b c) = ops.Mux
+operation (Joined a b) = ops.Apply prims.Cat
+operation (Slice a high low) = ops.Apply (prims.Bits (value 10 high.bytes) (value 10 low.bytes))
+
+abbrev pub operands : Expression → List Spot
+operands (Literal l) = []
+operands (Plain a) = a ∷ []
+operands (Inverted a) = a ∷ []
+operands (Binary p a b) = a ∷ b ∷ []
+operands (Choice a b c) = a ∷ b ∷ c ∷ []
+operands (Joined a b) = a ∷ b ∷ []
+operands (Slice a high low) = a ∷ []
+
+abbrev pub is_plain : Expression → Bool
+is_plain (Plain a) = true
+is_plain (Literal l) = false
+is_plain (Inverted a) = false
+is_plain (Binary p a b) = false
+is_plain (Choice a b c) = false
+is_plain (Joined a b) = false
+is_plain (Slice a high low) = false
+
+-- the width of an expression, or 0 where its operands don't fit
+abbrev pub expression_width : List Declaration → Expression → ℕ
+expression_width ds e = unwrap_or (op_width (operation e) (map (λ (a : Spot). width_of ds a.bytes) (operands e))) 0
+
+-- what the first assignment to a name assigns
+abbrev pub assigned : List Statement → List ℕ → Option Expression
+assigned [] name = None
+assigned (Assign x e ∷ ss) name = if bytes_eq x.bytes name then Some e else assigned ss name
+assigned (Always clock reset target initial second source ∷ ss) name = assigned ss name
+
+-- the literal and the last name of the first update of a register
+abbrev pub updated : List Statement → List ℕ → Option (Spot × Spot)
+updated [] name = None
+updated (Assign x e ∷ ss) name = updated ss name
+updated (Always clock reset target initial second source ∷ ss) name = if bytes_eq target.bytes name then Some (initial, source) else updated ss name
+
+abbrev pub is_none : {A : Type 0} → Option A → Bool
+is_none None = true
+is_none (Some x) = false
+
+abbrev pub width_faults : ℕ → ℕ → ℕ → List VFault
+width_faults place wanted found = where_not (wanted == found) (record { rule = rules.V05; place = place; first = wanted; second = found })
+
+-- an output is assigned a name alone
+abbrev pub may_be_assigned : List Statement → Option Declaration → List ℕ → Expression → Bool
+may_be_assigned before d name e = is_none (assigned before name) && (not (passes (λ d. is_output d.sort) d) || is_plain e)
+
+abbrev pub assign_faults : List Declaration → List Statement → Spot → Expression → List VFault
+assign_faults ds before x e =
+    where_not (passes is_target (find ds x.bytes)) (at rules.V04 x.place)
+    ++ where_not (may_be_assigned before (find ds x.bytes) x.bytes e) (at rules.V07 x.place)
+    ++ flat_map (unfit_faults ds) (operands e)
+    ++ width_faults x.place (width_of ds x.bytes) (expression_width ds e)
+
+abbrev pub always_faults : List Declaration → List Statement → (clock reset target initial second source : Spot) → List VFault
+always_faults ds before clock reset target initial second source =
+    where_not (is_clock clock.bytes) (at rules.V08 clock.place)
+    ++ where_not (is_reset reset.bytes) (at rules.V08 reset.place)
+    ++ where_not (passes (λ d. is_reg d.sort) (find ds target.bytes)) (at rules.V08 target.place)
+    ++ where_not (bytes_eq second.bytes target.bytes) (at rules.V08 second.place)
+    ++ where_not (is_none (updated before target.bytes)) (at rules.V08 target.place)
+    ++ unfit_faults ds source
+    ++ width_faults initial.place (width_of ds target.bytes) (literal_width initial.bytes)
+    ++ width_faults source.place (width_of ds target.bytes) (width_of ds source.bytes)
+
+abbrev pub statement_faults : List Declaration → List Statement → Statement → List VFault
+statement_faults ds before (Assign x e) = assign_faults ds before x e
+statement_faults ds before (Always clock reset target initial second source) = always_faults ds before clock reset target initial second source
+
+-- statements in text order, each with those before it
+abbrev pub all_statement_faults : List Declaration → List Statement → List Statement → List VFault
+all_statement_faults ds before [] = []
+all_statement_faults ds before (s ∷ ss) = statement_faults ds before s ++ all_statement_faults ds (before ++ s ∷ []) ss
+
+-- ---- wires and outputs without an assignment, and registers without an update
+
+abbrev pub missing_faults : List Statement → Declaration → List VFault
+missing_faults ss d =
+    where_not (not (is_target d) || not (is_none (assigned ss d.name.bytes))) (at rules.V07 d.name.place)
+    ++ where_not (not (is_reg d.sort) || not (is_none (updated ss d.name.bytes))) (at rules.V08 d.name.place)
+
+-- numbers and ranges, names, ports, statements, and what is missing
+unfoldable pub faults : File → List VFault
+faults f =
+    all_number_faults f ++ all_repeat_faults f ++ all_port_faults f ++ all_statement_faults f.declarations [] f.statements
+    ++ flat_map (missing_faults f.statements) f.declarations

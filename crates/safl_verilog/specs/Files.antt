@@ -1,0 +1,34 @@
+-- Files as the grammar reads them: a header, declarations and statements.
+use Rattle.std.specs.Prelude.{ℕ, List, Option}
+use Rattle.safl_word.specs.declared.primitive.Primitive.{Primitive}
+use Rattle.safl_verilog.specs.declared.token.Sort.{Sort}
+
+-- a name or a number: where it stands, and its bytes
+pub record Spot : Type 0 where
+  pub place : ℕ
+  pub bytes : List ℕ
+
+-- what is assigned
+pub data Expression : Type 0 where
+  Literal : Spot → Expression
+  Plain : Spot → Expression
+  Inverted : Spot → Expression
+  Binary : Primitive → Spot → Spot → Expression
+  Choice : Spot → Spot → Spot → Expression
+  Joined : Spot → Spot → Expression
+  Slice : (operand high low : Spot) → Expression
+
+pub record Declaration : Type 0 where
+  pub sort : Sort
+  pub range : Option (Spot × Spot)
+  pub name : Spot
+
+-- an assignment, or the update of a register at the clock's edge
+pub data Statement : Type 0 where
+  Assign : Spot → Expression → Statement
+  Always : (clock reset target initial second source : Spot) → Statement
+
+pub record File : Type 0 where
+  pub header : List Spot
+  pub declarations : List Declaration
+  pub statements : List Statement

@@ -1,0 +1,23 @@
+-- What is claimed of files.
+use Rattle.std.specs.Prelude.{◌≡◌, ℕ, List, [], ◌++◌, ◌⊎◌}
+use Rattle.safl_net.specs.Netlist.{Netlist}
+use Rattle.safl_verilog.specs.declared.fault.VFault.{VFault}
+use Rattle.safl_verilog.specs.Tokens.{Terminal}
+use Rattle.safl_verilog.specs.Files.{File}
+use Rattle.safl_verilog.specs.Reads.{IsFile, Reads, HasFault}
+
+abbrev pub OneNetlist : Type 0
+OneNetlist = (text : List ℕ) (n m : Netlist) → Reads text n → Reads text m → n ≡ m
+
+abbrev pub OneFault : Type 0
+OneFault = (text : List ℕ) (f g : VFault) → HasFault text f → HasFault text g → f ≡ g
+
+abbrev pub NetlistOrFault : Type 0
+NetlistOrFault = (text : List ℕ) → ((n : Netlist) × Reads text n) ⊎ ((f : VFault) × HasFault text f)
+
+abbrev pub NotBoth : Type 0
+NotBoth = (text : List ℕ) (n : Netlist) (f : VFault) → Reads text n → HasFault text f → ⊥
+
+-- no shorter front of a file is a file
+abbrev pub NoShorterFile : Type 0
+NoShorterFile = (u v : List Terminal) (a b : File) → IsFile u a → IsFile (u ++ v) b → v ≡ []

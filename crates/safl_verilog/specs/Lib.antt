@@ -1,0 +1,9 @@
+pub mod Tokens
+pub mod Files
+pub mod Grammar
+pub mod Faults
+pub mod Netlists
+pub mod Reads
+pub mod Laws
+pub mod Pieces
+pub mod Reader

@@ -1,0 +1,55 @@
+-- The netlist that a file is.
+use Rattle.std.specs.Prelude.{ℕ, suc, List, [], ◌∷◌, ◌++◌, map, filter, Option, None, Some, if◌then◌else◌}
+use Rattle.std.proofs.Common.{bytes_eq}
+use Rattle.safl_net.specs.Netlist.{Netlist, Signal, Kind, Input, Reg, Wire, Cell}
+use Rattle.safl_verilog.specs.declared.token.Sort.{Sort}
+use Rattle.safl_verilog.specs.declared.token.Sort.TheVariants as sorts
+use Rattle.safl_verilog.specs.Files.{Spot, Expression, Plain, Declaration, File}
+use Rattle.safl_verilog.specs.Faults.{is_data, is_reg, is_wire, is_output, range_width, literal_value, operation, operands, assigned, updated}
+
+-- the declarations of signals: inputs but for the clock and the reset, then registers, then wires
+abbrev pub signals_of : List Declaration → List Declaration
+signals_of ds = filter is_data ds ++ filter (λ (d : Declaration). is_reg d.sort) ds ++ filter (λ (d : Declaration). is_wire d.sort) ds
+
+abbrev pub place_of : List Declaration → List ℕ → ℕ
+place_of [] name = 0
+place_of (d ∷ ds) name = if bytes_eq d.name.bytes name then 0 else suc (place_of ds name)
+
+-- the number of the signal of a name
+abbrev pub number_of : List Declaration → List ℕ → ℕ
+number_of ds name = place_of (signals_of ds) name
+
+abbrev pub cell_of : List Declaration → Expression → Cell
+cell_of ds e = record { op = operation e; operands = map (λ (a : Spot). number_of ds a.bytes) (operands e) }
+
+abbrev pub driven : List Declaration → Option Expression → Option Cell
+driven ds None = None
+driven ds (Some e) = Some (cell_of ds e)
+
+abbrev pub register_of : List Declaration → Option (Spot × Spot) → Kind
+register_of ds None = Reg 0 None
+register_of ds (Some u) = Reg (literal_value u.0.bytes) (Some (number_of ds u.1.bytes))
+
+-- an input is free, a register has its update's number and name, and a wire has what it is assigned
+abbrev pub kind_of : File → Sort → List ℕ → Kind
+kind_of f sorts.Input name = Input
+kind_of f sorts.Output name = Input
+kind_of f sorts.Reg name = register_of f.declarations (updated f.statements name)
+kind_of f sorts.Wire name = Wire (driven f.declarations (assigned f.statements name))
+
+abbrev pub signal_of : File → Declaration → Signal
+signal_of f d = record { name = d.name.bytes; width = range_width d.range; kind = kind_of f d.sort d.name.bytes }
+
+-- an output shows the signal of the name that it is assigned
+abbrev pub shown : List Declaration → Option Expression → ℕ
+shown ds (Some (Plain a)) = number_of ds a.bytes
+shown ds _ = 0
+
+abbrev pub output_of : File → Declaration → List ℕ × ℕ
+output_of f d = (d.name.bytes, shown f.declarations (assigned f.statements d.name.bytes))
+
+unfoldable pub netlist : File → Netlist
+netlist f = record {
+  signals = map (signal_of f) (signals_of f.declarations);
+  outputs = map (output_of f) (filter (λ (d : Declaration). is_output d.sort) f.declarations);
+}

@@ -1,0 +1,28 @@
+//! Laws of files.
+
+ghost use Rattle.safl_verilog.specs.Laws.{OneNetlist, OneFault, NetlistOrFault, NotBoth, NoShorterFile};
+
+/// A text reads as at most one netlist.
+pub fn one_netlist_law()
+    ensures { OneNetlist }
+{}
+
+/// A text has at most one first fault.
+pub fn one_fault_law()
+    ensures { OneFault }
+{}
+
+/// A text reads as a netlist, or it has a first fault.
+pub fn netlist_or_fault_law()
+    ensures { NetlistOrFault }
+{}
+
+/// A text that reads as a netlist has no fault.
+pub fn not_both_law()
+    ensures { NotBoth }
+{}
+
+/// No shorter front of a file is a file.
+pub fn no_shorter_file_law()
+    ensures { NoShorterFile }
+{}
