@@ -1,0 +1,228 @@
+//! What stands at the front of a text.
+
+ghost use Rattle.std.specs.Prelude.{◌≡◌, ◌+◌, ◌<◌, ◌≤◌, ◌∷◌, ◌==◌, not, length, take, drop, slice_index, true, false, IfSome, IfNone};
+ghost use Rattle.safl_word.specs.Numerals.{is_digit, IsNumeral};
+ghost use Rattle.safl_word.specs.Tokens.{is_blank, begins_name, in_name, base_of, sym_text};
+ghost use Rattle.safl_text.specs.Fronts.{IsRun, HasSize, HasNoSize, HasNoPair, IsOther, begins_comment, Begins};
+
+use crate::symbols::{key_of, lone_symbol, symbol_pair};
+use safl_word::{Rule, Sym, TokenKind, numeral};
+use safl_word::word::DIGITS_MAX;
+
+// The most bytes of a name.
+const NAME_MAX: usize = 64;
+
+/// What a text begins with: so many bytes of a blank or a comment, a token of so many bytes, or a fault.
+#[derive(Clone, Copy, Debug, PartialEq, Eq)]
+pub enum Front {
+    Gap(usize),
+    Found(TokenKind, usize),
+    Broken(Rule),
+}
+
+/// What the text begins with.
+pub fn front_of(text: &[u8]) -> Front
+    requires { 0 < length text.now }
+    ensures { Begins text.now result }
+{
+    let first = text[0];
+    if is_blank(first) {
+        Front::Gap(1)
+    } else if begins_name(first) {
+        name_or_key(text)
+    } else if is_digit(10, first) {
+        number(text)
+    } else if begins_comment(text) {
+        comment(text)
+    } else {
+        symbol(text)
+    }
+}
+
+fn name_or_key(text: &[u8]) -> Front
+    requires some { 0 < length text.now }
+    requires begins { begins_name (slice_index text.now 0) ≡ true }
+    ensures { Begins text.now result }
+{
+    let n = name_length(text);
+    match key_of(&text[..n]) {
+        Some(key) => Front::Found(TokenKind::Key(key), n),
+        None if n <= NAME_MAX => Front::Found(TokenKind::Name, n),
+        None => Front::Broken(Rule::E03),
+    }
+}
+
+fn number(text: &[u8]) -> Front
+    requires some { 0 < length text.now }
+    requires begins { is_digit 10 (slice_index text.now 0) ≡ true }
+    ensures { Begins text.now result }
+{
+    let n = digits_length(10, text);
+    match size_of(&text[n..]) {
+        Some((base, count)) => sized_number(text, n, base, count),
+        None => plain_number(text, n),
+    }
+}
+
+// The base of the digits behind a `'`, and how many they are.
+fn size_of(text: &[u8]) -> Option<(u8, usize)>
+    ensures some { IfSome result (λ s. HasSize text.now s.0 s.1) }
+    ensures none { IfNone result (HasNoSize text.now) }
+{
+    match text {
+        [b'\'', letter, digits @ ..] => {
+            let base = base_of(*letter)?;
+            let count = digits_length(base, digits);
+            if count == 0 { None } else { Some((base, count)) }
+        }
+        _ => None,
+    }
+}
+
+fn plain_number(text: &[u8], n: usize) -> Front
+    requires some { 1 ≤ n }
+    requires run { IsRun (is_digit 10) text.now n }
+    requires alone { HasNoSize (drop n text.now) }
+    ensures { Begins text.now result }
+{
+    match numeral(10, DIGITS_MAX, &text[..n]) {
+        Some(value) => Front::Found(TokenKind::Num(value), n),
+        None => Front::Broken(Rule::E03),
+    }
+}
+
+fn sized_number(text: &[u8], n: usize, base: u8, count: usize) -> Front
+    requires some { 1 ≤ n }
+    requires run { IsRun (is_digit 10) text.now n }
+    requires size { HasSize (drop n text.now) base count }
+    ensures { Begins text.now result }
+{
+    let (width, behind) = text.split_at(n);
+    let value = numeral(base, DIGITS_MAX, &behind[2..2 + count]);
+    match (numeral(10, DIGITS_MAX, width), value) {
+        (Some(width), Some(value)) => Front::Found(TokenKind::Sized(width, value), n + 2 + count),
+        _ => Front::Broken(Rule::E03),
+    }
+}
+
+fn begins_comment(text: &[u8]) -> bool
+    ensures { result ≡ begins_comment text.now }
+{
+    match text {
+        [first, second, ..] => *first == b'/' && *second == b'/',
+        _ => false,
+    }
+}
+
+fn comment(text: &[u8]) -> Front
+    requires { begins_comment text.now ≡ true }
+    ensures { Begins text.now result }
+{
+    Front::Gap(2 + line_length(&text[2..]))
+}
+
+fn symbol(text: &[u8]) -> Front
+    requires other { IsOther text.now }
+    requires no_comment { begins_comment text.now ≡ false }
+    ensures { Begins text.now result }
+{
+    match pair_at(text) {
+        Some(symbol) => Front::Found(TokenKind::Sym(symbol), 2),
+        None => match lone_symbol(text[0]) {
+            Some(symbol) => Front::Found(TokenKind::Sym(symbol), 1),
+            None => Front::Broken(Rule::E01),
+        },
+    }
+}
+
+// The symbol of the first two bytes.
+fn pair_at(text: &[u8]) -> Option<Sym>
+    ensures some { IfSome result (λ s. (2 ≤ length text.now) × (take 2 text.now ≡ sym_text s)) }
+    ensures none { IfNone result (HasNoPair text.now) }
+{
+    match text {
+        [first, second, ..] => symbol_pair(*first, *second),
+        _ => None,
+    }
+}
+
+// Space, tab, carriage return and line feed.
+fn is_blank(c: u8) -> bool
+    ensures { result ≡ is_blank c }
+{
+    matches!(c, b' ' | b'\t' | b'\r' | b'\n')
+}
+
+// A letter or `_`.
+fn begins_name(c: u8) -> bool
+    ensures { result ≡ begins_name c }
+{
+    matches!(c, b'A'..=b'Z' | b'a'..=b'z' | b'_')
+}
+
+// A letter, a digit or `_`.
+fn in_name(c: u8) -> bool
+    ensures { result ≡ in_name c }
+{
+    matches!(c, b'A'..=b'Z' | b'a'..=b'z' | b'_' | b'0'..=b'9')
+}
+
+// A digit of base 2, 10 or 16.
+fn is_digit(base: u8, c: u8) -> bool
+    ensures { result ≡ is_digit base c }
+{
+    match c {
+        b'0'..=b'9' => c - b'0' < base,
+        b'A'..=b'F' => c - b'A' + 10 < base,
+        b'a'..=b'f' => c - b'a' + 10 < base,
+        _ => false,
+    }
+}
+
+// The base that a letter stands for.
+fn base_of(letter: u8) -> Option<u8>
+    ensures { result ≡ base_of letter }
+{
+    match letter {
+        b'd' => Some(10),
+        b'h' => Some(16),
+        b'b' => Some(2),
+        _ => None,
+    }
+}
+
+// How many bytes of a name the text begins with.
+fn name_length(text: &[u8]) -> usize
+    ensures { IsRun in_name text.now result }
+{
+    for (i, c) in text.iter().enumerate() {
+        if !in_name(*c) {
+            return i;
+        }
+    }
+    text.len()
+}
+
+// How many digits of the base the text begins with.
+fn digits_length(base: u8, text: &[u8]) -> usize
+    ensures { IsRun (is_digit base) text.now result }
+{
+    for (i, c) in text.iter().enumerate() {
+        if !is_digit(base, *c) {
+            return i;
+        }
+    }
+    text.len()
+}
+
+// How many bytes stand before the line feed.
+fn line_length(text: &[u8]) -> usize
+    ensures { IsRun (λ c. not (c == 10)) text.now result }
+{
+    for (i, c) in text.iter().enumerate() {
+        if *c == b'\n' {
+            return i;
+        }
+    }
+    text.len()
+}

@@ -1,0 +1,34 @@
+//! From bytes to tokens.
+
+ghost use Rattle.std.specs.Prelude.{◌≡◌, ◌≤◌, length, IfOk, IfErr};
+ghost use Rattle.safl_word.specs.Tokens.{HasTokens};
+ghost use Rattle.safl_text.specs.Lexing.{Refuses};
+
+use crate::error::LexErr;
+use crate::front::{Front, front_of};
+use safl_word::{Fault, Token};
+use std::alloc::Global;
+
+/// The tokens of a source of at most 1,048,576 bytes, in order, or the first lexical fault.
+pub fn lex(alloc: Global, source: &[u8]) -> Result<Vec<Token>, LexErr>
+    requires { length source.now ≤ 1048576 }
+    ensures tokens { IfOk result (λ tokens. HasTokens source.now tokens.items) }
+    ensures refused { IfErr result (λ e. Refuses source.now e) }
+{
+    let mut tokens = Vec::new(alloc);
+    let mut place = 0;
+    'pieces: while place < source.len() {
+        match front_of(&source[place..]) {
+            Front::Gap(n) => place += n,
+            Front::Found(kind, n) => {
+                let start = place as u32;
+                place += n;
+                tokens.push(Token { start, stop: place as u32, kind })?;
+            }
+            Front::Broken(rule) => {
+                return Err(LexErr::Refused(Fault { rule, place: place as u32, first: 0, second: 0 }));
+            }
+        }
+    }
+    Ok(tokens)
+}

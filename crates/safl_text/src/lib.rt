@@ -1,0 +1,11 @@
+//! The tokens of a source.
+#![tactic(auto)]
+
+pub mod error;
+pub mod front;
+pub mod lexer;
+pub mod symbols;
+
+pub use crate::error::LexErr;
+pub use crate::lexer::lex;
+pub use safl_word::{Key, Sym, Token, TokenKind};
