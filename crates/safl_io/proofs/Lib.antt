@@ -1,4 +1,3 @@
-pub mod Counting
 pub mod Telling
 pub mod Pieces
 pub mod Writing

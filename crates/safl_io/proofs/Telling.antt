@@ -8,9 +8,3 @@ TellsOn-then R S T both None y z first second = tt
 TellsOn-then R S T both (Some a) None z first second = absurd first
 TellsOn-then R S T both (Some a) (Some b) None first second = absurd second
 TellsOn-then R S T both (Some a) (Some b) (Some c) first second = both a b c first second
-
--- less is said of one call
-pub TellsOn-map : {A : Type 0} (R T : A → A → Type 0) → ((a b : A) → R a b → T a b) → (x y : Option A) → TellsOn R x y → TellsOn T x y
-TellsOn-map R T less None y call = tt
-TellsOn-map R T less (Some a) None call = absurd call
-TellsOn-map R T less (Some a) (Some b) call = less a b call

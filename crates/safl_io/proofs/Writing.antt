@@ -2,7 +2,7 @@
 use Rattle.std.proofs.Common.{◌≡◌, ◌≤◌, ℕ, ◌+◌, ◌-◌, min, List, take, drop, Option, Some, None, OnSome, inl, inr, ◌∙◌, arith}
 use Rattle.safl_io.specs.Told.{TellsOn}
 use Rattle.safl_io.specs.Shelf.{Files, Leaves, LeavesOldOrEmpty, LeavesOldOrPart, Appends, AppendsPart, CountsStray}
-use Rattle.safl_io.proofs.Telling.{TellsOn-then, TellsOn-map}
+use Rattle.safl_io.proofs.Telling.{TellsOn-then}
 use Rattle.safl_io.proofs.Pieces.{take-add, take-take}
 
 -- the next piece of a text stands behind the earlier ones
@@ -23,20 +23,11 @@ Leaves-part name text at n a b c left added =
       others = λ other ne. added.others other ne ∙ left.others other ne;
     }
 
-old_or_empty : (name text : List ℕ) (a b : Files) → LeavesOldOrEmpty name a b → LeavesOldOrPart name text a b
-old_or_empty name text a b left = record {
-  file = elim left.file [ inl old ↦ inl old | inr empty ↦ inr (0, empty) ];
-  others = left.others;
-}
-
 pub TellsOn-append : (name text : List ℕ) (at end : ℕ) → at ≤ end → (a b c : Option Files) → TellsOn (Leaves name (take at text)) a b → TellsOn (Appends name (take (end - at) (drop at text))) b c → TellsOn (Leaves name (take end text)) a c
 TellsOn-append name text at end order = TellsOn-then _ _ _ (Leaves-append name text at end order)
 
 pub TellsOn-part : (name text : List ℕ) (at n : ℕ) (a b c : Option Files) → TellsOn (Leaves name (take at text)) a b → TellsOn (AppendsPart name (take n (drop at text))) b c → TellsOn (LeavesOldOrPart name text) a c
 TellsOn-part name text at n = TellsOn-then _ _ _ (Leaves-part name text at n)
-
-pub TellsOn-old_or_empty : (name text : List ℕ) (a b : Option Files) → TellsOn (LeavesOldOrEmpty name) a b → TellsOn (LeavesOldOrPart name text) a b
-TellsOn-old_or_empty name text = TellsOn-map _ _ (old_or_empty name text)
 
 -- an append to a file that was left there names no stray
 pub no_stray : (name text : List ℕ) (a b : Option Files) (before middle after : ℕ) → TellsOn (Leaves name text) a b → OnSome a (middle ≡ before) → CountsStray b name middle after → OnSome a (after ≡ before)

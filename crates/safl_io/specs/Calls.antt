@@ -1,5 +1,5 @@
 -- Calls of a shelf or a sink in memory, of which some are to fail.
-use Rattle.std.specs.Prelude.{ℕ, List, Contains}
+use Rattle.std.specs.Prelude.{ℕ, List, [], ◌∷◌, ◌++◌, Contains}
 use Rattle.safl_io.specs.Counts.{raised}
 
 -- how many calls there were, and the numbers of those that are to fail
@@ -18,3 +18,11 @@ Fails calls = Contains calls.failing (next_call calls)
 -- after one more call
 abbrev pub called : Calls → Calls
 called calls = record calls { made = next_call calls }
+
+-- before the first call, where none is to fail
+abbrev pub no_calls : Calls
+no_calls = record { failing = []; made = 0 }
+
+-- with one more call that is to fail
+abbrev pub with_failing : ℕ → Calls → Calls
+with_failing call calls = record calls { failing = calls.failing ++ call ∷ [] }

@@ -1,7 +1,7 @@
 // Calls that are to fail, for shelves and sinks in memory.
 ghost use Rattle.std.specs.Prelude.{◌≡◌, ◌++◌, ◌≤◌, ◌↔◌, [], ◌∷◌, IsTrue, OnOk, OnErr, Contains};
 ghost use Rattle.safl_io.specs.Counts.{Rose, raised};
-ghost use Rattle.safl_io.specs.Calls.{Calls, next_call, Fails, called};
+ghost use Rattle.safl_io.specs.Calls.{Calls, Fails, called, no_calls, with_failing};
 
 use std::alloc::{AllocError, Global};
 use std::marker::Model;
@@ -30,7 +30,7 @@ impl Model for CallPlan {
 
 impl CallPlan {
     pub(crate) fn new(alloc: Global) -> Self
-        ensures { result ≡ record { failing = []; made = 0 } }
+        ensures { result ≡ no_calls }
     {
         CallPlan {
             failing: Vec::new(alloc),
@@ -39,7 +39,7 @@ impl CallPlan {
     }
 
     pub(crate) fn fail_call(&mut self, call: u64) -> Result<(), AllocError>
-        ensures listed { OnOk result (self.new ≡ record self.old { failing = self.old.failing ++ call ∷ [] }) }
+        ensures listed { OnOk result (self.new ≡ with_failing call self.old) }
         ensures same { OnErr result (self.new ≡ self.old) }
     {
         self.failing.push(call)?;

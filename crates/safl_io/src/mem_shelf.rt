@@ -4,7 +4,7 @@ ghost use Rattle.std.specs.Option.{option_copied};
 ghost use Rattle.safl_io.specs.Counts.{Rose};
 ghost use Rattle.safl_io.specs.Told.{TellsOn};
 ghost use Rattle.safl_io.specs.Shelf.{file_of, Leaves, LeavesOldOrEmpty, Appends, AppendsPart, Reads, ReadsFrom, IsStray, CountsStray};
-ghost use Rattle.safl_io.specs.Calls.{Fails, called};
+ghost use Rattle.safl_io.specs.Calls.{Fails, called, no_calls, with_failing};
 ghost use Rattle.safl_io.specs.MemShelf.{FailsAt, AppendsHalf};
 
 use crate::calls::{CallPlan, raise};
@@ -42,7 +42,13 @@ impl Model for MemShelf {
 impl MemShelf {
     /// A shelf with no files, no faults and no call that is to fail.
     pub fn new(alloc: Global) -> Self
-        ensures { result ≡ record { files = []; calls = record { failing = []; made = 0 }; read_faults = 0; write_faults = 0; strays = 0 } }
+        ensures { result ≡ record {
+          files = [];
+          calls = no_calls;
+          read_faults = 0;
+          write_faults = 0;
+          strays = 0;
+        } }
     {
         MemShelf {
             files: StoredFiles::new(alloc),
@@ -65,7 +71,7 @@ impl MemShelf {
 
     /// Lists the number of a call of the trait that is to fail. Calls are numbered from 1.
     pub fn fail_call(&mut self, call: u64) -> Result<(), NoMemory>
-        ensures listed { OnOk result (self.new ≡ record self.old { calls = record self.old.calls { failing = self.old.calls.failing ++ call ∷ [] } }) }
+        ensures listed { OnOk result (self.new ≡ record self.old { calls = with_failing call self.old.calls }) }
         ensures same { OnErr result (self.new ≡ self.old) }
     {
         self.calls.fail_call(call)?;
@@ -103,7 +109,8 @@ impl Shelf for MemShelf {
 
         // It fails exactly on a listed call or a missing name, and reads as much as there is room for.
         ensures fails { IsErr result ↔ FailsAt self.old name.now }
-        ensures all { IfOk result (λ count. IfSome (file_of self.old.files name.now) (λ file. count ≡ min (length buf.old) (length file - at))) }
+        ensures all { IfOk result (λ count. IfSome (file_of self.old.files name.now) (λ file.
+            count ≡ min (length buf.old) (length file - at))) }
         ensures called { self.new.calls ≡ called self.old.calls }
     {
         let fails = self.calls.next_fails();
@@ -145,7 +152,8 @@ impl Shelf for MemShelf {
         ensures appended { OnOk result (Appends name.now bytes.now self.old.files self.new.files) }
         ensures not_appended { OnErr result (AppendsPart name.now bytes.now self.old.files self.new.files) }
         ensures failed { IsErrOf result OutErr.Failed → Rose self.old.write_faults self.new.write_faults }
-        ensures missing { IsStray (Some self.old.files) name.now → Rose self.old.write_faults self.new.write_faults }
+        ensures missing { IsStray (Some self.old.files) name.now →
+            Rose self.old.write_faults self.new.write_faults }
         ensures same_reads { self.new.read_faults ≡ self.old.read_faults }
         ensures writes_later { self.old.write_faults ≤ self.new.write_faults }
         ensures stray { CountsStray (Some self.old.files) name.now self.old.strays self.new.strays }
@@ -154,7 +162,8 @@ impl Shelf for MemShelf {
         // It fails exactly on a listed call or a missing name, want of memory aside.
         ensures fails { IsErrOf result OutErr.Failed → FailsAt self.old name.now }
         ensures succeeds { OnOk result (¬ FailsAt self.old name.now) }
-        ensures half { IsErrOf result OutErr.Failed → AppendsHalf name.now bytes.now self.old.files self.new.files }
+        ensures half { IsErrOf result OutErr.Failed →
+            AppendsHalf name.now bytes.now self.old.files self.new.files }
         ensures called { self.new.calls ≡ called self.old.calls }
     {
         let fails = self.calls.next_fails();

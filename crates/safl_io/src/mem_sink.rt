@@ -2,7 +2,7 @@
 ghost use Rattle.std.specs.Prelude.{◌≡◌, ◌≤◌, ◌++◌, ◌↔◌, [], ◌∷◌, OnOk, OnErr, IsErrOf};
 ghost use Rattle.safl_io.specs.Counts.{Rose};
 ghost use Rattle.safl_io.specs.Sink.{Sends, SendsPart};
-ghost use Rattle.safl_io.specs.Calls.{Fails, called};
+ghost use Rattle.safl_io.specs.Calls.{Fails, called, no_calls, with_failing};
 ghost use Rattle.safl_io.specs.MemSink.{SendsHalf};
 
 use crate::calls::{CallPlan, raise};
@@ -31,7 +31,7 @@ impl Model for MemSink {
 impl MemSink {
     /// A sink to which nothing was sent, with no faults and no call that is to fail.
     pub fn new(alloc: Global) -> Self
-        ensures { result ≡ record { bytes = []; calls = record { failing = []; made = 0 }; faults = 0 } }
+        ensures { result ≡ record { bytes = []; calls = no_calls; faults = 0 } }
     {
         MemSink {
             bytes: Vec::new(alloc),
@@ -42,7 +42,7 @@ impl MemSink {
 
     /// Lists the number of a call of the trait that is to fail. Calls are numbered from 1.
     pub fn fail_call(&mut self, call: u64) -> Result<(), NoMemory>
-        ensures listed { OnOk result (self.new ≡ record self.old { calls = record self.old.calls { failing = self.old.calls.failing ++ call ∷ [] } }) }
+        ensures listed { OnOk result (self.new ≡ record self.old { calls = with_failing call self.old.calls }) }
         ensures same { OnErr result (self.new ≡ self.old) }
     {
         self.calls.fail_call(call)?;

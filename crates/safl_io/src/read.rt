@@ -84,8 +84,10 @@ fn read_more<S: Shelf>(
 ) -> Result<usize, ReadErr>
     requires { 0 < length buffer.old }
     ensures longer { IfOk result (λ count. length text.new.items ≡ length text.old.items + count) }
-    ensures more { OnOk result (IsReadSoFar (S.holds shelf.old) name.now text.old.items → IsReadSoFar (S.holds shelf.old) name.now text.new.items) }
-    ensures end { IfOk result (λ count. count ≡ 0 → IsReadSoFar (S.holds shelf.old) name.now text.old.items → IfSome (S.holds shelf.old) (HasFile name.now text.new.items)) }
+    ensures more { OnOk result (IsReadSoFar (S.holds shelf.old) name.now text.old.items →
+        IsReadSoFar (S.holds shelf.old) name.now text.new.items) }
+    ensures end { IfOk result (λ count. count ≡ 0 → IsReadSoFar (S.holds shelf.old) name.now text.old.items →
+        IfSome (S.holds shelf.old) (HasFile name.now text.new.items)) }
     ensures not_too_long { IsErrOf result ReadErr.TooLong → ⊥ }
     ensures failed { IsErrOf result ReadErr.Failed → Rose (S.read_faults shelf.old) (S.read_faults shelf.new) }
     ensures same_files { S.holds shelf.new ≡ S.holds shelf.old }
