@@ -1,12 +1,12 @@
 -- The netlist of a constant has the scheme of its program, and so is its circuit.
-use Rattle.std.proofs.Common.{◌≡◌, ℕ, zero, suc, nat_lt, nat_le, not, ◌||◌, ◌<◌, [], ◌∷◌, Some, None, Bool, true, false, cond, ◌==◌, ◌&&◌, refl, sym, ap, ◌∙◌, arith, is_some}
+use Rattle.std.proofs.Common.{◌≡◌, ℕ, zero, suc, nat_lt, nat_le, not, ◌||◌, ◌<◌, ◌≤◌, [], ◌∷◌, Some, None, Bool, true, false, cond, ◌==◌, ◌&&◌, refl, sym, ap, ◌∙◌, arith, is_some}
 use Rattle.std.specs.Prelude.{codes}
 use Rattle.std.proofs.lemmas.Bool.{ne_eqb, lt-leb, and_right, false≢true}
 use Rattle.safl_word.specs.Words.{Word, IsWord, pick}
 use Rattle.safl_check.specs.Terms as plain
 use Rattle.safl_check.specs.Program.{Program}
 use Rattle.safl_check.specs.Readiness.{Ready, NotYet, word_of, answer, wanted, or_else}
-use Rattle.safl_check.specs.WellFormed.{IsWellFormed}
+use Rattle.safl_check.specs.WellFormed.{Spans, HasWidth, IsWellFormed}
 use Rattle.safl_core.specs.Picks.{first}
 use Rattle.safl_core.proofs.Basics.{some_is}
 use Rattle.safl_sites.specs.Conflicts.{Conflict, Apart}
@@ -157,27 +157,28 @@ module _ (w : Word) (start run fin res ended looped goes word shown : ℕ) (c : 
   unfolding starts first go place
   starts_is = refl
 
-  run_at : (u : ℕ) → (is_unit (C w) u && one goes) ≡ cond (is_some (ends (C w) no_choice r u)) false (r.run u || is_some (starts (C w) no_choice r i u))
+  run_at : (u : ℕ) → (is_unit (C w) u && one (read_next (n w) v (of_function main_names (codes "run$") u))) ≡ cond (is_some (ends (C w) no_choice r u)) false (r.run u || is_some (starts (C w) no_choice r i u))
   unfolding place
   run_at zero =
       run_low w start run looped goes c.start_fits c.run_fits c.looped_is c.goes_is
       ∙ ap (λ o. cond (is_some (cond (one run) (Some w) None)) false (one run || is_some o)) (sym starts_is)
       ∙ ap (λ o. cond (is_some o) false (one run || is_some (starts (C w) no_choice r i 0))) (sym ends_is)
   run_at (suc u) =
-      side (is_unit (C w) (suc u)) (run_other w u) (one goes)
+      side (is_unit (C w) (suc u)) (run_other w u) (one (read_next (n w) v (of_function main_names (codes "run$") (suc u))))
       ∙ sym (ap (λ o. cond (is_some o) false (r.run (suc u) || is_some (starts (C w) no_choice r i (suc u)))) (ends_other w r u)
       ∙ ap (λ o. r.run (suc u) || is_some o) (starts_other w r i u)
       ∙ ap (λ b. b || false) (side (is_unit (C w) (suc u)) (run_other w u) (one (read (n w) v (of_function main_names (codes "run$") (suc u))))))
 
-  fin_at : (u : ℕ) → (is_unit (C w) u && one ended) ≡ is_some (ends (C w) no_choice r u)
+  fin_at : (u : ℕ) → (is_unit (C w) u && one (read_next (n w) v (of_function main_names (codes "fin$") u))) ≡ is_some (ends (C w) no_choice r u)
+  unfolding place
   fin_at zero = ap one c.ended_is ∙ fin_low w (one run) ∙ sym (ap is_some ends_is)
-  fin_at (suc u) = side (is_unit (C w) (suc u)) (run_other w u) (one ended) ∙ sym (ap is_some (ends_other w r u))
+  fin_at (suc u) = side (is_unit (C w) (suc u)) (run_other w u) (one (read_next (n w) v (of_function main_names (codes "fin$") (suc u)))) ∙ sym (ap is_some (ends_other w r u))
 
-  res_at : (u : ℕ) → cond (is_unit (C w) u) shown 0 ≡ (or_word (ends (C w) no_choice r u) (r.res u)).bits
+  res_at : (u : ℕ) → cond (is_unit (C w) u) (read_next (n w) v (of_function main_names (codes "res$") u)) 0 ≡ (or_word (ends (C w) no_choice r u) (r.res u)).bits
   unfolding place
   res_at zero = c.shown_is ∙ ap (λ m. (pick m (as_word w.width word) (as_word w.width res)).bits) c.ended_is ∙ res_low w run res word c.run_fits c.word_is ∙ sym (ap (λ o. (or_word o (as_word w.width res)).bits) ends_is)
   res_at (suc u) =
-      ap (λ b. cond b shown 0) (run_other w u)
+      ap (λ b. cond b (read_next (n w) v (of_function main_names (codes "res$") (suc u))) 0) (run_other w u)
       ∙ sym (ap (λ o. (or_word o (r.res (suc u))).bits) (ends_other w r u) ∙ ap (λ b. cond b (read (n w) v (of_function main_names (codes "res$") (suc u))) 0) (run_other w u))
 
   none_many : (f : ℕ) → f < 1 → many (C w) f ≡ true → ⊥
@@ -245,20 +246,24 @@ module _ (w : Word) where
         (λ start run fin res ended looped goes word shown f. edge_at w start run fin res ended looped goes word shown (cells w start run fin res ended looped goes word shown state f)) fits;
   }
 
+  spans : (f : ℕ) → Spans (C w) f true 1 1 ((C w).body f)
+  spans zero = refl
+  spans (suc f) = refl
+
   pub constant_formed : IsWord w → IsWellFormed (C w)
   constant_formed is_word = record {
-    numbered = record { bodies = λ f. (1, 1, omega arith, refl); below = λ f. omega arith; top = λ f. omega arith };
+    numbered = record { bodies = λ f. (1, 1, omega arith, spans f); below = λ f. omega arith; top = λ f. omega arith };
     main = refl;
     main_in = omega arith;
-    first = λ f lt. (omega arith, refl, refl);
+    first = only_zero (λ f. ((C w).unit f ≤ f) × ((C w).unit ((C w).unit f) ≡ (C w).unit f) × ((C w).result ((C w).unit f) ≡ (C w).result f)) (omega arith, refl, refl);
     sites = λ f lt. omega arith;
     calls = λ k pos le. absurd (omega (arith, pos, le));
-    widths = λ f lt. (is_word, refl);
+    widths = only_zero (λ f. HasWidth (C w) ((C w).params f) ((C w).body f) ((C w).result f)) (is_word, refl);
   }
 
   no_conflict : (j k : ℕ) → Conflict (C w) j k → ⊥
   unfolding Apart
-  no_conflict j k q = q.apart
+  no_conflict j k q = only_zero (λ f. Apart (C w) j k ((C w).body f) → ⊥) (λ a. a) q.body q.is_body q.apart
 
   pub constant_suffices : Suffices (C w) no_choice.arbiter no_choice.kept
   constant_suffices = record { arbiters = λ j k q. absurd (no_conflict j k q); keeps = λ k pos le q. absurd (omega (arith, pos, le)) }

@@ -27,3 +27,4 @@ pub mod EvenRow
 pub mod ConstantNet
 pub mod ConstantCells
 pub mod Constant
+pub mod ConstantSource

@@ -1,6 +1,6 @@
 //! Laws of circuits, over the definitions alone.
 
-ghost use Rattle.safl_unit.specs.Constant.{ConstantsAreCircuits, ConstantsHavePlans};
+ghost use Rattle.safl_unit.specs.Constant.{ConstantSourcesAreCircuits, ConstantsAreCircuits, ConstantsHavePlans};
 ghost use Rattle.safl_unit.specs.Theorem.{CyclesAreEvents, SchemesAreCircuits, ServingSchemesAreCircuits};
 
 /// A netlist with the scheme of a well-formed program, whose arbiters and kept words suffice, does what the program
@@ -24,4 +24,5 @@ pub fn cycle_law()
 pub fn constant_law()
     ensures circuit { ConstantsAreCircuits }
     ensures plan { ConstantsHavePlans }
+    ensures source { ConstantSourcesAreCircuits }
 {}
