@@ -25,17 +25,29 @@ named (x ∷ xs) (w ∷ ws) = (x, w) ∷ named xs ws
 -- the registers of a member: at, where its unit has others, and one for each parameter
 abbrev pub member_lines : Program → Names → ℕ → ℕ → List Line
 member_lines C D u f =
-    cond (C.unit f == u) (cond (many C f) ((of_function D (codes "at$") f, 1) ∷ []) [] ++ named (map (of_param D f) (D.params f)) (C.params f)) []
+    cond (C.unit f == u)
+    (cond (many C f) ((of_function D (codes "at$") f, 1) ∷ []) []
+    ++ named (map (of_param D f) (D.params f)) (C.params f))
+    []
 
 -- of a unit: run, fin and res, and then those of its members
 abbrev pub unit_lines : Program → Names → ℕ → List Line
 unit_lines C D u =
-    cond (is_unit C u) ((of_function D (codes "run$") u, 1) ∷ (of_function D (codes "fin$") u, 1) ∷ (of_function D (codes "res$") u, C.result u) ∷ lines (member_lines C D u) C.functions) []
+    cond (is_unit C u)
+    ((of_function D (codes "run$") u, 1)
+    ∷ (of_function D (codes "fin$") u, 1)
+    ∷ (of_function D (codes "res$") u, C.result u)
+    ∷ lines (member_lines C D u) C.functions)
+    []
 
 -- of a site: sent and got, and keep where it is kept
 abbrev pub site_lines : Program → Choice → ℕ → List Line
 site_lines C P k =
-    cond (nat_lt 0 k) ((of_site (codes "sent$") k, 1) ∷ (of_site (codes "got$") k, 1) ∷ cond (P.kept k) ((of_site (codes "keep$") k, C.result (C.callee k)) ∷ []) []) []
+    cond (nat_lt 0 k)
+    ((of_site (codes "sent$") k, 1)
+    ∷ (of_site (codes "got$") k, 1)
+    ∷ cond (P.kept k) ((of_site (codes "keep$") k, C.result (C.callee k)) ∷ []) [])
+    []
 
 -- the registers: the units in order, and then the sites
 abbrev pub layout_registers : Program → Names → Choice → List Line
@@ -47,7 +59,13 @@ function_wires D f = (of_function D (codes "end$") f, 1) ∷ (of_function D (cod
 
 abbrev pub site_wires : Program → Choice → ℕ → List Line
 site_wires C P k =
-    cond (nat_lt 0 k) ((of_site (codes "want$") k, 1) ∷ (of_site (codes "ret$") k, 1) ∷ (cond (P.arbiter (unit_for C k)) ((of_site (codes "arb$") k, 1) ∷ []) [] ++ (of_site (codes "go$") k, 1) ∷ [])) []
+    cond (nat_lt 0 k)
+    ((of_site (codes "want$") k, 1)
+    ∷ (of_site (codes "ret$") k, 1)
+    ∷ (cond (P.arbiter (unit_for C k)) ((of_site (codes "arb$") k, 1) ∷ []) []
+    ++ (of_site (codes "go$") k, 1)
+    ∷ []))
+    []
 
 -- the named wires: the functions in order, the sites, and main's go
 abbrev pub layout_wires : Program → Names → Choice → List Line

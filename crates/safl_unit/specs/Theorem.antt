@@ -29,12 +29,16 @@ pub record IsCircuit (C : Program) (D : Names) (P : Choice) (n : Netlist) : Type
 
 -- for all arbiters and kept words that the machine's states allow
 abbrev pub ServingSchemesAreCircuits : Type 0
-ServingSchemesAreCircuits = (C : Program) (D : Names) (P : Choice) (n : Netlist) → IsWellFormed C → OneInUse C P.arbiter → ShownWordsServe C P.kept → Scheme C D P n → IsCircuit C D P n
+ServingSchemesAreCircuits =
+    (C : Program) (D : Names) (P : Choice) (n : Netlist) → IsWellFormed C → OneInUse C P.arbiter → ShownWordsServe C P.kept → Scheme C D P n → IsCircuit C D P n
 
 -- which is so where each unit with sites in conflict has an arbiter, and each site that has to keep its word does
 abbrev pub SchemesAreCircuits : Type 0
-SchemesAreCircuits = (C : Program) (D : Names) (P : Choice) (n : Netlist) → IsWellFormed C → Suffices C P.arbiter P.kept → Scheme C D P n → IsCircuit C D P n
+SchemesAreCircuits =
+    (C : Program) (D : Names) (P : Choice) (n : Netlist) → IsWellFormed C → Suffices C P.arbiter P.kept → Scheme C D P n → IsCircuit C D P n
 
 -- the same of the registers alone, from any quiet state, and for all choices that the machine's states allow
 abbrev pub CyclesAreEvents : Type 0
-CyclesAreEvents = (C : Program) (P : Choice) → IsWellFormed C → OneInUse C P.arbiter → ShownWordsServe C P.kept → (r0 : Registers) → Quiet r0 → (args : List Word) → length args ≡ arity C C.main → (later : ℕ → List Word) (c : ℕ) → StepsAt C P r0 args later c
+CyclesAreEvents =
+    (C : Program) (P : Choice) → IsWellFormed C → OneInUse C P.arbiter → ShownWordsServe C P.kept → (r0 : Registers) → Quiet r0
+    → (args : List Word) → length args ≡ arity C C.main → (later : ℕ → List Word) (c : ℕ) → StepsAt C P r0 args later c
