@@ -9,7 +9,7 @@ use Rattle.safl_core.specs.Starts.{event_start, starts_of, listed, goes_with}
 use Rattle.safl_core.proofs.Numbered.{Numbered}
 use Rattle.safl_core.proofs.Bodies.{goes_stands}
 use Rattle.safl_core.proofs.Invariant.{Inv, found, inv_fire}
-use Rattle.safl_core.proofs.PictureLaws.{start_count, starts_count}
+use Rattle.safl_core.specs.Starts.{start_count, starts_count}
 
 -- the sum of the numbers below n
 pub sum_below : (ℕ → ℕ) → ℕ → ℕ

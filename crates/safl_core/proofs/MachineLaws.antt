@@ -18,7 +18,7 @@ use Rattle.safl_core.proofs.Invariant.{Inv, inv_after, inv_fire, inv_open}
 use Rattle.safl_core.proofs.Activities.{Activity, Free, Active, Giving, Scene, Step, accept_main, accept as step_accept, finish as step_finish, loop as step_loop, return_main, give, Trail, applied, applied_by, words_of}
 use Rattle.safl_core.proofs.Picture.{own, own_at, activity, picture, trail, own_answer, own_wanted, step_of}
 use Rattle.safl_core.proofs.PictureLaws as law
-use Rattle.safl_core.proofs.PictureLaws.{starts_count}
+use Rattle.safl_core.specs.Starts.{starts_count}
 
 abbrev member_in : Activity → ℕ
 member_in Free = 0

@@ -1,8 +1,9 @@
 -- The laws, of the picture.
-use Rattle.std.proofs.Common.{◌≡◌, ℕ, ◌+◌, ◌*◌, ◌≤◌, List, [], ◌∷◌, ◌++◌, length, refl, subst, arith}
+use Rattle.std.proofs.Common.{◌≡◌, ℕ, ◌+◌, ◌*◌, ◌≤◌, List, ◌++◌, length, refl, subst, arith}
 use Rattle.std.specs.Prelude.{◌≢◌}
 use Rattle.std.specs.List.Sorted.{IsPermutation}
 use Rattle.std.proofs.lemmas.List.Sums.{sum_by-append}
+use Rattle.safl_core.specs.Starts.{start_count, starts_count}
 use Rattle.safl_core.proofs.Activities.{fresh, Scene, Trail, l_none, l_more, applied, applied_by}
 use Rattle.safl_core.proofs.Holds.{Outside}
 use Rattle.safl_core.proofs.Preserved.{fine_opening, fine_legal}
@@ -127,16 +128,6 @@ mutual
   owed_starting_all : (p : Program) {env : List Word} {ts : _} {vs : List Word} (d : GivesAll p env ts vs) → owed_all p starting fresh d ≡ costs p d
   owed_starting_all p gives_nil = refl
   owed_starting_all p (gives_cons d ds) = omega (arith, owed_starting p d, owed_starting_all p ds)
-
-abbrev pub start_count : Event → ℕ
-start_count (Accept k) = 1
-start_count (Finish f) = 0
-start_count (Return k) = 0
-start_count (LoopInto h) = 1
-
-unfoldable pub starts_count : List Event → ℕ
-starts_count [] = 0
-starts_count (e ∷ es) = start_count e + starts_count es
 
 counts_start : (p : Program) (e : Event) (t : Scene) → counts p starting e t ≡ start_count e
 counts_start p (Accept k) t = refl

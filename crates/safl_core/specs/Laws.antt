@@ -6,7 +6,7 @@ use Rattle.safl_check.specs.Program.{Program, arity}
 use Rattle.safl_check.specs.Readiness.{Returned}
 use Rattle.safl_check.specs.Meaning.{Main, main_cost, main_calls, loops}
 use Rattle.safl_core.specs.Machine.{Event, opening, Enabled, after, EachList}
-use Rattle.safl_core.specs.Starts.{starts_of}
+use Rattle.safl_core.specs.Starts.{starts_of, starts_count}
 
 -- after these events main has returned v
 abbrev pub HasReturned : Program → List Word → List Event → Word → Type 0
@@ -35,3 +35,7 @@ abbrev pub SameCalls : Program → Type 0
 SameCalls C =
     EachList C (λ args es. (v w : Word) (d : Main C args w) → HasReturned C args es v
     → (f : ℕ) → IsPermutation (main_calls C args d f) (starts_of C args opening es f))
+
+-- and as often as the evaluation makes calls
+abbrev pub SameNumber : Program → Type 0
+SameNumber C = EachList C (λ args es. (v w : Word) (d : Main C args w) → HasReturned C args es v → starts_count es ≡ main_cost C args d)

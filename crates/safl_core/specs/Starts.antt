@@ -1,5 +1,5 @@
 -- The arguments with which functions start.
-use Rattle.std.specs.Prelude.{ℕ, List, [], ◌∷◌, ◌++◌, Option, Some, None, cond, ◌==◌}
+use Rattle.std.specs.Prelude.{ℕ, ◌+◌, List, [], ◌∷◌, ◌++◌, Option, Some, None, cond, ◌==◌}
 use Rattle.safl_word.specs.Words.{Word}
 use Rattle.safl_check.specs.Program.{Program}
 use Rattle.safl_check.specs.Readiness.{Answer, Ready, LoopTo, NotYet}
@@ -25,3 +25,14 @@ event_start C args s (LoopInto h) f = cond (h == f) (goes_with (says C s (C.unit
 unfoldable pub starts_of : Program → List Word → State → List Event → ℕ → List (List Word)
 starts_of C args s [] f = []
 starts_of C args s (e ∷ es) f = event_start C args s e f ++ starts_of C args (fire C args s e) es f
+
+-- how many events of a list start a function: each Accept and each Loop starts one
+abbrev pub start_count : Event → ℕ
+start_count (Accept k) = 1
+start_count (Finish f) = 0
+start_count (Return k) = 0
+start_count (LoopInto h) = 1
+
+unfoldable pub starts_count : List Event → ℕ
+starts_count [] = 0
+starts_count (e ∷ es) = start_count e + starts_count es

@@ -5,7 +5,7 @@ ghost use Rattle.safl_check.specs.Program.{Program};
 ghost use Rattle.safl_check.specs.WellFormed.{IsWellFormed};
 ghost use Rattle.safl_sites.specs.Plan.{Suffices};
 ghost use Rattle.safl_core.specs.Interference.{OneInUse, ShownWordsServe};
-ghost use Rattle.safl_core.specs.Laws.{Bounded, GoesOn, Right, SameCalls, Stops};
+ghost use Rattle.safl_core.specs.Laws.{Bounded, GoesOn, Right, SameCalls, SameNumber, Stops};
 
 /// What main has returned is its value, and the list has three events for each call but two less for each
 /// tail call.
@@ -24,9 +24,11 @@ pub fn bound_law()
     ensures { (C : Program) → IsWellFormed C → Bounded C }
 {}
 
-/// Where main has returned, each function was started with the argument lists of the evaluation.
+/// Where main has returned, each function was started with the argument lists of the evaluation, and all of them
+/// as often as it makes calls.
 pub fn calls_law()
-    ensures { (C : Program) → IsWellFormed C → SameCalls C }
+    ensures lists { (C : Program) → IsWellFormed C → SameCalls C }
+    ensures number { (C : Program) → IsWellFormed C → SameNumber C }
 {}
 
 /// At a unit without an arbiter at most one site is wanted or in flight.
