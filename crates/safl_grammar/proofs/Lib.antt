@@ -9,3 +9,4 @@ pub mod Text
 pub mod Rules
 pub mod Small
 pub mod Same
+pub mod Yields

@@ -21,7 +21,7 @@ pub record Both (m : ℕ) (s c : Grammar.Level) : Type 0 where
   pub rest : (xs : List Labelled) → Parses code (arms_at m xs) (s.rest xs) (c.rest xs) false arm_starts (Only (3 ∷ [])) after_arms
 
 both_next : (m : ℕ) (s c : Grammar.Level) → Both m s c → Both (suc m) (Grammar.next_level s) (Grammar.next_level c)
-unfolding operand_at
+unfolding operand_at arms_at
 both_next m s c b =
     let u = unary_parses (expr_at m) s.whole c.whole b.whole (operand_at m) s.operand c.operand b.operand in
     record {
@@ -77,7 +77,7 @@ unfolding Grammar.level read_arms read_arm
 bottom_arms = arms_parses read_below deep deep bottom.whole never (λ so_far. too_high) (λ so_far. too_high) (λ xs. parses_never code arm_starts Every after_arms)
 
 both_zero : (n : ℕ) → Both 0 (Grammar.level 1 0) (Grammar.level n 0)
-unfolding Grammar.level operand_at
+unfolding Grammar.level operand_at arms_at read_arms
 both_zero n =
     let u = lowest_unary (Grammar.level 0 0) bottom in
     let e = bottom_expr in

@@ -3,3 +3,7 @@ pub mod Expressions
 pub mod Levels
 pub mod Programs
 pub mod Sources
+pub mod Formed
+pub mod Kept
+pub mod PrintableText
+pub mod Texts

@@ -1,20 +1,24 @@
--- What is claimed of the grammar, for the tokens of any text.
+-- What is claimed of the grammar.
 use Rattle.std.specs.Prelude.{◌≡◌, ℕ, List, ◌⊎◌}
-use Rattle.safl_word.specs.declared.token.Token.{Token}
 use Rattle.safl_word.specs.declared.fault.Fault.{Fault}
 use Rattle.safl_tree.specs.Tree.{Definition}
-use Rattle.safl_tree.specs.Source.{TokensSpell, TokensFault}
+use Rattle.safl_tree.specs.Source.{SpellsProgram, SyntaxFault}
+use Rattle.safl_tree.specs.Printable.{IsPrintable}
 
--- tokens spell at most one program
+-- a text spells at most one program
 abbrev pub OneProgram : Type 0
-OneProgram = (text : List ℕ) (ts : List Token) (p q : List Definition) → TokensSpell text ts p → TokensSpell text ts q → p ≡ q
+OneProgram = (text : List ℕ) (p q : List Definition) → SpellsProgram text p → SpellsProgram text q → p ≡ q
 
--- tokens have a first fault where they spell no program, and only there; and they have one at most
+-- a text has a first fault where it spells no program, and only there; and it has one at most
 abbrev pub ProgramOrFault : Type 0
-ProgramOrFault = (text : List ℕ) (ts : List Token) → ((p : List Definition) × TokensSpell text ts p) ⊎ ((f : Fault) × TokensFault text ts f)
+ProgramOrFault = (text : List ℕ) → ((p : List Definition) × SpellsProgram text p) ⊎ ((f : Fault) × SyntaxFault text f)
 
 abbrev pub NotBoth : Type 0
-NotBoth = (text : List ℕ) (ts : List Token) (p : List Definition) (f : Fault) → TokensSpell text ts p → TokensFault text ts f → ⊥
+NotBoth = (text : List ℕ) (p : List Definition) (f : Fault) → SpellsProgram text p → SyntaxFault text f → ⊥
 
 abbrev pub OneFault : Type 0
-OneFault = (text : List ℕ) (ts : List Token) (f g : Fault) → TokensFault text ts f → TokensFault text ts g → f ≡ g
+OneFault = (text : List ℕ) (f g : Fault) → SyntaxFault text f → SyntaxFault text g → f ≡ g
+
+-- a program that a text spells can be printed
+abbrev pub SpelledIsPrintable : Type 0
+SpelledIsPrintable = (text : List ℕ) (p : List Definition) → SpellsProgram text p → IsPrintable p

@@ -5,3 +5,4 @@ pub mod Reader
 pub mod Shown
 pub mod Source
 pub mod Laws
+pub mod Printable

@@ -166,7 +166,7 @@ read_cases e rest = read_follows (read_word keys.Case) (λ p. read_follows e (λ
 unfoldable pub read_expr : Reading Terminal Tree → Reading Terminal Tree → (List Labelled → Reading Terminal ArmList) → Reading Terminal Tree
 read_expr u e rest = read_either (comes (word_code keys.If ∷ [])) (read_choice e) (read_either (comes (word_code keys.Let ∷ [])) (read_binding e) (read_either (comes (word_code keys.Case ∷ [])) (read_cases e rest) (read_chain 7 u)))
 
--- ---- levels: the operand of "~", an expression and arms, where m levels are left
+-- ---- levels: the operand of "~", an expression, an arm's value and the arms behind it, where m levels are left
 
 unfoldable mutual
   pub operand_at : ℕ → Reading Terminal Tree
@@ -175,11 +175,18 @@ unfoldable mutual
 
   pub expr_at : ℕ → Reading Terminal Tree
   expr_at zero = read_below
-  expr_at (suc m) = read_expr (read_unary (operand_at m) (expr_at m)) (expr_at m) (arms_at m)
+  expr_at (suc m) = read_expr (read_unary (operand_at m) (expr_at m)) (expr_at m) (read_arms (arm_value_at m) (more_arms_at m))
 
-  pub arms_at : ℕ → List Labelled → Reading Terminal ArmList
-  arms_at zero = read_arms read_below (λ so_far. read_below)
-  arms_at (suc m) = read_arms (expr_at m) (arms_at m)
+  pub arm_value_at : ℕ → Reading Terminal Tree
+  arm_value_at zero = read_below
+  arm_value_at (suc m) = expr_at m
+
+  pub more_arms_at : ℕ → List Labelled → Reading Terminal ArmList
+  more_arms_at zero so_far = read_below
+  more_arms_at (suc m) so_far = read_arms (arm_value_at m) (more_arms_at m) so_far
+
+unfoldable pub arms_at : ℕ → List Labelled → Reading Terminal ArmList
+arms_at m = read_arms (arm_value_at m) (more_arms_at m)
 
 -- ---- programs
 

@@ -1,23 +1,29 @@
 //! Laws of the grammar, over the definitions alone.
 
-ghost use Rattle.safl_tree.specs.Laws.{OneProgram, ProgramOrFault, NotBoth, OneFault};
+ghost use Rattle.safl_tree.specs.Laws.{OneProgram, ProgramOrFault, NotBoth, OneFault, SpelledIsPrintable};
 
-/// Tokens spell at most one program.
+/// A text spells at most one program.
 pub fn one_program_law()
     ensures { OneProgram }
 {}
 
-/// Tokens spell a program, or have a first fault.
+/// A text spells a program, or has a first fault.
 pub fn program_or_fault_law()
     ensures { ProgramOrFault }
 {}
 
-/// Tokens that spell a program have no fault.
+/// A text that spells a program has no fault.
 pub fn no_fault_beside_law()
     ensures { NotBoth }
 {}
 
-/// Tokens have one first fault at most.
+/// A text has one first fault at most.
 pub fn one_fault_law()
     ensures { OneFault }
+{}
+
+/// A program that a text spells is printable: its names, widths and numbers are in form and in range, its operators
+/// have their operands, and its text with least parentheses keeps the levels.
+pub fn printable_law()
+    ensures { SpelledIsPrintable }
 {}

@@ -1,4 +1,4 @@
-use Rattle.safl_tree.proofs.Sources.{not_both}
+use Rattle.safl_tree.proofs.Texts.{not_both}
 use Rattle.safl_tree.proofs.laws.no_fault_beside_law.Goals as goal
 
 pub returns : goal.returns

@@ -1,0 +1,190 @@
+-- What is read has the form of a printable program and keeps the levels: the facts of each symbol.
+use Rattle.std.proofs.Common.{◌≡◌, ℕ, zero, suc, ◌+◌, ◌<◌, ◌≤◌, max, leb, ltb, Bool, true, false, cond, List, [], ◌∷◌, ◌++◌, Option, Some, None, refl, sym, ap, subst, ◌∙◌, inl, inr, arith}
+use Rattle.std.specs.Prelude.{nat_lt, nat_le}
+use Rattle.std.proofs.lemmas.Bool.{leb-true, leb-false, ltb-true, le-leb}
+use Rattle.safl_grammar.specs.Sets.{Only, within}
+use Rattle.safl_grammar.specs.Syntax.{Deep, Range}
+use Rattle.safl_grammar.specs.Reading.{Reading, read_token, read_limited}
+use Rattle.safl_grammar.proofs.Yields.{Yields, yields_nothing, yields_token, yields_limited, yields_follows}
+use Rattle.safl_word.specs.declared.token.Key.{Key}
+use Rattle.safl_word.specs.declared.token.Key.TheVariants as keys
+use Rattle.safl_word.specs.declared.token.Sym.{Sym}
+use Rattle.safl_word.specs.declared.token.Sym.TheVariants as syms
+use Rattle.safl_word.specs.declared.token.TokenKind.{TokenKind}
+use Rattle.safl_word.specs.declared.token.TokenKind.TheVariants as kinds
+use Rattle.safl_word.specs.declared.primitive.Primitive.{Primitive}
+use Rattle.safl_word.specs.declared.primitive.Primitive.TheVariants as prims
+use Rattle.safl_word.specs.Words.{max_width}
+use Rattle.safl_word.specs.Tokens.{IsName, IsToken, value_bound}
+use Rattle.safl_tree.specs.Tree.{Tree, Number, Sized, Variable, Choice, Binding, Cases, Applied, Called, trees_of, placed, depth}
+use Rattle.safl_tree.specs.Terminals.{Terminal, code_of, word_code, symbol_code, classed, marked, NameAt, name, NumberAt, number, number_in, SizedAt, sized, width_in, value_in, operators, primitive_of, primitive_in, operator}
+use Rattle.safl_tree.specs.Grammar.{is_width, fits_width, fits_sized, fits_index}
+use Rattle.safl_tree.specs.Reader.{read_word, read_symbol, read_width, read_index, read_literal, read_sized_literal}
+use Rattle.safl_tree.specs.Printable.{IsLabel, IsFormed, InRange, operands, is_binary, right_place, left_place, below_of, own_of, own, lifted, levels, IsShallow}
+
+-- a token's bytes are a text of its kind
+abbrev pub IsTerminal : Terminal → Type 0
+IsTerminal t = IsToken t.kind t.bytes
+
+-- ---- tokens of a class
+
+pub classed_is : {A : Type 0} (b : Bool) (v x : A) → cond b (Some v) None ≡ Some x → (b ≡ true) × (v ≡ x)
+classed_is true v x e = (refl, cc)
+classed_is false v x e = absurd cc
+
+name_at : (k : TokenKind) (w : List ℕ) → within (Only (1 ∷ [])) (code_of k) ≡ true → IsToken k w → IsName w
+name_at kinds.Name w e h = h
+name_at (kinds.Num n) w e h = absurd cc
+name_at (kinds.Sized m n) w e h = absurd cc
+name_at (kinds.Key keys.Fun) w e h = absurd cc
+name_at (kinds.Key _) w e h = absurd cc
+name_at (kinds.Sym syms.OpenParen) w e h = absurd cc
+name_at (kinds.Sym _) w e h = absurd cc
+
+number_small : (k : TokenKind) (w : List ℕ) → within (Only (2 ∷ [])) (code_of k) ≡ true → IsToken k w → number_in k < value_bound
+number_small kinds.Name w e h = absurd cc
+number_small (kinds.Num n) w e h = subst (λ (x : ℕ). x < value_bound) (sym h.1) h.0.small
+number_small (kinds.Sized m n) w e h = absurd cc
+number_small (kinds.Key keys.Fun) w e h = absurd cc
+number_small (kinds.Key _) w e h = absurd cc
+number_small (kinds.Sym syms.OpenParen) w e h = absurd cc
+number_small (kinds.Sym _) w e h = absurd cc
+
+sized_small : (k : TokenKind) (w : List ℕ) → within (Only (3 ∷ [])) (code_of k) ≡ true → IsToken k w → value_in k < value_bound
+sized_small kinds.Name w e h = absurd cc
+sized_small (kinds.Num n) w e h = absurd cc
+sized_small (kinds.Sized m n) w e h = subst (λ (x : ℕ). x < value_bound) (sym h.1.value_is) h.1.digits_fit.small
+sized_small (kinds.Key keys.Fun) w e h = absurd cc
+sized_small (kinds.Key _) w e h = absurd cc
+sized_small (kinds.Sym syms.OpenParen) w e h = absurd cc
+sized_small (kinds.Sym _) w e h = absurd cc
+
+pub any_word : (k : Key) → Yields IsTerminal (read_word k) (λ p. Unit {0})
+any_word k = yields_token (λ (p : ℕ). Unit {0}) (marked (word_code k)) (λ t x q e. tt)
+
+pub any_symbol : (s : Sym) → Yields IsTerminal (read_symbol s) (λ p. Unit {0})
+any_symbol s = yields_token (λ (p : ℕ). Unit {0}) (marked (symbol_code s)) (λ t x q e. tt)
+
+abbrev pub NamedWell : NameAt → Type 0
+NamedWell x = IsName x.name
+
+pub a_name : Yields IsTerminal (read_token name) NamedWell
+a_name = yields_token NamedWell name (λ t x q e. let h = classed_is (within (Only (1 ∷ [])) (code_of t.kind)) _ x e in subst NamedWell h.1 (name_at t.kind t.bytes h.0 q))
+
+abbrev pub Small : NumberAt → Type 0
+Small n = n.value < value_bound
+
+pub a_number : Yields IsTerminal (read_token number) Small
+a_number = yields_token Small number (λ t x q e. let h = classed_is (within (Only (2 ∷ [])) (code_of t.kind)) _ x e in subst Small h.1 (number_small t.kind t.bytes h.0 q))
+
+abbrev pub Wide : NumberAt → Type 0
+Wide n = is_width n.value ≡ true
+
+pub a_width : Yields IsTerminal read_width Wide
+a_width = yields_limited Wide Range fits_width number (λ t x q e f. f)
+
+abbrev pub Indexes : NumberAt → Type 0
+Indexes n = n.value < max_width
+
+pub an_index : Yields IsTerminal read_index Indexes
+an_index = yields_limited Indexes Range fits_index number (λ t x q e f. ltb-true x.value max_width f)
+
+abbrev pub WideSmall : SizedAt → Type 0
+WideSmall s = (is_width s.width ≡ true) × (s.value < value_bound)
+
+pub a_sized : Yields IsTerminal (read_limited Range fits_sized sized) WideSmall
+a_sized = yields_limited WideSmall Range fits_sized sized (λ t x q e f. let h = classed_is (within (Only (3 ∷ [])) (code_of t.kind)) _ x e in (f, subst (λ (s : SizedAt). s.value < value_bound) h.1 (sized_small t.kind t.bytes h.0 q)))
+
+-- ---- the layer of an operator
+
+-- an operator of layer k: its left operand has the layers of its own chain, or those below it
+pub record Layer (k left_layers : ℕ) (o : Primitive) : Type 0 where
+  pub binary : is_binary o ≡ true
+  pub right : right_place o ≡ k
+  pub left : left_place o ≡ left_layers
+  pub own : own_of o ≡ suc k
+  pub below : below_of o ≡ 0
+  pub two : operands o ≡ 2
+  pub range : InRange o
+
+pub layer_0 : (t : TokenKind) → within (Only (operators 0)) (code_of t) ≡ true → Layer 0 1 (primitive_in t)
+layer_0 (kinds.Sym syms.Star) e = record { binary = refl; right = refl; left = refl; own = refl; below = refl; two = refl; range = tt }
+layer_0 (kinds.Sym _) e = absurd cc
+layer_0 (kinds.Key keys.Fun) e = absurd cc
+layer_0 (kinds.Key _) e = absurd cc
+layer_0 _ e = absurd cc
+
+pub layer_1 : (t : TokenKind) → within (Only (operators 1)) (code_of t) ≡ true → Layer 1 2 (primitive_in t)
+layer_1 (kinds.Sym syms.Plus) e = record { binary = refl; right = refl; left = refl; own = refl; below = refl; two = refl; range = tt }
+layer_1 (kinds.Sym syms.Minus) e = record { binary = refl; right = refl; left = refl; own = refl; below = refl; two = refl; range = tt }
+layer_1 (kinds.Sym _) e = absurd cc
+layer_1 (kinds.Key keys.Fun) e = absurd cc
+layer_1 (kinds.Key _) e = absurd cc
+layer_1 _ e = absurd cc
+
+pub layer_2 : (t : TokenKind) → within (Only (operators 2)) (code_of t) ≡ true → Layer 2 3 (primitive_in t)
+layer_2 (kinds.Sym syms.ShiftLeft) e = record { binary = refl; right = refl; left = refl; own = refl; below = refl; two = refl; range = tt }
+layer_2 (kinds.Sym syms.ShiftRight) e = record { binary = refl; right = refl; left = refl; own = refl; below = refl; two = refl; range = tt }
+layer_2 (kinds.Sym _) e = absurd cc
+layer_2 (kinds.Key keys.Fun) e = absurd cc
+layer_2 (kinds.Key _) e = absurd cc
+layer_2 _ e = absurd cc
+
+pub layer_3 : (t : TokenKind) → within (Only (operators 3)) (code_of t) ≡ true → Layer 3 3 (primitive_in t)
+layer_3 (kinds.Sym syms.Equal) e = record { binary = refl; right = refl; left = refl; own = refl; below = refl; two = refl; range = tt }
+layer_3 (kinds.Sym syms.NotEqual) e = record { binary = refl; right = refl; left = refl; own = refl; below = refl; two = refl; range = tt }
+layer_3 (kinds.Sym syms.Less) e = record { binary = refl; right = refl; left = refl; own = refl; below = refl; two = refl; range = tt }
+layer_3 (kinds.Sym syms.LessEqual) e = record { binary = refl; right = refl; left = refl; own = refl; below = refl; two = refl; range = tt }
+layer_3 (kinds.Sym syms.Greater) e = record { binary = refl; right = refl; left = refl; own = refl; below = refl; two = refl; range = tt }
+layer_3 (kinds.Sym syms.GreaterEqual) e = record { binary = refl; right = refl; left = refl; own = refl; below = refl; two = refl; range = tt }
+layer_3 (kinds.Sym _) e = absurd cc
+layer_3 (kinds.Key keys.Fun) e = absurd cc
+layer_3 (kinds.Key _) e = absurd cc
+layer_3 _ e = absurd cc
+
+pub layer_4 : (t : TokenKind) → within (Only (operators 4)) (code_of t) ≡ true → Layer 4 5 (primitive_in t)
+layer_4 (kinds.Sym syms.Ampersand) e = record { binary = refl; right = refl; left = refl; own = refl; below = refl; two = refl; range = tt }
+layer_4 (kinds.Sym _) e = absurd cc
+layer_4 (kinds.Key keys.Fun) e = absurd cc
+layer_4 (kinds.Key _) e = absurd cc
+layer_4 _ e = absurd cc
+
+pub layer_5 : (t : TokenKind) → within (Only (operators 5)) (code_of t) ≡ true → Layer 5 6 (primitive_in t)
+layer_5 (kinds.Sym syms.Caret) e = record { binary = refl; right = refl; left = refl; own = refl; below = refl; two = refl; range = tt }
+layer_5 (kinds.Sym _) e = absurd cc
+layer_5 (kinds.Key keys.Fun) e = absurd cc
+layer_5 (kinds.Key _) e = absurd cc
+layer_5 _ e = absurd cc
+
+pub layer_6 : (t : TokenKind) → within (Only (operators 6)) (code_of t) ≡ true → Layer 6 7 (primitive_in t)
+layer_6 (kinds.Sym syms.Bar) e = record { binary = refl; right = refl; left = refl; own = refl; below = refl; two = refl; range = tt }
+layer_6 (kinds.Sym _) e = absurd cc
+layer_6 (kinds.Key keys.Fun) e = absurd cc
+layer_6 (kinds.Key _) e = absurd cc
+layer_6 _ e = absurd cc
+
+-- ---- levels
+
+pub lift_low : (k l n : ℕ) → n ≤ lifted k l n
+lift_low k l n = go (leb l k)
+  where
+    go : (b : Bool) → n ≤ cond b n (suc n)
+    go true = omega arith
+    go false = omega arith
+
+pub lift_high : (k l n : ℕ) → lifted k l n ≤ suc n
+lift_high k l n = go (leb l k)
+  where
+    go : (b : Bool) → cond b n (suc n) ≤ suc n
+    go true = omega arith
+    go false = omega arith
+
+pub lift_in : (k l n : ℕ) → l ≤ k → lifted k l n ≡ n
+lift_in k l n h = ap (λ (b : Bool). cond b n (suc n)) (le-leb l k h)
+
+pub lift_up : (j k l n : ℕ) → j ≤ k → lifted k l n ≤ lifted j l n
+lift_up j k l n h = go (leb l j) refl
+  where
+    go : (b : Bool) → leb l j ≡ b → lifted k l n ≤ cond b n (suc n)
+    go true e = let i = lift_in k l n (omega (arith, leb-true l j e)) in omega (arith, i)
+    go false e = lift_high k l n

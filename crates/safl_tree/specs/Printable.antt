@@ -1,0 +1,247 @@
+-- Which programs can be printed: their form, and the levels that their text takes with least parentheses.
+use Rattle.std.specs.Prelude.{◌≡◌, ℕ, suc, ◌+◌, ◌<◌, ◌≤◌, max, List, [], ◌∷◌, Option, Some, None, Bool, true, false, nat_le, if◌then◌else◌}
+use Rattle.safl_word.specs.declared.primitive.Primitive.{Primitive}
+use Rattle.safl_word.specs.declared.primitive.Primitive.TheVariants as prims
+use Rattle.safl_word.specs.Words.{max_width}
+use Rattle.safl_word.specs.Tokens.{IsName, value_bound}
+use Rattle.safl_tree.specs.Tree.{Tree, Number, Sized, Variable, Choice, Binding, Cases, Applied, Called, Trees, no_tree, a_tree, Binds, no_bind, a_bind, Arms, default_arm, an_arm, Parameter, Definition, depth}
+use Rattle.safl_tree.specs.Grammar.{is_width}
+
+-- ---- form
+
+-- how many operands an operator has
+abbrev pub operands : Primitive → ℕ
+operands prims.Not = 1
+operands (prims.Bits h l) = 1
+operands (prims.Ext n) = 1
+operands _ = 2
+
+abbrev pub count : Trees → ℕ
+count no_tree = 0
+count (a_tree t ts) = 1 + count ts
+
+-- the numbers of an operator are in range
+abbrev pub InRange : Primitive → Type 0
+InRange (prims.Bits h l) = (h < max_width) × (l < max_width)
+InRange (prims.Ext n) = is_width n ≡ true
+InRange _ = Unit {0}
+
+abbrev pub HasBinding : Binds → Type 0
+HasBinding no_bind = ⊥
+HasBinding (a_bind p x w t bs) = Unit {0}
+
+-- a label is a number or a sized number
+abbrev pub IsLabel : Tree → Type 0
+IsLabel (Number p n) = n < value_bound
+IsLabel (Sized p w n) = (is_width w ≡ true) × (n < value_bound)
+IsLabel (Variable p x) = ⊥
+IsLabel (Choice p c a b) = ⊥
+IsLabel (Binding p bs t) = ⊥
+IsLabel (Cases p e arms) = ⊥
+IsLabel (Applied p o ts) = ⊥
+IsLabel (Called p f ts) = ⊥
+
+-- a width that is not written, or is in range
+abbrev pub FitsWritten : Option ℕ → Type 0
+FitsWritten None = Unit {0}
+FitsWritten (Some w) = is_width w ≡ true
+
+-- names are names of the source, operators have their operands, a let has a binding, and numbers are in range
+abbrev mutual
+  pub IsFormed : Tree → Type 0
+  IsFormed (Number p n) = n < value_bound
+  IsFormed (Sized p w n) = (is_width w ≡ true) × (n < value_bound)
+  IsFormed (Variable p x) = IsName x
+  IsFormed (Choice p c a b) = IsFormed c × IsFormed a × IsFormed b
+  IsFormed (Binding p bs t) = HasBinding bs × AreFormedBinds bs × IsFormed t
+  IsFormed (Cases p e arms) = IsFormed e × AreFormedArms arms
+  IsFormed (Applied p o ts) = (count ts ≡ operands o) × InRange o × AreFormed ts
+  IsFormed (Called p f ts) = IsName f × AreFormed ts
+
+  pub AreFormed : Trees → Type 0
+  AreFormed no_tree = Unit {0}
+  AreFormed (a_tree t ts) = IsFormed t × AreFormed ts
+
+  pub AreFormedBinds : Binds → Type 0
+  AreFormedBinds no_bind = Unit {0}
+  AreFormedBinds (a_bind p x w t bs) = IsName x × FitsWritten w × IsFormed t × AreFormedBinds bs
+
+  pub AreFormedArms : Arms → Type 0
+  AreFormedArms (default_arm t) = IsFormed t
+  AreFormedArms (an_arm l t arms) = IsLabel l × IsFormed t × AreFormedArms arms
+
+-- ---- levels
+
+-- an operator between its operands
+abbrev pub is_binary : Primitive → Bool
+is_binary prims.Not = false
+is_binary prims.Cat = false
+is_binary (prims.Bits h l) = false
+is_binary (prims.Ext n) = false
+is_binary _ = true
+
+-- how many layers may stand right of an operator without parentheses: the layers below its own; 8 is any expression
+abbrev pub right_place : Primitive → ℕ
+right_place prims.Mul = 0
+right_place prims.Add = 1
+right_place prims.Sub = 1
+right_place prims.Shl = 2
+right_place prims.Shr = 2
+right_place prims.Eq = 3
+right_place prims.Ne = 3
+right_place prims.Lt = 3
+right_place prims.Le = 3
+right_place prims.Gt = 3
+right_place prims.Ge = 3
+right_place prims.And = 4
+right_place prims.Xor = 5
+right_place prims.Or = 6
+right_place prims.Not = 0
+right_place prims.Cat = 8
+right_place (prims.Bits h l) = 8
+right_place (prims.Ext n) = 8
+
+-- and left of it: its own layer as well, since chains group to the left, but not that of a comparison
+abbrev pub left_place : Primitive → ℕ
+left_place prims.Mul = 1
+left_place prims.Add = 2
+left_place prims.Sub = 2
+left_place prims.Shl = 3
+left_place prims.Shr = 3
+left_place prims.Eq = 3
+left_place prims.Ne = 3
+left_place prims.Lt = 3
+left_place prims.Le = 3
+left_place prims.Gt = 3
+left_place prims.Ge = 3
+left_place prims.And = 5
+left_place prims.Xor = 6
+left_place prims.Or = 7
+left_place prims.Not = 0
+left_place prims.Cat = 8
+left_place (prims.Bits h l) = 8
+left_place (prims.Ext n) = 8
+
+-- the operands of a binary operator stay at its level, those of the others are one level below
+abbrev pub below_of : Primitive → ℕ
+below_of o = if is_binary o then 0 else 1
+
+-- how many layers the symbol has that derives the operator's expression without parentheses
+abbrev pub own_of : Primitive → ℕ
+own_of o = if is_binary o then suc (right_place o) else 0
+
+-- the same of an expression; 8 is that of an if, a let or a case
+abbrev pub own : Tree → ℕ
+own (Number p n) = 0
+own (Sized p w n) = 0
+own (Variable p x) = 0
+own (Choice p c a b) = 8
+own (Binding p bs t) = 8
+own (Cases p e arms) = 8
+own (Applied p o ts) = own_of o
+own (Called p f ts) = 0
+
+-- one level more, where an expression of so many layers stands in parentheses at a place of k layers
+abbrev pub lifted : ℕ → ℕ → ℕ → ℕ
+lifted k layers n = if nat_le layers k then n else suc n
+
+-- how many levels the text of an expression takes, its own counted
+abbrev mutual
+  pub levels : Tree → ℕ
+  levels (Number p n) = 1
+  levels (Sized p w n) = 1
+  levels (Variable p x) = 1
+  levels (Choice p c a b) = 1 + max (levels c) (max (levels a) (levels b))
+  levels (Binding p bs t) = 1 + max (most_bind bs) (levels t)
+  levels (Cases p e arms) = 1 + max (levels e) (most_arm arms)
+  levels (Applied p o ts) = below_of o + most_operand (left_place o) (right_place o) ts
+  levels (Called p f ts) = 1 + most ts
+
+  pub most : Trees → ℕ
+  most no_tree = 0
+  most (a_tree t ts) = max (levels t) (most ts)
+
+  -- of operands, the first at a place of so many layers, and the others at one of so many
+  pub most_operand : ℕ → ℕ → Trees → ℕ
+  most_operand k right no_tree = 0
+  most_operand k right (a_tree t ts) = max (lifted k (own t) (levels t)) (most_operand right right ts)
+
+  pub most_bind : Binds → ℕ
+  most_bind no_bind = 0
+  most_bind (a_bind p x w t bs) = max (levels t) (most_bind bs)
+
+  -- each arm is one level below the one before it
+  pub most_arm : Arms → ℕ
+  most_arm (default_arm t) = 1 + levels t
+  most_arm (an_arm l t arms) = 1 + max (levels t) (most_arm arms)
+
+-- left operands have a depth of 99 at most
+abbrev pub LeftShallow : Trees → Type 0
+LeftShallow no_tree = Unit {0}
+LeftShallow (a_tree t ts) = depth t < 100
+
+abbrev pub OfBinary : Bool → Type 0 → Type 0
+OfBinary true P = P
+OfBinary false P = Unit {0}
+
+abbrev mutual
+  pub IsShallow : Tree → Type 0
+  IsShallow (Number p n) = Unit {0}
+  IsShallow (Sized p w n) = Unit {0}
+  IsShallow (Variable p x) = Unit {0}
+  IsShallow (Choice p c a b) = IsShallow c × IsShallow a × IsShallow b
+  IsShallow (Binding p bs t) = AreShallowBinds bs × IsShallow t
+  IsShallow (Cases p e arms) = IsShallow e × AreShallowArms arms
+  IsShallow (Applied p o ts) = OfBinary (is_binary o) (LeftShallow ts) × AreShallow ts
+  IsShallow (Called p f ts) = AreShallow ts
+
+  pub AreShallow : Trees → Type 0
+  AreShallow no_tree = Unit {0}
+  AreShallow (a_tree t ts) = IsShallow t × AreShallow ts
+
+  pub AreShallowBinds : Binds → Type 0
+  AreShallowBinds no_bind = Unit {0}
+  AreShallowBinds (a_bind p x w t bs) = IsShallow t × AreShallowBinds bs
+
+  pub AreShallowArms : Arms → Type 0
+  AreShallowArms (default_arm t) = IsShallow t
+  AreShallowArms (an_arm l t arms) = IsShallow t × AreShallowArms arms
+
+-- the text of the body takes 100 levels at most, and left operands are shallow
+abbrev pub KeepsLevels : Tree → Type 0
+KeepsLevels t = (levels t ≤ 100) × IsShallow t
+
+-- ---- programs
+
+abbrev pub IsFormedParameter : Parameter → Type 0
+IsFormedParameter p = IsName p.name × (is_width p.width ≡ true)
+
+abbrev pub AreFormedParameters : List Parameter → Type 0
+AreFormedParameters [] = Unit {0}
+AreFormedParameters (p ∷ ps) = IsFormedParameter p × AreFormedParameters ps
+
+abbrev pub IsFormedDefinition : Definition → Type 0
+IsFormedDefinition d = IsName d.name × AreFormedParameters d.params × (is_width d.width ≡ true) × IsFormed d.body
+
+abbrev pub AreFormedDefinitions : List Definition → Type 0
+AreFormedDefinitions [] = Unit {0}
+AreFormedDefinitions (d ∷ ds) = IsFormedDefinition d × AreFormedDefinitions ds
+
+abbrev pub AllKeepLevels : List Definition → Type 0
+AllKeepLevels [] = Unit {0}
+AllKeepLevels (d ∷ ds) = KeepsLevels d.body × AllKeepLevels ds
+
+-- the first definition is not joined to one before it
+abbrev pub OpensGroup : List Definition → Type 0
+OpensGroup [] = Unit {0}
+OpensGroup (d ∷ ds) = d.joined ≡ false
+
+-- a program that has the form, levels aside
+pub record IsFormedProgram (p : List Definition) : Type 0 where
+  pub opens : OpensGroup p
+  pub formed : AreFormedDefinitions p
+
+-- a program that can be printed
+pub record IsPrintable (p : List Definition) : Type 0 where
+  pub formed : IsFormedProgram p
+  pub kept : AllKeepLevels p
