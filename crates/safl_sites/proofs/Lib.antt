@@ -7,3 +7,4 @@ pub mod ReachLemmas
 pub mod TermLemmas
 pub mod MarkLemmas
 pub mod TouchLemmas
+pub mod BeforeLemmas

@@ -175,3 +175,9 @@ has_within a j h = elim (cases_lt (j / 64) (length a.words)) [
 
 pub no_row_has : (k : ℕ) → Has (record { words = [] }) k → ⊥
 no_row_has k h = zero-not-one (bit_at-zero (k % 64)) (bit_of_has (record { words = [] }) k h)
+
+-- a row of a table, whatever stands where there is none
+pub row_at : (rows : List Row) (i : ℕ) (row : Row) → i < length rows → row ≡ get_or rows i row → row ≡ get_or rows i (record { words = [] })
+row_at [] i row h e = absurd (omega arith)
+row_at (r ∷ rows) zero row h e = e
+row_at (r ∷ rows) (suc i) row h e = row_at rows i row (omega arith) e

@@ -6,3 +6,4 @@ pub mod Parallel
 pub mod Kept
 pub mod Touched
 pub mod Plan
+pub mod Planned

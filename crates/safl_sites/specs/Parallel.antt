@@ -1,9 +1,9 @@
--- Sites that stand after a parallel term, by what is in reach of it.
-use Rattle.std.specs.Prelude.{ℕ, ◌⊎◌}
+-- Parallel terms, the earlier before the later.
+use Rattle.std.specs.Prelude.{ℕ, ◌<◌, ◌⊎◌}
 use Rattle.safl_check.specs.Program.{Program}
 use Rattle.safl_check.specs.Standing.{Stands, StandsIn}
 use Rattle.safl_check.specs.Terms.{Term, Terms, Const, Var, Op, If, Let, Call, Loop, Nil, Cons}
-use Rattle.safl_sites.specs.Conflicts.{Reaches}
+use Rattle.safl_sites.specs.Conflicts.{Reaches, ReachesIn}
 
 unfoldable mutual
   -- two parallel terms in t have k in reach of the earlier, and have site b in the later
@@ -26,3 +26,24 @@ Marked C before k b t = (Stands b t × before) ⊎ After C k b t
 
 abbrev pub MarkedIn : Program → Type 0 → ℕ → ℕ → Terms → Type 0
 MarkedIn C before k b ts = (StandsIn b ts × before) ⊎ AfterIn C k b ts
+
+unfoldable mutual
+  -- two parallel terms in t have j in reach of the earlier and k in reach of the later
+  pub Before : Program → ℕ → ℕ → Term → Type 0
+  Before C j k (Const n) = ⊥
+  Before C j k (Var i) = ⊥
+  Before C j k (Op p ts) = BeforeIn C j k ts
+  Before C j k (If c x y) = Before C j k c ⊎ (Before C j k x ⊎ Before C j k y)
+  Before C j k (Let ts x) = BeforeIn C j k ts ⊎ Before C j k x
+  Before C j k (Call f i ts) = BeforeIn C j k ts
+  Before C j k (Loop h ts) = BeforeIn C j k ts
+
+  pub BeforeIn : Program → ℕ → ℕ → Terms → Type 0
+  BeforeIn C j k Nil = ⊥
+  BeforeIn C j k (Cons t ts) = (Before C j k t ⊎ BeforeIn C j k ts) ⊎ (Reaches C j t × ReachesIn C k ts)
+
+-- in some body, j is in reach of a term and k of a later one that is parallel to it
+pub record ComesBefore (C : Program) (j k : ℕ) : Type 0 where
+  pub body : ℕ
+  pub is_body : body < C.functions
+  pub before : Before C j k (C.body body)

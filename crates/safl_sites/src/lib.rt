@@ -3,6 +3,9 @@
 
 pub mod laws;
 mod parallel;
+mod planned;
 mod reach;
 mod row;
 mod touched;
+
+pub use crate::planned::Planned;

@@ -10,13 +10,13 @@ use safl_check::Term;
 
 /// Puts into a set what the rows of the slots have that are used in a term, from a first slot on.
 #[cycle(touch)]
-pub fn touch(slots: &[Row], low: u32, t: &Term, row: &mut Row)
+pub fn touch(slots: &[Row], low: usize, t: &Term, row: &mut Row)
     ensures { (k : ℕ) → Adds (Has row.old k) (Has row.new k) (IsTouched slots.now low k (tree t.now)) }
 {
     match t {
         Term::Const(_) => {}
         Term::Var(slot) => {
-            if low <= *slot && (*slot as usize) < slots.len() {
+            if low <= *slot as usize && (*slot as usize) < slots.len() {
                 row.union(&slots[*slot as usize]);
             }
         }
@@ -36,7 +36,7 @@ pub fn touch(slots: &[Row], low: u32, t: &Term, row: &mut Row)
 }
 
 #[cycle(touch)]
-fn touch_in(slots: &[Row], low: u32, ts: &[Term], row: &mut Row)
+fn touch_in(slots: &[Row], low: usize, ts: &[Term], row: &mut Row)
     ensures { (k : ℕ) → Adds (Has row.old k) (Has row.new k) (IsTouchedIn slots.now low k (forest ts.now)) }
 {
     if let Some((first, rest)) = ts.split_first() {
