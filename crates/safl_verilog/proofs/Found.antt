@@ -34,7 +34,7 @@ of_first w n kind h = record { rest = drop n w; joined = sym (take-append-drop n
 word_like : (c : ℕ) (w : List ℕ) → is_start c ≡ true → is_identifier (take (run is_part (c ∷ w)) (c ∷ w)) ≡ true
 word_like c w h = rw (start_part c h, h, are_parts-all (take (run is_part w) w), run_all is_part w) refl
 
-no_keyword : (w : List ℕ) → named keyword_text all_keywords w ≡ None → (k : Keyword) → w ≢ keyword_text k
+pub no_keyword : (w : List ℕ) → named keyword_text all_keywords w ≡ None → (k : Keyword) → w ≢ keyword_text k
 no_keyword w e k h = let f = ap (named keyword_text all_keywords) h ∙ keyword_named k in let g : None ≡ Some k = sym e ∙ f in cc
 
 word_kinds : (w rest : List ℕ) → is_identifier w ≡ true → length w ≤ name_max → stops is_part rest ≡ true → (o : Option Keyword) → named keyword_text all_keywords w ≡ o → IsToken (word_kind o) w rest

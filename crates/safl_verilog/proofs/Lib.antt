@@ -7,3 +7,11 @@ pub mod Cutting
 pub mod Texts
 pub mod Grammar
 pub mod Readings
+pub mod Printed
+pub mod PrintedStands
+pub mod PrintedReads
+pub mod Bare
+pub mod FileOf
+pub mod Decimals
+pub mod Distinct
+pub mod Lookups
