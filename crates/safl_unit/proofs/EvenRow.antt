@@ -8,19 +8,19 @@ use Rattle.safl_check.specs.Fuel.{Gave, apply}
 use Rattle.safl_check.specs.Readiness.{answer, wanted}
 use Rattle.safl_check.specs.WellFormed.{Spans, HasWidth, IsWellFormed}
 use Rattle.safl_core.specs.Picks.{first}
-use Rattle.safl_unit.specs.Equations.{Registers, Choice, ret, go, body_says, body_wants, ends, loops, starts, loads, next}
+use Rattle.safl_sites.proofs.RowPrograms.{byte}
+use Rattle.safl_unit.specs.Constant.{no_choice}
+use Rattle.safl_unit.proofs.RowRuns.{done_below, shown_in}
+use Rattle.safl_unit.specs.Equations.{go, body_says, body_wants, ends, loops, starts, loads, next}
 use Rattle.safl_unit.specs.Steps.{registers_at}
 
-abbrev byte : ℕ → Word
-byte n = record { width = 8; bits = n }
-
-abbrev flag : ℕ → Word
+abbrev pub flag : ℕ → Word
 flag n = record { width = 1; bits = n }
 
-abbrev is_zero : Term
+abbrev pub is_zero : Term
 is_zero = Op Eq (Cons (Var 0) (Cons (Const (byte 0)) Nil))
 
-abbrev less_one : Term
+abbrev pub less_one : Term
 less_one = Op Add (Cons (Var 0) (Cons (Const (byte 255)) Nil))
 
 -- fun even(x:8):1 = if x == 0 then 1 else odd(x + 255) and odd(x:8):1 = if x == 0 then 0 else even(x + 255) fun main(a:8):1 = even(a)
@@ -42,19 +42,13 @@ even = record { functions = 3; sites = 1; main = 2; unit = even_unit; body = eve
 even_three : apply even 5 5 2 (byte 3 ∷ []) ≡ Gave (flag 0) 0
 even_three = refl
 
-everywhere : Choice
-everywhere = record { arbiter = λ u. true; kept = λ k. true }
+even_done : done_below even no_choice (byte 3 ∷ []) 9 ≡ false ∷ false ∷ false ∷ false ∷ false ∷ false ∷ false ∷ true ∷ false ∷ []
+unfolding registers_at next go body_says body_wants ends loops starts loads first answer wanted
+even_done = refl
 
-quiet : Registers
-quiet = record { run = λ u. false; fin = λ u. false; res = λ u. flag 0; at = λ f. false; arg = λ f. byte 0 ∷ []; sent = λ k. false; got = λ k. false; keep = λ k. flag 0 }
-
-done_in_seven : ret even (registers_at even everywhere quiet (byte 3 ∷ []) (λ c. []) 7) 0 ≡ true
-unfolding everywhere quiet registers_at next go body_says body_wants ends loops starts loads first answer wanted
-done_in_seven = refl
-
-zero_in_seven : (registers_at even everywhere quiet (byte 3 ∷ []) (λ c. []) 7).res 2 ≡ flag 0
-unfolding everywhere quiet registers_at next go body_says body_wants ends loops starts loads first answer wanted
-zero_in_seven = refl
+even_shown : shown_in even no_choice (byte 3 ∷ []) 7 ≡ flag 0
+unfolding registers_at next go body_says body_wants ends loops starts loads first answer wanted
+even_shown = refl
 
 bodies : (f : ℕ) → (lo : ℕ) × (hi : ℕ) × (1 ≤ lo) × Spans even f true lo hi (even_body f)
 bodies zero = (1, 1, omega arith, (1, 1, (1, refl, (1, refl, refl)), refl, (refl, refl, (1, (1, refl, (1, refl, refl)), refl))))

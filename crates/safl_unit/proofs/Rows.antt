@@ -1,7 +1,6 @@
 -- Whole runs by computation.
 use Rattle.std.proofs.Common.{◌≡◌, ℕ, zero, suc, [], ◌∷◌, true, false, cond, ◌==◌, refl}
-use Rattle.safl_word.specs.Words.{Word}
-use Rattle.safl_word.specs.declared.primitive.Primitive.TheVariants.{Add, And, Eq}
+use Rattle.safl_word.specs.declared.primitive.Primitive.TheVariants.{And}
 use Rattle.safl_check.specs.Terms.{Term, Const, Var, Op, If, Call, Loop, Nil, Cons}
 use Rattle.safl_check.specs.Program.{Program}
 use Rattle.safl_check.specs.Fuel.{Gave, apply}
@@ -11,10 +10,8 @@ use Rattle.safl_unit.specs.Equations.{Choice, go, body_says, body_wants, ends, l
 use Rattle.safl_unit.specs.Steps.{registers_at}
 use Rattle.safl_unit.specs.Constant.{constant_program, no_choice}
 use Rattle.safl_sites.proofs.RowPrograms.{byte, sum, nested, bound, decided}
+use Rattle.safl_unit.proofs.EvenRow.{flag, is_zero, less_one}
 use Rattle.safl_unit.proofs.RowRuns.{done_below, shown_in}
-
-abbrev flag : ℕ → Word
-flag n = record { width = 1; bits = n }
 
 -- fun main():8 = 7 is done in cycle 2, and in no other of the first 6
 seven_done : done_below (constant_program (byte 7)) no_choice [] 6 ≡ false ∷ false ∷ true ∷ false ∷ false ∷ false ∷ []
@@ -24,12 +21,6 @@ seven_done = refl
 seven_shown : shown_in (constant_program (byte 7)) no_choice [] 2 ≡ byte 7
 unfolding registers_at next go body_says body_wants ends loops starts loads first answer wanted
 seven_shown = refl
-
-abbrev is_zero : Term
-is_zero = Op Eq (Cons (Var 0) (Cons (Const (byte 0)) Nil))
-
-abbrev less_one : Term
-less_one = Op Add (Cons (Var 0) (Cons (Const (byte 255)) Nil))
 
 -- fun even(x:8):1 = if x == 0 then 1 else odd(x + 255) and odd(x:8):1 = if x == 0 then 0 else even(x + 255)
 -- fun main(a:8):1 = even(a) & odd(a)
