@@ -5,3 +5,4 @@ pub mod Numerals
 pub mod Tokens
 pub mod Faults
 pub mod TokenLaws
+pub mod Spacing

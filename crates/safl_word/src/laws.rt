@@ -1,6 +1,7 @@
 //! Laws of words, numbers and tokens, over the definitions alone.
 
 ghost use Rattle.safl_word.specs.Laws.{GivesWords, SlicesJoin, ShiftsOut, ExtensionKeeps, DecimalCounts};
+ghost use Rattle.safl_word.specs.Spacing.{SpacedReads, WritesNumbers, WritesSizes};
 ghost use Rattle.safl_word.specs.TokenLaws.{TokensOnce, LexicalFaultOnce, TokensOrFault};
 
 /// A primitive on words gives a word, of the width that the table says.
@@ -41,4 +42,19 @@ pub fn lexical_fault_law()
 /// A text has a list of tokens exactly where it has no lexical fault.
 pub fn tokens_or_fault_law()
     ensures { TokensOrFault }
+{}
+
+/// Tokens written with a blank, which may be a line feed, behind each are read as these tokens.
+pub fn spacing_law()
+    ensures { SpacedReads }
+{}
+
+/// A number's decimal digits are its token.
+pub fn number_law()
+    ensures { WritesNumbers }
+{}
+
+/// A width's decimal digits, `'d` and a value's decimal digits are the token of that width and value.
+pub fn size_law()
+    ensures { WritesSizes }
 {}

@@ -1,0 +1,5 @@
+use Rattle.safl_word.proofs.SpacingLemmas.{number_token}
+use Rattle.safl_word.proofs.laws.number_law.Goals as goal
+
+pub returns : goal.returns
+returns c = number_token

@@ -1,0 +1,5 @@
+use Rattle.safl_word.proofs.SpacingLemmas.{size_token}
+use Rattle.safl_word.proofs.laws.size_law.Goals as goal
+
+pub returns : goal.returns
+returns c = size_token

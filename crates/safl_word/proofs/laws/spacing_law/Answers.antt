@@ -1,0 +1,5 @@
+use Rattle.safl_word.proofs.SpacingLemmas.{spaced_reads}
+use Rattle.safl_word.proofs.laws.spacing_law.Goals as goal
+
+pub returns : goal.returns
+returns c = spaced_reads

@@ -1,0 +1,40 @@
+-- Texts of tokens with a blank behind each.
+use Rattle.std.specs.Prelude.{◌≡◌, ℕ, ◌+◌, ◌<◌, ◌^◌, List, [], ◌∷◌, ◌++◌, length, true, codes, decimal}
+use Rattle.safl_word.specs.Tokens.{is_blank, IsToken, HasTokens}
+use Rattle.safl_word.specs.declared.token.TokenKind.{TokenKind}
+use Rattle.safl_word.specs.declared.token.TokenKind.TheVariants as kinds
+use Rattle.safl_word.specs.declared.token.Token.{Token}
+
+-- a token's kind and text, and the blank behind it
+pub record Spaced : Type 0 where
+  pub kind : TokenKind
+  pub text : List ℕ
+  pub blank : ℕ
+
+pub record IsSpaced (x : Spaced) : Type 0 where
+  pub token : IsToken x.kind x.text
+  pub blank : is_blank x.blank ≡ true
+
+abbrev pub AreSpaced : List Spaced → Type 0
+AreSpaced [] = Unit {0}
+AreSpaced (x ∷ xs) = IsSpaced x × AreSpaced xs
+
+abbrev pub spaced_text : List Spaced → List ℕ
+spaced_text [] = []
+spaced_text (x ∷ xs) = x.text ++ x.blank ∷ spaced_text xs
+
+-- the tokens where the first begins at a place
+abbrev pub spaced_tokens : ℕ → List Spaced → List Token
+spaced_tokens p [] = []
+spaced_tokens p (x ∷ xs) = record { start = p; stop = p + length x.text; kind = x.kind } ∷ spaced_tokens (p + length x.text + 1) xs
+
+-- what is written with a blank behind each token is read as these tokens
+abbrev pub SpacedReads : Type 0
+SpacedReads = (xs : List Spaced) → AreSpaced xs → HasTokens (spaced_text xs) (spaced_tokens 0 xs)
+
+-- a number's decimal digits are its token, and a size's are, with `'d` between its width's and its value's
+abbrev pub WritesNumbers : Type 0
+WritesNumbers = (n : ℕ) → n < 2 ^ 128 → IsToken (kinds.Num n) (decimal n)
+
+abbrev pub WritesSizes : Type 0
+WritesSizes = (m n : ℕ) → m < 2 ^ 128 → n < 2 ^ 128 → IsToken (kinds.Sized m n) (decimal m ++ codes "'d" ++ decimal n)
