@@ -42,9 +42,15 @@ cut_more text p n ts x k h =
       joined = k.joined ∙ ap (λ w. text_of_all k.pieces ++ w) e ∙ sym (one_more k.pieces x (drop (p + n) text));
       stand = stand_more k.pieces x (drop (p + n) text) (subst (StandAll k.pieces) e k.stand) (subst (StandsBefore x) d h.stands);
       place =
-        omega
-        (arith, k.place, ap length (text_append k.pieces (x ∷ [])), length-append (text_of_all k.pieces) (text_of x ++ []), ap length (append-nil (text_of x)), ap length h.is,
-          length-take-le n (drop p text) h.within);
+          omega (
+            arith,
+            k.place,
+            ap length (text_append k.pieces (x ∷ [])),
+            length-append (text_of_all k.pieces) (text_of x ++ []),
+            ap length (append-nil (text_of x)),
+            ap length h.is,
+            length-take-le n (drop p text) h.within,
+          );
       tokens = (λ i. k.tokens i ++ tokens_from (k.place i) (x ∷ [])) ∙ ap (λ q. tokens_from 0 k.pieces ++ tokens_from q (x ∷ [])) (sym (zero-add (length (text_of_all k.pieces)))) ∙ sym (tokens_append 0 k.pieces (x ∷ []));
     }
 

@@ -20,9 +20,10 @@ use Rattle.safl_text.specs.declared.front.Front.TheVariants as fronts
 
 -- the front and the rest of a text
 pub front_is : (text u v : List ℕ) (n : ℕ) → text ≡ u ++ v → length u ≡ n → (take n text ≡ u) × (drop n text ≡ v)
-front_is text u v n e l =
-    ( subst (λ k. take k text ≡ u) l (ap (take (length u)) e ∙ take-append_seam u v),
-      subst (λ k. drop k text ≡ v) l (ap (drop (length u)) e ∙ drop-append_seam u v) )
+front_is text u v n e l = (
+  subst (λ k. take k text ≡ u) l (ap (take (length u)) e ∙ take-append_seam u v),
+  subst (λ k. drop k text ≡ v) l (ap (drop (length u)) e ∙ drop-append_seam u v),
+)
 
 run_head : (p : ℕ → Bool) (c : ℕ) (x : List ℕ) (n : ℕ) → IsRun p (c ∷ x) n → p c ≡ true → 1 ≤ n
 run_head p c x zero r h = let e = r.ends in cc
@@ -135,9 +136,10 @@ module _ (text : List ℕ) (n base count : ℕ) (s : 1 ≤ n) (r : IsRun (is_dig
       record {
         within = size_within;
         is = refl;
-        stands =
-          ((parts, record { joined = f.0; like = like; width_fits = a; digits_fit = b; width_is = e; value_is = g }),
-            subst (λ w. IsLongest w (drop (n + 2 + count) text)) (sym f.0) (subst (IsLongest (sized_text parts)) (sym f.1) longest));
+        stands = (
+          (parts, record { joined = f.0; like = like; width_fits = a; digits_fit = b; width_is = e; value_is = g }),
+          subst (λ w. IsLongest w (drop (n + 2 + count) text)) (sym f.0) (subst (IsLongest (sized_text parts)) (sym f.1) longest),
+        );
       }
 
   too_long : Passes 10 (take n text) ⊎ Passes base (take count h.digits) → Begins text (fronts.Broken rules.E03)

@@ -6,8 +6,8 @@ ghost use Rattle.safl_word.specs.Tokens.{is_blank, begins_name, in_name, base_of
 ghost use Rattle.safl_text.specs.Fronts.{IsRun, HasSize, HasNoSize, HasNoPair, IsOther, begins_comment, Begins};
 
 use crate::symbols::{key_of, lone_symbol, symbol_pair};
-use safl_word::{Rule, Sym, TokenKind, numeral};
 use safl_word::word::DIGITS_MAX;
+use safl_word::{Rule, Sym, TokenKind, numeral};
 
 // The most bytes of a name.
 const NAME_MAX: usize = 64;
@@ -73,7 +73,11 @@ fn size_of(text: &[u8]) -> Option<(u8, usize)>
         [b'\'', letter, digits @ ..] => {
             let base = base_of(*letter)?;
             let count = digits_length(base, digits);
-            if count == 0 { None } else { Some((base, count)) }
+            if count == 0 {
+                None
+            } else {
+                Some((base, count))
+            }
         }
         _ => None,
     }

@@ -3,6 +3,7 @@
 ghost use Rattle.std.specs.Prelude.{◌≡◌, ◌≤◌, length, IfOk, IfErr};
 ghost use Rattle.safl_word.specs.Tokens.{HasTokens};
 ghost use Rattle.safl_text.specs.Lexing.{Refuses};
+ghost use Rattle.safl_text.specs.Spans.{LieInOrder};
 
 use crate::error::LexErr;
 use crate::front::{Front, front_of};
@@ -13,6 +14,7 @@ use std::alloc::Global;
 pub fn lex(alloc: Global, source: &[u8]) -> Result<Vec<Token>, LexErr>
     requires { length source.now ≤ 1048576 }
     ensures tokens { IfOk result (λ tokens. HasTokens source.now tokens.items) }
+    ensures spans { IfOk result (λ tokens. LieInOrder source.now 0 tokens.items) }
     ensures refused { IfErr result (λ e. Refuses source.now e) }
 {
     let mut tokens = Vec::new(alloc);
@@ -23,10 +25,19 @@ pub fn lex(alloc: Global, source: &[u8]) -> Result<Vec<Token>, LexErr>
             Front::Found(kind, n) => {
                 let start = place as u32;
                 place += n;
-                tokens.push(Token { start, stop: place as u32, kind })?;
+                tokens.push(Token {
+                    start,
+                    stop: place as u32,
+                    kind,
+                })?;
             }
             Front::Broken(rule) => {
-                return Err(LexErr::Refused(Fault { rule, place: place as u32, first: 0, second: 0 }));
+                return Err(LexErr::Refused(Fault {
+                    rule,
+                    place: place as u32,
+                    first: 0,
+                    second: 0,
+                }));
             }
         }
     }

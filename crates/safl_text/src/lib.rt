@@ -3,8 +3,11 @@
 
 pub mod error;
 pub mod front;
+pub mod laws;
 pub mod lexer;
 pub mod symbols;
+#[cfg(test)]
+mod tests;
 
 pub use crate::error::LexErr;
 pub use crate::lexer::lex;

@@ -1,0 +1,5 @@
+use Rattle.safl_text.proofs.SpanLemmas.{tokens_joined}
+use Rattle.safl_text.proofs.laws.tokens_joined_law.Goals as goal
+
+pub returns : goal.returns
+returns c = tokens_joined
