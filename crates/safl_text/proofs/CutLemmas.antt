@@ -1,5 +1,5 @@
 -- A cut goes on by a piece.
-use Rattle.std.proofs.Common.{◌≡◌, ◌≢◌, ℕ, zero, suc, ◌+◌, ◌-◌, ◌<◌, ◌≤◌, List, [], ◌∷◌, ◌++◌, length, take, drop, refl, sym, ◌∙◌, ap, subst, arith, append_assoc, length-append, length-drop, zero-add}
+use Rattle.std.proofs.Common.{◌≡◌, ◌≢◌, ℕ, ◌+◌, ◌-◌, ◌<◌, ◌≤◌, List, [], ◌∷◌, ◌++◌, length, take, drop, refl, sym, ◌∙◌, ap, subst, arith, append_assoc, length-append, length-drop, zero-add}
 use Rattle.std.proofs.lemmas.List.{take-append-drop, length-take-le, append-nil, drop-drop}
 use Rattle.safl_word.specs.Tokens.{Piece, Blank, Comment, Lexeme, text_of, text_of_all, StandsBefore, StandAll, tokens_from}
 use Rattle.safl_word.specs.declared.token.Token.{Token}
@@ -7,7 +7,7 @@ use Rattle.safl_word.specs.declared.token.TokenKind.{TokenKind}
 use Rattle.safl_word.proofs.NumeralLemmas.{taken}
 use Rattle.safl_word.proofs.KindLemmas.{token_like}
 use Rattle.safl_word.proofs.Cuts.{token_some}
-use Rattle.safl_text.specs.Fronts.{HasPiece, IsGap, IsCutUpTo, Begins}
+use Rattle.safl_text.specs.Fronts.{HasPiece, IsGap, IsCutUpTo}
 
 pub text_append : (xs ys : List Piece) → text_of_all (xs ++ ys) ≡ text_of_all xs ++ text_of_all ys
 text_append [] ys = refl

@@ -1,21 +1,20 @@
 -- What a text begins with, by its runs.
-use Rattle.std.proofs.Common.{◌≡◌, ◌≢◌, ◌↔◌, IsSome, IfSome, ℕ, zero, suc, ◌+◌, ◌-◌, ◌^◌, ◌<◌, ◌≤◌, ◌==◌, ◌&&◌, ◌||◌, ◌⊎◌, inl, inr, List, [], ◌∷◌, ◌++◌, length, take, drop, get_or, Option, Some, None, Bool, true, false, not, refl, sym, ◌∙◌, ap, subst, arith, append_assoc, length-append}
+use Rattle.std.proofs.Common.{◌≡◌, ◌≢◌, ◌↔◌, IsSome, IfSome, ℕ, zero, suc, ◌+◌, ◌^◌, ◌<◌, ◌≤◌, ◌==◌, ◌||◌, ◌⊎◌, inl, inr, List, [], ◌∷◌, ◌++◌, length, take, drop, get_or, Option, Some, None, Bool, true, false, not, refl, sym, ◌∙◌, ap, subst, arith, append_assoc, length-append}
 use Rattle.std.proofs.lemmas.Bool.{and_parts, eqb-true}
 use Rattle.std.proofs.lemmas.List.{take-append-drop, length-take-le}
 use Rattle.std.proofs.Math.Seq.{take-append_seam, drop-append_seam}
 use Rattle.std.specs.List.{list_all}
 use Rattle.safl_word.specs.Numerals.{between, is_digit, value, IsNumeral, IsBounded}
-use Rattle.safl_word.specs.Tokens.{key_text, sym_text, is_blank, begins_name, in_name, base_of, name_max, digits_max, value_bound, IsNameLike, SizedParts, sized_text, IsSizedLike, IsLongest, IsName, Fits, IsSized, Passes, IsTooLong, long_name, long_number, long_sized, Piece, Blank, Comment, Lexeme, EndsLine, StandsBefore, IsForeign, BeginsTooLong}
+use Rattle.safl_word.specs.Tokens.{key_text, sym_text, is_blank, begins_name, in_name, IsNameLike, SizedParts, sized_text, IsSizedLike, IsLongest, Fits, Passes, long_name, long_number, long_sized, Blank, Comment, EndsLine, StandsBefore}
 use Rattle.safl_word.specs.declared.token.Key.{Key}
 use Rattle.safl_word.specs.declared.token.Sym.{Sym}
 use Rattle.safl_word.specs.declared.token.TokenKind.TheVariants as kinds
 use Rattle.safl_word.specs.declared.fault.Rule.TheVariants as rules
-use Rattle.safl_word.proofs.Runs.{HeadFails}
-use Rattle.safl_word.proofs.Lexemes.{same_head, same_tail, name_longest, number_longest, NoSizeFollows}
+use Rattle.safl_word.proofs.Lexemes.{same_tail, name_longest, number_longest, NoSizeFollows}
 use Rattle.safl_word.proofs.Sizes.{sized_longest}
 use Rattle.safl_word.proofs.Next.{fits_or_passes}
 use Rattle.safl_word.proofs.Fronts.{NoPair, pair_longest, lone_longest, foreign}
-use Rattle.safl_text.specs.Fronts.{EndsRun, IsRun, HasSize, HasNoSize, begins_comment, HasNoPair, IsOther, HasPiece, Begins}
+use Rattle.safl_text.specs.Fronts.{EndsRun, IsRun, HasSize, HasNoSize, begins_comment, HasNoPair, IsOther, Begins}
 use Rattle.safl_text.specs.declared.front.Front.TheVariants as fronts
 
 -- the front and the rest of a text

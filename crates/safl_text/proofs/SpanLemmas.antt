@@ -1,16 +1,15 @@
 -- Where the tokens of a cut text lie.
-use Rattle.std.proofs.Common.{◌≡◌, ◌≢◌, ℕ, zero, suc, ◌+◌, ◌-◌, ◌<◌, ◌≤◌, List, [], ◌∷◌, ◌++◌, length, take, drop, slice_range, refl, sym, ◌∙◌, ap, subst, arith, append_assoc, length-append, zero-add}
+use Rattle.std.proofs.Common.{◌≡◌, ◌≢◌, ℕ, ◌+◌, ◌-◌, ◌≤◌, List, [], ◌∷◌, ◌++◌, length, take, drop, slice_range, refl, sym, ◌∙◌, ap, subst, arith, append_assoc, length-append}
 use Rattle.std.proofs.lemmas.List.{append-nil}
 use Rattle.std.proofs.Math.Seq.{take-append_seam, drop-append_seam}
-use Rattle.safl_word.specs.Tokens.{IsToken, Piece, Blank, Comment, Lexeme, text_of, text_of_all, StandsBefore, StandAll, tokens_from, HasTokens}
+use Rattle.safl_word.specs.Tokens.{IsToken, Piece, Blank, Comment, Lexeme, text_of, text_of_all, StandAll, tokens_from, HasTokens}
 use Rattle.safl_word.specs.declared.token.Token.{Token}
 use Rattle.safl_word.specs.declared.token.TokenKind.{TokenKind}
 use Rattle.safl_word.proofs.KindLemmas.{token_like}
 use Rattle.safl_word.proofs.Cuts.{token_some}
 use Rattle.std.proofs.Math.ListN.{drop_of_length-le}
 use Rattle.safl_text.specs.Fronts.{IsGap, IsCutUpTo}
-use Rattle.safl_text.specs.Spans.{LiesAfter, LieInOrder, AreGaps, IsGapText, AreJoined}
-use Rattle.safl_text.proofs.CutLemmas.{text_append}
+use Rattle.safl_text.specs.Spans.{LieInOrder, AreJoined}
 
 -- one more blank or comment before the rest
 gap_before : (p q : ℕ) (x : Piece) (ts : List Token) (text : List ℕ) → IsGap x → q ≡ p + length (text_of x) → AreJoined q ts text → AreJoined p ts (text_of x ++ text)

@@ -10,9 +10,12 @@ use crate::front::{Front, front_of};
 use safl_word::{Fault, Token};
 use std::alloc::Global;
 
-/// The tokens of a source of at most 1,048,576 bytes, in order, or the first lexical fault.
+/// The most bytes of a source.
+pub const SOURCE_MAX: usize = 1_048_576;
+
+/// The tokens of a source of at most `SOURCE_MAX` bytes, in order, or the first lexical fault.
 pub fn lex(alloc: Global, source: &[u8]) -> Result<Vec<Token>, LexErr>
-    requires { length source.now ≤ 1048576 }
+    requires { length source.now ≤ SOURCE_MAX }
     ensures tokens { IfOk result (λ tokens. HasTokens source.now tokens.items) }
     ensures spans { IfOk result (λ tokens. LieInOrder source.now 0 tokens.items) }
     ensures refused { IfErr result (λ e. Refuses source.now e) }

@@ -1,6 +1,6 @@
 //! Worked rows.
 
-use crate::{Key, LexErr, Sym, Token, TokenKind, lex};
+use crate::{Key, LexErr, SOURCE_MAX, Sym, Token, TokenKind, lex};
 use safl_word::{Fault, Rule};
 use std::process::Abort;
 use std::test::Fail;
@@ -10,6 +10,7 @@ fn has_kinds(
     source: &[u8],
     kinds: &[TokenKind],
 ) -> Result<(), Fail> {
+    assert!(rt; source.len() <= SOURCE_MAX);
     let tokens = lex(rt.alloc(), source)?;
     assert_eq!(rt; tokens.len(), kinds.len());
     for (token, kind) in tokens.iter().zip(kinds) {
@@ -19,6 +20,7 @@ fn has_kinds(
 }
 
 fn has_fault(rt: &(impl Abort + AllocGlobal), source: &[u8], rule: Rule, place: u32) {
+    assert!(rt; source.len() <= SOURCE_MAX);
     let refused = lex(rt.alloc(), source).err();
     assert_eq!(rt;
         refused,

@@ -1,4 +1,4 @@
-use Rattle.std.proofs.Common.{arith, ◌≡◌, ◌==◌, ◌-◌, ℕ, not, take, drop, length, length-drop, subst}
+use Rattle.std.proofs.Common.{arith, ◌==◌, ◌-◌, not, drop, length, length-drop, subst}
 use Rattle.safl_word.proofs.NumeralLemmas.{taken}
 use Rattle.safl_text.specs.Fronts.{IsRun}
 use Rattle.safl_text.proofs.FrontLemmas.{comment_front}

@@ -1,4 +1,4 @@
-use Rattle.std.proofs.Common.{refl, ◌≡◌, true, false}
+use Rattle.std.proofs.Common.{refl}
 use Rattle.safl_text.proofs.FrontLemmas.{plain_front, plain_long}
 use Rattle.safl_text.proofs.front.plain_number.Goals as goal
 

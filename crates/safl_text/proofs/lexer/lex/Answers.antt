@@ -1,4 +1,3 @@
-use Rattle.std.proofs.Common.{◌≡◌, ◌≤◌, ◌+◌, length, drop, arith}
 use Rattle.safl_text.proofs.CutLemmas.{goes_over, takes, rest_is}
 use Rattle.safl_text.proofs.SpanLemmas.{cut_lie}
 use Rattle.safl_text.proofs.lexer.lex.Goals as goal

@@ -1,4 +1,4 @@
-use Rattle.std.proofs.Common.{◌≡◌, ◌≤◌, ◌-◌, length}
+use Rattle.std.proofs.Common.{◌≤◌, ◌-◌, length}
 use Rattle.safl_text.specs.Fronts.{IsCutUpTo}
 use Rattle.safl_text.proofs.lexer.lex.Given as goal
 
