@@ -1,15 +1,15 @@
 -- Whether a file has faults, and which netlist it is, doesn't depend on its places.
-use Rattle.std.proofs.Common.{◌≡◌, ℕ, suc, ◌+◌, List, [], ◌∷◌, ◌++◌, map, Bool, true, false, cond, not, ◌==◌, ◌&&◌, ◌||◌, Some, None, Option, refl, sym, ap, ◌∙◌, bytes_eq}
+use Rattle.std.proofs.Common.{◌≡◌, ℕ, suc, List, [], ◌∷◌, ◌++◌, map, Bool, true, false, cond, not, ◌==◌, ◌&&◌, ◌||◌, Some, None, Option, refl, sym, ap, ◌∙◌, bytes_eq}
 use Rattle.std.specs.Prelude.{filter, unwrap_or, codes}
 use Rattle.std.specs.List.{flat_map}
 use Rattle.std.proofs.lemmas.List.{map-append}
-use Rattle.safl_net.specs.Netlist.{Netlist, Signal, Kind, Input, Reg, Wire, Cell}
+use Rattle.safl_net.specs.Netlist.{Signal, Reg, Wire}
 use Rattle.safl_net.specs.Widths.{op_width}
 use Rattle.safl_verilog.specs.declared.token.Sort.{Sort}
 use Rattle.safl_verilog.specs.declared.token.Sort.TheVariants as sorts
 use Rattle.safl_verilog.specs.declared.fault.VFault.{VFault}
 use Rattle.safl_verilog.specs.Files.{Spot, Expression, Literal, Plain, Inverted, Binary, Choice, Joined, Slice, Declaration, Statement, Assign, Always, File}
-use Rattle.safl_verilog.specs.Faults.{where_not, number_faults, literal_faults, range_faults, declared_number_faults, expression_number_faults, stated_number_faults, all_number_faults, among, repeat_faults, declared_names, all_repeat_faults, find, is_input, is_output, is_reg, is_wire, is_port, passes, range_width, width_in, width_of, header_faults, port_faults, has_bit, has_ports, all_port_faults, is_data, is_signal, is_target, unfit_faults, operation, operands, is_plain, expression_width, assigned, updated, is_none, width_faults, literal_value, may_be_assigned, assign_faults, always_faults, statement_faults, all_statement_faults, missing_faults, faults}
+use Rattle.safl_verilog.specs.Faults.{where_not, number_faults, range_faults, declared_number_faults, expression_number_faults, stated_number_faults, among, repeat_faults, declared_names, find, is_input, is_output, is_reg, is_wire, is_port, passes, range_width, width_in, width_of, header_faults, port_faults, has_bit, has_ports, is_data, is_signal, is_target, unfit_faults, operation, operands, is_plain, expression_width, assigned, updated, is_none, width_faults, literal_value, may_be_assigned, assign_faults, always_faults, statement_faults, all_statement_faults, missing_faults, faults}
 use Rattle.safl_verilog.specs.Netlists.{signals_of, place_of, number_of, cell_of, driven, register_of, kind_of, signal_of, shown, output_of, netlist}
 use Rattle.safl_verilog.proofs.PrintedReads.{bare, bare_expression, bare_range, bare_declaration, bare_statement, bare_file}
 
@@ -216,14 +216,14 @@ may_be_bare ds before x e =
 assign_bare : (ds : List Declaration) (before : List Statement) (x : Spot) (e : Expression) → assign_faults (map bare_declaration ds) (map bare_statement before) (bare x) (bare_expression e) ≡ map unplaced (assign_faults ds before x e)
 assign_bare ds before x e =
     both _ _ (both _ _ (both _ _ (same_test _ _ _ (passes_bare is_target (λ d. refl) ds x.bytes)) (same_test _ _ _ (may_be_bare ds before x e)))
-      (ap (flat_map (unfit_faults (map bare_declaration ds))) (operands_bare e) ∙ flat_bare (unfit_faults ds) (unfit_faults (map bare_declaration ds)) bare (unfit_bare ds) (operands e)))
+    (ap (flat_map (unfit_faults (map bare_declaration ds))) (operands_bare e) ∙ flat_bare (unfit_faults ds) (unfit_faults (map bare_declaration ds)) bare (unfit_bare ds) (operands e)))
     (width_faults_bare x.place _ _ _ _ (width_bare ds x.bytes) (expression_width_bare ds e))
 
 always_bare : (ds : List Declaration) (before : List Statement) (clock reset target initial second source : Spot) → always_faults (map bare_declaration ds) (map bare_statement before) (bare clock) (bare reset) (bare target) (bare initial) (bare second) (bare source) ≡ map unplaced (always_faults ds before clock reset target initial second source)
 always_bare ds before clock reset target initial second source =
     both _ _ (both _ _ (both _ _ (both _ _ (both _ _ (both _ _ (both _ _ (where_not_bare _ _) (where_not_bare _ _))
-      (same_test _ _ _ (passes_bare (λ d. is_reg d.sort) (λ d. refl) ds target.bytes))) (where_not_bare _ _)) (same_test _ _ _ (no_updated_bare before target.bytes)))
-      (unfit_bare ds source)) (width_faults_bare initial.place _ _ _ _ (width_bare ds target.bytes) refl))
+    (same_test _ _ _ (passes_bare (λ d. is_reg d.sort) (λ d. refl) ds target.bytes))) (where_not_bare _ _)) (same_test _ _ _ (no_updated_bare before target.bytes)))
+    (unfit_bare ds source)) (width_faults_bare initial.place _ _ _ _ (width_bare ds target.bytes) refl))
     (width_faults_bare source.place _ _ _ _ (width_bare ds target.bytes) (width_bare ds source.bytes))
 
 statement_bare : (ds : List Declaration) (before : List Statement) (s : Statement) → statement_faults (map bare_declaration ds) (map bare_statement before) (bare_statement s) ≡ map unplaced (statement_faults ds before s)
@@ -244,18 +244,19 @@ unfolding faults
 faults_bare f =
     let ds = f.declarations in
     both _ _ (both _ _ (both _ _ (both _ _
-      (both _ _ (flat_bare declared_number_faults declared_number_faults bare_declaration (λ d. range_bare d.range) ds) (flat_bare stated_number_faults stated_number_faults bare_statement stated_bare f.statements))
-      (both _ _ (repeat_bare [] f.header) (ap (repeat_faults []) (names_bare ds) ∙ repeat_bare [] (declared_names ds))))
-      (both _ _ (both _ _ (flat_bare (header_faults f) (header_faults (bare_file f)) bare (header_bare f) f.header) (flat_bare (port_faults f) (port_faults (bare_file f)) bare_declaration (port_bare f) ds)) (same_test _ _ _ (ports_bare ds))))
-      (statements_bare ds [] f.statements))
+    (both _ _ (flat_bare declared_number_faults declared_number_faults bare_declaration (λ d. range_bare d.range) ds) (flat_bare stated_number_faults stated_number_faults bare_statement stated_bare f.statements))
+    (both _ _ (repeat_bare [] f.header) (ap (repeat_faults []) (names_bare ds) ∙ repeat_bare [] (declared_names ds))))
+    (both _ _ (both _ _ (flat_bare (header_faults f) (header_faults (bare_file f)) bare (header_bare f) f.header) (flat_bare (port_faults f) (port_faults (bare_file f)) bare_declaration (port_bare f) ds)) (same_test _ _ _ (ports_bare ds))))
+    (statements_bare ds [] f.statements))
     (flat_bare (missing_faults f.statements) (missing_faults (map bare_statement f.statements)) bare_declaration (missing_bare f.statements) ds)
 
 none_mapped : (fs : List VFault) → [] ≡ map unplaced fs → fs ≡ []
 none_mapped [] e = refl
 none_mapped (f ∷ fs) e = absurd cc
 
-pub no_faults : (f : File) → faults (bare_file f) ≡ [] → faults f ≡ []
-no_faults f e = none_mapped (faults f) (sym e ∙ faults_bare f)
+-- files that are alike but for their places have faults both or neither
+pub alike_faults : (f g : File) → bare_file f ≡ bare_file g → faults g ≡ [] → faults f ≡ []
+alike_faults f g e h = none_mapped (faults f) (sym (sym (faults_bare f) ∙ ap faults e ∙ faults_bare g ∙ ap (map unplaced) h))
 
 -- ---- the netlist
 
@@ -323,7 +324,7 @@ mapped : {A B : Type 0} (F G : A → B) (b : A → A) → ((x : A) → F (b x) �
 mapped F G b h [] = refl
 mapped F G b h (x ∷ xs) = ap (λ y. y ∷ map F (map b xs)) (h x) ∙ ap (λ (l : List _). G x ∷ l) (mapped F G b h xs)
 
-pub netlist_bare : (f : File) → netlist (bare_file f) ≡ netlist f
+netlist_bare : (f : File) → netlist (bare_file f) ≡ netlist f
 unfolding netlist
 netlist_bare f =
     let ds = f.declarations in
@@ -331,3 +332,7 @@ netlist_bare f =
     let outputs = ap (map (output_of (bare_file f))) (filter_bare (λ (d : Declaration). is_output d.sort) (λ d. refl) ds) ∙ mapped (output_of (bare_file f)) (output_of f) bare_declaration (output_bare f) (filter (λ (d : Declaration). is_output d.sort) ds) in
     ap (λ (l : List Signal). record { signals = l; outputs = map (output_of (bare_file f)) (filter (λ (d : Declaration). is_output d.sort) (map bare_declaration ds)) }) signals
     ∙ ap (λ (l : List (List ℕ × ℕ)). record { signals = map (signal_of f) (signals_of ds); outputs = l }) outputs
+
+-- and they are the same netlist
+pub alike_netlist : (f g : File) → bare_file f ≡ bare_file g → netlist f ≡ netlist g
+alike_netlist f g e = sym (netlist_bare f) ∙ ap netlist e ∙ netlist_bare g

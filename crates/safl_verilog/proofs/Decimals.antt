@@ -1,9 +1,9 @@
 -- The decimal digits of a number are a numeral of it.
-use Rattle.std.proofs.Common.{◌≡◌, ℕ, zero, suc, ◌+◌, ◌*◌, ◌/◌, ◌%◌, ◌^◌, ◌<◌, ◌≤◌, List, [], ◌∷◌, ◌++◌, length, Bool, true, false, cond, ◌==◌, ◌&&◌, nat_le, nat_lt, refl, sym, ap, subst, ◌∙◌, arith, lit<}
+use Rattle.std.proofs.Common.{◌≡◌, ℕ, zero, suc, ◌+◌, ◌*◌, ◌/◌, ◌%◌, ◌^◌, ◌<◌, ◌≤◌, List, [], ◌∷◌, length, Bool, true, false, cond, ◌==◌, ◌&&◌, nat_le, nat_lt, refl, sym, ap, subst, ◌∙◌, arith, lit<}
 use Rattle.std.specs.List.{list_all}
 use Rattle.std.specs.Fmt.{digits, digits_onto, digit_glyph, decimal}
 use Rattle.std.proofs.lemmas.Bool.Decides.{Decides-eqb, nat_tests}
-use Rattle.std.proofs.Math.Nat.{pow-suc, pow-zero, mul_assoc}
+use Rattle.std.proofs.Math.Nat.{pow-suc, pow-zero}
 use Rattle.safl_word.specs.Numerals.{digit, is_digit, value, IsNumeral}
 use Rattle.safl_verilog.specs.Faults.{is_short}
 
@@ -48,6 +48,7 @@ onto (suc k) n acc h = go (n / 10 == 0) refl (onto k (n / 10) (digit_glyph false
         let m : n / 10 * 10 ^ length (digit_glyph false (n % 10) ∷ acc) ≡ n / 10 * (10 ^ length acc * 10) = ap (λ x. n / 10 * x) q in
         let whole : n * 10 ^ length acc ≡ (10 * (n / 10) + n % 10) * 10 ^ length acc = let f : n ≡ 10 * (n / 10) + n % 10 = omega arith in ap (λ x. x * 10 ^ length acc) f in
         record { passes = λ a. t.passes (rw (p, a) refl); counts = omega (arith, t.counts, e, m, whole); some = t.some; few = omega (arith, t.few) }
+
     go : (b : Bool) → (n / 10 == 0) ≡ b → Onto k (n / 10) (digit_glyph false (n % 10) ∷ acc) (digits_onto (suc k) 10 false (n / 10) (digit_glyph false (n % 10) ∷ acc)) → Onto (suc k) n acc (cond b (digit_glyph false (n % 10) ∷ acc) (digits_onto (suc k) 10 false (n / 10) (digit_glyph false (n % 10) ∷ acc)))
     go true e t = let z = (Decides-eqb (n / 10) 0).0 e in one_onto (suc k) n acc (omega arith)
     go false e t = last t

@@ -1,8 +1,7 @@
 -- Lists of names that are all different, and what is looked up by them.
-use Rattle.std.proofs.Common.{◌≡◌, ◌≢◌, ℕ, zero, suc, List, [], ◌∷◌, ◌++◌, map, Bool, true, false, cond, not, ◌||◌, Some, None, Option, refl, sym, ap, subst, ◌∙◌, inl, inr, bytes_eq, append_assoc}
+use Rattle.std.proofs.Common.{◌≡◌, ℕ, zero, suc, List, [], ◌∷◌, ◌++◌, map, Bool, true, false, cond, Some, refl, sym, ap, subst, ◌∙◌, inl, inr, bytes_eq}
 use Rattle.std.specs.Prelude.{◌⊎◌, slice_get, filter}
 use Rattle.std.specs.List.{flat_map}
-use Rattle.std.proofs.lemmas.List.{map-append}
 use Rattle.std.proofs.lemmas.Slice.Eq.{bytes_eq-Decides}
 use Rattle.safl_verilog.specs.Laws.{Each}
 
@@ -125,9 +124,10 @@ has_at name (x ∷ xs) w (inr h) = let k = has_at name xs w h in (suc k.0, k.1, 
 
 pub distinct_at : {X : Type 0} (name : X → Name) (xs : List X) → ((i j : ℕ) (x y : X) → slice_get xs i ≡ Some x → slice_get xs j ≡ Some y → name x ≡ name y → i ≡ j) → Distinct (map name xs)
 distinct_at name [] h = tt
-distinct_at name (x ∷ xs) h =
-    (λ k. let a = has_at name xs (name x) k in let e : 0 ≡ suc a.0 = h 0 (suc a.0) x a.1 refl a.2 (sym a.3) in cc,
-      distinct_at name xs (λ i j y z a b e. let s : suc i ≡ suc j = h (suc i) (suc j) y z a b e in cc))
+distinct_at name (x ∷ xs) h = (
+  λ k. let a = has_at name xs (name x) k in let e : 0 ≡ suc a.0 = h 0 (suc a.0) x a.1 refl a.2 (sym a.3) in cc,
+  distinct_at name xs (λ i j y z a b e. let s : suc i ≡ suc j = h (suc i) (suc j) y z a b e in cc),
+)
 
 -- ---- tests on names
 

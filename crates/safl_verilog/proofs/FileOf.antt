@@ -1,17 +1,14 @@
 -- The file that is written of a netlist, and its text.
-use Rattle.std.proofs.Common.{◌≡◌, ℕ, ◌+◌, ◌-◌, ◌<◌, ◌≤◌, ◌^◌, List, [], ◌∷◌, ◌++◌, length, map, Some, None, Option, refl, sym, ap, subst, ◌∙◌, append_assoc}
-use Rattle.std.specs.Prelude.{codes, decimal, slice_get}
+use Rattle.std.proofs.Common.{◌≡◌, ℕ, ◌-◌, List, [], ◌∷◌, ◌++◌, map, Some, None, refl, sym, ap, ◌∙◌, append_assoc}
+use Rattle.std.specs.Prelude.{codes, decimal}
 use Rattle.std.specs.List.{flat_map}
 use Rattle.std.proofs.lemmas.List.{append-nil}
 use Rattle.std.proofs.lemmas.Grind.{flat_map-append}
-use Rattle.safl_word.specs.Words.{Word}
 use Rattle.safl_word.specs.declared.primitive.Primitive.{Primitive}
 use Rattle.safl_word.specs.declared.primitive.Primitive.TheVariants as prims
 use Rattle.safl_net.specs.declared.cell.Op.{Op}
 use Rattle.safl_net.specs.declared.cell.Op.TheVariants as ops
 use Rattle.safl_net.specs.Netlist.{Netlist, Signal, Kind, Input, Reg, Wire, Cell, width_of}
-use Rattle.safl_net.specs.Widths.{op_width}
-use Rattle.safl_net.specs.Making.{widths}
 use Rattle.safl_net.specs.Written
 use Rattle.safl_net.specs.Written.{name_of, literal, declaration, operation, names_of, port, input_port, output_port, input_declaration, output_declaration, register_declaration, wire_declaration, assignment, wire_assignment, output_assignment, update, register_update, header, declarations, statements, written}
 use Rattle.safl_verilog.specs.declared.token.Sort.{Sort}
@@ -244,7 +241,7 @@ module _ (n : Netlist) (is rs ws : List Signal) (whole : n.signals ≡ is ++ (rs
       let c : pieces r ≡ flat_map register_declaration n.signals = texts declaration_pieces (declare_signal sorts.Reg) register_declaration IsRegister (λ g e. register_text g.width g.name ∙ ap (λ k. Written.if_register k (declaration (codes "reg") g.width g.name)) (sym e.2)) rs registers ∙ sym (only_registers register_declaration (λ g e. ap (λ k. Written.if_register k (declaration (codes "reg") g.width g.name)) e) (λ g e. ap (λ k. Written.if_register k (declaration (codes "reg") g.width g.name)) e.1)) in
       let d : pieces w ≡ flat_map wire_declaration n.signals = texts declaration_pieces (declare_signal sorts.Wire) wire_declaration IsWire (λ g e. wire_text g.width g.name ∙ ap (λ k. Written.if_wire k (declaration (codes "wire") g.width g.name)) (sym e.1)) ws wires ∙ sym (only_wires wire_declaration (λ g e. ap (λ k. Written.if_wire k (declaration (codes "wire") g.width g.name)) e) (λ g e. ap (λ k. Written.if_wire k (declaration (codes "wire") g.width g.name)) e.2)) in
       let all : pieces (i ++ (o ++ (r ++ w))) ≡ flat_map input_declaration n.signals ++ (flat_map (output_declaration n) n.outputs ++ (flat_map register_declaration n.signals ++ flat_map wire_declaration n.signals)) =
-          join i (o ++ (r ++ w)) ∙ ap (λ (l : List ℕ). l ++ pieces (o ++ (r ++ w))) a ∙ ap (λ (l : List ℕ). flat_map input_declaration n.signals ++ l) (join o (r ++ w) ∙ ap (λ (l : List ℕ). l ++ pieces (r ++ w)) b ∙ ap (λ (l : List ℕ). flat_map (output_declaration n) n.outputs ++ l) (join r w ∙ ap (λ (l : List ℕ). l ++ pieces w) c ∙ ap (λ (l : List ℕ). flat_map register_declaration n.signals ++ l) d)) in
+      join i (o ++ (r ++ w)) ∙ ap (λ (l : List ℕ). l ++ pieces (o ++ (r ++ w))) a ∙ ap (λ (l : List ℕ). flat_map input_declaration n.signals ++ l) (join o (r ++ w) ∙ ap (λ (l : List ℕ). l ++ pieces (r ++ w)) b ∙ ap (λ (l : List ℕ). flat_map (output_declaration n) n.outputs ++ l) (join r w ∙ ap (λ (l : List ℕ). l ++ pieces w) c ∙ ap (λ (l : List ℕ). flat_map register_declaration n.signals ++ l) d)) in
       ap (λ (l : List ℕ). codes "  input clk;\n  input rst;\n" ++ l) all ∙ simp append_assoc
 
   statements_text : text_of_all (flat_map statement_pieces (statements_of n rs ws)) ≡ statements n
@@ -267,11 +264,11 @@ module _ (n : Netlist) (is rs ws : List Signal) (whole : n.signals ≡ is ++ (rs
       let ss = flat_map statement_pieces (statements_of n rs ws) in
       let start : List ℕ → List ℕ = λ (l : List ℕ). codes "module safl (clk, rst" ++ l in
       let a : text_of_all (ps ++ header_end (body_pieces (declarations_of n is rs ws) (statements_of n rs ws))) ≡ text_of_all ps ++ (codes ");\n" ++ (text_of_all ds ++ (text_of_all ss ++ codes "endmodule\n"))) =
-          text_append ps (header_end (body_pieces (declarations_of n is rs ws) (statements_of n rs ws))) ∙ ap (λ (l : List ℕ). text_of_all ps ++ (codes ");\n" ++ l)) (text_append ds (ss ++ last_pieces) ∙ ap (λ (l : List ℕ). text_of_all ds ++ l) (text_append ss last_pieces)) in
+      text_append ps (header_end (body_pieces (declarations_of n is rs ws) (statements_of n rs ws))) ∙ ap (λ (l : List ℕ). text_of_all ps ++ (codes ");\n" ++ l)) (text_append ds (ss ++ last_pieces) ∙ ap (λ (l : List ℕ). text_of_all ds ++ l) (text_append ss last_pieces)) in
       let b : text_of_all ps ++ (codes ");\n" ++ (text_of_all ds ++ (text_of_all ss ++ codes "endmodule\n"))) ≡ (flat_map input_port n.signals ++ flat_map output_port n.outputs) ++ (codes ");\n" ++ (declarations n ++ (statements n ++ codes "endmodule\n"))) =
-          ap (λ (l : List ℕ). l ++ (codes ");\n" ++ (text_of_all ds ++ (text_of_all ss ++ codes "endmodule\n")))) ports_text
-          ∙ ap (λ (l : List ℕ). (flat_map input_port n.signals ++ flat_map output_port n.outputs) ++ (codes ");\n" ++ (l ++ (text_of_all ss ++ codes "endmodule\n")))) declarations_text
-          ∙ ap (λ (l : List ℕ). (flat_map input_port n.signals ++ flat_map output_port n.outputs) ++ (codes ");\n" ++ (declarations n ++ (l ++ codes "endmodule\n")))) statements_text in
+      ap (λ (l : List ℕ). l ++ (codes ");\n" ++ (text_of_all ds ++ (text_of_all ss ++ codes "endmodule\n")))) ports_text
+      ∙ ap (λ (l : List ℕ). (flat_map input_port n.signals ++ flat_map output_port n.outputs) ++ (codes ");\n" ++ (l ++ (text_of_all ss ++ codes "endmodule\n")))) declarations_text
+      ∙ ap (λ (l : List ℕ). (flat_map input_port n.signals ++ flat_map output_port n.outputs) ++ (codes ");\n" ++ (declarations n ++ (l ++ codes "endmodule\n")))) statements_text in
       ap start (a ∙ b) ∙ joined_text (flat_map input_port n.signals) (flat_map output_port n.outputs) (declarations n) (statements n)
     where
       joined_text : (i o d s : List ℕ) → codes "module safl (clk, rst" ++ ((i ++ o) ++ (codes ");\n" ++ (d ++ (s ++ codes "endmodule\n")))) ≡ codes "module safl (clk, rst" ++ i ++ o ++ codes ");\n" ++ d ++ s ++ codes "endmodule\n"

@@ -15,3 +15,8 @@ pub mod FileOf
 pub mod Decimals
 pub mod Distinct
 pub mod Lookups
+pub mod Cells
+pub mod WrittenNames
+pub mod WrittenRules
+pub mod WrittenMeans
+pub mod WrittenReads

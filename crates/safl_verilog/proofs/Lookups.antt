@@ -1,14 +1,13 @@
 -- What is found by the names of a file whose names are all different.
-use Rattle.std.proofs.Common.{◌≡◌, ◌≢◌, ℕ, zero, suc, List, [], ◌∷◌, ◌++◌, map, Bool, true, false, cond, not, ◌||◌, Some, None, Option, refl, sym, ap, subst, ◌∙◌, inl, inr, bytes_eq, append_assoc}
-use Rattle.std.specs.Prelude.{◌⊎◌, slice_get}
+use Rattle.std.proofs.Common.{◌≡◌, ◌≢◌, ℕ, zero, suc, List, [], ◌∷◌, ◌++◌, map, Bool, true, false, cond, not, ◌||◌, Some, None, refl, sym, ap, subst, ◌∙◌, inl, inr, bytes_eq, append_assoc}
+use Rattle.std.specs.Prelude.{slice_get}
 use Rattle.std.proofs.lemmas.List.{map-append}
 use Rattle.safl_verilog.specs.declared.fault.VRule.TheVariants as rules
-use Rattle.safl_verilog.specs.declared.fault.VFault.{VFault}
-use Rattle.safl_verilog.specs.Files.{Spot, Expression, Declaration, Statement, Assign, Always}
+use Rattle.safl_verilog.specs.Files.{Spot, Declaration, Statement, Assign, Always}
 use Rattle.safl_verilog.specs.Faults.{where_not, at, among, repeat_faults, find, assigned, updated}
 use Rattle.safl_verilog.specs.Netlists.{place_of}
 use Rattle.safl_verilog.specs.Laws.{Each}
-use Rattle.safl_verilog.proofs.Distinct.{Name, Has, Distinct, has_right, distinct_right, distinct_apart, same_name, other_name, each_mapped, each_of}
+use Rattle.safl_verilog.proofs.Distinct.{Name, Has, Distinct, has_right, distinct_apart, same_name, other_name, each_of}
 
 abbrev pub spot_names : List Spot → List Name
 spot_names xs = map (λ (x : Spot). x.bytes) xs
@@ -41,9 +40,10 @@ no_repeats before (x ∷ xs) h =
 pub each_has : (xs : List Spot) (more : List Name) → Each (λ (x : Spot). Has x.bytes (more ++ spot_names xs)) xs
 each_has [] more = tt
 each_has (x ∷ xs) more =
-    let moved : (more ++ x.bytes ∷ []) ++ spot_names xs ≡ more ++ spot_names (x ∷ xs) = append_assoc more (x.bytes ∷ []) (spot_names xs) in
-    (has_right x.bytes more (spot_names (x ∷ xs)) (inl refl),
-      each_of _ _ (λ (y : Spot) h. subst (λ (l : List Name). Has y.bytes l) moved h) xs (each_has xs (more ++ x.bytes ∷ [])))
+    let moved : (more ++ x.bytes ∷ []) ++ spot_names xs ≡ more ++ spot_names (x ∷ xs) = append_assoc more (x.bytes ∷ []) (spot_names xs) in (
+      has_right x.bytes more (spot_names (x ∷ xs)) (inl refl),
+      each_of _ _ (λ (y : Spot) h. subst (λ (l : List Name). Has y.bytes l) moved h) xs (each_has xs (more ++ x.bytes ∷ [])),
+    )
 
 -- ---- declarations
 
@@ -51,10 +51,12 @@ each_has (x ∷ xs) more =
 found_in : (ds : List Declaration) → Distinct (names ds) → Each (λ (d : Declaration). (find ds d.name.bytes ≡ Some d) × Has d.name.bytes (names ds)) ds
 found_in [] h = tt
 found_in (d ∷ ds) h =
-    let here : find (d ∷ ds) d.name.bytes ≡ Some d = ap (λ b. cond b (Some d) (find ds d.name.bytes)) (same_name d.name.bytes) in
-    ((here, inl refl), each_of _ _ (λ (e : Declaration) k.
-      let other = other_name d.name.bytes e.name.bytes (λ g. h.0 (subst (λ (w : Name). Has w (names ds)) (sym g) k.1)) in
-      (ap (λ b. cond b (Some d) (find ds e.name.bytes)) other ∙ k.0, inr k.1)) ds (found_in ds h.1))
+    let here : find (d ∷ ds) d.name.bytes ≡ Some d = ap (λ b. cond b (Some d) (find ds d.name.bytes)) (same_name d.name.bytes) in (
+      (here, inl refl),
+      each_of _ _ (λ (e : Declaration) k.
+          let other = other_name d.name.bytes e.name.bytes (λ g. h.0 (subst (λ (w : Name). Has w (names ds)) (sym g) k.1)) in
+          (ap (λ b. cond b (Some d) (find ds e.name.bytes)) other ∙ k.0, inr k.1)) ds (found_in ds h.1),
+    )
 
 pub each_found : (ds : List Declaration) → Distinct (names ds) → Each (λ (d : Declaration). find ds d.name.bytes ≡ Some d) ds
 each_found ds h = each_of _ _ (λ d k. k.0) ds (found_in ds h)

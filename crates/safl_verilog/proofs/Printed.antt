@@ -1,5 +1,5 @@
 -- The pieces of a file's text as it is written, and which files can be written.
-use Rattle.std.proofs.Common.{◌≡◌, ◌≢◌, ℕ, ◌+◌, List, [], ◌∷◌, ◌++◌, length, map, Bool, true, false, Some, None, Option}
+use Rattle.std.proofs.Common.{◌≡◌, ℕ, List, [], ◌∷◌, ◌++◌, Bool, true, false, Some, None, Option}
 use Rattle.std.specs.Prelude.{codes}
 use Rattle.std.specs.List.{flat_map}
 use Rattle.safl_word.specs.Numerals.{IsNumeral}
@@ -13,7 +13,7 @@ use Rattle.safl_verilog.specs.declared.token.TokenKind.TheVariants as kinds
 use Rattle.safl_verilog.specs.declared.token.Sort.{Sort}
 use Rattle.safl_verilog.specs.declared.token.Sort.TheVariants as sorts
 use Rattle.safl_verilog.specs.Tokens.{keyword_text, symbol_text, IsIdentifier, Piece, Blank, Lexeme}
-use Rattle.safl_verilog.specs.Files.{Spot, Expression, Literal, Plain, Inverted, Binary, Choice, Joined, Slice, Declaration, Statement, Assign, Always, File}
+use Rattle.safl_verilog.specs.Files.{Spot, Expression, Literal, Plain, Inverted, Binary, Choice, Joined, Slice, Declaration, Statement, Assign, Always}
 
 abbrev pub space : Piece
 space = Blank 32

@@ -1,9 +1,7 @@
 -- The tokens of a written file read as that file, places aside.
-use Rattle.std.proofs.Common.{◌≡◌, ℕ, ◌+◌, ◌<◌, List, [], ◌∷◌, ◌++◌, length, map, Bool, true, false, cond, Some, None, Option, Ok, refl, sym, ap, subst, ◌∙◌, append_assoc}
-use Rattle.std.specs.Prelude.{codes}
+use Rattle.std.proofs.Common.{◌≡◌, ℕ, ◌+◌, ◌<◌, List, [], ◌∷◌, ◌++◌, length, map, Bool, true, false, cond, Some, None, Option, Ok, refl, sym, ap, ◌∙◌, append_assoc}
 use Rattle.std.specs.List.{flat_map}
-use Rattle.std.proofs.lemmas.List.{append-nil, map-append}
-use Rattle.safl_grammar.specs.Sets.{Only, within}
+use Rattle.std.proofs.lemmas.List.{append-nil}
 use Rattle.safl_grammar.specs.Reading.{Read, Reading, ◌>>=◌, head_of, read_many, read_follows, read_nothing}
 use Rattle.safl_grammar.specs.Text.{at_end}
 use Rattle.safl_grammar.proofs.Many.{many_step}
@@ -16,10 +14,10 @@ use Rattle.safl_verilog.specs.declared.token.Sort.{Sort}
 use Rattle.safl_verilog.specs.declared.token.Sort.TheVariants as sorts
 use Rattle.safl_verilog.specs.Tokens.{Terminal, Piece, Blank, Line, Block, Lexeme, text_of, text_of_all, tokens_from}
 use Rattle.safl_verilog.specs.Files.{Spot, Expression, Literal, Plain, Inverted, Binary, Choice, Joined, Slice, Declaration, Statement, Assign, Always, File}
-use Rattle.safl_verilog.specs.Grammar.{code, sort_codes}
+use Rattle.safl_verilog.specs.Grammar.{sort_codes}
 use Rattle.safl_verilog.specs.Reader.{comes, read_word, read_symbol, read_constant, read_inverted, read_binary, read_choice, read_joined, read_slice, read_named, read_cell, read_written_range, read_range, read_decl, read_assign, read_otherwise, read_at_reset, read_always, read_stmt, read_another_id, read_ids, read_another_decl, read_decls, read_another_stmt, read_stmts, read_body, read_file, read_text}
 use Rattle.safl_verilog.proofs.Grammar.{another_id_parses, another_decl_parses, another_stmt_parses}
-use Rattle.safl_verilog.proofs.Printed.{is_operator, declaration_pieces, expression_pieces, statement_pieces, port_pieces, last_pieces, body_pieces, header_end, file_pieces, FineStatement, FineExpression}
+use Rattle.safl_verilog.proofs.Printed.{is_operator, declaration_pieces, statement_pieces, port_pieces, last_pieces, body_pieces, header_end, file_pieces, FineStatement}
 use Rattle.safl_verilog.specs.Laws.{Each}
 
 -- ---- files without places
@@ -81,10 +79,11 @@ module _ {X : Type 0} (test : Option Terminal → Bool) (go : List X → Reading
       let y = one x h.0 a p (tokens_from (behind p (item x)) (flat_map item xs) ++ rest) in
       let ys = items xs h.1 (a ++ y.0 ∷ []) (behind p (item x)) rest e in
       let turn : read_many test go a w ≡ read_many test go (a ++ y.0 ∷ []) (tokens_from (behind p (item x)) (flat_map item xs) ++ rest) =
-          many_step test go eats a w ∙ ap (λ (b : Bool). cond b (go a w >>= λ y. read_many test go y.0 y.1) (Ok (a, w))) (begins x p (tokens_from (behind p (item x)) (flat_map item xs) ++ rest)) ∙ ap (λ (z : Read Terminal (List X)). z >>= λ y. read_many test go y.0 y.1) y.1 in
-      (y.0 ∷ ys.0,
+      many_step test go eats a w ∙ ap (λ (b : Bool). cond b (go a w >>= λ y. read_many test go y.0 y.1) (Ok (a, w))) (begins x p (tokens_from (behind p (item x)) (flat_map item xs) ++ rest)) ∙ ap (λ (z : Read Terminal (List X)). z >>= λ y. read_many test go y.0 y.1) y.1 in (
+        y.0 ∷ ys.0,
         ap (read_many test go a) split ∙ turn ∙ ys.1 ∙ ap (λ (l : List X). Ok (l, rest)) (append_assoc a (y.0 ∷ []) ys.0),
-        ap (λ (z : X). z ∷ map show ys.0) y.2 ∙ ap (λ (l : List X). show x ∷ l) ys.2)
+        ap (λ (z : X). z ∷ map show ys.0) y.2 ∙ ap (λ (l : List X). show x ∷ l) ys.2,
+      )
 
 -- ---- items
 
@@ -170,10 +169,11 @@ body_reads hs ds ss h p =
     let first : read_many (comes sort_codes) read_another_decl [] (tokens_from p (body_pieces ds ss)) ≡ Ok (d.0, tokens_from q later) = ap (read_many (comes sort_codes) read_another_decl []) (tokens_append (flat_map declaration_pieces ds) later p) ∙ d.1 in
     let second : read_many (comes (10 ∷ 11 ∷ [])) read_another_stmt [] (tokens_from q later) ≡ Ok (s.0, tokens_from r last_pieces) = ap (read_many (comes (10 ∷ 11 ∷ [])) read_another_stmt []) (tokens_append (flat_map statement_pieces ss) last_pieces q) ∙ s.1 in
     let k : List Declaration × List Terminal → Read Terminal File = λ (ds : List Declaration × List Terminal). read_follows (read_many (comes (10 ∷ 11 ∷ [])) read_another_stmt []) (λ ss. read_follows (read_word keywords.Endmodule) (λ e. read_nothing (record { header = hs; declarations = ds.0; statements = ss }))) ds.1 in
-    let l : List Statement × List Terminal → Read Terminal File = λ (ss : List Statement × List Terminal). read_follows (read_word keywords.Endmodule) (λ e. read_nothing (record { header = hs; declarations = d.0; statements = ss.0 })) ss.1 in
-    (record { header = hs; declarations = d.0; statements = s.0 },
+    let l : List Statement × List Terminal → Read Terminal File = λ (ss : List Statement × List Terminal). read_follows (read_word keywords.Endmodule) (λ e. read_nothing (record { header = hs; declarations = d.0; statements = ss.0 })) ss.1 in (
+      record { header = hs; declarations = d.0; statements = s.0 },
       ap (λ (z : Read Terminal (List Declaration)). z >>= k) first ∙ ap (λ (z : Read Terminal (List Statement)). z >>= l) second,
-      ap (λ (ds : List Declaration). record { header = map bare hs; declarations = ds; statements = map bare_statement s.0 }) d.2 ∙ ap (λ (ss : List Statement). record { header = map bare hs; declarations = map bare_declaration ds; statements = ss }) s.2)
+      ap (λ (ds : List Declaration). record { header = map bare hs; declarations = ds; statements = map bare_statement s.0 }) d.2 ∙ ap (λ (ss : List Statement). record { header = map bare hs; declarations = map bare_declaration ds; statements = ss }) s.2,
+    )
   where
     each_plain : (ds : List Declaration) → Each (λ d. Unit {0}) ds
     each_plain [] = tt
@@ -187,10 +187,11 @@ header_reads x xs ds ss h p =
     let q = behind p (flat_map port_pieces xs) in
     let ys = items (comes (22 ∷ [])) read_another_id (λ a. (eats_parses (another_id_parses a)).left) port_pieces bare (λ x. Unit {0}) one_port (λ x p rest. refl) xs (each_plain xs) (x ∷ []) p (tokens_from q (header_end (body_pieces ds ss))) refl in
     let first : read_many (comes (22 ∷ [])) read_another_id (x ∷ []) (tokens_from p (flat_map port_pieces xs ++ header_end (body_pieces ds ss))) ≡ Ok (x ∷ ys.0, tokens_from q (header_end (body_pieces ds ss))) = ap (read_many (comes (22 ∷ [])) read_another_id (x ∷ [])) (tokens_append (flat_map port_pieces xs) (header_end (body_pieces ds ss)) p) ∙ ys.1 in
-    let b = body_reads (x ∷ ys.0) ds ss h (q + 1 + 1 + 1) in
-    (b.0,
+    let b = body_reads (x ∷ ys.0) ds ss h (q + 1 + 1 + 1) in (
+      b.0,
       ap (λ (z : Read Terminal (List Spot)). z >>= λ y. after_header y.0 y.1) first ∙ b.1,
-      b.2 ∙ ap (λ (l : List Spot). record { header = bare x ∷ l; declarations = map bare_declaration ds; statements = map bare_statement ss }) ys.2)
+      b.2 ∙ ap (λ (l : List Spot). record { header = bare x ∷ l; declarations = map bare_declaration ds; statements = map bare_statement ss }) ys.2,
+    )
   where
     each_plain : (xs : List Spot) → Each (λ d. Unit {0}) xs
     each_plain [] = tt

@@ -1,23 +1,19 @@
 -- The pieces of a written file stand one before the other.
-use Rattle.std.proofs.Common.{◌≡◌, ◌≢◌, ℕ, ◌+◌, List, [], ◌∷◌, ◌++◌, length, map, Bool, true, false, ◌==◌, ◌||◌, Some, None, Option, refl, sym, ap, subst, ◌∙◌, append_assoc}
+use Rattle.std.proofs.Common.{◌≡◌, ◌≢◌, ℕ, List, [], ◌∷◌, ◌++◌, Bool, true, false, ◌==◌, ◌||◌, Some, None, Option, refl, sym, ap, subst, ◌∙◌, append_assoc}
 use Rattle.std.proofs.Common.{lit≤}
 use Rattle.std.specs.Prelude.{codes}
 use Rattle.std.specs.List.{flat_map, list_any}
-use Rattle.std.proofs.lemmas.List.{append-nil}
-use Rattle.safl_word.specs.Numerals.{IsNumeral, is_digit}
-use Rattle.safl_word.specs.declared.primitive.Primitive.{Primitive}
+use Rattle.safl_word.specs.Numerals.{is_digit}
 use Rattle.safl_verilog.specs.declared.token.Keyword.{Keyword}
 use Rattle.safl_verilog.specs.declared.token.Symbol.{Symbol}
 use Rattle.safl_verilog.specs.declared.token.Symbol.TheVariants as symbols
-use Rattle.safl_verilog.specs.declared.token.Sort.{Sort}
-use Rattle.safl_verilog.specs.declared.token.Sort.TheVariants as sorts
 use Rattle.safl_net.specs.Names.{is_part}
 use Rattle.safl_verilog.specs.Tokens.{keyword_text, symbol_text, stops, next_base, IsSized, Piece, text_of, text_of_all, StandsBefore, StandAll}
 use Rattle.safl_verilog.specs.Files.{Spot, Expression, Literal, Plain, Inverted, Binary, Choice, Joined, Slice, Declaration, Statement, Assign, Always}
 use Rattle.safl_verilog.specs.Pieces.{named, double_symbols}
 use Rattle.safl_verilog.proofs.Symbols.{double_named}
 use Rattle.safl_verilog.proofs.Found.{no_keyword}
-use Rattle.safl_verilog.proofs.Printed.{space, line_end, kw, sy, id, num, lit, keyword_of, symbol_of, range_pieces, declaration_end, declaration_pieces, expression_pieces, statement_pieces, port_pieces, last_pieces, body_pieces, header_end, file_pieces, IsWritten, IsName, FineRange, FineDeclaration, FineExpression, FineStatement}
+use Rattle.safl_verilog.proofs.Printed.{line_end, sy, symbol_of, range_pieces, declaration_end, declaration_pieces, expression_pieces, statement_pieces, port_pieces, last_pieces, body_pieces, header_end, file_pieces, IsWritten, IsName, FineRange, FineDeclaration, FineExpression, FineStatement}
 use Rattle.safl_verilog.specs.Laws.{Each}
 
 pub text_append : (xs ys : List Piece) → text_of_all (xs ++ ys) ≡ text_of_all xs ++ text_of_all ys
@@ -38,11 +34,14 @@ stand_each item (x ∷ xs) r h = stand_append (item x) (flat_map item xs) r (h.0
 
 -- a symbol of one byte that begins no longer one
 alone : (s : Symbol) (a : ℕ) (rest : List ℕ) → symbol_text s ≡ a ∷ [] → ((c : ℕ) → named symbol_text double_symbols (a ∷ c ∷ []) ≡ None) → StandsBefore (sy s) rest
-alone s a rest e h = (refl, λ t c v f g.
-    let text : symbol_text t ≡ a ∷ c ∷ [] = g ∙ ap (λ (l : List ℕ). l ++ c ∷ []) e in
-    let found = sym (h c) ∙ ap (named symbol_text double_symbols) (sym text) ∙ double_named t a c text in
-    let clash : None ≡ Some t = found in
-    cc)
+alone s a rest e h = (
+  refl,
+  λ t c v f g.
+      let text : symbol_text t ≡ a ∷ c ∷ [] = g ∙ ap (λ (l : List ℕ). l ++ c ∷ []) e in
+      let found = sym (h c) ∙ ap (named symbol_text double_symbols) (sym text) ∙ double_named t a c text in
+      let clash : None ≡ Some t = found in
+      cc,
+)
 
 abbrev has_space : List ℕ → Bool
 has_space w = list_any (λ c. c == 32) w
@@ -86,11 +85,14 @@ no_space symbols.ShiftRight = refl
 
 -- a symbol before a space
 spaced : (s : Symbol) (rest : List ℕ) → StandsBefore (sy s) (32 ∷ rest)
-spaced s rest = (refl, λ t c v f g.
-    let same : 32 ≡ c = cc in
-    let text : symbol_text t ≡ symbol_text s ++ 32 ∷ [] = g ∙ ap (λ k. symbol_text s ++ k ∷ []) (sym same) in
-    let clash : false ≡ true = sym (no_space t) ∙ ap has_space text ∙ spaced_end (symbol_text s) in
-    cc)
+spaced s rest = (
+  refl,
+  λ t c v f g.
+      let same : 32 ≡ c = cc in
+      let text : symbol_text t ≡ symbol_text s ++ 32 ∷ [] = g ∙ ap (λ k. symbol_text s ++ k ∷ []) (sym same) in
+      let clash : false ≡ true = sym (no_space t) ∙ ap has_space text ∙ spaced_end (symbol_text s) in
+      cc,
+)
 
 no_quote : (q : ℕ) (rest : List ℕ) → (q == 39) ≡ false → next_base (q ∷ rest) ≡ None
 no_quote q [] h = refl
@@ -112,9 +114,19 @@ declaration_end_stands x r h = ((h, refl), (alone symbols.Semicolon 59 _ refl (�
 
 range_stands : (o : Option (Spot × Spot)) (r : List ℕ) → FineRange o → StandAll (range_pieces o) r
 range_stands None r h = tt
-range_stands (Some x) r h =
-    (alone symbols.OpenBracket 91 _ refl (λ c. refl), ((h.0, refl, no_quote 58 _ refl), (alone symbols.Colon 58 _ refl (λ c. refl), ((h.1, refl, no_quote 93 (32 ∷ r) refl),
-      (alone symbols.CloseBracket 93 _ refl (λ c. refl), (refl, tt))))))
+range_stands (Some x) r h = (
+  alone symbols.OpenBracket 91 _ refl (λ c. refl),
+  (
+    (h.0, refl, no_quote 58 _ refl),
+    (
+      alone symbols.Colon 58 _ refl (λ c. refl),
+      (
+        (h.1, refl, no_quote 93 (32 ∷ r) refl),
+        (alone symbols.CloseBracket 93 _ refl (λ c. refl), (refl, tt)),
+      ),
+    ),
+  ),
+)
 
 declaration_stands : (d : Declaration) → FineDeclaration d → (r : List ℕ) → StandAll (declaration_pieces d) r
 declaration_stands d h r =
@@ -130,20 +142,143 @@ expression_stands (Binary p a b) r h = ((h.1, refl), (refl, (spaced (symbol_of p
 expression_stands (Choice a b c) r h = ((h.0, refl), (refl, (spaced symbols.Question _, (refl, ((h.1, refl), (refl, (spaced symbols.Colon _, (refl, ((h.2, refl), tt)))))))))
 expression_stands (Joined a b) r h =
     (alone symbols.OpenBrace 123 _ refl (λ c. refl), ((h.0, refl), (spaced symbols.Comma _, (refl, ((h.1, refl), (alone symbols.CloseBrace 125 _ refl (λ c. refl), tt))))))
-expression_stands (Slice a high low) r h =
-    ((h.0, refl), (alone symbols.OpenBracket 91 _ refl (λ c. refl), ((h.1, refl, no_quote 58 _ refl), (alone symbols.Colon 58 _ refl (λ c. refl), ((h.2, refl, no_quote 93 (59 ∷ r) refl),
-      (alone symbols.CloseBracket 93 _ refl (λ c. refl), tt))))))
+expression_stands (Slice a high low) r h = (
+  (h.0, refl),
+  (
+    alone symbols.OpenBracket 91 _ refl (λ c. refl),
+    (
+      (h.1, refl, no_quote 58 _ refl),
+      (
+        alone symbols.Colon 58 _ refl (λ c. refl),
+        (
+          (h.2, refl, no_quote 93 (59 ∷ r) refl),
+          (alone symbols.CloseBracket 93 _ refl (λ c. refl), tt),
+        ),
+      ),
+    ),
+  ),
+)
 
 statement_stands : (s : Statement) → FineStatement s → (r : List ℕ) → StandAll (statement_pieces s) r
-statement_stands (Assign x e) h r =
-    (refl, (refl, ((refl, refl), (refl, ((h.0, refl), (refl, (spaced symbols.Becomes _, (refl,
-      stand_append (expression_pieces e) (sy symbols.Semicolon ∷ line_end ∷ []) r (expression_stands e (10 ∷ r) h.1) (alone symbols.Semicolon 59 _ refl (λ c. refl), (refl, tt))))))))))
-statement_stands (Always clock reset target initial second source) h r =
-    (refl, (refl, ((refl, refl), (refl, (alone symbols.At 64 _ refl (λ c. refl), (alone symbols.OpenParen 40 _ refl (λ c. refl), ((refl, refl), (refl, ((h.clock, refl),
-      (alone symbols.CloseParen 41 _ refl (λ c. refl), (refl, ((refl, refl), (refl, (alone symbols.OpenParen 40 _ refl (λ c. refl), ((h.reset, refl),
-        (alone symbols.CloseParen 41 _ refl (λ c. refl), (refl, ((h.target, refl), (refl, (spaced symbols.LessEqual _, (refl, (written_stands initial 59 _ h.initial refl,
-          (alone symbols.Semicolon 59 _ refl (λ c. refl), (refl, ((refl, refl), (refl, ((h.second, refl), (refl, (spaced symbols.LessEqual _, (refl, ((h.source, refl),
-            (alone symbols.Semicolon 59 _ refl (λ c. refl), (refl, tt)))))))))))))))))))))))))))))))))
+statement_stands (Assign x e) h r = (
+  refl,
+  (
+    refl,
+    (
+      (refl, refl),
+      (
+        refl,
+        (
+          (h.0, refl),
+          (
+            refl,
+            (
+              spaced symbols.Becomes _,
+              (
+                refl,
+                stand_append (expression_pieces e) (sy symbols.Semicolon ∷ line_end ∷ []) r (expression_stands e (10 ∷ r) h.1) (alone symbols.Semicolon 59 _ refl (λ c. refl), (refl, tt)),
+              ),
+            ),
+          ),
+        ),
+      ),
+    ),
+  ),
+)
+statement_stands (Always clock reset target initial second source) h r = (
+  refl,
+  (
+    refl,
+    (
+      (refl, refl),
+      (
+        refl,
+        (
+          alone symbols.At 64 _ refl (λ c. refl),
+          (
+            alone symbols.OpenParen 40 _ refl (λ c. refl),
+            (
+              (refl, refl),
+              (
+                refl,
+                (
+                  (h.clock, refl),
+                  (
+                    alone symbols.CloseParen 41 _ refl (λ c. refl),
+                    (
+                      refl,
+                      (
+                        (refl, refl),
+                        (
+                          refl,
+                          (
+                            alone symbols.OpenParen 40 _ refl (λ c. refl),
+                            (
+                              (h.reset, refl),
+                              (
+                                alone symbols.CloseParen 41 _ refl (λ c. refl),
+                                (
+                                  refl,
+                                  (
+                                    (h.target, refl),
+                                    (
+                                      refl,
+                                      (
+                                        spaced symbols.LessEqual _,
+                                        (
+                                          refl,
+                                          (
+                                            written_stands initial 59 _ h.initial refl,
+                                            (
+                                              alone symbols.Semicolon 59 _ refl (λ c. refl),
+                                              (
+                                                refl,
+                                                (
+                                                  (refl, refl),
+                                                  (
+                                                    refl,
+                                                    (
+                                                      (h.second, refl),
+                                                      (
+                                                        refl,
+                                                        (
+                                                          spaced symbols.LessEqual _,
+                                                          (
+                                                            refl,
+                                                            (
+                                                              (h.source, refl),
+                                                              (alone symbols.Semicolon 59 _ refl (λ c. refl), (refl, tt)),
+                                                            ),
+                                                          ),
+                                                        ),
+                                                      ),
+                                                    ),
+                                                  ),
+                                                ),
+                                              ),
+                                            ),
+                                          ),
+                                        ),
+                                      ),
+                                    ),
+                                  ),
+                                ),
+                              ),
+                            ),
+                          ),
+                        ),
+                      ),
+                    ),
+                  ),
+                ),
+              ),
+            ),
+          ),
+        ),
+      ),
+    ),
+  ),
+)
 
 -- ---- the header, and whole files
 
@@ -174,8 +309,24 @@ pub file_stands : (x : Spot) (xs : List Spot) (ds : List Declaration) (ss : List
 file_stands x xs ds ss name names h k =
     let body = body_pieces ds ss in
     let after : stops is_part (text_of_all (flat_map port_pieces xs ++ header_end body) ++ []) ≡ true =
-        ap (λ (l : List ℕ). stops is_part (l ++ [])) (text_append (flat_map port_pieces xs) (header_end body)) ∙ ap (stops is_part) (append_assoc (text_of_all (flat_map port_pieces xs)) (text_of_all (header_end body)) []) ∙ after_port xs (text_of_all (header_end body) ++ []) refl in
-    let safl : IsName (record { place = 0; bytes = codes "safl" }) = record { like = refl; short = lit≤ tt; free = safl_free } in
-    ((refl, refl), (refl, ((safl, refl), (refl, (alone symbols.OpenParen 40 _ refl (λ c. refl), ((name, after),
-      stand_append (flat_map port_pieces xs) (header_end body) [] (ports_stand xs _ names refl)
-        (alone symbols.CloseParen 41 _ refl (λ c. refl), (alone symbols.Semicolon 59 _ refl (λ c. refl), (refl, body_stands ds ss h k)))))))))
+    ap (λ (l : List ℕ). stops is_part (l ++ [])) (text_append (flat_map port_pieces xs) (header_end body)) ∙ ap (stops is_part) (append_assoc (text_of_all (flat_map port_pieces xs)) (text_of_all (header_end body)) []) ∙ after_port xs (text_of_all (header_end body) ++ []) refl in
+    let safl : IsName (record { place = 0; bytes = codes "safl" }) = record { like = refl; short = lit≤ tt; free = safl_free } in (
+      (refl, refl),
+      (
+        refl,
+        (
+          (safl, refl),
+          (
+            refl,
+            (
+              alone symbols.OpenParen 40 _ refl (λ c. refl),
+              (
+                (name, after),
+                stand_append (flat_map port_pieces xs) (header_end body) [] (ports_stand xs _ names refl)
+                    (alone symbols.CloseParen 41 _ refl (λ c. refl), (alone symbols.Semicolon 59 _ refl (λ c. refl), (refl, body_stands ds ss h k))),
+              ),
+            ),
+          ),
+        ),
+      ),
+    )

@@ -1,6 +1,6 @@
 //! Laws of files.
 
-ghost use Rattle.safl_verilog.specs.Laws.{OneNetlist, OneFault, NetlistOrFault, NotBoth, NoShorterFile};
+ghost use Rattle.safl_verilog.specs.Laws.{OneNetlist, OneFault, NetlistOrFault, NotBoth, NoShorterFile, WrittenReads};
 
 /// A text reads as at most one netlist.
 pub fn one_netlist_law()
@@ -25,4 +25,10 @@ pub fn not_both_law()
 /// No shorter front of a file is a file.
 pub fn no_shorter_file_law()
     ensures { NoShorterFile }
+{}
+
+/// The text that is written of a netlist reads as that netlist, where its signals stand as inputs, then registers with
+/// a next signal, then wires with a cell, and the ports that each file has are there.
+pub fn written_reads_law()
+    ensures { WrittenReads }
 {}
