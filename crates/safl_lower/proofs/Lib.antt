@@ -15,3 +15,5 @@ pub mod Gathering
 pub mod Whole
 pub mod BitWords
 pub mod Extending
+pub mod FromProgram
+pub mod Sample

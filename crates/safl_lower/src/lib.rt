@@ -9,6 +9,8 @@ pub mod parts;
 mod primitives;
 mod spread;
 mod terms;
+#[cfg(test)]
+mod tests;
 
 pub use crate::body::lower;
 pub use crate::parts::{Body, Ports, SitePorts};
