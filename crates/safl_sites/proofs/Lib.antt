@@ -8,3 +8,5 @@ pub mod TermLemmas
 pub mod MarkLemmas
 pub mod TouchLemmas
 pub mod BeforeLemmas
+pub mod OrderLemmas
+pub mod FillLemmas

@@ -7,3 +7,4 @@ pub mod Kept
 pub mod Touched
 pub mod Plan
 pub mod Planned
+pub mod Filling

@@ -1,6 +1,7 @@
 //! The plan of a circuit: which units need an arbiter, and which sites keep their words.
 #![tactic(auto)]
 
+mod fill;
 pub mod laws;
 mod parallel;
 mod planned;

@@ -1,0 +1,63 @@
+//! The tables of what is in reach of the bodies.
+
+ghost use Rattle.std.specs.Prelude.{◌≡◌, ℕ, suc, ◌<◌, length, IfOk};
+ghost use Rattle.safl_check.specs.Checked.{program_of};
+ghost use Rattle.safl_sites.specs.Filling.{IsFilled};
+ghost use Rattle.safl_sites.specs.Rows.{HasAt};
+
+use crate::parallel::mark;
+use crate::reach::reach;
+use crate::row::Row;
+use safl_check::Checked;
+use std::alloc::{AllocError, Global};
+
+/// By function, what is in reach of its body; by unit, what is in reach of the bodies of its members; and by site,
+/// what is in reach of the parallel terms before it.
+#[derive(Drop)]
+pub struct Tables {
+    pub bodies: Vec<Row>,
+    pub units: Vec<Row>,
+    pub after: Vec<Row>,
+}
+
+/// A table of empty rows.
+pub fn empty_rows(alloc: Global, count: usize) -> Result<Vec<Row>, AllocError>
+    ensures count { IfOk result (λ v. length v.items ≡ count) }
+    ensures empty { IfOk result (λ v. (i k : ℕ) → HasAt v.items i k → ⊥) }
+{
+    let empty = Row::new();
+    let rows = vec![in alloc; empty; count]?;
+    Ok(rows)
+}
+
+/// Fills the tables. A callee's unit is below its caller's, so that the bodies go upwards.
+pub fn fill(alloc: Global, c: &Checked) -> Result<Tables, AllocError>
+    ensures { IfOk result (λ t. IsFilled (program_of c.now) (program_of c.now).functions t.bodies.items t.units.items t.after.items) }
+{
+    let functions = c.functions();
+    let mut bodies = empty_rows(alloc, functions as usize)?;
+    let mut units = empty_rows(alloc, functions as usize)?;
+    let mut after = empty_rows(alloc, c.sites() as usize + 1)?;
+    for f in 0..functions {
+        fill_body(c, f, &mut bodies, &mut units, &mut after);
+    }
+    Ok(Tables {
+        bodies,
+        units,
+        after,
+    })
+}
+
+fn fill_body(c: &Checked, f: u32, bodies: &mut [Row], units: &mut [Row], after: &mut [Row])
+    requires within { f < (program_of c.now).functions }
+    requires filled { IsFilled (program_of c.now) f bodies.old units.old after.old }
+    ensures { IsFilled (program_of c.now) (suc f) bodies.new units.new after.new }
+{
+    let _functions = c.functions();
+    let body = c.body(f);
+    let mut row = Row::new();
+    reach(c, units, body, &mut row);
+    mark(c, units, body, &Row::new(), after);
+    units[c.unit(f) as usize].union(&row);
+    bodies[f as usize] = row;
+}
