@@ -10,3 +10,4 @@ pub mod TouchLemmas
 pub mod BeforeLemmas
 pub mod OrderLemmas
 pub mod FillLemmas
+pub mod SpreadLemmas

@@ -8,3 +8,4 @@ pub mod Touched
 pub mod Plan
 pub mod Planned
 pub mod Filling
+pub mod Spreading

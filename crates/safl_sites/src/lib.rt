@@ -7,6 +7,7 @@ mod parallel;
 mod planned;
 mod reach;
 mod row;
+mod spread;
 mod touched;
 
 pub use crate::planned::Planned;
