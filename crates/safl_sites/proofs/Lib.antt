@@ -11,3 +11,5 @@ pub mod BeforeLemmas
 pub mod OrderLemmas
 pub mod FillLemmas
 pub mod SpreadLemmas
+pub mod PeerLemmas
+pub mod CollectLemmas

@@ -8,7 +8,7 @@ use Rattle.std.proofs.lemmas.Nat.Bits.{bit_at-zero, bit_at-lt, bit_at-suc, bit_a
 use Rattle.std.specs.Int.{bit_at, bit_not}
 use Rattle.std.specs.List.{list_all}
 use Rattle.safl_sites.specs.declared.row.Row.{Row}
-use Rattle.safl_sites.specs.Rows.{has, Has, Adds, Meets}
+use Rattle.safl_sites.specs.Rows.{has, Has, Adds, IsCommon, Meets}
 
 zero-not-one : {a : ℕ} → a ≡ 0 → a ≡ 1 → ⊥
 zero-not-one p q = omega arith
@@ -181,3 +181,45 @@ pub row_at : (rows : List Row) (i : ℕ) (row : Row) → i < length rows → row
 row_at [] i row h e = absurd (omega arith)
 row_at (r ∷ rows) zero row h e = e
 row_at (r ∷ rows) (suc i) row h e = row_at rows i row (omega arith) e
+
+-- a row whose word has the bits of one, and those of two others but for a number
+pub has_common : (r a b c : Row) (e k common : ℕ) → get_or c.words (k / 64) 0 ≡ bit_or (get_or r.words (k / 64) 0) common
+    → ((k / 64 ≡ e / 64 → ⊥) × (common ≡ bit_and (get_or a.words (k / 64) 0) (get_or b.words (k / 64) 0))) ⊎ ((k / 64 ≡ e / 64) × (common ≡ bit_and (bit_and (get_or a.words (k / 64) 0) (get_or b.words (k / 64) 0)) (bit_not w64 (1 * 2 ^ (e % 64) % 2 ^ 64))))
+    → Adds (Has r k) (Has c k) (IsCommon a b e k)
+has_common r a b c e k common is which =
+    let i = k / 64 in
+    let j = k % 64 in
+    let lower : e % 64 < 64 = omega arith in
+    let low : j < 64 = omega arith in
+    let w = bit_and (get_or a.words i 0) (get_or b.words i 0) in
+    let mask = bit_not w64 (1 * 2 ^ (e % 64) % 2 ^ 64) in
+    let to : bit_at common j ≡ 1 → IsCommon a b e k = λ h. elim which [
+      | inl (n, f) ↦
+          let g : bit_at w j ≡ 1 = ap (λ x. bit_at x j) (sym f) ∙ h in
+          let both = both_bits a b i e j g in
+          record { differs = λ q. n (ap (λ x. x / 64) (sym q)); first = has_of_bit a k both.0; second = has_of_bit b k both.1 }
+      | inr (n, f) ↦
+          let g : bit_at (bit_and w mask) j ≡ 1 = ap (λ x. bit_at x j) (sym f) ∙ h in
+          let apart : j ≡ e % 64 → ⊥ = λ q. zero-not-one (bit_at_clear_same w64 w (e % 64) lower) (ap (bit_at (bit_and w mask)) (sym q) ∙ g) in
+          let both = both_bits a b i e j (sym (bit_at_clear_other w64 w (e % 64) lower j low apart) ∙ g) in
+          record { differs = λ q. apart (ap (λ x. x % 64) (sym q)); first = has_of_bit a k both.0; second = has_of_bit b k both.1 }
+    ] in
+    let from : IsCommon a b e k → bit_at common j ≡ 1 = λ h.
+    let g : bit_at w j ≡ 1 = bits_both a b i e k refl h.first h.second in
+    elim which [
+      | inl (n, f) ↦ ap (λ x. bit_at x j) f ∙ g
+      | inr (n, f) ↦
+          let apart : j ≡ e % 64 → ⊥ = λ q. h.differs (sym (same_place k e n q)) in
+          ap (λ x. bit_at x j) f ∙ (bit_at_clear_other w64 w (e % 64) lower j low apart ∙ g)
+    ] in
+    let x = get_or r.words i 0 in
+    let m : bit_at (get_or c.words i 0) j ≡ max (bit_at x j) (bit_at common j) = rw is (bit_at_or x common j) in
+    record {
+      splits = λ h. elim (either (bit_at x j) (bit_at common j) (sym m ∙ bit_of_has c k h) (bit_at-lt x j) (bit_at-lt common j)) [ inl f ↦ inl (has_of_bit r k f) | inr f ↦ inr (to f) ];
+      stays = λ h. has_of_bit c k (omega (arith, m, bit_of_has r k h, bit_at-lt common j));
+      joins = λ h. has_of_bit c k (omega (arith, m, from h, bit_at-lt x j));
+    }
+
+pub has_words : (a b : Row) (k : ℕ) → get_or a.words (k / 64) 0 ≡ get_or b.words (k / 64) 0 → has a k ≡ has b k
+unfolding has
+has_words a b k e = ap (λ w. bit_at w (k % 64) == 1) e

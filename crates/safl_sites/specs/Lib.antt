@@ -9,3 +9,5 @@ pub mod Plan
 pub mod Planned
 pub mod Filling
 pub mod Spreading
+pub mod Peers
+pub mod Collecting

@@ -24,7 +24,13 @@ pub record Adds (old new P : Type 0) : Type 0 where
   pub stays : old → new
   pub joins : P → new
 
--- a number is in both rows, beside this one
+-- a number is in both rows, and is not this one
+pub record IsCommon (a b : Row) (except k : ℕ) : Type 0 where
+  pub differs : except ≢ k
+  pub first : Has a k
+  pub second : Has b k
+
+-- some number is in both rows, and is not this one
 pub record Meets (a b : Row) (except : ℕ) : Type 0 where
   pub other : ℕ
   pub differs : except ≢ other

@@ -1,9 +1,11 @@
 //! The plan of a circuit: which units need an arbiter, and which sites keep their words.
 #![tactic(auto)]
 
+mod collect;
 mod fill;
 pub mod laws;
 mod parallel;
+mod peers;
 mod planned;
 mod reach;
 mod row;

@@ -1,7 +1,7 @@
 //! Sets of sites.
 
 ghost use Rattle.std.specs.Prelude.{◌≡◌, ◌<◌, ◌↔◌, ℕ, false, IsTrue};
-ghost use Rattle.safl_sites.specs.Rows.{has, Has, Adds, Meets};
+ghost use Rattle.safl_sites.specs.Rows.{has, Has, Adds, IsCommon, Meets};
 
 /// The machine words of a row: a bit for each number of a site, of which there are 4,000.
 const WORDS: usize = 63;
@@ -59,5 +59,18 @@ impl Row {
             }
         }
         false
+    }
+
+    /// Puts each site that is in two other sets, but for this one, into this set.
+    pub fn add_common(&mut self, a: &Row, b: &Row, except: u32)
+        ensures { (k : ℕ) → Adds (Has self.old k) (Has self.new k) (IsCommon a.now b.now except k) }
+    {
+        for i in 0..WORDS {
+            let mut common = a.words[i] & b.words[i];
+            if i == except as usize / 64 {
+                common &= !(1 << (except % 64));
+            }
+            self.words[i] |= common;
+        }
     }
 }

@@ -1,0 +1,34 @@
+-- The sites up to a number that conflict with one that comes before them.
+use Rattle.std.specs.Prelude.{◌≡◌, ◌≢◌, ℕ, ◌≤◌, List, length, Bool, true, false, get_or, ◌⊎◌, ◌↔◌}
+use Rattle.safl_check.specs.Program.{Program, unit_for}
+use Rattle.safl_sites.specs.declared.row.Row.{Row}
+use Rattle.safl_sites.specs.Parallel.{ComesBefore}
+use Rattle.safl_sites.specs.Peers.{IsSiteOf}
+use Rattle.safl_sites.specs.Rows.{Has}
+
+-- the site up to top and another of its unit that comes before it
+pub record Collides (C : Program) (top later earlier : ℕ) : Type 0 where
+  pub least : 1 ≤ later
+  pub most : later ≤ top
+  pub differs : later ≢ earlier
+  pub peer : IsSiteOf C C.sites (unit_for C later) earlier
+  pub before : ComesBefore C earlier later
+
+-- two sites of the unit do so
+pub record HasCollision (C : Program) (top u : ℕ) : Type 0 where
+  pub later : ℕ
+  pub earlier : ℕ
+  pub collides : Collides C top later earlier
+  pub unit : unit_for C later ≡ u
+
+-- site k is one of two that do so
+pub record InCollision (C : Program) (top k : ℕ) : Type 0 where
+  pub later : ℕ
+  pub earlier : ℕ
+  pub collides : Collides C top later earlier
+  pub one : (k ≡ later) ⊎ (k ≡ earlier)
+
+pub record IsCollected (C : Program) (top : ℕ) (arbiters : List Bool) (kept : Row) : Type 0 where
+  pub count : length arbiters ≡ C.functions
+  pub units : (u : ℕ) → (get_or arbiters u false ≡ true) ↔ HasCollision C top u
+  pub sites : (k : ℕ) → Has kept k ↔ InCollision C top k

@@ -1,0 +1,36 @@
+//! The sites that conflict, and their units.
+
+ghost use Rattle.std.specs.Prelude.{◌≡◌, ℕ, suc, ◌-◌, ◌≤◌, length, false, get_or};
+ghost use Rattle.safl_check.specs.Checked.{program_of};
+ghost use Rattle.safl_sites.specs.Collecting.{IsCollected};
+ghost use Rattle.safl_sites.specs.Peers.{ArePeers};
+ghost use Rattle.safl_sites.specs.Planned.{BeforeTable};
+
+use crate::row::Row;
+use safl_check::Checked;
+
+/// Marks the unit of a site that conflicts with one that comes before it, and both sites.
+pub fn collect_site(
+    c: &Checked,
+    k: u32,
+    before: &[Row],
+    peers: &[Row],
+    arbiters: &mut [bool],
+    kept: &mut Row,
+)
+    requires least { 1 ≤ k }
+    requires most { k ≤ (program_of c.now).sites }
+    requires conflicts { BeforeTable (program_of c.now) before.now }
+    requires peers { ArePeers (program_of c.now) (program_of c.now).sites peers.now }
+    requires collected { IsCollected (program_of c.now) (k - 1) arbiters.old kept.old }
+    ensures { IsCollected (program_of c.now) k arbiters.new kept.new }
+{
+    let _functions = c.functions();
+    let unit = c.unit(c.callee(k)) as usize;
+    let row = before[k as usize];
+    if row.meets(&peers[unit], k) {
+        arbiters[unit] = true;
+        kept.insert(k);
+        kept.add_common(&row, &peers[unit], k);
+    }
+}
