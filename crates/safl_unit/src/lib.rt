@@ -1,4 +1,9 @@
 //! The circuit of a program: its registers and wires, and what its runs show.
 #![tactic(auto)]
 
+mod circuit;
+mod smallest;
 pub mod laws;
+
+pub use crate::circuit::Circuit;
+pub use crate::smallest::compile_constant;
