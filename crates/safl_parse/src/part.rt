@@ -1,0 +1,274 @@
+//! Expressions with their depths, up to the limit of a left operand.
+
+ghost use Rattle.std.specs.Prelude.{◌≡◌, [], ◌∷◌, ◌++◌, ◌+◌, ◌≤◌, min, max, IfOk};
+ghost use Rattle.safl_tree.specs.Tree.{depth as tree_depth, deepest, deepest_bind, deepest_arm, trees_of, binds_of, arms_of, Applied, Called, Binding, Cases, Choice};
+ghost use Rattle.safl_tree.specs.Shown.{shows, shows_all, shows_bind, shows_bounds, shows_arm, shows_labelled};
+ghost use Rattle.safl_parse.specs.Parts.{labelled_depth};
+
+use safl_tree::{Arm, Bind, Expr, Name, Node};
+use safl_word::Primitive;
+use std::alloc::{AllocError, Global};
+
+/// One more than the greatest depth of a left operand.
+pub const DEPTH_LIMIT: u8 = 100;
+
+/// An expression and its depth, or the limit if that is less.
+#[derive(Drop)]
+pub struct Part {
+    pub expr: Expr,
+    pub depth: u8,
+    ghost capped: { depth ≡ min (tree_depth (shows expr)) 100 },
+}
+
+impl Part {
+    /// The expression alone.
+    pub fn into_expr(self) -> Expr
+        ensures { result ≡ self.expr }
+    {
+        self.expr
+    }
+}
+
+/// Expressions, and the greatest depth of one, or the limit if that is less.
+#[derive(Drop)]
+pub struct Parts {
+    pub exprs: Vec<Expr>,
+    pub depth: u8,
+    ghost capped: { depth ≡ min (deepest (trees_of (shows_all exprs.items))) 100 },
+}
+
+/// Bindings, and the greatest depth of a value, or the limit if that is less.
+#[derive(Drop)]
+pub struct Bindings {
+    pub binds: Vec<Bind>,
+    pub depth: u8,
+    ghost capped: { depth ≡ min (deepest_bind (binds_of (shows_bounds binds.items))) 100 },
+}
+
+/// Labelled arms, and the depth of their ifs, the default aside, or the limit if that is less.
+#[derive(Drop)]
+pub struct Labels {
+    pub arms: Vec<Arm>,
+    pub depth: u8,
+    ghost capped: { depth ≡ min (labelled_depth (shows_labelled arms.items)) 100 },
+}
+
+/// All arms of a case, and the depth of their ifs, or the limit if that is less.
+#[derive(Drop)]
+pub struct AllArms {
+    pub arms: Vec<Arm>,
+    pub default: Expr,
+    pub depth: u8,
+    ghost capped: { depth ≡ min (deepest_arm (arms_of (shows_labelled arms.items) (shows default))) 100 },
+}
+
+/// One more, or the limit if that is less.
+pub fn above(depth: u8) -> u8
+    requires { depth ≤ 100 }
+    ensures { result ≡ min (1 + depth) 100 }
+{
+    if depth < DEPTH_LIMIT {
+        depth + 1
+    } else {
+        DEPTH_LIMIT
+    }
+}
+
+pub fn greater(a: u8, b: u8) -> u8
+    ensures { result ≡ max a b }
+{
+    if a < b { b } else { a }
+}
+
+/// One expression alone.
+pub fn single(alloc: Global, part: Part) -> Result<Parts, AllocError>
+    ensures { IfOk result (λ x. shows_all x.exprs.items ≡ shows part.expr ∷ []) }
+{
+    let depth = part.depth;
+    let exprs = vec![in alloc; part.expr]?;
+    Ok(Parts { exprs, depth })
+}
+
+/// One more at the end.
+pub fn push(parts: Parts, next: Part) -> Result<Parts, AllocError>
+    ensures { IfOk result (λ x. shows_all x.exprs.items ≡ shows_all parts.exprs.items ++ shows next.expr ∷ []) }
+{
+    let depth = greater(parts.depth, next.depth);
+    let mut exprs = parts.exprs;
+    exprs.push(next.expr)?;
+    Ok(Parts { exprs, depth })
+}
+
+/// One binding alone.
+pub fn single_bind(alloc: Global, bind: Bind, depth: u8) -> Result<Bindings, AllocError>
+    requires { depth ≡ min (tree_depth (shows bind.value)) 100 }
+    ensures { IfOk result (λ x. shows_bounds x.binds.items ≡ shows_bind bind ∷ []) }
+{
+    let binds = vec![in alloc; bind]?;
+    Ok(Bindings { binds, depth })
+}
+
+/// One more at the end.
+pub fn push_bind(bindings: Bindings, next: Bind, depth: u8) -> Result<Bindings, AllocError>
+    requires { depth ≡ min (tree_depth (shows next.value)) 100 }
+    ensures { IfOk result (λ x. shows_bounds x.binds.items ≡ shows_bounds bindings.binds.items ++ shows_bind next ∷ []) }
+{
+    let depth = greater(bindings.depth, depth);
+    let mut binds = bindings.binds;
+    binds.push(next)?;
+    Ok(Bindings { binds, depth })
+}
+
+/// An operator and its operands.
+pub fn applied(place: u32, op: Primitive, operands: Parts) -> Part
+    ensures { shows result.expr ≡ Applied place op (trees_of (shows_all operands.exprs.items)) }
+{
+    let depth = above(operands.depth);
+    Part {
+        expr: Expr {
+            place,
+            node: Node::Op(op, operands.exprs),
+        },
+        depth,
+    }
+}
+
+/// A call.
+pub fn called(place: u32, name: Name, arguments: Parts) -> Part
+    ensures { shows result.expr ≡ Called place name (trees_of (shows_all arguments.exprs.items)) }
+{
+    let depth = above(arguments.depth);
+    Part {
+        expr: Expr {
+            place,
+            node: Node::Call(name, arguments.exprs),
+        },
+        depth,
+    }
+}
+
+/// A let.
+pub fn bound(alloc: Global, place: u32, bindings: Bindings, body: Part) -> Result<Part, AllocError>
+    ensures { IfOk result (λ x. shows x.expr ≡ Binding place (binds_of (shows_bounds bindings.binds.items)) (shows body.expr)) }
+{
+    let depth = above(greater(bindings.depth, body.depth));
+    let body = Box::new(alloc, body.expr)?;
+    Ok(Part {
+        expr: Expr {
+            place,
+            node: Node::Let(bindings.binds, body),
+        },
+        depth,
+    })
+}
+
+/// No arm yet.
+pub fn no_labels(alloc: Global) -> Labels
+    ensures { shows_labelled result.arms.items ≡ [] }
+{
+    Labels {
+        arms: Vec::new(alloc),
+        depth: 0,
+    }
+}
+
+/// The depth of an if behind so many arms, whose branch has this depth, or the limit if that is less.
+fn arm_depth(before: usize, depth: u8) -> u8
+    requires { depth ≤ 100 }
+    ensures { result ≡ min (before + 1 + max 2 depth) 100 }
+{
+    if before < DEPTH_LIMIT as usize {
+        let depth = before as u8 + 1 + greater(2, depth);
+        if depth < DEPTH_LIMIT {
+            depth
+        } else {
+            DEPTH_LIMIT
+        }
+    } else {
+        DEPTH_LIMIT
+    }
+}
+
+/// One more arm at the end.
+pub fn push_arm(labels: Labels, label: Expr, value: Part) -> Result<Labels, AllocError>
+    ensures { IfOk result (λ x. shows_labelled x.arms.items ≡ shows_labelled labels.arms.items ++ record { label = shows label; value = shows value.expr } ∷ []) }
+{
+    let depth = greater(labels.depth, arm_depth(labels.arms.len(), value.depth));
+    let mut arms = labels.arms;
+    arms.push(Arm {
+        label,
+        value: value.expr,
+    })?;
+    Ok(Labels { arms, depth })
+}
+
+/// The depth of a default behind so many arms, or the limit if that is less.
+fn default_depth(before: usize, depth: u8) -> u8
+    requires { depth ≤ 100 }
+    ensures { result ≡ min (before + depth) 100 }
+{
+    if before < DEPTH_LIMIT as usize {
+        let depth = before as u8 + depth;
+        if depth < DEPTH_LIMIT {
+            depth
+        } else {
+            DEPTH_LIMIT
+        }
+    } else {
+        DEPTH_LIMIT
+    }
+}
+
+/// The default at the end.
+pub fn with_default(labels: Labels, default: Part) -> AllArms
+    ensures labelled { shows_labelled result.arms.items ≡ shows_labelled labels.arms.items }
+    ensures default { shows result.default ≡ shows default.expr }
+{
+    let depth = greater(
+        labels.depth,
+        default_depth(labels.arms.len(), default.depth),
+    );
+    AllArms {
+        arms: labels.arms,
+        default: default.expr,
+        depth,
+    }
+}
+
+/// A case.
+pub fn cased(alloc: Global, place: u32, scrutinee: Part, arms: AllArms) -> Result<Part, AllocError>
+    ensures { IfOk result (λ x. shows x.expr ≡ Cases place (shows scrutinee.expr) (arms_of (shows_labelled arms.arms.items) (shows arms.default))) }
+{
+    let depth = above(greater(scrutinee.depth, arms.depth));
+    let scrutinee = Box::new(alloc, scrutinee.expr)?;
+    let default = Box::new(alloc, arms.default)?;
+    Ok(Part {
+        expr: Expr {
+            place,
+            node: Node::Case(scrutinee, arms.arms, default),
+        },
+        depth,
+    })
+}
+
+/// An if.
+pub fn chosen(
+    alloc: Global,
+    place: u32,
+    condition: Part,
+    first: Part,
+    second: Part,
+) -> Result<Part, AllocError>
+    ensures { IfOk result (λ x. shows x.expr ≡ Choice place (shows condition.expr) (shows first.expr) (shows second.expr)) }
+{
+    let depth = above(greater(condition.depth, greater(first.depth, second.depth)));
+    let node = Node::If(
+        Box::new(alloc, condition.expr)?,
+        Box::new(alloc, first.expr)?,
+        Box::new(alloc, second.expr)?,
+    );
+    Ok(Part {
+        expr: Expr { place, node },
+        depth,
+    })
+}

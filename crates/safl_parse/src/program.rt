@@ -1,0 +1,187 @@
+//! Whole programs.
+
+ghost use Rattle.std.specs.Prelude.{◌≡◌, [], ◌∷◌, ◌++◌, true, false, IfOk};
+ghost use Rattle.safl_tree.specs.Terminals.{terminals};
+ghost use Rattle.safl_tree.specs.Shown.{shows_param, shows_params, shows_def, shows_defs, shows_program};
+ghost use Rattle.safl_tree.specs.Reader.{read_param, read_another_param, read_params, read_one, read_another_one, read_group, read_another_group, read_program, read_source, expr_at};
+ghost use Rattle.safl_parse.specs.Gives.{Gives};
+
+use crate::error::{Cause, ReadError};
+use crate::parser::Parser;
+use safl_tree::{Def, Param, Program};
+use safl_word::{Key, Sym, Token};
+use std::alloc::AllocError;
+
+/// The levels of a body and of what nests in it.
+const LEVELS: u8 = 100;
+
+/// One more parameter at the end.
+fn push_param(params: Vec<Param>, next: Param) -> Result<Vec<Param>, AllocError>
+    ensures { IfOk result (λ x. shows_params x.items ≡ shows_params params.items ++ shows_param next ∷ []) }
+{
+    let mut params = params;
+    params.push(next)?;
+    Ok(params)
+}
+
+/// One more definition at the end.
+fn push_def(defs: Vec<Def>, next: Def) -> Result<Vec<Def>, AllocError>
+    ensures { IfOk result (λ x. shows_defs x.items ≡ shows_defs defs.items ++ shows_def next ∷ []) }
+{
+    let mut defs = defs;
+    defs.push(next)?;
+    Ok(defs)
+}
+
+impl<'s> Parser<'s> {
+    #[tactic(auto, unfolding(safl_tree::specs::Reader::read_param))]
+    fn param<'a>(&self, tokens: &'a [Token]) -> Result<(Param, &'a [Token]), ReadError<'a>>
+        ensures { Gives self.now.text.now (λ x. (shows_param x.0, x.1.now)) result (read_param (terminals self.now.text.now tokens.now)) }
+    {
+        let ((place, name), rest) = self.name(tokens)?;
+        let (_, rest) = self.symbol(rest, Sym::Colon)?;
+        let ((_, width), rest) = self.width(rest)?;
+        Ok((Param { place, name, width }, rest))
+    }
+
+    /// One more parameter, behind a comma.
+    #[tactic(auto, unfolding(safl_tree::specs::Reader::read_another_param))]
+    fn another_param<'a>(
+        &self,
+        params: Vec<Param>,
+        tokens: &'a [Token],
+    ) -> Result<(Vec<Param>, &'a [Token]), ReadError<'a>>
+        ensures { Gives self.now.text.now (λ x. (shows_params x.0.items, x.1.now)) result (read_another_param (shows_params params.items) (terminals self.now.text.now tokens.now)) }
+    {
+        let (_, rest) = self.symbol(tokens, Sym::Comma)?;
+        let (next, rest) = self.param(rest)?;
+        Ok((push_param(params, next)?, rest))
+    }
+
+    /// Parameters with commas between them, or none.
+    #[tactic(auto, unfolding(safl_tree::specs::Reader::read_params))]
+    fn params<'a>(&self, tokens: &'a [Token]) -> Result<(Vec<Param>, &'a [Token]), ReadError<'a>>
+        ensures { Gives self.now.text.now (λ x. (shows_params x.0.items, x.1.now)) result (read_params (terminals self.now.text.now tokens.now)) }
+    {
+        if !self.comes_name(tokens) {
+            return Ok((Vec::new(self.alloc), tokens));
+        }
+        let (first, rest) = self.param(tokens)?;
+        let mut params = vec![in self.alloc; first]?;
+        let mut rest = rest;
+        'list: while self.comes_symbol(rest, Sym::Comma) {
+            let (next, after) = self.another_param(params, rest)?;
+            params = next;
+            rest = after;
+        }
+        Ok((params, rest))
+    }
+
+    /// A definition behind `fun` or `and`.
+    #[tactic(auto, unfolding(safl_tree::specs::Reader::read_one))]
+    fn one<'a>(
+        &self,
+        joined: bool,
+        tokens: &'a [Token],
+    ) -> Result<(Def, &'a [Token]), ReadError<'a>>
+        ensures { Gives self.now.text.now (λ x. (shows_def x.0, x.1.now)) result (read_one joined (expr_at 100) (terminals self.now.text.now tokens.now)) }
+    {
+        let ((place, name), rest) = self.name(tokens)?;
+        let (_, rest) = self.symbol(rest, Sym::OpenParen)?;
+        let (params, rest) = self.params(rest)?;
+        let (_, rest) = self.symbol(rest, Sym::CloseParen)?;
+        let (_, rest) = self.symbol(rest, Sym::Colon)?;
+        let ((_, width), rest) = self.width(rest)?;
+        let (_, rest) = self.symbol(rest, Sym::Assign)?;
+        let (body, rest) = self.expr(LEVELS, rest)?;
+        let def = Def {
+            joined,
+            place,
+            name,
+            params,
+            width,
+            body: body.into_expr(),
+        };
+        Ok((def, rest))
+    }
+
+    /// One more member of a group, behind `and`.
+    #[tactic(auto, unfolding(safl_tree::specs::Reader::read_another_one))]
+    fn another_one<'a>(
+        &self,
+        defs: Vec<Def>,
+        tokens: &'a [Token],
+    ) -> Result<(Vec<Def>, &'a [Token]), ReadError<'a>>
+        ensures { Gives self.now.text.now (λ x. (shows_defs x.0.items, x.1.now)) result (read_another_one (expr_at 100) (shows_defs defs.items) (terminals self.now.text.now tokens.now)) }
+    {
+        let (_, rest) = self.word(tokens, Key::And)?;
+        let (next, rest) = self.one(true, rest)?;
+        Ok((push_def(defs, next)?, rest))
+    }
+
+    /// A group of definitions.
+    #[tactic(auto, unfolding(safl_tree::specs::Reader::read_group))]
+    fn group<'a>(
+        &self,
+        defs: Vec<Def>,
+        tokens: &'a [Token],
+    ) -> Result<(Vec<Def>, &'a [Token]), ReadError<'a>>
+        ensures { Gives self.now.text.now (λ x. (shows_defs x.0.items, x.1.now)) result (read_group (expr_at 100) (shows_defs defs.items) (terminals self.now.text.now tokens.now)) }
+    {
+        let (_, rest) = self.word(tokens, Key::Fun)?;
+        let (first, rest) = self.one(false, rest)?;
+        let mut defs = push_def(defs, first)?;
+        let mut rest = rest;
+        'members: while self.comes_word(rest, Key::And) {
+            let (next, after) = self.another_one(defs, rest)?;
+            defs = next;
+            rest = after;
+        }
+        Ok((defs, rest))
+    }
+
+    /// One more group, with its semicolon where there is one.
+    #[tactic(auto, unfolding(safl_tree::specs::Reader::read_another_group, safl_tree::specs::Reader::read_ended))]
+    fn another_group<'a>(
+        &self,
+        defs: Vec<Def>,
+        tokens: &'a [Token],
+    ) -> Result<(Vec<Def>, &'a [Token]), ReadError<'a>>
+        ensures { Gives self.now.text.now (λ x. (shows_defs x.0.items, x.1.now)) result (read_another_group (expr_at 100) (shows_defs defs.items) (terminals self.now.text.now tokens.now)) }
+    {
+        let (defs, rest) = self.group(defs, tokens)?;
+        if self.comes_symbol(rest, Sym::Semicolon) {
+            let (_, rest) = self.symbol(rest, Sym::Semicolon)?;
+            Ok((defs, rest))
+        } else {
+            Ok((defs, rest))
+        }
+    }
+
+    /// All groups that stand at the front.
+    #[tactic(auto, unfolding(safl_tree::specs::Reader::read_program))]
+    fn groups<'a>(&self, tokens: &'a [Token]) -> Result<(Vec<Def>, &'a [Token]), ReadError<'a>>
+        ensures { Gives self.now.text.now (λ x. (shows_defs x.0.items, x.1.now)) result (read_program (expr_at 100) (terminals self.now.text.now tokens.now)) }
+    {
+        let mut defs = Vec::new(self.alloc);
+        let mut rest = tokens;
+        'list: while self.comes_word(rest, Key::Fun) {
+            let (next, after) = self.another_group(defs, rest)?;
+            defs = next;
+            rest = after;
+        }
+        Ok((defs, rest))
+    }
+
+    /// The whole text.
+    #[tactic(auto, unfolding(safl_tree::specs::Reader::read_source))]
+    pub fn whole<'a>(&self, tokens: &'a [Token]) -> Result<(Program, &'a [Token]), ReadError<'a>>
+        ensures { Gives self.now.text.now (λ x. (shows_program x.0, x.1.now)) result (read_source (terminals self.now.text.now tokens.now)) }
+    {
+        let (defs, rest) = self.groups(tokens)?;
+        match rest {
+            [] => Ok((Program { defs }, rest)),
+            [_, ..] => Err(ReadError::Refused(Cause::Unexpected, rest)),
+        }
+    }
+}
