@@ -1,3 +1,4 @@
 pub mod Gives
 pub mod Parts
 pub mod Parsed
+pub mod Reads

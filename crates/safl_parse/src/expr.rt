@@ -5,7 +5,7 @@ ghost use Rattle.safl_tree.specs.Tree.{depth as tree_depth};
 ghost use Rattle.safl_tree.specs.Terminals.{terminals};
 ghost use Rattle.safl_tree.specs.Shown.{shows, shows_all, shows_bind, shows_bounds, shows_labelled};
 ghost use Rattle.safl_tree.specs.Reader.{read_literal, read_sized_literal, read_another, read_exprs, read_call, read_named, read_parenthesised, read_cat, read_bits, read_ext, read_primary, read_inverted, read_unary, read_joined, read_chained, read_compared, read_chain, read_choice, read_written, read_bind, read_another_bind, read_binds, read_binding, read_label, read_arm, read_last_arm, read_cases, operand_at, expr_at, arm_value_at, more_arms_at, arms_at};
-ghost use Rattle.safl_parse.specs.Gives.{Gives};
+ghost use Rattle.safl_parse.specs.Reads.{Reads, ReadsTree};
 
 use crate::error::{Cause, ReadError};
 use crate::parser::Parser;
@@ -26,7 +26,7 @@ impl<'s> Parser<'s> {
     /// A number.
     #[tactic(auto, unfolding(safl_tree::specs::Reader::read_literal))]
     fn literal<'a>(&self, tokens: &'a [Token]) -> Result<(Part, &'a [Token]), ReadError<'a>>
-        ensures { Gives self.now.text.now (λ x. (shows x.0.expr, x.1.now)) result (read_literal (terminals self.now.text.now tokens.now)) }
+        ensures { ReadsTree self.now tokens.now result read_literal }
     {
         let ((place, value), rest) = self.number(tokens)?;
         let node = Node::Num(value);
@@ -42,7 +42,7 @@ impl<'s> Parser<'s> {
     /// A sized number.
     #[tactic(auto, unfolding(safl_tree::specs::Reader::read_sized_literal))]
     fn sized_literal<'a>(&self, tokens: &'a [Token]) -> Result<(Part, &'a [Token]), ReadError<'a>>
-        ensures { Gives self.now.text.now (λ x. (shows x.0.expr, x.1.now)) result (read_sized_literal (terminals self.now.text.now tokens.now)) }
+        ensures { ReadsTree self.now tokens.now result read_sized_literal }
     {
         let ((place, width, value), rest) = self.sized(tokens)?;
         let node = Node::Sized(width, value);
@@ -63,7 +63,7 @@ impl<'s> Parser<'s> {
         levels: u8,
         tokens: &'a [Token],
     ) -> Result<(Part, &'a [Token]), ReadError<'a>>
-        ensures { Gives self.now.text.now (λ x. (shows x.0.expr, x.1.now)) result (expr_at levels (terminals self.now.text.now tokens.now)) }
+        ensures { ReadsTree self.now tokens.now result (expr_at levels) }
     {
         if levels == 0 {
             return Err(ReadError::Refused(Cause::Deep, tokens));
@@ -88,7 +88,7 @@ impl<'s> Parser<'s> {
         levels: u8,
         tokens: &'a [Token],
     ) -> Result<(Part, &'a [Token]), ReadError<'a>>
-        ensures { Gives self.now.text.now (λ x. (shows x.0.expr, x.1.now)) result (operand_at levels (terminals self.now.text.now tokens.now)) }
+        ensures { ReadsTree self.now tokens.now result (operand_at levels) }
     {
         if levels == 0 {
             return Err(ReadError::Refused(Cause::Deep, tokens));
@@ -104,7 +104,7 @@ impl<'s> Parser<'s> {
         levels: u8,
         tokens: &'a [Token],
     ) -> Result<(Part, &'a [Token]), ReadError<'a>>
-        ensures { Gives self.now.text.now (λ x. (shows x.0.expr, x.1.now)) result (read_choice (expr_at levels) (terminals self.now.text.now tokens.now)) }
+        ensures { ReadsTree self.now tokens.now result (read_choice (expr_at levels)) }
     {
         let (place, rest) = self.word(tokens, Key::If)?;
         let (condition, rest) = self.expr(levels, rest)?;
@@ -123,7 +123,7 @@ impl<'s> Parser<'s> {
         levels: u8,
         tokens: &'a [Token],
     ) -> Result<(Part, &'a [Token]), ReadError<'a>>
-        ensures { Gives self.now.text.now (λ x. (shows x.0.expr, x.1.now)) result (read_chain layers (read_unary (operand_at levels) (expr_at levels)) (terminals self.now.text.now tokens.now)) }
+        ensures { ReadsTree self.now tokens.now result (read_chain layers (read_unary (operand_at levels) (expr_at levels))) }
     {
         if layers == 0 {
             return self.unary(levels, tokens);
@@ -146,7 +146,7 @@ impl<'s> Parser<'s> {
         left: Part,
         tokens: &'a [Token],
     ) -> Result<(Part, &'a [Token]), ReadError<'a>>
-        ensures { Gives self.now.text.now (λ x. (shows x.0.expr, x.1.now)) result (read_joined layer (read_chain layer (read_unary (operand_at levels) (expr_at levels))) (shows left.expr) (terminals self.now.text.now tokens.now)) }
+        ensures { ReadsTree self.now tokens.now result (read_joined layer (read_chain layer (read_unary (operand_at levels) (expr_at levels))) (shows left.expr)) }
     {
         let (op, rest) = self.operator(tokens, layer)?;
         if DEPTH_LIMIT <= left.depth {
@@ -167,7 +167,7 @@ impl<'s> Parser<'s> {
         levels: u8,
         tokens: &'a [Token],
     ) -> Result<(Part, &'a [Token]), ReadError<'a>>
-        ensures { Gives self.now.text.now (λ x. (shows x.0.expr, x.1.now)) result (read_compared layer (read_chain layer (read_unary (operand_at levels) (expr_at levels))) (terminals self.now.text.now tokens.now)) }
+        ensures { ReadsTree self.now tokens.now result (read_compared layer (read_chain layer (read_unary (operand_at levels) (expr_at levels)))) }
     {
         let (left, rest) = self.chain(layer, levels, tokens)?;
         if self.comes_operator(rest, layer) {
@@ -186,7 +186,7 @@ impl<'s> Parser<'s> {
         levels: u8,
         tokens: &'a [Token],
     ) -> Result<(Part, &'a [Token]), ReadError<'a>>
-        ensures { Gives self.now.text.now (λ x. (shows x.0.expr, x.1.now)) result (read_chained layer (read_chain layer (read_unary (operand_at levels) (expr_at levels))) (terminals self.now.text.now tokens.now)) }
+        ensures { ReadsTree self.now tokens.now result (read_chained layer (read_chain layer (read_unary (operand_at levels) (expr_at levels)))) }
     {
         let (mut left, mut rest) = self.chain(layer, levels, tokens)?;
         'chain: while self.comes_operator(rest, layer) {
@@ -205,7 +205,7 @@ impl<'s> Parser<'s> {
         levels: u8,
         tokens: &'a [Token],
     ) -> Result<(Part, &'a [Token]), ReadError<'a>>
-        ensures { Gives self.now.text.now (λ x. (shows x.0.expr, x.1.now)) result (read_unary (operand_at levels) (expr_at levels) (terminals self.now.text.now tokens.now)) }
+        ensures { ReadsTree self.now tokens.now result (read_unary (operand_at levels) (expr_at levels)) }
     {
         if self.comes_symbol(tokens, Sym::Tilde) {
             self.inverted(levels, tokens)
@@ -221,7 +221,7 @@ impl<'s> Parser<'s> {
         levels: u8,
         tokens: &'a [Token],
     ) -> Result<(Part, &'a [Token]), ReadError<'a>>
-        ensures { Gives self.now.text.now (λ x. (shows x.0.expr, x.1.now)) result (read_inverted (operand_at levels) (terminals self.now.text.now tokens.now)) }
+        ensures { ReadsTree self.now tokens.now result (read_inverted (operand_at levels)) }
     {
         let (place, rest) = self.symbol(tokens, Sym::Tilde)?;
         let (inner, rest) = self.operand(levels, rest)?;
@@ -237,7 +237,7 @@ impl<'s> Parser<'s> {
         levels: u8,
         tokens: &'a [Token],
     ) -> Result<(Part, &'a [Token]), ReadError<'a>>
-        ensures { Gives self.now.text.now (λ x. (shows x.0.expr, x.1.now)) result (read_primary (expr_at levels) (terminals self.now.text.now tokens.now)) }
+        ensures { ReadsTree self.now tokens.now result (read_primary (expr_at levels)) }
     {
         if self.comes_number(tokens) {
             self.literal(tokens)
@@ -263,7 +263,7 @@ impl<'s> Parser<'s> {
         levels: u8,
         tokens: &'a [Token],
     ) -> Result<(Part, &'a [Token]), ReadError<'a>>
-        ensures { Gives self.now.text.now (λ x. (shows x.0.expr, x.1.now)) result (read_parenthesised (expr_at levels) (terminals self.now.text.now tokens.now)) }
+        ensures { ReadsTree self.now tokens.now result (read_parenthesised (expr_at levels)) }
     {
         let (place, rest) = self.symbol(tokens, Sym::OpenParen)?;
         let (inner, rest) = self.expr(levels, rest)?;
@@ -282,7 +282,7 @@ impl<'s> Parser<'s> {
     #[cycle(descent)]
     #[tactic(auto, unfolding(safl_tree::specs::Reader::read_cat))]
     fn cat<'a>(&self, levels: u8, tokens: &'a [Token]) -> Result<(Part, &'a [Token]), ReadError<'a>>
-        ensures { Gives self.now.text.now (λ x. (shows x.0.expr, x.1.now)) result (read_cat (expr_at levels) (terminals self.now.text.now tokens.now)) }
+        ensures { ReadsTree self.now tokens.now result (read_cat (expr_at levels)) }
     {
         let (place, rest) = self.word(tokens, Key::Cat)?;
         let (_, rest) = self.symbol(rest, Sym::OpenParen)?;
@@ -302,7 +302,7 @@ impl<'s> Parser<'s> {
         levels: u8,
         tokens: &'a [Token],
     ) -> Result<(Part, &'a [Token]), ReadError<'a>>
-        ensures { Gives self.now.text.now (λ x. (shows x.0.expr, x.1.now)) result (read_bits (expr_at levels) (terminals self.now.text.now tokens.now)) }
+        ensures { ReadsTree self.now tokens.now result (read_bits (expr_at levels)) }
     {
         let (place, rest) = self.word(tokens, Key::Bits)?;
         let (_, rest) = self.symbol(rest, Sym::OpenParen)?;
@@ -320,7 +320,7 @@ impl<'s> Parser<'s> {
     #[cycle(descent)]
     #[tactic(auto, unfolding(safl_tree::specs::Reader::read_ext))]
     fn ext<'a>(&self, levels: u8, tokens: &'a [Token]) -> Result<(Part, &'a [Token]), ReadError<'a>>
-        ensures { Gives self.now.text.now (λ x. (shows x.0.expr, x.1.now)) result (read_ext (expr_at levels) (terminals self.now.text.now tokens.now)) }
+        ensures { ReadsTree self.now tokens.now result (read_ext (expr_at levels)) }
     {
         let (place, rest) = self.word(tokens, Key::Ext)?;
         let (_, rest) = self.symbol(rest, Sym::OpenParen)?;
@@ -340,7 +340,7 @@ impl<'s> Parser<'s> {
         levels: u8,
         tokens: &'a [Token],
     ) -> Result<(Part, &'a [Token]), ReadError<'a>>
-        ensures { Gives self.now.text.now (λ x. (shows x.0.expr, x.1.now)) result (read_named (expr_at levels) (terminals self.now.text.now tokens.now)) }
+        ensures { ReadsTree self.now tokens.now result (read_named (expr_at levels)) }
     {
         let ((place, name), rest) = self.name(tokens)?;
         if self.comes_symbol(rest, Sym::OpenParen) {
@@ -367,7 +367,7 @@ impl<'s> Parser<'s> {
         name: Name,
         tokens: &'a [Token],
     ) -> Result<(Part, &'a [Token]), ReadError<'a>>
-        ensures { Gives self.now.text.now (λ x. (shows x.0.expr, x.1.now)) result (read_call (expr_at levels) (record { place = place; name = name }) (terminals self.now.text.now tokens.now)) }
+        ensures { ReadsTree self.now tokens.now result (read_call (expr_at levels) (record { place = place; name = name })) }
     {
         let (_, rest) = self.symbol(tokens, Sym::OpenParen)?;
         if self.comes_symbol(rest, Sym::CloseParen) {
@@ -392,7 +392,7 @@ impl<'s> Parser<'s> {
         levels: u8,
         tokens: &'a [Token],
     ) -> Result<(Parts, &'a [Token]), ReadError<'a>>
-        ensures { Gives self.now.text.now (λ x. (shows_all x.0.exprs.items, x.1.now)) result (read_exprs (expr_at levels) (terminals self.now.text.now tokens.now)) }
+        ensures { Reads self.now tokens.now (λ x. (shows_all x.0.exprs.items, x.1.now)) result (read_exprs (expr_at levels)) }
     {
         let (first, rest) = self.expr(levels, tokens)?;
         let mut parts = single(self.alloc, first)?;
@@ -414,7 +414,7 @@ impl<'s> Parser<'s> {
         parts: Parts,
         tokens: &'a [Token],
     ) -> Result<(Parts, &'a [Token]), ReadError<'a>>
-        ensures { Gives self.now.text.now (λ x. (shows_all x.0.exprs.items, x.1.now)) result (read_another (expr_at levels) (shows_all parts.exprs.items) (terminals self.now.text.now tokens.now)) }
+        ensures { Reads self.now tokens.now (λ x. (shows_all x.0.exprs.items, x.1.now)) result (read_another (expr_at levels) (shows_all parts.exprs.items)) }
     {
         let (_, rest) = self.symbol(tokens, Sym::Comma)?;
         let (next, rest) = self.expr(levels, rest)?;
@@ -429,7 +429,7 @@ impl<'s> Parser<'s> {
         levels: u8,
         tokens: &'a [Token],
     ) -> Result<(Part, &'a [Token]), ReadError<'a>>
-        ensures { Gives self.now.text.now (λ x. (shows x.0.expr, x.1.now)) result (read_binding (expr_at levels) (terminals self.now.text.now tokens.now)) }
+        ensures { ReadsTree self.now tokens.now result (read_binding (expr_at levels)) }
     {
         let (place, rest) = self.word(tokens, Key::Let)?;
         let (bindings, rest) = self.binds(levels, rest)?;
@@ -441,7 +441,7 @@ impl<'s> Parser<'s> {
     /// A width behind a colon, where it is written.
     #[tactic(auto, unfolding(safl_tree::specs::Reader::read_written))]
     fn written<'a>(&self, tokens: &'a [Token]) -> Result<(Option<u8>, &'a [Token]), ReadError<'a>>
-        ensures { Gives self.now.text.now (λ x. (x.0, x.1.now)) result (read_written (terminals self.now.text.now tokens.now)) }
+        ensures { Reads self.now tokens.now (λ x. (x.0, x.1.now)) result read_written }
     {
         if self.comes_symbol(tokens, Sym::Colon) {
             let (_, rest) = self.symbol(tokens, Sym::Colon)?;
@@ -460,7 +460,7 @@ impl<'s> Parser<'s> {
         levels: u8,
         tokens: &'a [Token],
     ) -> Result<((Bind, u8), &'a [Token]), ReadError<'a>>
-        ensures reads { Gives self.now.text.now (λ x. (shows_bind x.0.0, x.1.now)) result (read_bind (expr_at levels) (terminals self.now.text.now tokens.now)) }
+        ensures reads { Reads self.now tokens.now (λ x. (shows_bind x.0.0, x.1.now)) result (read_bind (expr_at levels)) }
         ensures depth { IfOk result (λ x. x.0.1 ≡ min (tree_depth (shows x.0.0.value)) 100) }
     {
         let ((place, name), rest) = self.name(tokens)?;
@@ -485,7 +485,7 @@ impl<'s> Parser<'s> {
         levels: u8,
         tokens: &'a [Token],
     ) -> Result<(Bindings, &'a [Token]), ReadError<'a>>
-        ensures { Gives self.now.text.now (λ x. (shows_bounds x.0.binds.items, x.1.now)) result (read_binds (expr_at levels) (terminals self.now.text.now tokens.now)) }
+        ensures { Reads self.now tokens.now (λ x. (shows_bounds x.0.binds.items, x.1.now)) result (read_binds (expr_at levels)) }
     {
         let ((first, depth), rest) = self.bind(levels, tokens)?;
         let mut bindings = single_bind(self.alloc, first, depth)?;
@@ -507,7 +507,7 @@ impl<'s> Parser<'s> {
         bindings: Bindings,
         tokens: &'a [Token],
     ) -> Result<(Bindings, &'a [Token]), ReadError<'a>>
-        ensures { Gives self.now.text.now (λ x. (shows_bounds x.0.binds.items, x.1.now)) result (read_another_bind (expr_at levels) (shows_bounds bindings.binds.items) (terminals self.now.text.now tokens.now)) }
+        ensures { Reads self.now tokens.now (λ x. (shows_bounds x.0.binds.items, x.1.now)) result (read_another_bind (expr_at levels) (shows_bounds bindings.binds.items)) }
     {
         let (_, rest) = self.symbol(tokens, Sym::Comma)?;
         let ((next, depth), rest) = self.bind(levels, rest)?;
@@ -517,7 +517,7 @@ impl<'s> Parser<'s> {
     /// The label of an arm.
     #[tactic(auto, unfolding(safl_tree::specs::Reader::read_label))]
     fn label<'a>(&self, tokens: &'a [Token]) -> Result<(Part, &'a [Token]), ReadError<'a>>
-        ensures { Gives self.now.text.now (λ x. (shows x.0.expr, x.1.now)) result (read_label (terminals self.now.text.now tokens.now)) }
+        ensures { ReadsTree self.now tokens.now result read_label }
     {
         if self.comes_number(tokens) {
             self.literal(tokens)
@@ -534,7 +534,7 @@ impl<'s> Parser<'s> {
         levels: u8,
         tokens: &'a [Token],
     ) -> Result<(Part, &'a [Token]), ReadError<'a>>
-        ensures { Gives self.now.text.now (λ x. (shows x.0.expr, x.1.now)) result (read_cases (expr_at levels) (arms_at levels) (terminals self.now.text.now tokens.now)) }
+        ensures { ReadsTree self.now tokens.now result (read_cases (expr_at levels) (arms_at levels)) }
     {
         let (place, rest) = self.word(tokens, Key::Case)?;
         let (scrutinee, rest) = self.expr(levels, rest)?;
@@ -553,7 +553,7 @@ impl<'s> Parser<'s> {
         so_far: Labels,
         tokens: &'a [Token],
     ) -> Result<(AllArms, &'a [Token]), ReadError<'a>>
-        ensures { Gives self.now.text.now (λ x. (record { labelled = shows_labelled x.0.arms.items; default = shows x.0.default }, x.1.now)) result (arms_at levels (shows_labelled so_far.arms.items) (terminals self.now.text.now tokens.now)) }
+        ensures { Reads self.now tokens.now (λ x. (record { labelled = shows_labelled x.0.arms.items; default = shows x.0.default }, x.1.now)) result (arms_at levels (shows_labelled so_far.arms.items)) }
     {
         if self.comes_number(tokens) || self.comes_sized(tokens) {
             self.arm(levels, so_far, tokens)
@@ -571,7 +571,7 @@ impl<'s> Parser<'s> {
         so_far: Labels,
         tokens: &'a [Token],
     ) -> Result<(AllArms, &'a [Token]), ReadError<'a>>
-        ensures { Gives self.now.text.now (λ x. (record { labelled = shows_labelled x.0.arms.items; default = shows x.0.default }, x.1.now)) result (read_arm (arm_value_at levels) (more_arms_at levels) (shows_labelled so_far.arms.items) (terminals self.now.text.now tokens.now)) }
+        ensures { Reads self.now tokens.now (λ x. (record { labelled = shows_labelled x.0.arms.items; default = shows x.0.default }, x.1.now)) result (read_arm (arm_value_at levels) (more_arms_at levels) (shows_labelled so_far.arms.items)) }
     {
         let (label, rest) = self.label(tokens)?;
         let (_, rest) = self.symbol(rest, Sym::Arrow)?;
@@ -594,7 +594,7 @@ impl<'s> Parser<'s> {
         so_far: Labels,
         tokens: &'a [Token],
     ) -> Result<(AllArms, &'a [Token]), ReadError<'a>>
-        ensures { Gives self.now.text.now (λ x. (record { labelled = shows_labelled x.0.arms.items; default = shows x.0.default }, x.1.now)) result (read_last_arm (arm_value_at levels) (shows_labelled so_far.arms.items) (terminals self.now.text.now tokens.now)) }
+        ensures { Reads self.now tokens.now (λ x. (record { labelled = shows_labelled x.0.arms.items; default = shows x.0.default }, x.1.now)) result (read_last_arm (arm_value_at levels) (shows_labelled so_far.arms.items)) }
     {
         let (_, rest) = self.word(tokens, Key::Default)?;
         let (_, rest) = self.symbol(rest, Sym::Arrow)?;

@@ -6,7 +6,7 @@ ghost use Rattle.safl_grammar.specs.Reading.{head_of, read_token, read_limited};
 ghost use Rattle.safl_tree.specs.Terminals.{terminals, word_code, symbol_code, code_of, comes, name, number, sized, operators, primitive_of, primitive_in, operator};
 ghost use Rattle.safl_tree.specs.Grammar.{fits_sized};
 ghost use Rattle.safl_tree.specs.Reader.{read_word, read_symbol, read_width, read_index};
-ghost use Rattle.safl_parse.specs.Gives.{Gives};
+ghost use Rattle.safl_parse.specs.Reads.{Reads, ReadsTree};
 
 use crate::error::{Cause, ReadError};
 use crate::parser::Parser;
@@ -155,7 +155,7 @@ impl<'s> Parser<'s> {
         tokens: &'a [Token],
         key: Key,
     ) -> Result<(u32, &'a [Token]), ReadError<'a>>
-        ensures { Gives self.now.text.now (λ x. (x.0, x.1.now)) result (read_word key (terminals self.now.text.now tokens.now)) }
+        ensures { Reads self.now tokens.now (λ x. (x.0, x.1.now)) result (read_word key) }
     {
         match tokens {
             [first, rest @ ..] if code_of(first.kind) == word_code(key) => Ok((first.start, rest)),
@@ -169,7 +169,7 @@ impl<'s> Parser<'s> {
         tokens: &'a [Token],
         symbol: Sym,
     ) -> Result<(u32, &'a [Token]), ReadError<'a>>
-        ensures { Gives self.now.text.now (λ x. (x.0, x.1.now)) result (read_symbol symbol (terminals self.now.text.now tokens.now)) }
+        ensures { Reads self.now tokens.now (λ x. (x.0, x.1.now)) result (read_symbol symbol) }
     {
         match tokens {
             [first, rest @ ..] if code_of(first.kind) == symbol_code(symbol) => Ok((
@@ -191,7 +191,7 @@ impl<'s> Parser<'s> {
 
     /// A name and its place.
     pub fn name<'a>(&self, tokens: &'a [Token]) -> Result<((u32, Name), &'a [Token]), ReadError<'a>>
-        ensures { Gives self.now.text.now (λ x. (record { place = x.0.0; name = x.0.1 }, x.1.now)) result (read_token name (terminals self.now.text.now tokens.now)) }
+        ensures { Reads self.now tokens.now (λ x. (record { place = x.0.0; name = x.0.1 }, x.1.now)) result (read_token name) }
     {
         match tokens {
             [first, rest @ ..] if code_of(first.kind) == 1 => {
@@ -227,7 +227,7 @@ impl<'s> Parser<'s> {
         &self,
         tokens: &'a [Token],
     ) -> Result<((u32, Raw), &'a [Token]), ReadError<'a>>
-        ensures { Gives self.now.text.now (λ x. (record { place = x.0.0; value = x.0.1 }, x.1.now)) result (read_token number (terminals self.now.text.now tokens.now)) }
+        ensures { Reads self.now tokens.now (λ x. (record { place = x.0.0; value = x.0.1 }, x.1.now)) result (read_token number) }
     {
         match tokens {
             [
@@ -244,7 +244,7 @@ impl<'s> Parser<'s> {
 
     /// A width, which is 1 to the greatest.
     pub fn width<'a>(&self, tokens: &'a [Token]) -> Result<((u32, u8), &'a [Token]), ReadError<'a>>
-        ensures { Gives self.now.text.now (λ x. (record { place = x.0.0; value = x.0.1 }, x.1.now)) result (read_width (terminals self.now.text.now tokens.now)) }
+        ensures { Reads self.now tokens.now (λ x. (record { place = x.0.0; value = x.0.1 }, x.1.now)) result read_width }
     {
         let ((place, width), rest) = self.number(tokens)?;
         if width < 1 || (WIDTH_MAX as Raw) < width {
@@ -255,7 +255,7 @@ impl<'s> Parser<'s> {
 
     /// The number of a bit, which is below the greatest width.
     pub fn index<'a>(&self, tokens: &'a [Token]) -> Result<((u32, u8), &'a [Token]), ReadError<'a>>
-        ensures { Gives self.now.text.now (λ x. (record { place = x.0.0; value = x.0.1 }, x.1.now)) result (read_index (terminals self.now.text.now tokens.now)) }
+        ensures { Reads self.now tokens.now (λ x. (record { place = x.0.0; value = x.0.1 }, x.1.now)) result read_index }
     {
         let ((place, index), rest) = self.number(tokens)?;
         if (WIDTH_MAX as Raw) <= index {
@@ -269,7 +269,7 @@ impl<'s> Parser<'s> {
         &self,
         tokens: &'a [Token],
     ) -> Result<((u32, u8, Raw), &'a [Token]), ReadError<'a>>
-        ensures { Gives self.now.text.now (λ x. (record { place = x.0.0; width = x.0.1; value = x.0.2 }, x.1.now)) result (read_limited Range fits_sized sized (terminals self.now.text.now tokens.now)) }
+        ensures { Reads self.now tokens.now (λ x. (record { place = x.0.0; width = x.0.1; value = x.0.2 }, x.1.now)) result (read_limited Range fits_sized sized) }
     {
         match tokens {
             [
@@ -323,7 +323,7 @@ impl<'s> Parser<'s> {
         tokens: &'a [Token],
         layer: u8,
     ) -> Result<(Primitive, &'a [Token]), ReadError<'a>>
-        ensures { Gives self.now.text.now (λ x. (x.0, x.1.now)) result (read_token (operator layer) (terminals self.now.text.now tokens.now)) }
+        ensures { Reads self.now tokens.now (λ x. (x.0, x.1.now)) result (read_token (operator layer)) }
     {
         if self.comes_operator(tokens, layer) {
             match tokens {

@@ -4,7 +4,7 @@ ghost use Rattle.std.specs.Prelude.{◌≡◌, [], ◌∷◌, ◌++◌, true, fa
 ghost use Rattle.safl_tree.specs.Terminals.{terminals};
 ghost use Rattle.safl_tree.specs.Shown.{shows_param, shows_params, shows_def, shows_defs, shows_program};
 ghost use Rattle.safl_tree.specs.Reader.{read_param, read_another_param, read_params, read_one, read_another_one, read_group, read_another_group, read_program, read_source, expr_at};
-ghost use Rattle.safl_parse.specs.Gives.{Gives};
+ghost use Rattle.safl_parse.specs.Reads.{Reads, ReadsTree};
 
 use crate::error::{Cause, ReadError};
 use crate::parser::Parser;
@@ -36,7 +36,7 @@ fn push_def(defs: Vec<Def>, next: Def) -> Result<Vec<Def>, AllocError>
 impl<'s> Parser<'s> {
     #[tactic(auto, unfolding(safl_tree::specs::Reader::read_param))]
     fn param<'a>(&self, tokens: &'a [Token]) -> Result<(Param, &'a [Token]), ReadError<'a>>
-        ensures { Gives self.now.text.now (λ x. (shows_param x.0, x.1.now)) result (read_param (terminals self.now.text.now tokens.now)) }
+        ensures { Reads self.now tokens.now (λ x. (shows_param x.0, x.1.now)) result read_param }
     {
         let ((place, name), rest) = self.name(tokens)?;
         let (_, rest) = self.symbol(rest, Sym::Colon)?;
@@ -51,7 +51,7 @@ impl<'s> Parser<'s> {
         params: Vec<Param>,
         tokens: &'a [Token],
     ) -> Result<(Vec<Param>, &'a [Token]), ReadError<'a>>
-        ensures { Gives self.now.text.now (λ x. (shows_params x.0.items, x.1.now)) result (read_another_param (shows_params params.items) (terminals self.now.text.now tokens.now)) }
+        ensures { Reads self.now tokens.now (λ x. (shows_params x.0.items, x.1.now)) result (read_another_param (shows_params params.items)) }
     {
         let (_, rest) = self.symbol(tokens, Sym::Comma)?;
         let (next, rest) = self.param(rest)?;
@@ -61,7 +61,7 @@ impl<'s> Parser<'s> {
     /// Parameters with commas between them, or none.
     #[tactic(auto, unfolding(safl_tree::specs::Reader::read_params))]
     fn params<'a>(&self, tokens: &'a [Token]) -> Result<(Vec<Param>, &'a [Token]), ReadError<'a>>
-        ensures { Gives self.now.text.now (λ x. (shows_params x.0.items, x.1.now)) result (read_params (terminals self.now.text.now tokens.now)) }
+        ensures { Reads self.now tokens.now (λ x. (shows_params x.0.items, x.1.now)) result read_params }
     {
         if !self.comes_name(tokens) {
             return Ok((Vec::new(self.alloc), tokens));
@@ -84,7 +84,7 @@ impl<'s> Parser<'s> {
         joined: bool,
         tokens: &'a [Token],
     ) -> Result<(Def, &'a [Token]), ReadError<'a>>
-        ensures { Gives self.now.text.now (λ x. (shows_def x.0, x.1.now)) result (read_one joined (expr_at 100) (terminals self.now.text.now tokens.now)) }
+        ensures { Reads self.now tokens.now (λ x. (shows_def x.0, x.1.now)) result (read_one joined (expr_at 100)) }
     {
         let ((place, name), rest) = self.name(tokens)?;
         let (_, rest) = self.symbol(rest, Sym::OpenParen)?;
@@ -112,7 +112,7 @@ impl<'s> Parser<'s> {
         defs: Vec<Def>,
         tokens: &'a [Token],
     ) -> Result<(Vec<Def>, &'a [Token]), ReadError<'a>>
-        ensures { Gives self.now.text.now (λ x. (shows_defs x.0.items, x.1.now)) result (read_another_one (expr_at 100) (shows_defs defs.items) (terminals self.now.text.now tokens.now)) }
+        ensures { Reads self.now tokens.now (λ x. (shows_defs x.0.items, x.1.now)) result (read_another_one (expr_at 100) (shows_defs defs.items)) }
     {
         let (_, rest) = self.word(tokens, Key::And)?;
         let (next, rest) = self.one(true, rest)?;
@@ -126,7 +126,7 @@ impl<'s> Parser<'s> {
         defs: Vec<Def>,
         tokens: &'a [Token],
     ) -> Result<(Vec<Def>, &'a [Token]), ReadError<'a>>
-        ensures { Gives self.now.text.now (λ x. (shows_defs x.0.items, x.1.now)) result (read_group (expr_at 100) (shows_defs defs.items) (terminals self.now.text.now tokens.now)) }
+        ensures { Reads self.now tokens.now (λ x. (shows_defs x.0.items, x.1.now)) result (read_group (expr_at 100) (shows_defs defs.items)) }
     {
         let (_, rest) = self.word(tokens, Key::Fun)?;
         let (first, rest) = self.one(false, rest)?;
@@ -147,7 +147,7 @@ impl<'s> Parser<'s> {
         defs: Vec<Def>,
         tokens: &'a [Token],
     ) -> Result<(Vec<Def>, &'a [Token]), ReadError<'a>>
-        ensures { Gives self.now.text.now (λ x. (shows_defs x.0.items, x.1.now)) result (read_another_group (expr_at 100) (shows_defs defs.items) (terminals self.now.text.now tokens.now)) }
+        ensures { Reads self.now tokens.now (λ x. (shows_defs x.0.items, x.1.now)) result (read_another_group (expr_at 100) (shows_defs defs.items)) }
     {
         let (defs, rest) = self.group(defs, tokens)?;
         if self.comes_symbol(rest, Sym::Semicolon) {
@@ -161,7 +161,7 @@ impl<'s> Parser<'s> {
     /// All groups that stand at the front.
     #[tactic(auto, unfolding(safl_tree::specs::Reader::read_program))]
     fn groups<'a>(&self, tokens: &'a [Token]) -> Result<(Vec<Def>, &'a [Token]), ReadError<'a>>
-        ensures { Gives self.now.text.now (λ x. (shows_defs x.0.items, x.1.now)) result (read_program (expr_at 100) (terminals self.now.text.now tokens.now)) }
+        ensures { Reads self.now tokens.now (λ x. (shows_defs x.0.items, x.1.now)) result (read_program (expr_at 100)) }
     {
         let mut defs = Vec::new(self.alloc);
         let mut rest = tokens;
@@ -176,7 +176,7 @@ impl<'s> Parser<'s> {
     /// The whole text.
     #[tactic(auto, unfolding(safl_tree::specs::Reader::read_source))]
     pub fn whole<'a>(&self, tokens: &'a [Token]) -> Result<(Program, &'a [Token]), ReadError<'a>>
-        ensures { Gives self.now.text.now (λ x. (shows_program x.0, x.1.now)) result (read_source (terminals self.now.text.now tokens.now)) }
+        ensures { Reads self.now tokens.now (λ x. (shows_program x.0, x.1.now)) result read_source }
     {
         let (defs, rest) = self.groups(tokens)?;
         match rest {
