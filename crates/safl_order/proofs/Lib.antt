@@ -1,0 +1,5 @@
+pub mod Places
+pub mod Steps
+pub mod Moves
+pub mod Loops
+pub mod Ends

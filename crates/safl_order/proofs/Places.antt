@@ -1,0 +1,78 @@
+-- Places of lists that are written or grow.
+use Rattle.std.proofs.Common.{◌≡◌, ℕ, zero, suc, ◌+◌, ◌-◌, ◌<◌, ◌≤◌, List, [], ◌∷◌, ◌++◌, length, set, take, Some, None, ◌⊎◌, inl, inr, slice_get, refl, ap, arith}
+use Rattle.safl_order.specs.declared.walk.Mark.{Mark}
+use Rattle.safl_order.specs.declared.walk.Frame.{Frame}
+use Rattle.safl_order.specs.Walk.{one_unseen, unseen, stack_work}
+
+pub set_cases : {A : Type 0} (xs : List A) (t : ℕ) (x : A) (s : ℕ) (y : A) → slice_get (set xs t x) s ≡ Some y → ((s ≡ t) × (y ≡ x)) ⊎ ((¬ (s ≡ t)) × (slice_get xs s ≡ Some y))
+set_cases [] t x s y e = absurd (cc)
+set_cases (a ∷ xs) zero x zero y e = inl (refl, cc)
+set_cases (a ∷ xs) zero x (suc s) y e = inr ((λ q. absurd (omega (arith, q))), e)
+set_cases (a ∷ xs) (suc t) x zero y e = inr ((λ q. absurd (omega (arith, q))), e)
+set_cases (a ∷ xs) (suc t) x (suc s) y e = elim (set_cases xs t x s y e) [ inl h ↦ inl (ap suc h.0, h.1) | inr h ↦ inr ((λ q. h.0 (omega (arith, q))), h.1) ]
+
+pub set_other : {A : Type 0} (xs : List A) (t : ℕ) (x : A) (s : ℕ) (y : A) → ¬ (s ≡ t) → slice_get xs s ≡ Some y → slice_get (set xs t x) s ≡ Some y
+set_other [] t x s y n e = absurd (cc)
+set_other (a ∷ xs) zero x zero y n e = absurd (n refl)
+set_other (a ∷ xs) zero x (suc s) y n e = e
+set_other (a ∷ xs) (suc t) x zero y n e = e
+set_other (a ∷ xs) (suc t) x (suc s) y n e = set_other xs t x s y (λ q. n (ap suc q)) e
+
+pub set_here : {A : Type 0} (xs : List A) (t : ℕ) (x y : A) → slice_get xs t ≡ Some y → slice_get (set xs t x) t ≡ Some x
+set_here [] t x y e = absurd (cc)
+set_here (a ∷ xs) zero x y e = refl
+set_here (a ∷ xs) (suc t) x y e = set_here xs t x y e
+
+pub set_length : {A : Type 0} (xs : List A) (t : ℕ) (x : A) → length (set xs t x) ≡ length xs
+set_length [] t x = refl
+set_length (a ∷ xs) zero x = refl
+set_length (a ∷ xs) (suc t) x = ap suc (set_length xs t x)
+
+pub get_front : {A : Type 0} (xs ys : List A) (s : ℕ) (y : A) → slice_get xs s ≡ Some y → slice_get (xs ++ ys) s ≡ Some y
+get_front [] ys s y e = absurd (cc)
+get_front (x ∷ xs) ys zero y e = e
+get_front (x ∷ xs) ys (suc s) y e = get_front xs ys s y e
+
+pub get_end : {A : Type 0} (xs : List A) (x : A) → slice_get (xs ++ x ∷ []) (length xs) ≡ Some x
+get_end [] x = refl
+get_end (a ∷ xs) x = get_end xs x
+
+pub get_some : {A : Type 0} (xs : List A) (s : ℕ) → s < length xs → (x : A) × (slice_get xs s ≡ Some x)
+get_some [] s h = absurd (omega arith)
+get_some (x ∷ xs) zero h = (x, refl)
+get_some (x ∷ xs) (suc s) h = get_some xs s (omega (arith, h))
+
+pub past_end : {A : Type 0} (xs : List A) (s : ℕ) → slice_get xs s ≡ None → length xs ≤ s
+past_end [] s e = omega arith
+past_end (x ∷ xs) zero e = absurd (cc)
+past_end (x ∷ xs) (suc s) e = let h = past_end xs s e in omega (arith, h)
+
+pub length_push : {A : Type 0} (xs : List A) (x : A) → length (xs ++ x ∷ []) ≡ length xs + 1
+length_push [] x = omega arith
+length_push (a ∷ xs) x = let e = length_push xs x in omega (arith, e)
+
+pub unseen_set : (ms : List Mark) (t : ℕ) (x y : Mark) → slice_get ms t ≡ Some y → unseen (set ms t x) + one_unseen y ≡ unseen ms + one_unseen x
+unseen_set [] t x y e = absurd (cc)
+unseen_set (m ∷ ms) zero x y e =
+    let q : m ≡ y = cc in
+    let r = ap one_unseen q in
+    omega (arith, r)
+unseen_set (m ∷ ms) (suc t) x y e = let q = unseen_set ms t x y e in omega (arith, q)
+
+pub stack_push : (fs : List Frame) (f : Frame) → stack_work (fs ++ f ∷ []) ≡ stack_work fs + (4 - f.next)
+stack_push [] f = omega arith
+stack_push (g ∷ fs) f = let e = stack_push fs f in omega (arith, e)
+
+pub stack_set : (fs : List Frame) (k : ℕ) (f g : Frame) → slice_get fs k ≡ Some f → stack_work (set fs k g) + (4 - f.next) ≡ stack_work fs + (4 - g.next)
+stack_set [] k f g e = absurd (cc)
+stack_set (h ∷ fs) zero f g e =
+    let q : h ≡ f = cc in
+    let r = ap (λ (x : Frame). 4 - x.next) q in
+    omega (arith, r)
+stack_set (h ∷ fs) (suc k) f g e = let q = stack_set fs k f g e in omega (arith, q)
+
+pub split_last : {A : Type 0} (xs : List A) (k : ℕ) (x : A) → slice_get xs k ≡ Some x → suc k ≡ length xs → xs ≡ take k xs ++ x ∷ []
+split_last [] k x e h = absurd (cc)
+split_last (a ∷ []) zero x e h = let q : a ≡ x = cc in ap (λ y. y ∷ []) q
+split_last (a ∷ (b ∷ xs)) zero x e h = absurd (omega (arith, h))
+split_last (a ∷ xs) (suc k) x e h = ap (λ l. a ∷ l) (split_last xs k x e (omega (arith, h)))

@@ -1,0 +1,10 @@
+use Rattle.std.proofs.Common.{◌≡◌, []}
+use Rattle.safl_order.specs.Walk.{Walks, AllDone}
+use Rattle.safl_order.proofs.walk.Walk.run.Given as goal
+
+abbrev pub invariant-signals : goal.invariant-signals
+invariant-signals l = record {
+  walks : Walks l.net l.self.wires.items l.self.marks.items l.self.stack.items;
+  empty : l.self.stack.items ≡ [];
+  done : AllDone l.net l.self.marks.items l.i;
+}

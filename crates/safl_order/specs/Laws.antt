@@ -1,0 +1,9 @@
+-- What is claimed of loops.
+use Rattle.std.specs.Prelude.{ℕ, List}
+use Rattle.safl_net.specs.Netlist.{Netlist}
+use Rattle.safl_net.specs.Valuations.{IsAcyclic}
+use Rattle.safl_order.specs.Order.{IsLoop}
+
+-- a net with a loop has no ranks
+abbrev pub LoopsAreCyclic : Type 0
+LoopsAreCyclic = (n : Netlist) (ws : List ℕ) → IsLoop n ws → ¬ (IsAcyclic n)

@@ -1,0 +1,48 @@
+-- Loops, and orders of evaluation.
+use Rattle.std.specs.Prelude.{◌≡◌, ℕ, ◌<◌, ◌≤◌, List, [], ◌∷◌, Option, Some, None, slice_get}
+use Rattle.safl_net.specs.declared.cell.SigKind.{SigKind}
+use Rattle.safl_net.specs.Netlist.{Netlist, AllSet, Cell}
+use Rattle.safl_net.specs.Making.{kind_at, cell_in, sort_of}
+
+abbrev pub operands_in : Option Cell → List ℕ
+operands_in None = []
+operands_in (Some c) = c.operands
+
+-- the operands of the cell of a wire
+abbrev pub operands_of : Netlist → ℕ → List ℕ
+operands_of n s = operands_in (cell_in (kind_at n s))
+
+abbrev pub IsWire : Netlist → ℕ → Type 0
+IsWire n s = sort_of (kind_at n s) ≡ SigKind.Wire
+
+-- a has b as an operand
+abbrev pub Reads : Netlist → ℕ → ℕ → Type 0
+Reads n a b = (i : ℕ) × (slice_get (operands_of n a) i ≡ Some b)
+
+-- each has the next as an operand, and the last has t
+abbrev pub Leads : Netlist → List ℕ → ℕ → Type 0
+Leads n [] t = Unit {0}
+Leads n (a ∷ []) t = Reads n a t
+Leads n (a ∷ (b ∷ ws)) t = Reads n a b × Leads n (b ∷ ws) t
+
+-- different wires, each with the next as an operand and the last with the first; the first is the least
+pub record IsLoop (n : Netlist) (ws : List ℕ) : Type 0 where
+  pub first : ℕ
+  pub rest : List ℕ
+  pub is : ws ≡ first ∷ rest
+  pub leads : Leads n ws first
+  pub apart : (i j s : ℕ) → slice_get ws i ≡ Some s → slice_get ws j ≡ Some s → i ≡ j
+  pub least : (i s : ℕ) → slice_get ws i ≡ Some s → first ≤ s
+
+-- all is set, and each wire stands once, after those of its operands that are wires
+pub record IsOrder (n : Netlist) (ws : List ℕ) : Type 0 where
+  pub set : AllSet n
+  pub wires : (i s : ℕ) → slice_get ws i ≡ Some s → IsWire n s
+  pub all : (s : ℕ) → IsWire n s → (i : ℕ) × (slice_get ws i ≡ Some s)
+  pub once : (i j s : ℕ) → slice_get ws i ≡ Some s → slice_get ws j ≡ Some s → i ≡ j
+  pub before : (i s k t : ℕ) → slice_get ws i ≡ Some s → slice_get (operands_of n s) k ≡ Some t → IsWire n t → (j : ℕ) × (j < i) × (slice_get ws j ≡ Some t)
+
+-- a net, and its wires in an order of evaluation
+pub record Order : Type 0 where
+  pub net : Netlist
+  pub wires : List ℕ

@@ -1,0 +1,14 @@
+-- Why a net has no order.
+use Rattle.std.specs.Prelude.{◌≡◌}
+use Rattle.safl_net.specs.Netlist.{Netlist, AllSet}
+use Rattle.safl_net.specs.Making.{numbers}
+use Rattle.safl_net.specs.Whole.{IsLeastUnset}
+use Rattle.safl_order.specs.declared.order.OrderErr.{OrderErr}
+use Rattle.safl_order.specs.declared.order.OrderErr.TheVariants.{Loop, Unset, NoMemory}
+use Rattle.safl_order.specs.Order.{IsLoop}
+
+-- the net comes back; something is unset exactly where that is said, and a loop is shown
+abbrev pub Refuses : Netlist → OrderErr → Type 0
+Refuses n (Loop ws m) = (m ≡ n) × AllSet n × IsLoop n (numbers ws.items)
+Refuses n (Unset s m) = (m ≡ n) × IsLeastUnset n s.0
+Refuses n (NoMemory m) = (m ≡ n) × AllSet n

@@ -1,0 +1,99 @@
+-- A walk from wires to their operands, deepest first.
+use Rattle.std.specs.Prelude.{◌≡◌, ℕ, suc, ◌+◌, ◌-◌, ◌*◌, ◌<◌, ◌≤◌, List, [], ◌∷◌, ◌++◌, map, length, take, drop, Some, slice_get}
+use Rattle.safl_net.specs.declared.cell.Sig.{Sig}
+use Rattle.safl_net.specs.Netlist.{Netlist}
+use Rattle.safl_net.specs.Rules.{IsNetlist}
+use Rattle.safl_order.specs.declared.walk.Mark.{Mark}
+use Rattle.safl_order.specs.declared.walk.Mark.TheVariants.{Unseen, Open, Done}
+use Rattle.safl_order.specs.declared.walk.Frame.{Frame}
+use Rattle.safl_order.specs.declared.walk.Stop.{Stop}
+use Rattle.safl_order.specs.declared.walk.Stop.TheVariants.{Loop, NoMemory}
+use Rattle.safl_order.specs.Order.{operands_of, IsWire}
+
+-- the number of signals that are not seen
+abbrev pub one_unseen : Mark → ℕ
+one_unseen Unseen = 1
+one_unseen (Open k) = 0
+one_unseen (Done i) = 0
+
+abbrev pub unseen : List Mark → ℕ
+unseen [] = 0
+unseen (m ∷ ms) = one_unseen m + unseen ms
+
+-- the wire is done, at a place below this
+abbrev pub DoneBelow : List Mark → ℕ → ℕ → Type 0
+DoneBelow marks i t = (j : ℕ) × (j < i) × (slice_get marks t ≡ Some (Done j))
+
+-- the next operand of a frame
+abbrev pub Looks : Netlist → Frame → ℕ → Type 0
+Looks n f t = slice_get (operands_of n f.wire.0) f.next ≡ Some t
+
+-- a wire whose operands before the next one are done where they are wires
+pub record FrameFits (n : Netlist) (marks : List Mark) (count : ℕ) (f : Frame) : Type 0 where
+  pub wire : IsWire n f.wire.0
+  pub within : f.next ≤ length (operands_of n f.wire.0)
+  pub few : f.next ≤ 3
+  pub past : (i t : ℕ) → i < f.next → slice_get (operands_of n f.wire.0) i ≡ Some t → IsWire n t → DoneBelow marks count t
+
+-- the marks say where wires stand among those done and on the stack, and each wire on the stack looks at the next
+pub record Walks (n : Netlist) (done : List Sig) (marks : List Mark) (stack : List Frame) : Type 0 where
+  pub made : IsNetlist n
+  pub long : length marks ≡ length n.signals
+  pub done_at : (s i : ℕ) → slice_get marks s ≡ Some (Done i) → slice_get done i ≡ Some (record { 0 = s })
+  pub marked : (i : ℕ) (s : Sig) → slice_get done i ≡ Some s → slice_get marks s.0 ≡ Some (Done i)
+  pub open_at : (s k : ℕ) → slice_get marks s ≡ Some (Open k) → (f : Frame) × (slice_get stack k ≡ Some f) × (f.wire.0 ≡ s)
+  pub opened : (k : ℕ) (f : Frame) → slice_get stack k ≡ Some f → slice_get marks f.wire.0 ≡ Some (Open k)
+  pub wires : (i : ℕ) (s : Sig) → slice_get done i ≡ Some s → IsWire n s.0
+  pub before : (i : ℕ) (s : Sig) (k t : ℕ) → slice_get done i ≡ Some s → slice_get (operands_of n s.0) k ≡ Some t → IsWire n t → DoneBelow marks i t
+  pub frames : (k : ℕ) (f : Frame) → slice_get stack k ≡ Some f → FrameFits n marks (length done) f
+  pub count : length done + length stack + unseen marks ≡ length marks
+  pub path : (k : ℕ) (f g : Frame) → slice_get stack k ≡ Some f → slice_get stack (suc k) ≡ Some g → Looks n f g.wire.0
+
+-- what the stack has still to look at
+abbrev pub stack_work : List Frame → ℕ
+stack_work [] = 0
+stack_work (f ∷ fs) = (4 - f.next) + stack_work fs
+
+abbrev pub work : List Mark → List Frame → ℕ
+work marks stack = 5 * unseen marks + stack_work stack
+
+-- what is done stays, and nothing is forgotten
+pub record Goes (old new : List Mark) : Type 0 where
+  pub done : (s i : ℕ) → slice_get old s ≡ Some (Done i) → slice_get new s ≡ Some (Done i)
+  pub seen : (s : ℕ) → slice_get new s ≡ Some Unseen → slice_get old s ≡ Some Unseen
+
+-- the frame on top of the stack
+pub record IsTop (stack : List Frame) (f : Frame) : Type 0 where
+  pub place : ℕ
+  pub last : suc place ≡ length stack
+  pub at : slice_get stack place ≡ Some f
+
+-- the wire on top looks at t, which is not its fourth operand
+pub record LooksAt (n : Netlist) (stack : List Frame) (t : ℕ) : Type 0 where
+  pub top : Frame
+  pub is_top : IsTop stack top
+  pub looks : Looks n top t
+  pub few : top.next < 3
+
+-- the wire on top of the stack looks at the wire at a place of it
+pub record IsOpenLoop (n : Netlist) (stack : List Frame) (k : ℕ) : Type 0 where
+  pub top : Frame
+  pub is_top : IsTop stack top
+  pub low : Frame
+  pub at : slice_get stack k ≡ Some low
+  pub looks : Looks n top low.wire.0
+
+abbrev pub IsStop : Netlist → List Frame → Stop → Type 0
+IsStop n stack (Loop k) = IsOpenLoop n stack k
+IsStop n stack NoMemory = Unit {0}
+
+-- the frames from a place on, whose wire is the least, round to it
+pub record IsTurned (fs : List Frame) (ws : List Sig) : Type 0 where
+  pub place : ℕ
+  pub within : place < length fs
+  pub is : ws ≡ map (λ (f : Frame). f.wire) (drop place fs ++ take place fs)
+  pub least : (i : ℕ) (f g : Frame) → slice_get fs place ≡ Some f → slice_get fs i ≡ Some g → f.wire.0 ≤ g.wire.0
+
+-- all wires below this are done
+abbrev pub AllDone : Netlist → List Mark → ℕ → Type 0
+AllDone n marks count = (s : ℕ) → s < count → IsWire n s → (i : ℕ) × (slice_get marks s ≡ Some (Done i))

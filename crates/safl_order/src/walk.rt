@@ -1,0 +1,253 @@
+//! A walk from wires to their operands, deepest first, on a stack of its own.
+
+ghost use Rattle.std.specs.Prelude.{◌≡◌, ℕ, ◌+◌, ◌-◌, ◌<◌, ◌≤◌, ◌^◌, [], ◌∷◌, ◌++◌, map, length, take, drop, Some, None, IfOk, IfErr, OnOk, IfSome, slice_get, slice_set, vec_len};
+ghost use Rattle.safl_net.specs.Stored.{number_of};
+ghost use Rattle.safl_order.specs.declared.walk.Frame.{Frame};
+ghost use Rattle.safl_order.specs.Order.{IsWire, operands_of};
+ghost use Rattle.safl_order.specs.Walk.{Walks, Looks, LooksAt, AllDone, Goes, IsTop, IsStop, IsTurned, work};
+
+use safl_net::{Net, Sig, SigKind};
+use std::alloc::{AllocError, Global};
+
+/// What is known of a signal: a wire on the stack with its place there, or one that is done with its place
+/// in the order.
+#[derive(Clone, Copy)]
+pub enum Mark {
+    Unseen,
+    Open(u32),
+    Done(u32),
+}
+
+/// A wire on the stack, and how many of its operands are done.
+#[derive(Clone, Copy)]
+pub struct Frame {
+    pub wire: Sig,
+    pub next: u8,
+}
+
+/// Why a walk ends early: the wire on top of the stack reads the one at this place of it.
+#[derive(Clone, Copy)]
+pub enum Stop {
+    Loop(u32),
+    NoMemory,
+}
+
+/// The wires that are done, in order of evaluation, and those on the stack.
+#[derive(Drop)]
+pub struct Walk {
+    pub wires: Vec<Sig>,
+    pub marks: Vec<Mark>,
+    pub stack: Vec<Frame>,
+}
+
+impl Walk {
+    /// Nothing is seen.
+    pub fn new(alloc: Global, net: &Net) -> Result<Walk, AllocError>
+        ensures walks { IfOk result (λ w. Walks net.now w.wires.items w.marks.items w.stack.items) }
+        ensures empty { IfOk result (λ w. w.stack.items ≡ []) }
+    {
+        let count = net.signals() as usize;
+        Ok(Walk {
+            wires: Vec::new(alloc),
+            marks: vec![in alloc; Mark::Unseen; count]?,
+            stack: Vec::new(alloc),
+        })
+    }
+
+    /// Walks from each wire.
+    pub fn run(&mut self, net: &Net) -> Result<(), Stop>
+        requires walks { Walks net.now self.old.wires.items self.old.marks.items self.old.stack.items }
+        requires empty { self.old.stack.items ≡ [] }
+        ensures walks { Walks net.now self.new.wires.items self.new.marks.items self.new.stack.items }
+        ensures done { OnOk result (AllDone net.now self.new.marks.items (length net.now.signals)) }
+        ensures stop { IfErr result (IsStop net.now self.new.stack.items) }
+    {
+        'signals: for i in 0..net.signals() {
+            self.visit(net, Sig(i))?;
+        }
+        Ok(())
+    }
+
+    /// The wires on the stack from that place on, beginning at the least and going round.
+    pub fn cycle(&self, alloc: Global, place: u32) -> Result<Vec<Sig>, AllocError>
+        requires { place < vec_len self.now.stack }
+        ensures { IfOk result (λ ws. IsTurned (drop place self.now.stack.items) ws.items) }
+    {
+        let frames = &self.stack[place as usize..];
+        let first = least(frames);
+        let mut wires = Vec::new(alloc);
+        push_wires(&mut wires, &frames[first..])?;
+        push_wires(&mut wires, &frames[..first])?;
+        Ok(wires)
+    }
+
+    // Walks from a signal.
+    fn visit(&mut self, net: &Net, root: Sig) -> Result<(), Stop>
+        requires walks { Walks net.now self.old.wires.items self.old.marks.items self.old.stack.items }
+        requires empty { self.old.stack.items ≡ [] }
+        requires known { root.0 < length net.now.signals }
+        ensures walks { Walks net.now self.new.wires.items self.new.marks.items self.new.stack.items }
+        ensures empty { OnOk result (self.new.stack.items ≡ []) }
+        ensures goes { Goes self.old.marks.items self.new.marks.items }
+        ensures done { OnOk result (IsWire net.now root.0 → (i : ℕ) × (slice_get self.new.marks.items root.0 ≡ Some (Mark.Done i))) }
+        ensures stop { IfErr result (IsStop net.now self.new.stack.items) }
+    {
+        match net.kind(root) {
+            SigKind::Wire => match self.marks[root.0 as usize] {
+                Mark::Unseen => {
+                    self.open(root)?;
+                    self.drain(net)
+                }
+                _ => Ok(()),
+            },
+            _ => Ok(()),
+        }
+    }
+
+    // Walks until nothing is on the stack.
+    fn drain(&mut self, net: &Net) -> Result<(), Stop>
+        requires { Walks net.now self.old.wires.items self.old.marks.items self.old.stack.items }
+        ensures walks { Walks net.now self.new.wires.items self.new.marks.items self.new.stack.items }
+        ensures empty { OnOk result (self.new.stack.items ≡ []) }
+        ensures goes { Goes self.old.marks.items self.new.marks.items }
+        ensures stop { IfErr result (IsStop net.now self.new.stack.items) }
+    {
+        'steps: while !self.stack.is_empty() {
+            self.step(net)?;
+        }
+        Ok(())
+    }
+
+    // Looks at the next operand of the wire on top, which is done where it has none.
+    fn step(&mut self, net: &Net) -> Result<(), Stop>
+        requires walks { Walks net.now self.old.wires.items self.old.marks.items self.old.stack.items }
+        requires some { 0 < vec_len self.old.stack }
+        ensures walks { Walks net.now self.new.wires.items self.new.marks.items self.new.stack.items }
+        ensures goes { Goes self.old.marks.items self.new.marks.items }
+        ensures less { OnOk result (work self.new.marks.items self.new.stack.items < work self.old.marks.items self.old.stack.items) }
+        ensures stop { IfErr result (IsStop net.now self.new.stack.items) }
+    {
+        let top = self.stack[self.stack.len() - 1];
+        match operand(net, top.wire, top.next as usize) {
+            Some(t) => self.look(net, t),
+            None => self.close(top.wire),
+        }
+    }
+
+    // Goes to a wire that is not seen yet, and past what is no wire or is done.
+    fn look(&mut self, net: &Net, t: Sig) -> Result<(), Stop>
+        requires walks { Walks net.now self.old.wires.items self.old.marks.items self.old.stack.items }
+        requires looks { LooksAt net.now self.old.stack.items t.0 }
+        requires known { t.0 < length net.now.signals }
+        ensures walks { Walks net.now self.new.wires.items self.new.marks.items self.new.stack.items }
+        ensures goes { Goes self.old.marks.items self.new.marks.items }
+        ensures less { OnOk result (work self.new.marks.items self.new.stack.items < work self.old.marks.items self.old.stack.items) }
+        ensures stop { IfErr result (IsStop net.now self.new.stack.items) }
+    {
+        match net.kind(t) {
+            SigKind::Wire => match self.marks[t.0 as usize] {
+                Mark::Unseen => self.open(t),
+                Mark::Open(k) => Err(Stop::Loop(k)),
+                Mark::Done(_) => {
+                    self.pass();
+                    Ok(())
+                }
+            },
+            _ => {
+                self.pass();
+                Ok(())
+            }
+        }
+    }
+
+    // Puts a wire on the stack.
+    fn open(&mut self, t: Sig) -> Result<(), Stop>
+        requires known { t.0 < vec_len self.old.marks }
+        requires room { vec_len self.old.stack < 2 ^ 32 }
+        ensures wires { self.new.wires.items ≡ self.old.wires.items }
+        ensures marks { OnOk result (self.new.marks.items ≡ slice_set self.old.marks.items t.0 (Mark.Open (length self.old.stack.items))) }
+        ensures stack { OnOk result (self.new.stack.items ≡ self.old.stack.items ++ record { wire = t; next = 0 } ∷ []) }
+        ensures refused { IfErr result (λ e. (e ≡ Stop.NoMemory) × (self.new.marks.items ≡ self.old.marks.items) × (self.new.stack.items ≡ self.old.stack.items)) }
+    {
+        let place = self.stack.len() as u32;
+        if self.stack.push(Frame { wire: t, next: 0 }).is_err() {
+            return Err(Stop::NoMemory);
+        }
+        self.marks[t.0 as usize] = Mark::Open(place);
+        Ok(())
+    }
+
+    // Passes an operand of the wire on top.
+    fn pass(&mut self)
+        requires some { 0 < vec_len self.old.stack }
+        requires few { (f : Frame) → slice_get self.old.stack.items (vec_len self.old.stack - 1) ≡ Some f → f.next < 255 }
+        ensures wires { self.new.wires.items ≡ self.old.wires.items }
+        ensures marks { self.new.marks.items ≡ self.old.marks.items }
+        ensures stack { (f : Frame) → slice_get self.old.stack.items (vec_len self.old.stack - 1) ≡ Some f → self.new.stack.items ≡ slice_set self.old.stack.items (vec_len self.old.stack - 1) (record { wire = f.wire; next = f.next + 1 }) }
+    {
+        let last = self.stack.len() - 1;
+        let top = self.stack[last];
+        self.stack[last] = Frame {
+            wire: top.wire,
+            next: top.next + 1,
+        };
+    }
+
+    // The wire on top is done.
+    fn close(&mut self, wire: Sig) -> Result<(), Stop>
+        requires known { wire.0 < vec_len self.old.marks }
+        requires room { vec_len self.old.wires < 2 ^ 32 }
+        requires some { 0 < vec_len self.old.stack }
+        ensures wires { OnOk result (self.new.wires.items ≡ self.old.wires.items ++ wire ∷ []) }
+        ensures marks { OnOk result (self.new.marks.items ≡ slice_set self.old.marks.items wire.0 (Mark.Done (length self.old.wires.items))) }
+        ensures stack { OnOk result (self.new.stack.items ≡ take (vec_len self.old.stack - 1) self.old.stack.items) }
+        ensures refused { IfErr result (λ e. (e ≡ Stop.NoMemory) × (self.new.wires.items ≡ self.old.wires.items) × (self.new.marks.items ≡ self.old.marks.items) × (self.new.stack.items ≡ self.old.stack.items)) }
+    {
+        let place = self.wires.len() as u32;
+        if self.wires.push(wire).is_err() {
+            return Err(Stop::NoMemory);
+        }
+        let last = self.stack.len() - 1;
+        self.stack.truncate(last);
+        self.marks[wire.0 as usize] = Mark::Done(place);
+        Ok(())
+    }
+}
+
+// An operand of a wire.
+fn operand(net: &Net, wire: Sig, index: usize) -> Option<Sig>
+    requires wire { IsWire net.now wire.0 }
+    requires known { wire.0 < length net.now.signals }
+    ensures operand { number_of result ≡ slice_get (operands_of net.now wire.0) index }
+    ensures few { IfSome result (λ t. index < 3) }
+{
+    match net.cell(wire) {
+        Some(cell) => cell.operands.as_slice().get(index).copied(),
+        None => None,
+    }
+}
+
+// The place of the frame of the least wire.
+fn least(frames: &[Frame]) -> usize
+    requires { 0 < length frames.now }
+    ensures within { result < length frames.now }
+    ensures least { (i : ℕ) (f g : Frame) → slice_get frames.now result ≡ Some f → slice_get frames.now i ≡ Some g → f.wire.0 ≤ g.wire.0 }
+{
+    let mut best = 0;
+    'frames: for i in 1..frames.len() {
+        if frames[i].wire.0 < frames[best].wire.0 {
+            best = i;
+        }
+    }
+    best
+}
+
+// Appends the wires of frames.
+fn push_wires(wires: &mut Vec<Sig>, frames: &[Frame]) -> Result<(), AllocError>
+    ensures { OnOk result (wires.new.items ≡ wires.old.items ++ map (λ (f : Frame). f.wire) frames.now) }
+{
+    'frames: for f in frames {
+        wires.push(f.wire)?;
+    }
+    Ok(())
+}
