@@ -1,12 +1,11 @@
 //! The width of an operation's word.
 
-ghost use Rattle.std.specs.Prelude.{◌≡◌, [], ◌∷◌};
-ghost use Rattle.safl_word.specs.Primitives.{result_width};
+ghost use Rattle.std.specs.Prelude.{◌≡◌};
 ghost use Rattle.safl_net.specs.Widths.{op_width, no_operand, HasWord};
 ghost use Rattle.safl_word.specs.Words.{IsWord};
 
 use crate::cell::Op;
-use safl_word::{Primitive, Word};
+use safl_word::{Primitive, Word, result_width};
 
 /// The width of the word of an operation on operands of these widths, in bits. A constant has no operand, a
 /// copy one, a multiplexer a condition of width 1 and two of equal width; a primitive as its table says.
@@ -44,52 +43,6 @@ fn const_width(w: &Word, widths: &[u8]) -> Option<u8>
     let width = w.width();
     match widths {
         [] => Some(width),
-        _ => None,
-    }
-}
-
-// The width of a primitive's word.
-fn result_width(p: Primitive, widths: &[u8]) -> Option<u8>
-    ensures { result ≡ result_width p widths.now }
-{
-    match widths {
-        [a] => one_width(p, *a),
-        [a, b] => two_widths(p, *a, *b),
-        _ => None,
-    }
-}
-
-fn one_width(p: Primitive, a: u8) -> Option<u8>
-    ensures { result ≡ result_width p (a ∷ []) }
-{
-    match p {
-        Primitive::Not => Some(a),
-        Primitive::Bits(high, low) if low <= high && high < a => Some(high - low + 1),
-        Primitive::Ext(width) if a <= width && width <= 128 => Some(width),
-        _ => None,
-    }
-}
-
-fn two_widths(p: Primitive, a: u8, b: u8) -> Option<u8>
-    ensures { result ≡ result_width p (a ∷ b ∷ []) }
-{
-    match p {
-        Primitive::Add
-        | Primitive::Sub
-        | Primitive::Mul
-        | Primitive::And
-        | Primitive::Or
-        | Primitive::Xor
-            if a == b => { Some(a) }
-        Primitive::Eq
-        | Primitive::Ne
-        | Primitive::Lt
-        | Primitive::Le
-        | Primitive::Gt
-        | Primitive::Ge
-            if a == b => { Some(1) }
-        Primitive::Shl | Primitive::Shr => Some(a),
-        Primitive::Cat if a <= 128 && b <= 128 - a => Some(a + b),
         _ => None,
     }
 }

@@ -1,0 +1,4 @@
+pub mod Places
+pub mod Simulation
+pub mod Steps
+pub mod Writes

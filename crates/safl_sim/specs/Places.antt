@@ -1,0 +1,30 @@
+-- Inputs and registers of a net, and its words at reset and after a cycle.
+use Rattle.std.specs.Prelude.{◌≡◌, ℕ, suc, ◌<◌, ◌^◌, List, [], ◌∷◌, map, slice_index}
+use Rattle.safl_word.specs.Words.{Word}
+use Rattle.safl_net.specs.Netlist.{Netlist, Signal, Kind, Input, Reg, Wire, width_of}
+use Rattle.safl_net.specs.Valuations.{Valuation, Fits, kind_reset}
+
+-- the numbers of the inputs, in order
+abbrev pub with_input : Kind → ℕ → List ℕ → List ℕ
+with_input Input i is = i ∷ is
+with_input (Reg init next) i is = is
+with_input (Wire cell) i is = is
+
+abbrev pub inputs_from : List Signal → ℕ → List ℕ
+inputs_from [] i = []
+inputs_from (g ∷ gs) i = with_input g.kind i (inputs_from gs (suc i))
+
+abbrev pub inputs_of : Netlist → List ℕ
+inputs_of n = inputs_from n.signals 0
+
+-- words of the widths of the inputs
+abbrev pub AreInputs : Netlist → List Word → Type 0
+AreInputs n words = map (λ (w : Word). w.width) words ≡ map (width_of n) (inputs_of n)
+
+-- the inputs have the numbers of these words
+abbrev pub HasWords : Netlist → Valuation → List Word → Type 0
+HasWords n v words = map (slice_index v) (inputs_of n) ≡ map (λ (w : Word). w.bits) words
+
+-- each register's number at reset, and 0 for all else
+abbrev pub resets : Netlist → List ℕ
+resets n = map (λ (g : Signal). kind_reset g.kind) n.signals

@@ -1,0 +1,34 @@
+-- Numbers that are written to places.
+use Rattle.std.specs.Prelude.{◌≡◌, ℕ, ◌<◌, ◌^◌, List, [], ◌∷◌, length, Some, slice_get, slice_set, slice_index}
+use Rattle.safl_word.specs.Words.{Word}
+use Rattle.safl_net.specs.declared.cell.Sig.{Sig}
+use Rattle.safl_sim.specs.declared.step.Step.{Step}
+use Rattle.safl_sim.specs.declared.step.Register.{Register}
+use Rattle.safl_sim.specs.Steps.{action_number, Ready}
+
+-- the first of the words stand at the first of the places
+pub record HasPut (places : List Sig) (words : List Word) (count : ℕ) (old new : List ℕ) : Type 0 where
+  pub long : length new ≡ length old
+  pub put : (k : ℕ) (s : Sig) (w : Word) → k < count → slice_get places k ≡ Some s → slice_get words k ≡ Some w → slice_index new s.0 ≡ w.bits
+  pub others : (t : ℕ) → ((k : ℕ) (s : Sig) → slice_get places k ≡ Some s → ¬ (s.0 ≡ t)) → slice_index new t ≡ slice_index old t
+
+-- the first of the registers have the number of the state at their own place
+pub record HasShown (registers : List Register) (state : List ℕ) (count : ℕ) (old new : List ℕ) : Type 0 where
+  pub long : length new ≡ length old
+  pub shown : (k : ℕ) (r : Register) → k < count → slice_get registers k ≡ Some r → slice_index new r.signal.0 ≡ slice_index state r.signal.0
+  pub others : (t : ℕ) → ((k : ℕ) (r : Register) → slice_get registers k ≡ Some r → ¬ (r.signal.0 ≡ t)) → slice_index new t ≡ slice_index old t
+
+-- the first of the registers have the number of the values at the place of their next signal
+pub record HasKept (registers : List Register) (values : List ℕ) (count : ℕ) (old new : List ℕ) : Type 0 where
+  pub long : length new ≡ length old
+  pub kept : (k : ℕ) (r : Register) → k < count → slice_get registers k ≡ Some r → slice_index new r.signal.0 ≡ slice_index values r.next.0
+  pub others : (t : ℕ) → ((k : ℕ) (r : Register) → slice_get registers k ≡ Some r → ¬ (r.signal.0 ≡ t)) → slice_index new t ≡ slice_index old t
+
+-- the numbers after the steps in turn, each of which is ready when it comes
+abbrev pub after_steps : List Step → List ℕ → List ℕ
+after_steps [] values = values
+after_steps (s ∷ steps) values = after_steps steps (slice_set values s.wire.0 (action_number (slice_index values) s.action))
+
+abbrev pub AllReady : List Step → List ℕ → Type 0
+AllReady [] values = Unit {0}
+AllReady (s ∷ steps) values = Ready values s.action × (s.wire.0 < length values) × AllReady steps (slice_set values s.wire.0 (action_number (slice_index values) s.action))

@@ -1,0 +1,5 @@
+//! Simulation of netlists.
+#![tactic(auto)]
+
+mod phases;
+mod step;
