@@ -15,7 +15,8 @@ use Rattle.safl_net.specs.declared.cell.Op.TheVariants as ops
 use Rattle.safl_net.specs.Netlist.{Netlist, width_of}
 use Rattle.safl_net.specs.Widths.{op_width, no_operand, one_operand, mux_operands, HasWord}
 use Rattle.safl_net.specs.Making.{widths}
-use Rattle.safl_net.specs.Written.{name_of, literal}
+use Rattle.safl_net.specs.Making.{name_at as name_of}
+use Rattle.safl_net.specs.Written.{literal}
 use Rattle.safl_verilog.specs.declared.fault.VFault.{VFault}
 use Rattle.safl_verilog.specs.Tokens.{IsIdentifier}
 use Rattle.safl_verilog.specs.Files.{Spot, Expression, Binary}

@@ -10,7 +10,8 @@ use Rattle.safl_net.specs.declared.cell.Op.{Op}
 use Rattle.safl_net.specs.declared.cell.Op.TheVariants as ops
 use Rattle.safl_net.specs.Netlist.{Netlist, Signal, Kind, Input, Reg, Wire, Cell, width_of}
 use Rattle.safl_net.specs.Written
-use Rattle.safl_net.specs.Written.{name_of, literal, declaration, operation, names_of, port, input_port, output_port, input_declaration, output_declaration, register_declaration, wire_declaration, assignment, wire_assignment, output_assignment, update, register_update, header, declarations, statements, written}
+use Rattle.safl_net.specs.Making.{name_at as name_of}
+use Rattle.safl_net.specs.Written.{literal, declaration, operation, names_of, port, input_port, output_port, input_declaration, output_declaration, register_declaration, wire_declaration, assignment, wire_assignment, output_assignment, update, register_update, header, declarations, statements, written}
 use Rattle.safl_verilog.specs.declared.token.Sort.{Sort}
 use Rattle.safl_verilog.specs.declared.token.Sort.TheVariants as sorts
 use Rattle.safl_verilog.specs.declared.token.Symbol.TheVariants as symbols

@@ -5,7 +5,8 @@ use Rattle.std.proofs.lemmas.List.{map-append, append-nil}
 use Rattle.std.proofs.lemmas.List.Elements.{filter-append}
 use Rattle.safl_net.specs.Netlist.{Netlist, Signal, Reg, Wire}
 use Rattle.safl_net.specs.Rules.{IsNetlist}
-use Rattle.safl_net.specs.Written.{name_of, literal}
+use Rattle.safl_net.specs.Making.{name_at as name_of}
+use Rattle.safl_net.specs.Written.{literal}
 use Rattle.safl_verilog.specs.declared.token.Sort.{Sort}
 use Rattle.safl_verilog.specs.declared.token.Sort.TheVariants as sorts
 use Rattle.safl_verilog.specs.Files.{Spot, Plain, Declaration, Statement, File}

@@ -10,7 +10,8 @@ use Rattle.safl_net.specs.Names.{is_good, is_identifier, is_reserved}
 use Rattle.safl_net.specs.Rules.{IsNetlist}
 use Rattle.safl_net.specs.Netlist
 use Rattle.safl_net.specs.Written
-use Rattle.safl_net.specs.Written.{name_of}
+use Rattle.safl_net.specs.Making
+use Rattle.safl_net.specs.Making.{name_at as name_of}
 use Rattle.safl_verilog.specs.declared.token.Keyword.{Keyword}
 use Rattle.safl_verilog.specs.declared.token.Keyword.TheVariants as keywords
 use Rattle.safl_verilog.specs.declared.token.Sort.{Sort}
@@ -250,7 +251,7 @@ module _ (n : Netlist) (net : IsNetlist n) (is rs ws : List Signal) (whole : n.s
   pub used_at : (s : ℕ) (g : Signal) → slice_get n.signals s ≡ Some g → Used s
   used_at s g e =
       let f = net.signals s g e in
-      let name : name_of n s ≡ g.name = ap Written.name_in e in
+      let name : name_of n s ≡ g.name = ap Making.name_in e in
       let here : find ds (name_of n s) ≡ Some (declared g) = ap (find ds) name ∙ known s g e in
       let w : width_of n s ≡ g.width = ap Netlist.width_in e in
       record {

@@ -5,7 +5,8 @@ use Rattle.safl_word.specs.Numerals.{IsNumeral}
 use Rattle.safl_net.specs.Netlist
 use Rattle.safl_net.specs.Netlist.{Netlist, Signal}
 use Rattle.safl_net.specs.Rules.{IsNetlist}
-use Rattle.safl_net.specs.Written.{name_of, written}
+use Rattle.safl_net.specs.Making.{name_at as name_of}
+use Rattle.safl_net.specs.Written.{written}
 use Rattle.safl_verilog.specs.declared.token.Sort.{Sort}
 use Rattle.safl_verilog.specs.declared.token.Sort.TheVariants as sorts
 use Rattle.safl_verilog.specs.Tokens.{IsIdentifier, tokens_from}

@@ -13,7 +13,8 @@ use Rattle.safl_net.specs.Names.{is_good}
 use Rattle.safl_net.specs.Widths.{op_width}
 use Rattle.safl_net.specs.Making.{widths}
 use Rattle.safl_net.specs.Rules.{IsNetlist, SignalFits, KindFits, CellFits}
-use Rattle.safl_net.specs.Written.{name_of, literal}
+use Rattle.safl_net.specs.Making.{name_at as name_of}
+use Rattle.safl_net.specs.Written.{literal}
 use Rattle.safl_verilog.specs.declared.token.Sort.{Sort}
 use Rattle.safl_verilog.specs.declared.token.Sort.TheVariants as sorts
 use Rattle.safl_verilog.specs.declared.fault.VFault.{VFault}

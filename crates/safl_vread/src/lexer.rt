@@ -1,0 +1,44 @@
+//! From bytes to tokens.
+
+ghost use Rattle.std.specs.Prelude.{◌≡◌, ◌<◌, ◌^◌, length, IfOk, IfErr};
+ghost use Rattle.safl_verilog.specs.Tokens.{HasTokens};
+ghost use Rattle.safl_vread.specs.Shown.{shown_all};
+ghost use Rattle.safl_vread.specs.Fronts.{RefusesBytes};
+
+use crate::error::VErr;
+use crate::front::{Front, front_of};
+use safl_verilog::{Token, VFault, VRule};
+use std::alloc::Global;
+
+/// The tokens of a file of fewer than 2^32 bytes, in order, or V01 at the first place where no piece begins.
+pub fn lex(alloc: Global, text: &[u8]) -> Result<Vec<Token>, VErr>
+    requires { length text.now < 2 ^ 32 }
+    ensures tokens { IfOk result (λ tokens. HasTokens text.now (shown_all text.now tokens.items)) }
+    ensures refused { IfErr result (λ e. RefusesBytes text.now e) }
+{
+    let mut tokens = Vec::new(alloc);
+    let mut place = 0;
+    'pieces: while place < text.len() {
+        match front_of(&text[place..]) {
+            Some(Front::Gap(n)) => place += n,
+            Some(Front::Found(kind, n)) => {
+                let start = place as u32;
+                place += n;
+                tokens.push(Token {
+                    start,
+                    stop: place as u32,
+                    kind,
+                })?;
+            }
+            None => {
+                return Err(VErr::Refused(VFault {
+                    rule: VRule::V01,
+                    place: place as u32,
+                    first: 0,
+                    second: 0,
+                }));
+            }
+        }
+    }
+    Ok(tokens)
+}
