@@ -1,27 +1,26 @@
 -- What the calls for the parts of a term require.
-use Rattle.std.proofs.Common.{◌≡◌, ℕ, zero, suc, ◌+◌, ◌-◌, ◌*◌, ◌<◌, ◌≤◌, Bool, true, false, List, [], ◌∷◌, ◌++◌, length, Option, Some, None, slice_get, refl, sym, ap, subst, ◌∙◌, arith}
+use Rattle.std.proofs.Common.{◌≡◌, ℕ, zero, suc, ◌+◌, ◌-◌, ◌<◌, Bool, false, List, [], ◌∷◌, ◌++◌, length, Some, slice_get, refl, sym, ap, subst, ◌∙◌, arith}
 use Rattle.std.proofs.lemmas.Nat.{pow_pos}
 use Rattle.safl_word.specs.declared.primitive.Primitive.{Primitive}
-use Rattle.safl_word.specs.Words.{IsWord, Word}
+use Rattle.safl_word.specs.Words.{IsWord}
 use Rattle.safl_word.specs.Primitives.{result_width}
 use Rattle.safl_check.specs.Program.{Program}
-use Rattle.safl_check.specs.Terms.{Term, Const, Var, Op, If, Let, Call, Loop, Terms, Nil, Cons}
-use Rattle.safl_check.specs.WellFormed.{Spans, SpansAll, HasWidth, HaveWidths}
-use Rattle.safl_check.proofs.Places.{fits_le, fits_all_le}
+use Rattle.safl_check.specs.Terms.{Term, Var, Op, If, Let, Call, Loop, Terms, Nil, Cons}
+use Rattle.safl_check.specs.WellFormed.{SpansAll, HasWidth, HaveWidths}
+use Rattle.safl_check.proofs.Places.{fits_all_le}
 use Rattle.safl_net.specs.declared.cell.Sig.{Sig}
 use Rattle.safl_net.specs.Netlist.{Netlist}
-use Rattle.safl_net.specs.Growth.{width_at, Sized, Grows}
-use Rattle.safl_net.proofs.Growth.{grows_on, width_kept, sized_kept, sized_more}
-use Rattle.safl_lower.specs.declared.parts.SitePorts.{SitePorts}
+use Rattle.safl_net.specs.Growth.{Sized, Grows}
+use Rattle.safl_net.proofs.Growth.{grows_on, width_kept, sized_kept}
 use Rattle.safl_lower.specs.declared.parts.Ports.{Ports}
 use Rattle.safl_lower.specs.declared.parts.Lowered.{Lowered}
 use Rattle.safl_lower.specs.declared.parts.LoweredAll.{LoweredAll}
 use Rattle.safl_lower.specs.declared.parts.Out.{Out}
 use Rattle.safl_lower.specs.Bits.{BitAt, ReadyAt}
-use Rattle.safl_lower.specs.Typing.{Owner, Typed, TypedAll, nodes, nodes_in}
-use Rattle.safl_lower.specs.Lowering.{port_of, Sited, Setting, Lowerable, LowerableAll, HasPorts, Shaped, ShapedAll, Lowers, LowersAll, Shows}
-use Rattle.safl_lower.proofs.Kept.{ready_kept, shaped_kept, sited_kept, setting_on, setting_kept, setting_below}
-use Rattle.safl_lower.proofs.Typing.{test_typed, yes_typed, no_typed, bound_typed, body_typed, parts_typed, args_typed, next_typed, first_typed, rest_typed}
+use Rattle.safl_lower.specs.Typing.{Owner, Typed, TypedAll, nodes_in}
+use Rattle.safl_lower.specs.Lowering.{Sited, Setting, Lowerable, LowerableAll, HasPorts, Shaped, Lowers, LowersAll, Shows}
+use Rattle.safl_lower.proofs.Kept.{sited_kept, setting_on, setting_kept, setting_below}
+use Rattle.safl_lower.proofs.Typing.{test_typed, yes_typed, no_typed, bound_typed, body_typed, parts_typed, args_typed, next_typed}
 use Rattle.safl_lower.proofs.Leaves.{slot_within}
 use Rattle.safl_lower.proofs.Branches.{Branches, Inner}
 

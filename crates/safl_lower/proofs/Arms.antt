@@ -1,8 +1,8 @@
 -- How the circuits of parts make the circuit of a term: pure facts on options and bits.
-use Rattle.std.proofs.Common.{◌≡◌, ℕ, zero, suc, List, [], ◌∷◌, ◌++◌, map, Option, Some, None, Bool, true, false, not, ◌&&◌, cond, ◌==◌, refl, sym, ap, ◌∙◌, arith}
+use Rattle.std.proofs.Common.{◌≡◌, ℕ, zero, suc, List, [], ◌∷◌, ◌++◌, Option, Some, None, Bool, true, false, not, ◌&&◌, cond, ◌==◌, refl, sym, ap, ◌∙◌, arith}
 use Rattle.std.proofs.lemmas.Bool.{ne_eqb}
 use Rattle.safl_word.specs.Words.{Word, pick, choose}
-use Rattle.safl_check.specs.Readiness.{Answer, Ready, LoopTo, NotYet, word_of, both, ready_from, apply_to, loop_to, select, with_all, or_else}
+use Rattle.safl_check.specs.Readiness.{Answer, Ready, LoopTo, NotYet, word_of, select, with_all, or_else}
 use Rattle.safl_lower.specs.Entries.{gate}
 
 -- ---- options

@@ -1,5 +1,5 @@
 -- What gates say of bits.
-use Rattle.std.proofs.Common.{◌≡◌, ℕ, zero, suc, ◌+◌, ◌<◌, ◌≤◌, ◌^◌, List, [], ◌∷◌, length, Option, Some, None, Bool, true, false, not, ◌&&◌, cond, ◌==◌, Result, Ok, Err, IfOk, refl, sym, ap, ◌∙◌, arith}
+use Rattle.std.proofs.Common.{◌≡◌, ℕ, zero, suc, ◌<◌, [], ◌∷◌, Some, None, Bool, true, false, not, ◌&&◌, cond, ◌==◌, Result, Ok, Err, IfOk, refl, ap, ◌∙◌, arith}
 use Rattle.safl_word.specs.Words.{Word, choose}
 use Rattle.safl_word.specs.Primitives.{apply_prim, bit_of}
 use Rattle.safl_word.specs.declared.primitive.Primitive.TheVariants.{And, Not}

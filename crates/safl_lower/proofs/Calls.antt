@@ -1,32 +1,29 @@
 -- The circuits of a call and of a tail call.
-use Rattle.std.proofs.Common.{◌≡◌, ℕ, zero, suc, ◌+◌, ◌-◌, ◌*◌, ◌<◌, ◌≤◌, List, [], ◌∷◌, ◌++◌, map, length, Option, Some, None, Bool, true, false, not, ◌&&◌, cond, ◌==◌, T, slice_get, get_or, refl, sym, ap, subst, ◌∙◌, arith, append_assoc, length-append}
+use Rattle.std.proofs.Common.{◌≡◌, ℕ, suc, ◌+◌, ◌<◌, ◌≤◌, List, [], ◌∷◌, ◌++◌, map, length, Option, Some, None, Bool, true, false, not, ◌&&◌, cond, ◌==◌, T, refl, sym, ap, subst, ◌∙◌, arith}
 use Rattle.std.proofs.Math.Facts.{eqb_yes}
 use Rattle.std.proofs.lemmas.Bool.{ne_eqb}
 use Rattle.safl_check.specs.Program.{Program}
 use Rattle.safl_check.specs.WellFormed.{Spans, SpansAll}
 use Rattle.safl_check.proofs.Places.{fits_le, fits_all_le}
-use Rattle.safl_word.specs.Words.{Word, IsWord, slot, choose, pick}
-use Rattle.safl_word.specs.declared.primitive.Primitive.{Primitive}
-use Rattle.safl_word.specs.Primitives.{apply_prim, result_width}
+use Rattle.safl_word.specs.Words.{Word}
 use Rattle.safl_check.specs.Terms.{Term, Const, Var, Op, If, Let, Call, Loop, Terms, Nil, Cons}
-use Rattle.safl_check.specs.Readiness.{Answer, Ready, LoopTo, NotYet, word_of, both, ready_from, apply_to, loop_to, select, with_all, or_else, answer, answers, wanted, wanted_in}
+use Rattle.safl_check.specs.Readiness.{Answer, Ready, LoopTo, NotYet, word_of, ready_from, loop_to, select, with_all, or_else, answer, answers, wanted, wanted_in}
 use Rattle.safl_net.specs.declared.cell.Sig.{Sig}
 use Rattle.safl_net.specs.Netlist.{Netlist}
-use Rattle.safl_net.specs.Growth.{Val, words, Wired, width_at, Sized, Grows}
-use Rattle.safl_net.proofs.Growth.{grows_on, grows_none, wired_before, width_kept, sized_kept, sized_more}
+use Rattle.safl_net.specs.Growth.{Val, words, Wired, Sized, Grows}
+use Rattle.safl_net.proofs.Growth.{grows_on, wired_before}
 use Rattle.safl_lower.specs.declared.parts.Ports.{Ports}
 use Rattle.safl_lower.specs.declared.parts.Lowered.{Lowered}
 use Rattle.safl_lower.specs.declared.parts.LoweredAll.{LoweredAll}
 use Rattle.safl_lower.specs.declared.parts.Out.{Out}
-use Rattle.safl_lower.specs.declared.parts.TailCall.{TailCall}
-use Rattle.safl_lower.specs.Bits.{on, is_ready, BitAt, ReadyAt}
-use Rattle.safl_lower.specs.Typing.{Owner, Typed, TypedAll, nodes, nodes_in, sites_of, sites_in}
-use Rattle.safl_lower.specs.Entries.{gate, asked, went, Told, site_of, member_of, Between, WantsFit, LoopsFit, OutFits, cost}
-use Rattle.safl_lower.specs.Lowering.{port_of, returned_word, back_of, was_sent, sent_of, open_at, shown, gathered, goes_of, Setting, Shaped, ShapedAll, Lowers, LowersAll, Shows, goes_with, Enters, Leaves}
-use Rattle.safl_lower.proofs.Arms.{or_assoc, or_none, gate_or, gate_none, if_value, if_wants, let_value, let_wants, and_then, join}
-use Rattle.safl_lower.proofs.Kept.{ready_kept, shaped_kept, shaped_all_kept, setting_on, setting_kept, setting_below}
-use Rattle.safl_lower.proofs.Typing.{test_typed, yes_typed, no_typed, bound_typed, body_typed, parts_typed, args_typed, next_typed, first_typed, rest_typed}
-use Rattle.safl_lower.proofs.Gathered.{words_more, stays, stays_by, and_true, pick_ap, pick_none, no_goes, no_more, more_twice, map_end, wants_kept, loops_kept, out_kept, wants_end, loops_end, told_by, told_more, never_is, gate_is_none, if_first, if_second, let_second, taken_tells, cost_end, between_end, between_same, some_nodes}
+use Rattle.safl_lower.specs.Bits.{on, is_ready}
+use Rattle.safl_lower.specs.Typing.{Owner, Typed, sites_in}
+use Rattle.safl_lower.specs.Entries.{gate, asked, went, site_of, member_of, Between, WantsFit, LoopsFit, cost}
+use Rattle.safl_lower.specs.Lowering.{returned_word, back_of, sent_of, open_at, shown, gathered, goes_of, Setting, Shaped, Lowers, LowersAll, Shows, goes_with, Enters, Leaves}
+use Rattle.safl_lower.proofs.Arms.{or_assoc, or_none, gate_or, gate_none}
+use Rattle.safl_lower.proofs.Kept.{shaped_all_kept}
+use Rattle.safl_lower.proofs.Typing.{args_typed, next_typed}
+use Rattle.safl_lower.proofs.Gathered.{stays_by, pick_none, more_twice, map_end, out_kept, wants_end, loops_end, told_by, told_more, never_is, taken_tells, cost_end, between_end, between_same}
 
 goes_call : (o : Option Word) → goes_of (ready_from o) ≡ None
 goes_call None = refl

@@ -1,5 +1,5 @@
 -- Zeros before a word.
-use Rattle.std.proofs.Common.{◌≡◌, ℕ, zero, suc, ◌+◌, ◌-◌, ◌*◌, ◌^◌, ◌<◌, ◌≤◌, List, [], ◌∷◌, length, Option, Some, None, Bool, true, false, cond, ◌==◌, ◌&&◌, nat_le, Result, Ok, Err, IfOk, slice_index_or, refl, sym, ap, subst, ◌∙◌, arith}
+use Rattle.std.proofs.Common.{◌≡◌, ℕ, ◌+◌, ◌*◌, ◌^◌, ◌≤◌, List, [], ◌∷◌, Some, Bool, true, false, ◌&&◌, nat_le, Result, Ok, Err, IfOk, slice_index_or, refl, ap, ◌∙◌, arith}
 use Rattle.std.proofs.lemmas.Bool.{leb-true, and_parts, le-leb}
 use Rattle.safl_word.specs.Words.{Word, max_width}
 use Rattle.safl_word.specs.Primitives.{where_true, apply_prim, result_width}

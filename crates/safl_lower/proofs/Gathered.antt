@@ -1,18 +1,17 @@
 -- The calls and tail calls that the parts of a term have added.
-use Rattle.std.proofs.Common.{◌≡◌, ℕ, zero, suc, ◌+◌, ◌<◌, ◌≤◌, List, [], ◌∷◌, ◌++◌, map, length, Option, Some, None, Bool, true, false, not, ◌&&◌, cond, ◌==◌, refl, sym, ap, subst, ◌∙◌, arith, append_assoc}
+use Rattle.std.proofs.Common.{◌≡◌, ℕ, zero, suc, ◌+◌, ◌<◌, ◌≤◌, List, [], ◌∷◌, ◌++◌, map, length, Option, Some, None, Bool, true, false, not, ◌&&◌, ◌==◌, refl, sym, ap, subst, ◌∙◌, arith, append_assoc}
 use Rattle.safl_word.specs.Words.{Word, pick}
 use Rattle.safl_check.specs.Program.{Program}
-use Rattle.safl_check.specs.Terms.{Term, Const, Var, Op, If, Let, Call, Loop, Terms}
+use Rattle.safl_check.specs.Terms.{Term, Const, Var, Op, If, Let, Call, Loop}
 use Rattle.safl_check.specs.WellFormed.{Spans}
 use Rattle.safl_check.specs.Readiness.{Answer, Ready, LoopTo, NotYet, word_of, ready_from, apply_to, loop_to, select, with_all, or_else, answer, answers}
 use Rattle.safl_net.specs.declared.cell.Sig.{Sig}
 use Rattle.safl_net.specs.Netlist.{Netlist}
-use Rattle.safl_net.specs.Growth.{Val, words, Sized, Grows}
+use Rattle.safl_net.specs.Growth.{Val, words, Grows}
 use Rattle.safl_net.proofs.Growth.{width_kept, sized_kept}
 use Rattle.safl_lower.specs.declared.parts.Out.{Out}
 use Rattle.safl_lower.specs.declared.parts.Want.{Want}
 use Rattle.safl_lower.specs.declared.parts.TailCall.{TailCall}
-use Rattle.safl_lower.specs.Bits.{on}
 use Rattle.safl_lower.specs.Typing.{Owner, Typed, nodes}
 use Rattle.safl_lower.specs.Entries.{gate, Told, WantFits, LoopFits, WantsFit, LoopsFit, OutFits, member_of, Between, cost}
 use Rattle.safl_lower.specs.Lowering.{goes_of}

@@ -1,11 +1,11 @@
 -- Tail calls merged one after another, from the last.
-use Rattle.std.proofs.Common.{Vec, Global, T, ◌⊎◌, inl, inr, slice_set, ◌≡◌, ℕ, zero, suc, ◌+◌, ◌-◌, ◌<◌, ◌≤◌, List, [], ◌∷◌, ◌++◌, map, length, Option, Some, None, Bool, true, false, ◌&&◌, cond, ◌==◌, slice_get, refl, sym, ap, subst, ◌∙◌, arith}
+use Rattle.std.proofs.Common.{Vec, Global, T, ◌⊎◌, inl, inr, ◌≡◌, ℕ, zero, suc, ◌+◌, ◌-◌, ◌<◌, ◌≤◌, List, [], ◌∷◌, ◌++◌, map, length, Option, Some, Bool, true, false, ◌&&◌, ◌==◌, slice_get, refl, sym, ap, subst, ◌∙◌, arith}
 use Rattle.std.proofs.Math.Facts.{eqb_yes}
 use Rattle.safl_word.specs.Words.{Word}
 use Rattle.safl_check.specs.Readiness.{or_else}
 use Rattle.safl_net.specs.declared.cell.Sig.{Sig}
 use Rattle.safl_net.specs.Netlist.{Netlist}
-use Rattle.safl_net.specs.Growth.{Val, words, Wired, Grows, Sized, width_at}
+use Rattle.safl_net.specs.Growth.{Val, words, Wired, Grows, Sized}
 use Rattle.safl_net.proofs.Growth.{grows_on, grows_none, width_kept, wired_before, sized_kept}
 use Rattle.safl_lower.specs.declared.parts.TailCall.{TailCall}
 use Rattle.safl_lower.specs.declared.parts.Rows.{Rows}

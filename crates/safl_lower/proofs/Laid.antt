@@ -1,5 +1,5 @@
 -- Calls laid out by own site, one after another from the last.
-use Rattle.std.proofs.Common.{Vec, Global, ◌≡◌, ℕ, zero, suc, ◌+◌, ◌-◌, ◌<◌, ◌≤◌, List, [], ◌∷◌, ◌++◌, map, length, Option, Some, None, Bool, true, false, ◌&&◌, ◌⊎◌, inl, inr, cond, ◌==◌, T, slice_get, slice_set, refl, sym, ap, subst, ◌∙◌, arith}
+use Rattle.std.proofs.Common.{Vec, Global, ◌≡◌, ℕ, zero, suc, ◌+◌, ◌-◌, ◌<◌, ◌≤◌, List, [], ◌∷◌, ◌++◌, map, length, Option, Some, None, Bool, true, false, ◌&&◌, ◌⊎◌, inl, inr, ◌==◌, T, slice_get, slice_set, refl, sym, ap, subst, ◌∙◌, arith}
 use Rattle.std.proofs.Math.Facts.{eqb_yes}
 use Rattle.safl_word.specs.Words.{Word}
 use Rattle.safl_check.specs.Readiness.{or_else}
@@ -12,7 +12,7 @@ use Rattle.safl_lower.specs.Bits.{on}
 use Rattle.safl_lower.specs.Typing.{Owner}
 use Rattle.safl_lower.specs.Entries.{gate, asked, asks, site_of, Between, WantFits, WantsFit}
 use Rattle.safl_lower.specs.Rows.{Differs, Apart, Listed, given, RowFits, Spreads}
-use Rattle.safl_lower.proofs.Arms.{or_none, or_assoc}
+use Rattle.safl_lower.proofs.Arms.{or_none}
 use Rattle.safl_lower.proofs.Kept.{asked_end, same}
 use Rattle.safl_lower.proofs.Gathered.{map_end}
 

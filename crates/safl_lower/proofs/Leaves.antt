@@ -1,27 +1,23 @@
 -- The circuits of a constant, of a slot and of an operator.
-use Rattle.std.proofs.Common.{◌≡◌, ℕ, zero, suc, ◌+◌, ◌-◌, ◌*◌, ◌<◌, ◌≤◌, List, [], ◌∷◌, ◌++◌, map, length, Option, Some, None, Bool, true, false, not, ◌&&◌, cond, ◌==◌, T, slice_get, get_or, refl, sym, ap, subst, ◌∙◌, arith, append_assoc, length-append}
-use Rattle.safl_word.specs.Words.{Word, IsWord, slot, choose, pick}
+use Rattle.std.proofs.Common.{◌≡◌, ℕ, zero, suc, ◌+◌, ◌<◌, ◌≤◌, List, [], ◌∷◌, map, length, Option, Some, None, Bool, true, false, slice_get, refl, ap, subst, ◌∙◌, arith}
+use Rattle.safl_word.specs.Words.{Word, slot}
 use Rattle.safl_word.specs.declared.primitive.Primitive.{Primitive}
 use Rattle.safl_word.specs.Primitives.{apply_prim, result_width}
-use Rattle.safl_check.specs.Terms.{Term, Const, Var, Op, If, Let, Call, Loop, Terms, Nil, Cons}
-use Rattle.safl_check.specs.Readiness.{Answer, Ready, LoopTo, NotYet, word_of, both, ready_from, apply_to, loop_to, select, with_all, or_else, answer, answers, wanted, wanted_in}
+use Rattle.safl_check.specs.Terms.{Const, Var, Op, Terms}
+use Rattle.safl_check.specs.Readiness.{word_of, apply_to, answer, answers, wanted}
 use Rattle.safl_net.specs.declared.cell.Sig.{Sig}
 use Rattle.safl_net.specs.Netlist.{Netlist}
 use Rattle.safl_net.specs.Growth.{Val, words, Wired, width_at, Sized, Grows}
-use Rattle.safl_net.proofs.Growth.{grows_on, grows_none, wired_before, width_kept, sized_kept, sized_more}
+use Rattle.safl_net.proofs.Growth.{grows_on, grows_none, wired_before}
 use Rattle.safl_lower.specs.declared.parts.Ports.{Ports}
-use Rattle.safl_lower.specs.declared.parts.Lowered.{Lowered}
 use Rattle.safl_lower.specs.declared.parts.LoweredAll.{LoweredAll}
 use Rattle.safl_lower.specs.declared.parts.Out.{Out}
-use Rattle.safl_lower.specs.declared.parts.TailCall.{TailCall}
-use Rattle.safl_lower.specs.Bits.{on, is_ready, BitAt, ReadyAt}
-use Rattle.safl_lower.specs.Typing.{Owner, Typed, TypedAll, nodes, nodes_in, sites_of, sites_in}
-use Rattle.safl_lower.specs.Entries.{gate, asked, went, Told, site_of, member_of, Between, WantsFit, LoopsFit, OutFits, cost}
-use Rattle.safl_lower.specs.Lowering.{port_of, returned_word, back_of, was_sent, sent_of, open_at, shown, gathered, goes_of, Setting, Shaped, ShapedAll, Lowers, LowersAll, Shows, goes_with, Enters, Leaves}
-use Rattle.safl_lower.proofs.Arms.{or_assoc, or_none, gate_or, gate_none, if_value, if_wants, let_value, let_wants, and_then, join}
-use Rattle.safl_lower.proofs.Kept.{ready_kept, shaped_kept, shaped_all_kept, setting_on, setting_kept, setting_below}
-use Rattle.safl_lower.proofs.Typing.{test_typed, yes_typed, no_typed, bound_typed, body_typed, parts_typed, args_typed, next_typed, first_typed, rest_typed}
-use Rattle.safl_lower.proofs.Gathered.{words_more, stays, stays_by, and_true, pick_ap, no_goes, no_more, more_twice, map_end, wants_kept, loops_kept, out_kept, wants_end, loops_end, told_by, told_more, never_is, gate_is_none, if_first, if_second, let_second, taken_tells, cost_end, between_end, between_same, some_nodes}
+use Rattle.safl_lower.specs.Bits.{on, is_ready}
+use Rattle.safl_lower.specs.Entries.{gate, asked, went, site_of, cost}
+use Rattle.safl_lower.specs.Lowering.{back_of, goes_of, Lowers, LowersAll}
+use Rattle.safl_lower.proofs.Kept.{ready_kept}
+use Rattle.safl_lower.proofs.Typing.{parts_typed}
+use Rattle.safl_lower.proofs.Gathered.{stays, stays_by, no_more, out_kept, told_by, never_is, between_same}
 
 -- ---- leaves
 

@@ -1,5 +1,5 @@
 -- What the tail calls to one member come to, and one more of them.
-use Rattle.std.proofs.Common.{Vec, Global, T, nat_eq, ◌⊎◌, inl, inr, slice_set, ◌≡◌, ℕ, zero, suc, ◌+◌, ◌<◌, ◌≤◌, List, [], ◌∷◌, ◌++◌, map, take, length, Option, Some, None, Bool, true, false, ◌&&◌, cond, ◌==◌, slice_get, refl, sym, ap, subst, ◌∙◌, arith, add-one}
+use Rattle.std.proofs.Common.{Vec, Global, T, nat_eq, ◌⊎◌, inl, inr, slice_set, ◌≡◌, ℕ, zero, suc, ◌+◌, ◌≤◌, List, [], ◌∷◌, ◌++◌, take, length, Option, Some, None, Bool, true, false, ◌&&◌, cond, ◌==◌, slice_get, refl, sym, ap, subst, ◌∙◌, arith, add-one}
 use Rattle.std.proofs.Math.Facts.{eqb_yes}
 use Rattle.safl_word.specs.Words.{Word}
 use Rattle.safl_check.specs.Readiness.{or_else}
@@ -9,7 +9,7 @@ use Rattle.safl_net.specs.Growth.{Val, words, Wired, Grows, Sized, width_at}
 use Rattle.safl_net.proofs.Growth.{sized_more, width_kept, wired_before}
 use Rattle.safl_lower.specs.declared.parts.TailCall.{TailCall}
 use Rattle.safl_lower.specs.Bits.{on}
-use Rattle.safl_lower.specs.Entries.{gate, went, goes, Told}
+use Rattle.safl_lower.specs.Entries.{gate, went, Told}
 use Rattle.safl_lower.specs.Rows.{given, taken_to, to_member, RowFits, Row, RowAt, Adds}
 use Rattle.safl_lower.proofs.Arms.{or_none}
 use Rattle.safl_lower.proofs.Kept.{same, mux_on}

@@ -1,14 +1,13 @@
 -- The example can be lowered.
 use Rattle.std.proofs.Common.{◌≡◌, ℕ, zero, suc, ◌+◌, ◌<◌, ◌≤◌, List, [], ◌∷◌, length, Some, true, slice_get, refl, sym, ap, subst, ◌∙◌, arith}
 use Rattle.safl_check.specs.Terms.{Term}
-use Rattle.safl_net.specs.declared.cell.Sig.{Sig}
 use Rattle.safl_net.specs.Netlist.{Netlist, Signal}
 use Rattle.safl_net.specs.Names.{IsTidy}
 use Rattle.safl_net.specs.Growth.{width_at}
 use Rattle.safl_lower.specs.declared.parts.SitePorts.{SitePorts}
 use Rattle.safl_lower.specs.declared.parts.Ports.{Ports}
-use Rattle.safl_lower.specs.Typing.{Owner, Typed}
-use Rattle.safl_lower.specs.Lowering.{Sited, Setting}
+use Rattle.safl_lower.specs.Typing.{Owner}
+use Rattle.safl_lower.specs.Lowering.{Sited}
 use Rattle.safl_lower.specs.Bodies.{IsBody, CanLower}
 use Rattle.safl_lower.specs.Sample.{either, sample, two_inputs}
 

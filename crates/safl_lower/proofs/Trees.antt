@@ -1,5 +1,5 @@
 -- A list of terms of the code, term by term, as a plain list.
-use Rattle.std.proofs.Common.{◌≡◌, ℕ, zero, suc, ◌+◌, ◌*◌, ◌<◌, List, [], ◌∷◌, ◌++◌, length, take, drop, Option, Some, None, slice_get, refl, sym, ap, subst, ◌∙◌, arith, add-one}
+use Rattle.std.proofs.Common.{◌≡◌, ℕ, zero, suc, ◌+◌, ◌*◌, ◌<◌, List, [], ◌∷◌, take, drop, Some, slice_get, ap, ◌∙◌, arith, add-one}
 use Rattle.safl_check.specs.Terms as plain
 use Rattle.safl_check.specs.declared.term.Term.{Term}
 use Rattle.safl_check.specs.Tree.{tree, forest}

@@ -1,24 +1,22 @@
 -- The last step of each kind of term in the walk down a body.
-use Rattle.std.proofs.Common.{◌≡◌, ℕ, ◌+◌, ◌<◌, ◌≤◌, List, [], ◌∷◌, ◌++◌, length, Option, Some, None, Bool, false, not, ◌&&◌, cond, ◌==◌, Result, Ok, Err, IfOk, OnOk, slice_get, refl, sym, ap, subst, ◌∙◌, arith}
-use Rattle.safl_word.specs.Words.{Word}
+use Rattle.std.proofs.Common.{◌≡◌, ℕ, ◌+◌, ◌≤◌, List, length, false, ◌&&◌, cond, ◌==◌, Result, Ok, Err, IfOk, OnOk, sym, subst}
 use Rattle.safl_check.specs.declared.term.Term as declared
 use Rattle.safl_check.specs.Terms.{Term, Terms, If, Call, Loop}
 use Rattle.safl_check.specs.Readiness.{or_else}
 use Rattle.safl_check.specs.Tree.{tree, forest}
 use Rattle.safl_net.specs.declared.cell.Sig.{Sig}
 use Rattle.safl_net.specs.Netlist.{Netlist}
-use Rattle.safl_net.specs.Growth.{Val, words, Wired, width_at, Sized, Grows}
+use Rattle.safl_net.specs.Growth.{Val, Wired, Grows}
 use Rattle.safl_net.proofs.Growth.{grows_on}
 use Rattle.safl_lower.specs.declared.parts.Ports.{Ports}
 use Rattle.safl_lower.specs.declared.parts.Lowered.{Lowered}
 use Rattle.safl_lower.specs.declared.parts.LoweredAll.{LoweredAll}
 use Rattle.safl_lower.specs.declared.parts.Out.{Out}
-use Rattle.safl_lower.specs.Bits.{on, is_ready, BitAt, ReadyAt}
-use Rattle.safl_lower.specs.Typing.{Owner}
+use Rattle.safl_lower.specs.Bits.{on, is_ready}
 use Rattle.safl_lower.specs.Entries.{gate, asked, went}
-use Rattle.safl_lower.specs.Lowering.{gathered, open_at, Setting, Shaped, Lowers, LowersAll, Shows, goes_with, Enters, Leaves}
-use Rattle.safl_lower.proofs.Branches.{Branches, Chosen, lowers_if}
-use Rattle.safl_lower.proofs.Calls.{Asked, Gone, lowers_call, lowers_loop}
+use Rattle.safl_lower.specs.Lowering.{gathered, open_at, Shaped, Lowers, LowersAll, Shows, goes_with, Enters, Leaves}
+use Rattle.safl_lower.proofs.Branches.{Branches, lowers_if}
+use Rattle.safl_lower.proofs.Calls.{lowers_call, lowers_loop}
 use Rattle.safl_lower.proofs.Able.{call_shape}
 
 module _ {P : Ports} {path : Sig} {n m : Netlist} {o p : Out} where

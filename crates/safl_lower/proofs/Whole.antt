@@ -1,25 +1,24 @@
 -- The circuit of a body from that of its term.
-use Rattle.std.proofs.Common.{Vec, Global, ◌⊎◌, inl, inr, ◌≡◌, ℕ, zero, suc, ◌+◌, ◌*◌, ◌<◌, ◌≤◌, List, [], ◌∷◌, ◌++◌, map, length, Option, Some, None, Bool, true, false, not, ◌&&◌, ◌==◌, slice_get, refl, sym, ap, subst, ◌∙◌, arith}
+use Rattle.std.proofs.Common.{◌⊎◌, inl, inr, ◌≡◌, ℕ, zero, suc, ◌+◌, ◌<◌, ◌≤◌, List, [], ◌∷◌, ◌++◌, map, length, Option, Some, Bool, true, false, ◌&&◌, slice_get, refl, sym, ap, subst, ◌∙◌, arith}
 use Rattle.safl_word.specs.Words.{Word}
 use Rattle.safl_check.specs.Terms.{Term}
-use Rattle.safl_check.specs.Readiness.{word_of, answer, wanted, or_else}
+use Rattle.safl_check.specs.Readiness.{answer, wanted, or_else}
 use Rattle.safl_net.specs.declared.cell.Sig.{Sig}
 use Rattle.safl_net.specs.Netlist.{Netlist}
-use Rattle.safl_net.specs.Growth.{Val, words, Wired, width_at, Grows}
+use Rattle.safl_net.specs.Growth.{Val, words, Wired, Grows}
 use Rattle.safl_net.proofs.Growth.{grows_on, wired_before, width_kept}
 use Rattle.safl_lower.specs.declared.parts.Ports.{Ports}
-use Rattle.safl_lower.specs.declared.parts.Body.{Body}
 use Rattle.safl_lower.specs.declared.parts.Lowered.{Lowered}
 use Rattle.safl_lower.specs.declared.parts.Rows.{Rows}
 use Rattle.safl_lower.specs.declared.parts.Out.{Out}
 use Rattle.safl_lower.specs.declared.parts.Want.{Want}
 use Rattle.safl_lower.specs.declared.parts.TailCall.{TailCall}
 use Rattle.safl_lower.specs.Bits.{on, is_ready, BitAt, ReadyAt}
-use Rattle.safl_lower.specs.Typing.{Owner, Typed, nodes, sites_of}
+use Rattle.safl_lower.specs.Typing.{Owner, nodes, sites_of}
 use Rattle.safl_lower.specs.Entries.{gate, asked, went, Told, site_of, member_of, Between, OutFits, WantsFit, LoopsFit, cost}
-use Rattle.safl_lower.specs.Lowering.{back_of, sent_of, open_at, shown, goes_of, Setting, Lowerable, Lowers}
-use Rattle.safl_lower.specs.Rows.{Apart, Listed, given, to_member, RowFits, Untaken, Spreads, Merged}
-use Rattle.safl_lower.specs.Bodies.{IsBody, CanLower, NeverTaken, BodyFits, Bodies}
+use Rattle.safl_lower.specs.Lowering.{back_of, open_at, goes_of, Lowerable, Lowers}
+use Rattle.safl_lower.specs.Rows.{Apart, Listed, to_member, RowFits, Untaken, Spreads, Merged}
+use Rattle.safl_lower.specs.Bodies.{IsBody, CanLower, NeverTaken, Bodies}
 use Rattle.safl_lower.proofs.Arms.{gate_gate}
 use Rattle.safl_lower.proofs.Typing.{places}
 use Rattle.safl_lower.proofs.Gathered.{wants_kept, loops_kept}

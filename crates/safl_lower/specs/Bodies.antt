@@ -1,5 +1,5 @@
 -- What the circuit of a body gives, under each valuation that the net allows.
-use Rattle.std.specs.Prelude.{Vec, ◌≡◌, ℕ, ◌+◌, ◌*◌, ◌≤◌, ◌<◌, ◌⊎◌, List, [], length, Option, Some, Bool, true, false, not, ◌&&◌, slice_get}
+use Rattle.std.specs.Prelude.{Vec, ◌≡◌, ℕ, ◌+◌, ◌*◌, ◌≤◌, ◌<◌, ◌⊎◌, List, [], length, Some, true, false, not, ◌&&◌, slice_get}
 use Rattle.std.specs.Global.{Global}
 use Rattle.safl_check.specs.Terms.{Term}
 use Rattle.safl_check.specs.Readiness.{word_of, answer, wanted}

@@ -1,5 +1,5 @@
 -- The calls of a body by own site, and its tail calls by member.
-use Rattle.std.specs.Prelude.{Vec, ◌≡◌, ℕ, ◌+◌, ◌≤◌, ◌<◌, List, [], ◌∷◌, map, length, Option, Some, None, false, ◌&&◌, ◌⊎◌, cond, ◌==◌, slice_get, slice_set}
+use Rattle.std.specs.Prelude.{Vec, ◌≡◌, ℕ, ◌+◌, List, [], ◌∷◌, map, length, Option, Some, None, false, ◌&&◌, ◌⊎◌, cond, ◌==◌, slice_get, slice_set}
 use Rattle.std.specs.Global.{Global}
 use Rattle.safl_word.specs.Words.{Word}
 use Rattle.safl_check.specs.Readiness.{or_else}

@@ -1,5 +1,5 @@
 -- An example: a main that calls one of two functions, and a net with a bit and a word for all its ports.
-use Rattle.std.specs.Prelude.{ℕ, zero, suc, List, [], ◌∷◌, codes}
+use Rattle.std.specs.Prelude.{ℕ, zero, suc, [], ◌∷◌, codes}
 use Rattle.safl_word.specs.declared.primitive.Primitive.TheVariants.{Eq}
 use Rattle.safl_check.specs.Program.{Program}
 use Rattle.safl_check.specs.Terms.{Term, Const, Var, Op, If, Call, Nil, Cons}

@@ -1,11 +1,10 @@
-use Rattle.std.proofs.Common.{◌≡◌, ◌+◌, ◌<◌, ◌≤◌, ℕ, List, [], ◌++◌, map, ap, ◌∙◌, refl, subst, sym, length, arith}
+use Rattle.std.proofs.Common.{◌≡◌, ◌+◌, ℕ, List, ◌++◌, map, ap, ◌∙◌, refl, subst, sym, length, arith}
 use Rattle.safl_check.specs.Tree.{tree}
 use Rattle.safl_net.specs.declared.cell.Sig.{Sig}
 use Rattle.safl_net.proofs.Growth.{grows_on, width_kept}
 use Rattle.safl_lower.specs.Entries.{site_of, Between}
 use Rattle.safl_lower.specs.Lowering.{Lowerable}
 use Rattle.safl_lower.specs.Rows.{Spreads}
-use Rattle.safl_lower.specs.Typing.{nodes}
 use Rattle.safl_lower.proofs.Walk.{renamed}
 use Rattle.safl_lower.proofs.Whole.{lowerable, bodies, spread_apart, spread_within, merge_fit, merge_within, merge_cost, result_ready}
 use Rattle.safl_lower.proofs.body.lower.Goals as goal

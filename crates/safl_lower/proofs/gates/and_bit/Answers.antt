@@ -1,4 +1,4 @@
-use Rattle.std.proofs.Common.{◌≡◌, [], ◌∷◌, Some, refl}
+use Rattle.std.proofs.Common.{[], ◌∷◌, refl}
 use Rattle.safl_lower.proofs.BitWords.{and_on}
 use Rattle.safl_lower.proofs.gates.and_bit.Goals as goal
 

@@ -1,6 +1,6 @@
-use Rattle.std.proofs.Common.{◌≡◌, [], refl}
+use Rattle.std.proofs.Common.{[], refl}
 use Rattle.safl_net.specs.declared.cell.Op.TheVariants.{Const}
-use Rattle.safl_net.proofs.Growth.{Made, made, sized_known, sized_fits, sized_gives}
+use Rattle.safl_net.proofs.Growth.{made, sized_known, sized_fits, sized_gives}
 use Rattle.safl_lower.proofs.gates.constant.Goals as goal
 
 pub temp-requires-clause-known : goal.temp-requires-clause-known

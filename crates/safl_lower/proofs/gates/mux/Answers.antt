@@ -1,7 +1,7 @@
-use Rattle.std.proofs.Common.{◌≡◌, ℕ, [], ◌∷◌, Some, refl}
+use Rattle.std.proofs.Common.{◌≡◌, ℕ, [], ◌∷◌, Some}
 use Rattle.safl_net.specs.declared.cell.Op.TheVariants.{Mux}
 use Rattle.safl_net.specs.Growth.{width_at}
-use Rattle.safl_net.proofs.Growth.{Made, made, sized_known, sized_fits, sized_gives}
+use Rattle.safl_net.proofs.Growth.{made, sized_known, sized_fits, sized_gives}
 use Rattle.safl_lower.proofs.BitWords.{mux_width, mux_value}
 use Rattle.safl_lower.proofs.gates.mux.Goals as goal
 

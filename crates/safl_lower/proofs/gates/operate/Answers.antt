@@ -1,8 +1,8 @@
-use Rattle.std.proofs.Common.{◌≡◌, ℕ, List, [], ◌∷◌, Some, refl}
+use Rattle.std.proofs.Common.{◌≡◌, ℕ, List, Some}
 use Rattle.safl_net.specs.declared.cell.Op.TheVariants.{Apply}
 use Rattle.safl_net.specs.Widths.{prim_width}
 use Rattle.safl_net.specs.Growth.{Sized}
-use Rattle.safl_net.proofs.Growth.{Made, made, sized_known, sized_fits, sized_gives}
+use Rattle.safl_net.proofs.Growth.{made, sized_known, sized_fits, sized_gives}
 use Rattle.safl_lower.proofs.gates.operate.Goals as goal
 
 pub temp-requires-clause-known : goal.temp-requires-clause-known

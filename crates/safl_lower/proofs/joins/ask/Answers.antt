@@ -1,4 +1,4 @@
-use Rattle.std.proofs.Common.{◌≡◌, ap, ◌∙◌, ◌++◌, ◌-◌, ℕ, [], ◌∷◌, ◌==◌, ◌&&◌, ◌<◌, not, Bool, Option, Some, slice_get, length, refl, sym, subst, arith}
+use Rattle.std.proofs.Common.{◌≡◌, ap, ◌∙◌, ◌-◌, ◌==◌, ◌&&◌, not, Bool, Option, Some, length, refl, sym, subst, arith}
 use Rattle.std.proofs.lemmas.Option.{slice_get_read}
 use Rattle.safl_net.specs.Growth.{words}
 use Rattle.safl_net.proofs.Growth.{grows_on, wired_before, width_kept}

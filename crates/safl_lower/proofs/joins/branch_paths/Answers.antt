@@ -1,4 +1,4 @@
-use Rattle.std.proofs.Common.{◌≡◌, ap, ◌∙◌, ◌&&◌, not, Bool}
+use Rattle.std.proofs.Common.{ap, ◌∙◌, ◌&&◌}
 use Rattle.safl_net.proofs.Growth.{width_kept, grows_on, wired_before}
 use Rattle.safl_lower.specs.Bits.{on, is_ready}
 use Rattle.safl_lower.proofs.joins.branch_paths.Goals as goal

@@ -1,5 +1,4 @@
-use Rattle.std.proofs.Common.{◌≡◌, ap, ◌∙◌, sym, ◌&&◌, cond, Bool, ◌==◌}
-use Rattle.safl_word.specs.Words.{Word}
+use Rattle.std.proofs.Common.{ap, ◌∙◌, ◌&&◌, cond, Bool}
 use Rattle.safl_net.proofs.Growth.{width_kept, grows_on, wired_before}
 use Rattle.safl_lower.specs.Bits.{on, is_ready}
 use Rattle.safl_lower.proofs.Kept.{ready_kept, swap_and, mux_on}

@@ -1,5 +1,4 @@
-use Rattle.std.proofs.Common.{◌≡◌, ap, ◌∙◌, ◌++◌, [], ◌∷◌, ◌==◌}
-use Rattle.safl_word.specs.Words.{Word}
+use Rattle.std.proofs.Common.{ap, ◌∙◌}
 use Rattle.safl_net.specs.Growth.{words}
 use Rattle.safl_net.proofs.Growth.{grows_on, wired_before, width_kept}
 use Rattle.safl_lower.specs.declared.parts.TailCall.{TailCall}

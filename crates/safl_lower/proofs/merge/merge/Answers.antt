@@ -1,8 +1,7 @@
-use Rattle.std.proofs.Common.{◌≡◌, ◌+◌, ◌-◌, ◌<◌, ◌≤◌, List, [], ◌∷◌, ◌++◌, length, length-append, refl, sym, ap, subst, ◌∙◌, arith}
-use Rattle.safl_net.specs.declared.cell.Sig.{Sig}
+use Rattle.std.proofs.Common.{◌+◌, [], ◌∷◌, length, length-append, sym, ap, subst, ◌∙◌, arith}
 use Rattle.safl_net.proofs.Growth.{grows_on}
 use Rattle.safl_lower.proofs.Laid.{AllZero, AllEmpty, zeros_end, empties_end}
-use Rattle.safl_lower.proofs.Gathering.{merging_start, merging_step, merging_end, last_in, last_fits, last_row, last_room}
+use Rattle.safl_lower.proofs.Gathering.{merging_start, merging_step, last_in, last_fits, last_row, last_room}
 use Rattle.safl_lower.proofs.merge.merge.Goals as goal
 
 pub zeros-preserved : goal.zeros-preserved

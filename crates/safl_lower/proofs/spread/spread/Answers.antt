@@ -1,5 +1,4 @@
-use Rattle.std.proofs.Common.{rules, ◌≡◌, ◌+◌, ◌<◌, ◌≤◌, List, [], ◌∷◌, ◌++◌, length, length-append, sym, ap, subst, ◌∙◌, arith}
-use Rattle.safl_net.specs.declared.cell.Sig.{Sig}
+use Rattle.std.proofs.Common.{rules, ◌≡◌, ◌+◌, [], ◌∷◌, length, length-append, sym, ap, subst, ◌∙◌, arith}
 use Rattle.safl_lower.proofs.Laid.{AllZero, zeros_end, so_far_start, so_far_step, so_far_end, last_within}
 use Rattle.safl_lower.proofs.spread.spread.Goals as goal
 

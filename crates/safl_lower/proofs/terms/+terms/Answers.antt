@@ -1,18 +1,17 @@
-use Rattle.std.proofs.Common.{rules, ◌≡◌, ℕ, ◌+◌, ◌*◌, ◌<◌, ◌≤◌, List, [], ◌∷◌, ◌++◌, length, take, drop, suc, Option, Some, None, slice_get, refl, sym, ap, subst, ◌∙◌, arith}
+use Rattle.std.proofs.Common.{rules, ◌≡◌, ℕ, ◌+◌, ◌*◌, ◌<◌, List, ◌++◌, length, drop, suc, Some, None, refl, sym, ap, subst, ◌∙◌, arith}
 use Rattle.std.proofs.lemmas.Option.{slice_get_read}
 use Rattle.safl_word.specs.Primitives.{apply_prim, result_width}
 use Rattle.safl_net.specs.declared.cell.Sig.{Sig}
-use Rattle.safl_net.specs.Netlist.{Netlist}
 use Rattle.safl_net.specs.Growth.{words, Sized}
-use Rattle.safl_net.proofs.Growth.{grows_on, width_kept, grows_none}
+use Rattle.safl_net.proofs.Growth.{grows_on}
 use Rattle.safl_check.specs.declared.term.Term as declared
-use Rattle.safl_check.specs.Terms.{Term, Terms, Const, Var, Op, If, Let, Call, Loop, Nil, Cons}
+use Rattle.safl_check.specs.Terms.{Term, Terms, Cons}
 use Rattle.safl_check.specs.Tree.{tree, forest}
 use Rattle.safl_check.proofs.TreeLemmas.{tree-Op, tree-Loop, tree-Call, tree-Let}
 use Rattle.safl_lower.specs.Typing.{nodes, nodes_in}
-use Rattle.safl_lower.specs.Lowering.{Lowerable, LowerableAll, Shaped, Lowers, LowersAll}
+use Rattle.safl_lower.specs.Lowering.{Lowerable, LowerableAll, Lowers, LowersAll}
 use Rattle.safl_lower.proofs.Kept.{ready_kept, shaped_kept}
-use Rattle.safl_lower.proofs.Branches.{Branches, Inner, Both, lowers_let}
+use Rattle.safl_lower.proofs.Branches.{Branches, Inner, lowers_let}
 use Rattle.safl_lower.proofs.Leaves.{lowers_const, lowers_var, lowers_op}
 use Rattle.safl_lower.proofs.Lists.{lowers_none, lowers_more}
 use Rattle.safl_lower.proofs.Able
