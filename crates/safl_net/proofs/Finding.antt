@@ -57,9 +57,9 @@ pub placed : (es : List (String Global × Row)) (x : List ℕ) (i : ℕ) → i <
     → position (λ k. bytes_eq x (string_bytes k)) (keys_of es) ≡ Some i → Some i ≡ place (signals_of es) x 0
 placed es x i h e =
     sym (first_place es x 0 i h
-        (λ d. (position-Some (λ k. bytes_eq x (string_bytes k)) (keys_of es) i d e).1)
-        (λ d. (position-Some (λ k. bytes_eq x (string_bytes k)) (keys_of es) i d e).2)
-      ∙ ap Some (omega arith))
+    (λ d. (position-Some (λ k. bytes_eq x (string_bytes k)) (keys_of es) i d e).1)
+    (λ d. (position-Some (λ k. bytes_eq x (string_bytes k)) (keys_of es) i d e).2)
+    ∙ ap Some (omega arith))
 
 pub not_placed : (es : List (String Global × Row)) (x : List ℕ) → is_some (lookup (λ k. bytes_eq x (string_bytes k)) es) ≡ false → None ≡ place (signals_of es) x 0
 not_placed es x e = sym (no_place (signals_of es) x 0 (sym (signal_found es x) ∙ e))

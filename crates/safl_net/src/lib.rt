@@ -5,10 +5,9 @@ pub mod cell;
 pub mod laws;
 pub mod names;
 pub mod net;
-pub mod widths;
-
 #[cfg(test)]
 mod tests;
+pub mod widths;
 
 pub use crate::cell::{Cell, Op, Sig, SigKind, WidthsDiffer};
 pub use crate::net::{Net, NetErr};

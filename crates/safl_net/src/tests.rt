@@ -17,6 +17,12 @@ fn refuses_widths(rt: HostRuntime) -> Result<(), Fail> {
     let narrow = net.wire("a", 4)?;
     let wide = net.input("b", 8)?;
     let refused = net.set_cell(narrow, Op::Copy, &[wide]);
-    assert_eq!(rt; refused, Err(WidthsDiffer { wanted: 4, found: 8 }));
+    assert_eq!(rt;
+        refused,
+        Err(WidthsDiffer {
+            wanted: 4,
+            found: 8
+        })
+    );
     Ok(())
 }

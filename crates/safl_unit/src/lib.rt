@@ -2,8 +2,8 @@
 #![tactic(auto)]
 
 mod circuit;
-mod smallest;
 pub mod laws;
+mod smallest;
 
 pub use crate::circuit::Circuit;
 pub use crate::smallest::compile_constant;

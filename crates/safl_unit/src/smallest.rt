@@ -17,13 +17,21 @@ use std::alloc::Global;
 
 // The signals by their numbers.
 const START: Sig = Sig(0);
+
 const RUN: Sig = Sig(1);
+
 const FIN: Sig = Sig(2);
+
 const RES: Sig = Sig(3);
+
 const END: Sig = Sig(4);
+
 const LOOP: Sig = Sig(5);
+
 const GO: Sig = Sig(6);
+
 const VALUE: Sig = Sig(7);
+
 const NEXT_RES: Sig = Sig(8);
 
 /// The circuit of the program whose main gives this word.

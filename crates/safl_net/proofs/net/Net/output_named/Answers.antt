@@ -12,5 +12,5 @@ returns-clause-number c =
 pub returns-clause-known : goal.returns-clause-known
 returns-clause-known c =
     shown_known c.args.self.now c.args.name.now c.copied.result (subst IsNetlist c.self.view_is c.self.invariant.netlist)
-      (shown c.self.inside.outputs.entries c.args.name.now c.copied.result (c.copied.ensures ∙ c.get.ensures.value)
-       ∙ ap (λ (n : Netlist). output_place n.outputs c.args.name.now) c.self.view_is)
+    (shown c.self.inside.outputs.entries c.args.name.now c.copied.result (c.copied.ensures ∙ c.get.ensures.value)
+    ∙ ap (λ (n : Netlist). output_place n.outputs c.args.name.now) c.self.view_is)
