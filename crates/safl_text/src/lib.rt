@@ -2,10 +2,10 @@
 #![tactic(auto)]
 
 pub mod error;
-pub mod front;
+mod front;
 pub mod laws;
 pub mod lexer;
-pub mod symbols;
+mod symbols;
 #[cfg(test)]
 mod tests;
 
