@@ -1,2 +1,5 @@
 pub mod Actions
 pub mod Written
+pub mod InputLemmas
+pub mod Scenes
+pub mod Cycle

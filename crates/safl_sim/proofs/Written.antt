@@ -2,7 +2,9 @@
 use Rattle.std.proofs.Common.{◌≡◌, ◌⊎◌, inl, inr, ℕ, zero, suc, ◌+◌, ◌<◌, ◌≤◌, List, [], ◌∷◌, length, set, get_or, Some, None, slice_get, slice_index, refl, sym, ap, subst, ◌∙◌, arith}
 use Rattle.safl_net.proofs.Naming.{within}
 use Rattle.safl_sim.specs.declared.step.Register.{Register}
-use Rattle.safl_sim.specs.Writes.{HasShown, HasKept}
+use Rattle.safl_word.specs.Words.{Word, IsWord}
+use Rattle.safl_net.specs.declared.cell.Sig.{Sig}
+use Rattle.safl_sim.specs.Writes.{HasPut, HasShown, HasKept}
 
 pub same_or_not : (a b : ℕ) → (a ≡ b) ⊎ (¬ (a ≡ b))
 same_or_not zero zero = inl refl
@@ -75,4 +77,34 @@ kept_step regs values old state i r w here in_old next =
                 let one : q ≡ r = cc in
                 ap (λ (x : Register). x.signal.0) one)) ]) ];
       others = λ t h. index_other state r.signal.0 (slice_index values r.next.0) t (λ s. h i r here (sym s)) ∙ w.others t h;
+    }
+
+pub get_read : {A : Type 0} (xs : List A) (i : ℕ) (x : A) → i < length xs → x ≡ get_or xs i x → slice_get xs i ≡ Some x
+get_read [] i x h e = absurd (omega (arith, h))
+get_read (y ∷ xs) zero x h e = ap Some (sym e)
+get_read (y ∷ xs) (suc i) x h e = get_read xs i x (omega (arith, h)) e
+
+-- one more word is put
+pub put_step : (places : List Sig) (given : List Word) (old values : List ℕ) (i : ℕ) (s : Sig) (w : Word) → HasPut places given i old values → slice_get places i ≡ Some s → slice_get given i ≡ Some w → IsWord w → s.0 < length old
+    → ((i j : ℕ) (s t : Sig) → slice_get places i ≡ Some s → slice_get places j ≡ Some t → s.0 ≡ t.0 → i ≡ j)
+    → HasPut places given (i + 1) old (set values s.0 w.bits)
+put_step places given old values i s w h here word fits in_old once =
+    let inside : s.0 < length values = (let a = h.long in omega (arith, a, in_old)) in
+    record {
+      long = set_length values s.0 w.bits ∙ h.long;
+      put = λ k t v l e f. elim (lower_or_same k i l) [
+          inl m ↦ index_other values s.0 w.bits t.0 (λ q. absurd (let z = once k i t s e here q in omega (arith, z, m))) ∙ h.put k t v m e f
+        | inr m ↦
+            let same : Some t ≡ Some s = sym e ∙ ap (slice_get places) m ∙ here in
+            let one : t ≡ s = cc in
+            let same_word : Some v ≡ Some w = sym f ∙ ap (slice_get given) m ∙ word in
+            let one_word : v ≡ w = cc in
+            ap (λ (x : Sig). slice_index (set values s.0 w.bits) x.0) one ∙ index_here values s.0 w.bits inside ∙ ap (λ (x : Word). x.bits) (sym one_word) ];
+      words = λ k v l f. elim (lower_or_same k i l) [
+          inl m ↦ h.words k v m f
+        | inr m ↦
+            let same_word : Some v ≡ Some w = sym f ∙ ap (slice_get given) m ∙ word in
+            let one_word : v ≡ w = cc in
+            subst IsWord (sym one_word) fits ];
+      others = λ t g. index_other values s.0 w.bits t (λ q. g i s here (sym q)) ∙ h.others t g;
     }

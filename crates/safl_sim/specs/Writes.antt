@@ -1,15 +1,16 @@
 -- Numbers that are written to places.
 use Rattle.std.specs.Prelude.{◌≡◌, ℕ, ◌<◌, ◌^◌, List, [], ◌∷◌, length, Some, slice_get, slice_set, slice_index}
-use Rattle.safl_word.specs.Words.{Word}
+use Rattle.safl_word.specs.Words.{Word, IsWord}
 use Rattle.safl_net.specs.declared.cell.Sig.{Sig}
 use Rattle.safl_sim.specs.declared.step.Step.{Step}
 use Rattle.safl_sim.specs.declared.step.Register.{Register}
 use Rattle.safl_sim.specs.Steps.{action_number, Ready}
 
 -- the first of the words stand at the first of the places
-pub record HasPut (places : List Sig) (words : List Word) (count : ℕ) (old new : List ℕ) : Type 0 where
+pub record HasPut (places : List Sig) (given : List Word) (count : ℕ) (old new : List ℕ) : Type 0 where
   pub long : length new ≡ length old
-  pub put : (k : ℕ) (s : Sig) (w : Word) → k < count → slice_get places k ≡ Some s → slice_get words k ≡ Some w → slice_index new s.0 ≡ w.bits
+  pub put : (k : ℕ) (s : Sig) (w : Word) → k < count → slice_get places k ≡ Some s → slice_get given k ≡ Some w → slice_index new s.0 ≡ w.bits
+  pub words : (k : ℕ) (w : Word) → k < count → slice_get given k ≡ Some w → IsWord w
   pub others : (t : ℕ) → ((k : ℕ) (s : Sig) → slice_get places k ≡ Some s → ¬ (s.0 ≡ t)) → slice_index new t ≡ slice_index old t
 
 -- the first of the registers have the number of the state at their own place

@@ -2,4 +2,7 @@
 #![tactic(auto)]
 
 mod phases;
+pub mod sim;
 mod step;
+
+pub use crate::sim::Sim;

@@ -1,0 +1,223 @@
+-- A cycle of a simulator.
+use Rattle.std.proofs.Common.{◌≡◌, ◌⊎◌, inl, inr, ℕ, zero, suc, ◌+◌, ◌<◌, ◌≤◌, ◌^◌, List, [], ◌∷◌, map, length, set, Option, Some, None, slice_get, slice_index, refl, sym, ap, subst, ◌∙◌, arith}
+use Rattle.safl_word.specs.Words.{Word, IsWord}
+use Rattle.safl_net.specs.declared.cell.Sig.{Sig}
+use Rattle.safl_net.specs.declared.cell.SigKind.TheVariants as SigKind
+use Rattle.safl_net.specs.Netlist.{Netlist, Signal, Kind, Input, Reg, Wire, Cell, IsSet, width_in, width_of}
+use Rattle.safl_net.specs.Valuations.{Valuation, Fits, Holds, signal_word, cell_word, next_state, next_number, kind_next}
+use Rattle.safl_net.specs.Making.{kind_at, kind_in, sort_of, numbers}
+use Rattle.safl_net.specs.Rules.{IsNetlist, KindFits}
+use Rattle.safl_net.specs.Laws.{FitWidths}
+use Rattle.safl_net.proofs.Naming.{within}
+use Rattle.safl_net.proofs.OneValuation.{one_valuation}
+use Rattle.safl_order.specs.Order.{Order, IsOrder, IsWire}
+use Rattle.safl_order.proofs.Ends.{order_acyclic}
+use Rattle.safl_sim.specs.declared.step.Step.{Step}
+use Rattle.safl_sim.specs.declared.step.Register.{Register}
+use Rattle.safl_sim.specs.Places.{inputs_of, AreInputs, HasWords}
+use Rattle.safl_sim.specs.Simulation.{Simulation, Ticks}
+use Rattle.safl_sim.specs.Steps.{IsReg, AreRegisters, Keeps}
+use Rattle.safl_sim.specs.Writes.{HasPut, HasShown, HasKept, after_steps, AllReady}
+use Rattle.safl_sim.proofs.InputLemmas.{Inputs, inputs_are, inputs_long, inputs_at, map_get, get_map, maps_agree, length_map}
+use Rattle.safl_sim.proofs.Scenes.{Scene, Ran, all_steps}
+
+small : (a b v w : ℕ) → a ≡ b → v ≡ w → b < 2 ^ v → a < 2 ^ w
+small a b v w e f h = subst (λ x. a < 2 ^ x) f (subst (λ x. x < 2 ^ v) (sym e) h)
+
+kind_is : (n : Netlist) (s : ℕ) (g : Signal) → slice_get n.signals s ≡ Some g → kind_at n s ≡ g.kind
+kind_is n s g e = ap kind_in e
+
+get_some : {A : Type 0} (xs : List A) (s : ℕ) → s < length xs → (x : A) × (slice_get xs s ≡ Some x)
+get_some [] s h = absurd (omega arith)
+get_some (x ∷ xs) zero h = (x, refl)
+get_some (x ∷ xs) (suc s) h = get_some xs s (omega (arith, h))
+
+input_width : (n : Netlist) (places : List Sig) (given : List Word) (k : ℕ) (s : ℕ) (w : Word) → AreInputs n given → slice_get (inputs_of n) k ≡ Some s → slice_get given k ≡ Some w → w.width ≡ width_of n s
+input_width n places given k s w h e f =
+    let a = sym (get_map (λ (x : Word). x.width) given k w f) ∙ ap (λ l. slice_get l k) h ∙ get_map (width_of n) (inputs_of n) k s e in
+    cc
+
+-- a register is no input and no wire
+reg_not_wire : (k : Kind) → IsReg k → ¬ (sort_of k ≡ SigKind.Wire)
+reg_not_wire Input h e = absurd h
+reg_not_wire (Reg init next) h e = absurd (cc)
+reg_not_wire (Wire cell) h e = absurd h
+
+input_not_wire : (k : Kind) → k ≡ Input → ¬ (sort_of k ≡ SigKind.Wire)
+input_not_wire k e f = absurd (let q = sym f ∙ ap sort_of e in cc)
+
+input_not_reg : (k : Kind) → k ≡ Input → ¬ (IsReg k)
+input_not_reg k e h = absurd (subst IsReg e h)
+
+next_at : (n : Netlist) (r : Register) (init : ℕ) (k : ℕ) → kind_at n r.signal.0 ≡ Reg init (Some r.next.0) → (g : Signal) × (slice_get n.signals r.signal.0 ≡ Some g) × (g.kind ≡ Reg init (Some r.next.0))
+next_at n r init k e = by (slice_get n.signals r.signal.0) refl e
+  where
+    by : (o : Option Signal) → slice_get n.signals r.signal.0 ≡ o → kind_in o ≡ Reg init (Some r.next.0) → (g : Signal) × (slice_get n.signals r.signal.0 ≡ Some g) × (g.kind ≡ Reg init (Some r.next.0))
+    by None q h = absurd (cc)
+    by (Some g) q h = (g, q, h)
+
+module _ (o : Order) (steps : List Step) (places : List Sig) (regs : List Register) (now v0 : List ℕ) (k : Keeps o steps places regs now v0) (given : List Word) (are : AreInputs o.net given) where
+  -- what the calls of a cycle ask
+  pub put_within : (i : ℕ) (s : Sig) → slice_get places i ≡ Some s → s.0 < length v0
+  put_within i s e = let a = ((inputs_are o.net places k.inputs).at i s e).0 in let b = k.long in omega (arith, a, b)
+
+  pub put_once : (i j : ℕ) (s t : Sig) → slice_get places i ≡ Some s → slice_get places j ≡ Some t → s.0 ≡ t.0 → i ≡ j
+  put_once = (inputs_are o.net places k.inputs).once
+
+  pub put_long : length places ≡ length given
+  put_long = inputs_long o.net places given k.inputs are
+
+  pub reg_within : (i : ℕ) (r : Register) → slice_get regs i ≡ Some r → r.signal.0 < length o.net.signals
+  reg_within i r e = let a = k.registers.each i r e in let b = next_at o.net r a.0 i a.1 in within o.net.signals r.signal.0 b.0 b.1
+
+  pub next_within : (i : ℕ) (r : Register) → slice_get regs i ≡ Some r → r.next.0 < length o.net.signals
+  next_within i r e =
+      let a = k.registers.each i r e in
+      let b = next_at o.net r a.0 i a.1 in
+      (subst (λ x. KindFits o.net b.0.width x) b.2 (k.made.signals r.signal.0 b.0 b.1).kind).1
+
+  pub one_next : (i j : ℕ) (r q : Register) → slice_get regs i ≡ Some r → slice_get regs j ≡ Some q → r.signal.0 ≡ q.signal.0 → r.next.0 ≡ q.next.0
+  one_next i j r q e f same =
+      let a = k.registers.each i r e in
+      let b = k.registers.each j q f in
+      let c : Reg a.0 (Some r.next.0) ≡ Reg b.0 (Some q.next.0) = sym a.1 ∙ ap (kind_at o.net) same ∙ b.1 in
+      cc
+
+  fits_put : (v1 : List ℕ) → HasPut places given (length places) v0 v1 → FitWidths o.net (slice_index v1)
+  fits_put v1 p s g e = by g.kind refl
+    where
+      other : ¬ (g.kind ≡ Input) → slice_index v1 s < 2 ^ g.width
+      other away = small (slice_index v1 s) (slice_index v0 s) g.width g.width (p.others s (λ i t f q. away (sym (kind_is o.net s g e) ∙ ap (kind_at o.net) (sym q) ∙ ((inputs_are o.net places k.inputs).at i t f).1))) refl (k.values s g e)
+
+      by : (j : Kind) → g.kind ≡ j → slice_index v1 s < 2 ^ g.width
+      by Input q =
+          let a = (inputs_are o.net places k.inputs).all s g e q in
+          let w = get_some given a.0 (let b = within places a.0 a.1 a.2 in let c = inputs_long o.net places given k.inputs are in omega (arith, b, c)) in
+          let word = p.words a.0 w.0 (within places a.0 a.1 a.2) w.1 in
+          small (slice_index v1 s) w.0.bits w.0.width g.width (ap (slice_index v1) (sym a.3) ∙ p.put a.0 a.1 w.0 (within places a.0 a.1 a.2) a.2 w.1) (input_width o.net places given a.0 s w.0 are a.4 w.1 ∙ ap width_in e) word.fits
+      by (Reg init next) q = other (λ h. absurd (let z = sym q ∙ h in cc))
+      by (Wire cell) q = other (λ h. absurd (let z = sym q ∙ h in cc))
+
+  shown_at : (v1 v2 : List ℕ) → HasShown regs now (length regs) v1 v2 → (s : ℕ) (g : Signal) → slice_get o.net.signals s ≡ Some g → IsReg g.kind → slice_index v2 s ≡ slice_index now s
+  shown_at v1 v2 p s g e h =
+      let a = k.registers.all s (within o.net.signals s g e) (subst IsReg (sym (kind_is o.net s g e)) h) in
+      ap (slice_index v2) (sym a.3) ∙ p.shown a.0 a.1 (within regs a.0 a.1 a.2) a.2 ∙ ap (slice_index now) a.3
+
+  not_shown : (v1 v2 : List ℕ) → HasShown regs now (length regs) v1 v2 → (s : ℕ) → ¬ (IsReg (kind_at o.net s)) → slice_index v2 s ≡ slice_index v1 s
+  not_shown v1 v2 p s away = p.others s (λ i r f q. away (subst IsReg (sym (k.registers.each i r f).1 ∙ ap (kind_at o.net) q) tt))
+
+  fits_shown : (v1 v2 : List ℕ) → HasPut places given (length places) v0 v1 → HasShown regs now (length regs) v1 v2 → FitWidths o.net (slice_index v2)
+  fits_shown v1 v2 p q s g e = by g.kind refl (fits_put v1 p s g e)
+    where
+      by : (j : Kind) → g.kind ≡ j → slice_index v1 s < 2 ^ g.width → slice_index v2 s < 2 ^ g.width
+      by Input f l = small (slice_index v2 s) (slice_index v1 s) g.width g.width (not_shown v1 v2 q s (λ h. absurd (subst IsReg (kind_is o.net s g e ∙ f) h))) refl l
+      by (Reg init next) f l = small (slice_index v2 s) (slice_index now s) g.width g.width (shown_at v1 v2 q s g e (subst IsReg (sym f) tt)) refl (k.state s g e)
+      by (Wire cell) f l = small (slice_index v2 s) (slice_index v1 s) g.width g.width (not_shown v1 v2 q s (λ h. absurd (subst IsReg (kind_is o.net s g e ∙ f) h))) refl l
+
+  long_shown : (v1 v2 : List ℕ) → HasPut places given (length places) v0 v1 → HasShown regs now (length regs) v1 v2 → length v2 ≡ length o.net.signals
+  long_shown v1 v2 p q = q.long ∙ p.long ∙ k.long
+
+  pub steps_ran : (v1 v2 : List ℕ) → HasPut places given (length places) v0 v1 → HasShown regs now (length regs) v1 v2 → Ran o.net o.wires v2 v2 steps (0 + length steps)
+  steps_ran v1 v2 p q = all_steps o.net o.wires steps v2 k.made k.order k.steps (long_shown v1 v2 p q) (fits_shown v1 v2 p q)
+
+  -- what holds once the steps have run and the registers are kept
+  module _ (v1 v2 v3 after : List ℕ) (p : HasPut places given (length places) v0 v1) (q : HasShown regs now (length regs) v1 v2) (e3 : v3 ≡ after_steps steps v2) (r : HasKept regs v3 (length regs) now after) where
+    scene : Scene o.net o.wires (0 + length steps) v2 v3
+    scene = subst (λ x. Scene o.net o.wires (0 + length steps) v2 x) (sym e3) (steps_ran v1 v2 p q).scene
+
+    not_wire_same : (s : ℕ) → ¬ (IsWire o.net s) → slice_index v3 s ≡ slice_index v2 s
+    not_wire_same s away = scene.others s away
+
+    holds : (s : ℕ) (g : Signal) (j : Kind) → slice_get o.net.signals s ≡ Some g → g.kind ≡ j → Holds o.net v3 (slice_index now s) (slice_index v3 s) j
+    holds s g Input e f = tt
+    holds s g (Reg init next) e f =
+        not_wire_same s (λ h. reg_not_wire (Reg init next) tt (ap sort_of (sym (kind_is o.net s g e ∙ f)) ∙ h))
+        ∙ shown_at v1 v2 q s g e (subst IsReg (sym f) tt)
+    holds s g (Wire None) e f = tt
+    holds s g (Wire (Some c)) e f =
+        let kind : kind_at o.net s ≡ Wire (Some c) = kind_is o.net s g e ∙ f in
+        let a = k.order.all s (ap sort_of kind) in
+        scene.done a.0 s c (let b = within o.wires a.0 s a.1 in let d = k.steps.long in omega (arith, b, d)) a.1 kind
+
+    fits : Fits o.net (slice_index now) v3
+    fits = record { full = scene.long; each = λ s g e. (scene.fits s g e, holds s g g.kind e refl) }
+
+    input_shown : (i s : ℕ) (w : Word) → slice_get (inputs_of o.net) i ≡ Some s → slice_get given i ≡ Some w → slice_index v3 s ≡ w.bits
+    input_shown i s w e f =
+        let t = map_get (λ (x : Sig). x.0) places i s (ap (λ l. slice_get l i) k.inputs ∙ e) in
+        let at = (inputs_are o.net places k.inputs).at i t.0 t.1 in
+        let kind : kind_at o.net s ≡ Input = ap (kind_at o.net) (sym t.2) ∙ at.1 in
+        not_wire_same s (input_not_wire (kind_at o.net s) kind)
+        ∙ not_shown v1 v2 q s (input_not_reg (kind_at o.net s) kind)
+        ∙ ap (slice_index v1) (sym t.2)
+        ∙ p.put i t.0 w (within places i t.0 t.1) t.1 f
+
+    has_words : HasWords o.net v3 given
+    has_words = maps_agree (slice_index v3) (λ (w : Word). w.bits) (inputs_of o.net) given
+        (let a = inputs_long o.net places given k.inputs are in let b = ap length k.inputs in let c = length_map (λ (x : Sig). x.0) places in omega (arith, a, b, c))
+        input_shown
+
+    same_inputs : (v : Valuation) → HasWords o.net v given → (s : ℕ) (g : Signal) → slice_get o.net.signals s ≡ Some g → g.kind ≡ Input → slice_index v s ≡ slice_index v3 s
+    same_inputs v h s g e f =
+        let a = (inputs_are o.net places k.inputs).all s g e f in
+        let b = sym (get_map (slice_index v) (inputs_of o.net) a.0 s a.4) ∙ ap (λ l. slice_get l a.0) (h ∙ sym has_words) ∙ get_map (slice_index v3) (inputs_of o.net) a.0 s a.4 in
+        cc
+
+    not_kept : (s : ℕ) → ¬ (IsReg (kind_at o.net s)) → slice_index after s ≡ 0
+    not_kept s away = r.others s (λ i t f z. away (subst IsReg (sym (k.registers.each i t f).1 ∙ ap (kind_at o.net) z) tt)) ∙ k.rest s away
+
+    kept_at : (s : ℕ) (g : Signal) (init m : ℕ) → slice_get o.net.signals s ≡ Some g → g.kind ≡ Reg init (Some m) → slice_index after s ≡ slice_index v3 m
+    kept_at s g init m e f =
+        let kind : kind_at o.net s ≡ Reg init (Some m) = kind_is o.net s g e ∙ f in
+        let a = k.registers.all s (within o.net.signals s g e) (subst IsReg (sym kind) tt) in
+        let b = k.registers.each a.0 a.1 a.2 in
+        let c : Reg b.0 (Some a.1.next.0) ≡ Reg init (Some m) = sym b.1 ∙ ap (kind_at o.net) a.3 ∙ kind in
+        let d : a.1.next.0 ≡ m = cc in
+        ap (slice_index after) (sym a.3) ∙ r.kept a.0 a.1 (within regs a.0 a.1 a.2) a.2 ∙ ap (slice_index v3) d
+
+    state_next : (s : ℕ) → slice_index after s ≡ next_state o.net v3 s
+    state_next s = by (slice_get o.net.signals s) refl
+      where
+        on : (g : Signal) (j : Kind) → slice_get o.net.signals s ≡ Some g → g.kind ≡ j → slice_index after s ≡ kind_next v3 j
+        on g Input e f = not_kept s (λ h. absurd (subst IsReg (kind_is o.net s g e ∙ f) h))
+        on g (Reg init None) e f = absurd (subst IsSet f (k.order.set s g e))
+        on g (Reg init (Some m)) e f = kept_at s g init m e f
+        on g (Wire cell) e f = not_kept s (λ h. absurd (subst IsReg (kind_is o.net s g e ∙ f) h))
+
+        by : (x : Option Signal) → slice_get o.net.signals s ≡ x → slice_index after s ≡ next_number v3 x
+        by None e = not_kept s (λ h. absurd (subst IsReg (ap kind_in e) h))
+        by (Some g) e = on g g.kind e refl
+
+    state_fits : FitWidths o.net (slice_index after)
+    state_fits s g e = by g.kind refl (k.made.signals s g e).kind
+      where
+        by : (j : Kind) → g.kind ≡ j → KindFits o.net g.width j → slice_index after s < 2 ^ g.width
+        by Input f h = small (slice_index after s) (slice_index now s) g.width g.width (r.others s (λ i t x z. absurd (subst IsReg (sym (k.registers.each i t x).1 ∙ ap (kind_at o.net) z ∙ kind_is o.net s g e ∙ f) tt))) refl (k.state s g e)
+        by (Reg init None) f h = absurd (subst IsSet f (k.order.set s g e))
+        by (Reg init (Some m)) f h =
+            let there = get_some o.net.signals m h.1 in
+            small (slice_index after s) (slice_index v3 m) there.0.width g.width (kept_at s g init m e f) (ap width_in (sym there.1) ∙ h.2) (scene.fits m there.0 there.1)
+        by (Wire cell) f h = small (slice_index after s) (slice_index now s) g.width g.width (r.others s (λ i t x z. absurd (subst IsReg (sym (k.registers.each i t x).1 ∙ ap (kind_at o.net) z ∙ kind_is o.net s g e ∙ f) tt))) refl (k.state s g e)
+
+    pub keeps_after : Keeps o steps places regs after v3
+    keeps_after = record {
+        made = k.made;
+        order = k.order;
+        steps = k.steps;
+        inputs = k.inputs;
+        registers = k.registers;
+        long = scene.long;
+        values = scene.fits;
+        state_long = r.long ∙ k.state_long;
+        state = state_fits;
+        rest = not_kept;
+      }
+
+    pub ticks : Ticks (record { net = o.net; state = now; values = v0 }) (record { net = o.net; state = after; values = v3 }) given
+    ticks = record {
+        net = refl;
+        fits = fits;
+        inputs = has_words;
+        alone = λ v f h. one_valuation o.net k.order.set (order_acyclic o.net o.wires k.order) (slice_index now) v v3 f fits (same_inputs v h);
+        state = state_next;
+      }
