@@ -21,7 +21,7 @@ no_empty_token kinds.Sized rest h = let f = ap length h.joined ∙ length-append
 no_empty_token (kinds.Keyword k) rest h = let f : false ≡ true = ap is_identifier h.0 ∙ keyword_like k in cc
 no_empty_token (kinds.Symbol s) rest h = let f = ap length h.0 in omega (arith, f, symbol_some s)
 
-no_empty : (x : Piece) (rest : List ℕ) → StandsBefore x rest → 1 ≤ length (text_of x)
+pub no_empty : (x : Piece) (rest : List ℕ) → StandsBefore x rest → 1 ≤ length (text_of x)
 no_empty (Blank c) rest h = omega arith
 no_empty (Line w) rest h = omega arith
 no_empty (Block w) rest h = omega arith
@@ -60,7 +60,7 @@ pub record Split (w : List ℕ) : Type 0 where
   pub stand : StandAll pieces rest
   pub final : Final rest
 
-stuck : (w : List ℕ) → first_piece w ≡ None → Final w
+pub stuck : (w : List ℕ) → first_piece w ≡ None → Final w
 stuck w e x after j h = let f : None ≡ Some x = sym e ∙ ap first_piece j ∙ piece_cut x after h in cc
 
 longer : (w : List ℕ) (x : Piece) → (c : Cut w x) → Split c.rest → Split w

@@ -22,13 +22,13 @@ pub record IsRun (p : ℕ → Bool) (text : List ℕ) (n : ℕ) : Type 0 where
   pub passes : list_all p (take n text) ≡ true
   pub ends : EndsRun p (drop n text)
 
--- a piece by its length
-abbrev pub measured : Option Piece → Option Front
-measured None = None
-measured (Some (Blank c)) = Some (fronts.Gap 1)
-measured (Some (Line w)) = Some (fronts.Gap (2 + length w))
-measured (Some (Block w)) = Some (fronts.Gap (length w + 4))
-measured (Some (Lexeme k w)) = Some (fronts.Found k (length w))
+-- a piece by its length, or no piece
+abbrev pub measured : Option Piece → Front
+measured None = fronts.Stuck
+measured (Some (Blank c)) = fronts.Gap 1
+measured (Some (Line w)) = fronts.Gap (2 + length w)
+measured (Some (Block w)) = fronts.Gap (length w + 4)
+measured (Some (Lexeme k w)) = fronts.Found k (length w)
 
 -- the bytes up to a place are cut, and these are their tokens
 pub record IsCutUpTo (text : List ℕ) (p : ℕ) (ts : List Token) : Type 0 where

@@ -1,6 +1,6 @@
 //! What stands at the front of a text.
 
-ghost use Rattle.std.specs.Prelude.{◌≡◌, ◌+◌, ◌<◌, ◌≤◌, ◌∷◌, [], ◌==◌, ◌&&◌, not, length, take, drop, slice_index, slice_get, true, false, Some, None, ◌++◌};
+ghost use Rattle.std.specs.Prelude.{◌≡◌, ◌+◌, ◌<◌, ◌≤◌, ◌∷◌, [], ◌==◌, ◌&&◌, not, length, take, drop, slice_index, slice_get, true, false, Some, None, ◌++◌, IfSome};
 ghost use Rattle.safl_word.specs.Numerals.{is_digit};
 ghost use Rattle.safl_word.specs.Tokens.{is_blank, base_of};
 ghost use Rattle.safl_net.specs.Names.{is_start, is_part};
@@ -14,24 +14,25 @@ use safl_verilog::TokenKind;
 // The most bytes of an identifier.
 const NAME_MAX: usize = 200;
 
-/// What a text begins with: so many bytes of a blank or a comment, or a token of so many bytes.
+/// What a text begins with: so many bytes of a blank or a comment, a token of so many bytes, or no piece.
 #[derive(Clone, Copy, Debug, PartialEq, Eq)]
 pub enum Front {
     Gap(usize),
     Found(TokenKind, usize),
+    Stuck,
 }
 
-/// What the text begins with, where a piece begins there.
+/// What the text begins with.
 #[tactic(auto, unfolding(safl_verilog::specs::Pieces::first_piece))]
-pub fn front_of(text: &[u8]) -> Option<Front>
-    requires { 0 < length text.now }
+pub fn front_of(text: &[u8]) -> Front
+    requires { length text.now < 4294967296 }
     ensures { result ≡ measured (first_piece text.now) }
 {
     match text {
-        [] => None,
+        [] => Front::Stuck,
         [first, rest @ ..] => {
             if is_blank(*first) {
-                Some(Front::Gap(1))
+                Front::Gap(1)
             } else if *first == b'/' {
                 comment(rest)
             } else if is_start(*first) {
@@ -45,14 +46,14 @@ pub fn front_of(text: &[u8]) -> Option<Front>
     }
 }
 
-fn word(text: &[u8]) -> Option<Front>
+fn word(text: &[u8]) -> Front
     ensures { result ≡ measured (first_word (run is_part text.now) text.now) }
 {
     let n = part_length(text);
     if n <= NAME_MAX {
-        Some(Front::Found(word_kind(&text[..n]), n))
+        Front::Found(word_kind(&text[..n]), n)
     } else {
-        None
+        Front::Stuck
     }
 }
 
@@ -65,16 +66,18 @@ fn word_kind(text: &[u8]) -> TokenKind
     }
 }
 
-fn number(text: &[u8]) -> Option<Front>
+fn number(text: &[u8]) -> Front
+    requires { length text.now < 4294967296 }
     ensures { result ≡ measured (first_number (next_base (drop (run (is_digit 10) text.now) text.now)) (run (is_digit 10) text.now) text.now) }
 {
     let n = digits_length(10, text);
-    match next_base(&text[n..]) {
+    let behind = &text[n..];
+    match next_base(behind) {
         Some(base) => {
-            let count = digits_length(base, &text[n + 2..]);
-            Some(Front::Found(TokenKind::Sized, n + (2 + count)))
+            let count = digits_length(base, &behind[2..]);
+            Front::Found(TokenKind::Sized, n + (2 + count))
         }
-        None => Some(Front::Found(TokenKind::Number, n)),
+        None => Front::Found(TokenKind::Number, n),
     }
 }
 
@@ -97,44 +100,44 @@ fn based(base: Option<u8>, digit: u8) -> Option<u8>
     }
 }
 
-fn symbol(first: u8, rest: &[u8]) -> Option<Front>
+fn symbol(first: u8, rest: &[u8]) -> Front
     ensures { result ≡ measured (first_symbol first rest.now) }
 {
     match rest {
         [] => single(first),
         [second, ..] => match symbol_pair(first, *second) {
-            Some(symbol) => Some(Front::Found(TokenKind::Symbol(symbol), 2)),
+            Some(symbol) => Front::Found(TokenKind::Symbol(symbol), 2),
             None => single(first),
         },
     }
 }
 
-fn single(c: u8) -> Option<Front>
+fn single(c: u8) -> Front
     ensures { result ≡ measured (one_symbol c (named symbol_text single_symbols (c ∷ []))) }
 {
     match lone_symbol(c) {
-        Some(symbol) => Some(Front::Found(TokenKind::Symbol(symbol), 1)),
-        None => None,
+        Some(symbol) => Front::Found(TokenKind::Symbol(symbol), 1),
+        None => Front::Stuck,
     }
 }
 
 // A comment, of which these bytes stand behind its first `/`.
-fn comment(rest: &[u8]) -> Option<Front>
+fn comment(rest: &[u8]) -> Front
     requires { length rest.now < 4294967296 }
     ensures { result ≡ measured (first_comment rest.now) }
 {
     match rest {
-        [] => None,
+        [] => Front::Stuck,
         [second, inner @ ..] => {
             if *second == b'/' {
-                Some(Front::Gap(2 + line_length(inner)))
+                Front::Gap(2 + line_length(inner))
             } else if *second == b'*' {
                 match closing(inner) {
-                    Some(n) => Some(Front::Gap(n + 4)),
-                    None => None,
+                    Some(n) => Front::Gap(n + 4),
+                    None => Front::Stuck,
                 }
             } else {
-                None
+                Front::Stuck
             }
         }
     }
@@ -142,14 +145,13 @@ fn comment(rest: &[u8]) -> Option<Front>
 
 // How many bytes stand before the first `*/`.
 fn closing(text: &[u8]) -> Option<usize>
-    ensures { result ≡ closing text.now }
+    ensures found { result ≡ closing text.now }
+    ensures within { IfSome result (λ n. n ≤ length text.now) }
 {
-    let mut star = false;
-    for (i, c) in text.iter().enumerate() {
-        if star && *c == b'/' {
+    for i in 1..text.len() {
+        if text[i - 1] == b'*' && text[i] == b'/' {
             return Some(i - 1);
         }
-        star = *c == b'*';
     }
     None
 }

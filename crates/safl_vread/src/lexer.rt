@@ -20,8 +20,8 @@ pub fn lex(alloc: Global, text: &[u8]) -> Result<Vec<Token>, VErr>
     let mut place = 0;
     'pieces: while place < text.len() {
         match front_of(&text[place..]) {
-            Some(Front::Gap(n)) => place += n,
-            Some(Front::Found(kind, n)) => {
+            Front::Gap(n) => place += n,
+            Front::Found(kind, n) => {
                 let start = place as u32;
                 place += n;
                 tokens.push(Token {
@@ -30,7 +30,7 @@ pub fn lex(alloc: Global, text: &[u8]) -> Result<Vec<Token>, VErr>
                     kind,
                 })?;
             }
-            None => {
+            Front::Stuck => {
                 return Err(VErr::Refused(VFault {
                     rule: VRule::V01,
                     place: place as u32,

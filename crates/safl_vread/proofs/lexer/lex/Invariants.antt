@@ -1,0 +1,11 @@
+use Rattle.std.proofs.Common.{◌≡◌, ◌≤◌, ◌-◌, length}
+use Rattle.safl_vread.specs.Fronts.{IsCutUpTo}
+use Rattle.safl_vread.proofs.lexer.lex.Given as goal
+
+abbrev pub invariant-pieces : goal.invariant-pieces
+invariant-pieces l = record {
+  within : l.place ≤ length l.text;
+  cut : IsCutUpTo l.text l.place l.tokens.items }
+
+abbrev pub decreases-pieces : goal.decreases-pieces
+decreases-pieces l = length l.text - l.place
