@@ -1,20 +1,20 @@
 -- The actions of cells.
-use Rattle.std.proofs.Common.{◌≡◌, ℕ, zero, suc, ◌<◌, ◌≤◌, ◌^◌, List, [], ◌∷◌, map, length, get_or, All, Option, Some, None, IsSome, is_some, Bool, true, false, slice_get, slice_index, slice_index_or, refl, sym, ap, subst, ◌∙◌, arith}
-use Rattle.safl_word.specs.Words.{Word, IsWord, pick, choose}
+use Rattle.std.proofs.Common.{◌≡◌, ℕ, zero, suc, ◌<◌, ◌≤◌, List, [], ◌∷◌, length, get_or, Some, None, is_some, slice_get, slice_index, refl, sym, ap, subst, ◌∙◌, arith}
+use Rattle.safl_word.specs.Words.{Word, IsWord, pick}
 use Rattle.safl_word.specs.Primitives.{result_width, apply_prim}
 use Rattle.safl_word.specs.declared.primitive.Primitive.{Primitive}
 use Rattle.safl_word.specs.declared.primitive.Primitive.TheVariants.{Add, Sub, Mul, And, Or, Xor, Not, Eq, Ne, Lt, Le, Gt, Ge, Shl, Shr, Cat, Bits, Ext}
 use Rattle.safl_net.specs.declared.cell.Sig.{Sig}
 use Rattle.safl_net.specs.declared.cell.Op.{Op}
 use Rattle.safl_net.specs.declared.cell.Op.TheVariants as op
-use Rattle.safl_net.specs.Netlist.{Netlist, Signal, Cell, width_in, width_of}
+use Rattle.safl_net.specs.Netlist.{Netlist, Signal, width_in, width_of}
 use Rattle.safl_net.specs.Widths.{op_width, prim_width}
 use Rattle.safl_net.specs.Laws.{FitWidths}
-use Rattle.safl_net.specs.Making.{cell_on, numbers, widths}
+use Rattle.safl_net.specs.Making.{cell_on}
 use Rattle.safl_net.specs.Rules.{IsNetlist, CellFits}
 use Rattle.safl_sim.specs.declared.step.Action.{Action}
-use Rattle.safl_sim.specs.declared.step.Action.TheVariants.{Const, Copy, Mux, One, Two}
-use Rattle.safl_sim.specs.Steps.{word_of, action_number, Ready, Performs}
+use Rattle.safl_sim.specs.declared.step.Action.TheVariants.{Const, Mux, One, Two}
+use Rattle.safl_sim.specs.Steps.{word_of, Performs}
 
 none_on_nil : (p : Primitive) → result_width p [] ≡ None
 none_on_nil Add = refl
@@ -85,12 +85,12 @@ pub performs_one : (n : Netlist) (p : Primitive) (o : Op) (xs : List Sig) (w wid
 performs_one n p o [] w width made f h k e g = absurd (omega (arith, h))
 performs_one n p o (x ∷ (y ∷ xs)) w width made f h k e g = absurd (omega (arith, k))
 performs_one n p o (x ∷ []) w width made f h k e g = subst (λ q. Performs n (cell_on q (x ∷ [])) (One p width x.0)) (sym e) (record {
-    gives = λ a. ap (λ v. (apply_prim p (word_of v (a x.0) ∷ [])).bits) g;
-    ready = λ values l fits.
+  gives = λ a. ap (λ v. (apply_prim p (word_of v (a x.0) ∷ [])).bits) g;
+  ready = λ values l fits.
       let here : x.0 < length n.signals = f.known 0 0 (omega arith) in
       let some : result_width p (width_of n x.0 ∷ []) ≡ Some w = prim_says p (width_of n x.0 ∷ []) w (ap (λ q. op_width q (width_of n x.0 ∷ [])) (sym e) ∙ f.gives) in
       (omega (arith, here, l), signal_word n values x.0 width made fits here g, ap (λ v. is_some (result_width p (v ∷ []))) g ∙ ap is_some some);
-  })
+})
 
 pub performs_two : (n : Netlist) (p : Primitive) (o : Op) (xs : List Sig) (w width other : ℕ) → IsNetlist n → CellFits n w (cell_on o xs) → 2 ≤ length xs → length xs < 3 → o ≡ op.Apply p
     → width ≡ width_of n (get_or xs 0 (record { 0 = 0 })).0 → other ≡ width_of n (get_or xs 1 (record { 0 = 0 })).0
@@ -99,14 +99,18 @@ performs_two n p o [] w width other made f h k e g i = absurd (omega (arith, h))
 performs_two n p o (x ∷ []) w width other made f h k e g i = absurd (omega (arith, h))
 performs_two n p o (x ∷ (y ∷ (z ∷ xs))) w width other made f h k e g i = absurd (omega (arith, k))
 performs_two n p o (x ∷ (y ∷ [])) w width other made f h k e g i = subst (λ q. Performs n (cell_on q (x ∷ (y ∷ []))) (Two p width other x.0 y.0)) (sym e) (record {
-    gives = λ a. ap (λ v. (apply_prim p (word_of v (a x.0) ∷ (word_of other (a y.0) ∷ []))).bits) g ∙ ap (λ v. (apply_prim p (word_of (width_of n x.0) (a x.0) ∷ (word_of v (a y.0) ∷ []))).bits) i;
-    ready = λ values l fits.
+  gives = λ a. ap (λ v. (apply_prim p (word_of v (a x.0) ∷ (word_of other (a y.0) ∷ []))).bits) g ∙ ap (λ v. (apply_prim p (word_of (width_of n x.0) (a x.0) ∷ (word_of v (a y.0) ∷ []))).bits) i;
+  ready = λ values l fits.
       let here : x.0 < length n.signals = f.known 0 0 (omega arith) in
       let there : y.0 < length n.signals = f.known 1 0 (omega arith) in
-      let some : result_width p (width_of n x.0 ∷ (width_of n y.0 ∷ [])) ≡ Some w = prim_says p (width_of n x.0 ∷ (width_of n y.0 ∷ [])) w (ap (λ q. op_width q (width_of n x.0 ∷ (width_of n y.0 ∷ []))) (sym e) ∙ f.gives) in
-      (omega (arith, here, l), omega (arith, there, l), signal_word n values x.0 width made fits here g, signal_word n values y.0 other made fits there i,
-       ap (λ v. is_some (result_width p (v ∷ (other ∷ [])))) g ∙ ap (λ v. is_some (result_width p (width_of n x.0 ∷ (v ∷ [])))) i ∙ ap is_some some);
-  })
+      let some : result_width p (width_of n x.0 ∷ (width_of n y.0 ∷ [])) ≡ Some w = prim_says p (width_of n x.0 ∷ (width_of n y.0 ∷ [])) w (ap (λ q. op_width q (width_of n x.0 ∷ (width_of n y.0 ∷ []))) (sym e) ∙ f.gives) in (
+        omega (arith, here, l),
+        omega (arith, there, l),
+        signal_word n values x.0 width made fits here g,
+        signal_word n values y.0 other made fits there i,
+        ap (λ v. is_some (result_width p (v ∷ (other ∷ [])))) g ∙ ap (λ v. is_some (result_width p (width_of n x.0 ∷ (v ∷ [])))) i ∙ ap is_some some,
+      );
+})
 
 pub performs_mux : (n : Netlist) (o : Op) (xs : List Sig) (w : ℕ) → CellFits n w (cell_on o xs) → 3 ≤ length xs → length xs < 4
     → Performs n (cell_on o xs) (Mux (get_or xs 0 (record { 0 = 0 })).0 (get_or xs 1 (record { 0 = 0 })).0 (get_or xs 2 (record { 0 = 0 })).0)
@@ -118,13 +122,13 @@ performs_mux n (op.Const v) (x ∷ (y ∷ (z ∷ []))) w f h k = absurd (let e =
 performs_mux n op.Copy (x ∷ (y ∷ (z ∷ []))) w f h k = absurd (let e = f.gives in cc)
 performs_mux n (op.Apply p) (x ∷ (y ∷ (z ∷ []))) w f h k = absurd (let e = sym (none_on_three p (width_of n x.0) (width_of n y.0) (width_of n z.0) []) ∙ prim_says p _ w f.gives in cc)
 performs_mux n op.Mux (x ∷ (y ∷ (z ∷ []))) w f h k = record {
-    gives = λ a. picked (a x.0) (word_of (width_of n y.0) (a y.0)) (word_of (width_of n z.0) (a z.0));
-    ready = λ values l fits.
+  gives = λ a. picked (a x.0) (word_of (width_of n y.0) (a y.0)) (word_of (width_of n z.0) (a z.0));
+  ready = λ values l fits.
       let a : x.0 < length n.signals = f.known 0 0 (omega arith) in
       let b : y.0 < length n.signals = f.known 1 0 (omega arith) in
       let c : z.0 < length n.signals = f.known 2 0 (omega arith) in
       (omega (arith, a, l), omega (arith, b, l), omega (arith, c, l));
-  }
+}
   where
     picked : (i : ℕ) (a b : Word) → pick i a.bits b.bits ≡ (pick i a b).bits
     picked zero a b = refl

@@ -1,24 +1,25 @@
 -- A cycle of a simulator.
-use Rattle.std.proofs.Common.{◌≡◌, ◌⊎◌, inl, inr, ℕ, zero, suc, ◌+◌, ◌<◌, ◌≤◌, ◌^◌, List, [], ◌∷◌, map, length, set, Option, Some, None, slice_get, slice_index, refl, sym, ap, subst, ◌∙◌, arith}
-use Rattle.safl_word.specs.Words.{Word, IsWord}
+use Rattle.std.proofs.Common.{◌≡◌, ℕ, zero, suc, ◌+◌, ◌<◌, ◌^◌, List, [], ◌∷◌, length, Option, Some, None, slice_get, slice_index, refl, sym, ap, subst, ◌∙◌, arith}
+use Rattle.safl_word.specs.Words.{Word}
 use Rattle.safl_net.specs.declared.cell.Sig.{Sig}
 use Rattle.safl_net.specs.declared.cell.SigKind.TheVariants as SigKind
-use Rattle.safl_net.specs.Netlist.{Netlist, Signal, Kind, Input, Reg, Wire, Cell, IsSet, width_in, width_of}
-use Rattle.safl_net.specs.Valuations.{Valuation, Fits, Holds, signal_word, cell_word, next_state, next_number, kind_next}
-use Rattle.safl_net.specs.Making.{kind_at, kind_in, sort_of, numbers}
-use Rattle.safl_net.specs.Rules.{IsNetlist, KindFits}
+use Rattle.safl_net.specs.Netlist.{Netlist, Signal, Kind, Input, Reg, Wire, IsSet, width_in, width_of}
+use Rattle.safl_net.specs.Valuations.{Valuation, Fits, Holds, next_state, next_number, kind_next}
+use Rattle.safl_net.specs.Making.{kind_at, kind_in, sort_of}
+use Rattle.safl_net.specs.Rules.{KindFits}
 use Rattle.safl_net.specs.Laws.{FitWidths}
 use Rattle.safl_net.proofs.Naming.{within}
 use Rattle.safl_net.proofs.OneValuation.{one_valuation}
-use Rattle.safl_order.specs.Order.{Order, IsOrder, IsWire}
+use Rattle.safl_order.specs.Order.{Order, IsWire}
 use Rattle.safl_order.proofs.Ends.{order_acyclic}
 use Rattle.safl_sim.specs.declared.step.Step.{Step}
 use Rattle.safl_sim.specs.declared.step.Register.{Register}
 use Rattle.safl_sim.specs.Places.{inputs_of, AreInputs, HasWords}
 use Rattle.safl_sim.specs.Simulation.{Simulation, Ticks}
-use Rattle.safl_sim.specs.Steps.{IsReg, AreRegisters, Keeps}
-use Rattle.safl_sim.specs.Writes.{HasPut, HasShown, HasKept, after_steps, AllReady}
-use Rattle.safl_sim.proofs.InputLemmas.{Inputs, inputs_are, inputs_long, inputs_at, map_get, get_map, maps_agree, length_map}
+use Rattle.safl_sim.specs.Steps.{IsReg, Keeps}
+use Rattle.safl_sim.specs.Cycles.{Cycles}
+use Rattle.safl_sim.specs.Writes.{HasPut, HasShown, HasKept, after_steps}
+use Rattle.safl_sim.proofs.InputLemmas.{inputs_are, inputs_long, map_get, get_map, maps_agree, length_map}
 use Rattle.safl_sim.proofs.Scenes.{Scene, Ran, all_steps}
 
 small : (a b v w : ℕ) → a ≡ b → v ≡ w → b < 2 ^ v → a < 2 ^ w
@@ -201,23 +202,52 @@ module _ (o : Order) (steps : List Step) (places : List Sig) (regs : List Regist
 
     pub keeps_after : Keeps o steps places regs after v3
     keeps_after = record {
-        made = k.made;
-        order = k.order;
-        steps = k.steps;
-        inputs = k.inputs;
-        registers = k.registers;
-        long = scene.long;
-        values = scene.fits;
-        state_long = r.long ∙ k.state_long;
-        state = state_fits;
-        rest = not_kept;
-      }
+      made = k.made;
+      order = k.order;
+      steps = k.steps;
+      inputs = k.inputs;
+      registers = k.registers;
+      long = scene.long;
+      values = scene.fits;
+      state_long = r.long ∙ k.state_long;
+      state = state_fits;
+      rest = not_kept;
+    }
 
     pub ticks : Ticks (record { net = o.net; state = now; values = v0 }) (record { net = o.net; state = after; values = v3 }) given
     ticks = record {
-        net = refl;
-        fits = fits;
-        inputs = has_words;
-        alone = λ v f h. one_valuation o.net k.order.set (order_acyclic o.net o.wires k.order) (slice_index now) v v3 f fits (same_inputs v h);
-        state = state_next;
-      }
+      net = refl;
+      fits = fits;
+      inputs = has_words;
+      alone = λ v f h. one_valuation o.net k.order.set (order_acyclic o.net o.wires k.order) (slice_index now) v v3 f fits (same_inputs v h);
+      state = state_next;
+    }
+
+-- the same of what is read through references
+pub cycle_through : (o : Order) (steps steps' : List Step) (places places' : List Sig) (regs regs' : List Register) (given : List Word) (now now' v v' next after : List ℕ)
+    → steps' ≡ steps → places' ≡ places → regs' ≡ regs → now' ≡ now → v' ≡ v
+    → ((o : Order) → Keeps o steps' places' regs' now' v' → AreInputs o.net given → Cycles o steps' places' regs' given now' v' next after)
+    → Keeps o steps places regs now v → AreInputs o.net given → Cycles o steps places regs given now v next after
+cycle_through o steps steps' places places' regs regs' given now now' v v' next after a b c d e f k are =
+    subst (λ x. Cycles o x places regs given now v next after) a
+    (subst (λ x. Cycles o steps' x regs given now v next after) b
+    (subst (λ x. Cycles o steps' places' x given now v next after) c
+    (subst (λ x. Cycles o steps' places' regs' given x v next after) d
+    (subst (λ x. Cycles o steps' places' regs' given now' x next after) e
+    (f o
+    (subst (λ x. Keeps o x places' regs' now' v') (sym a)
+    (subst (λ x. Keeps o steps x regs' now' v') (sym b)
+    (subst (λ x. Keeps o steps places x now' v') (sym c)
+    (subst (λ x. Keeps o steps places regs x v') (sym d)
+    (subst (λ x. Keeps o steps places regs now x) (sym e) k)))))
+    are)))))
+
+pub keeps_same : (o : Order) (steps : List Step) (places : List Sig) (regs : List Register) (now now' v v' : List ℕ) → now' ≡ now → v' ≡ v → Keeps o steps places regs now v → Keeps o steps places regs now' v'
+keeps_same o steps places regs now now' v v' a b k = subst (λ x. Keeps o steps places regs x v') (sym a) (subst (λ x. Keeps o steps places regs now x) (sym b) k)
+
+pub ticks_same : (n : Netlist) (old : Simulation) (now v next next' after after' : List ℕ) (given : List Word) → record { net = n; state = now; values = v } ≡ old → next' ≡ next → after' ≡ after
+    → Ticks (record { net = n; state = now; values = v }) (record { net = n; state = next; values = after }) given → Ticks old (record { net = n; state = next'; values = after' }) given
+ticks_same n old now v next next' after after' given a b c t =
+    subst (λ x. Ticks x (record { net = n; state = next'; values = after' }) given) a
+    (subst (λ (x : List ℕ). Ticks (record { net = n; state = now; values = v }) (record { net = n; state = x; values = after' }) given) (sym b)
+    (subst (λ (x : List ℕ). Ticks (record { net = n; state = now; values = v }) (record { net = n; state = next; values = x }) given) (sym c) t))

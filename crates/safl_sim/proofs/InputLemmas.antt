@@ -1,10 +1,10 @@
 -- The inputs of a net, in order.
-use Rattle.std.proofs.Common.{◌≡◌, ◌⊎◌, inl, inr, ℕ, zero, suc, ◌+◌, ◌<◌, ◌≤◌, List, [], ◌∷◌, map, length, Some, None, slice_get, slice_index, refl, sym, ap, subst, ◌∙◌, arith}
+use Rattle.std.proofs.Common.{◌≡◌, ℕ, zero, suc, ◌+◌, ◌<◌, List, [], ◌∷◌, map, length, Some, slice_get, refl, sym, ap, ◌∙◌, arith}
 use Rattle.safl_word.specs.Words.{Word}
 use Rattle.safl_net.specs.declared.cell.Sig.{Sig}
 use Rattle.safl_net.specs.Netlist.{Netlist, Signal, Kind, Input, Reg, Wire, width_of}
 use Rattle.safl_net.specs.Making.{kind_at, kind_in, numbers}
-use Rattle.safl_sim.specs.Places.{with_input, inputs_from, inputs_of, AreInputs, HasWords}
+use Rattle.safl_sim.specs.Places.{with_input, inputs_from, inputs_of, AreInputs}
 
 -- the place of an input
 pub record InputAt (gs : List Signal) (i s : ℕ) : Type 0 where
@@ -31,7 +31,7 @@ inputs_once [] i j k s e f = absurd (cc)
 inputs_once (g ∷ gs) i j k s e f = on g.kind j k e f (λ j k e f. inputs_once gs (suc i) j k s e f)
   where
     on : (q : Kind) (j k : ℕ) → slice_get (with_input q i (inputs_from gs (suc i))) j ≡ Some s → slice_get (with_input q i (inputs_from gs (suc i))) k ≡ Some s
-      → ((j k : ℕ) → slice_get (inputs_from gs (suc i)) j ≡ Some s → slice_get (inputs_from gs (suc i)) k ≡ Some s → j ≡ k) → j ≡ k
+        → ((j k : ℕ) → slice_get (inputs_from gs (suc i)) j ≡ Some s → slice_get (inputs_from gs (suc i)) k ≡ Some s → j ≡ k) → j ≡ k
     on Input zero zero e f rest = refl
     on Input zero (suc k) e f rest = absurd (let a : i ≡ s = cc in let h = inputs_at gs (suc i) k s f in let b = h.is in omega (arith, a, b))
     on Input (suc j) zero e f rest = absurd (let a : i ≡ s = cc in let h = inputs_at gs (suc i) j s e in let b = h.is in omega (arith, a, b))
@@ -83,20 +83,20 @@ pub record Inputs (n : Netlist) (places : List Sig) : Type 0 where
 
 pub inputs_are : (n : Netlist) (places : List Sig) → numbers places ≡ inputs_of n → Inputs n places
 inputs_are n places e = record {
-    is = e;
-    at = λ k s f.
+  is = e;
+  at = λ k s f.
       let h = inputs_at n.signals 0 k s.0 (ap (λ l. slice_get l k) (sym e) ∙ get_map (λ (x : Sig). x.0) places k s f) in
       let z : h.from ≡ s.0 = (let a = h.is in omega (arith, a)) in
       ((let b = h.within in omega (arith, z, b)), ap (λ x. kind_in (slice_get n.signals x)) (sym z) ∙ h.input);
-    once = λ i j s t f g q.
+  once = λ i j s t f g q.
       inputs_once n.signals 0 i j s.0 (ap (λ l. slice_get l i) (sym e) ∙ get_map (λ (x : Sig). x.0) places i s f)
-        (ap (λ l. slice_get l j) (sym e) ∙ get_map (λ (x : Sig). x.0) places j t g ∙ ap Some (sym q));
-    all = λ s g f h.
+      (ap (λ l. slice_get l j) (sym e) ∙ get_map (λ (x : Sig). x.0) places j t g ∙ ap Some (sym q));
+  all = λ s g f h.
       let r = inputs_all n.signals 0 s g f h in
       let r' : slice_get (inputs_of n) r.0 ≡ Some s = r.1 ∙ ap Some (let z : s + 0 ≡ s = omega arith in z) in
       let p = map_get (λ (x : Sig). x.0) places r.0 s (ap (λ l. slice_get l r.0) e ∙ r') in
       (r.0, p.0, p.1, p.2, r');
-  }
+}
 
 pub inputs_long : (n : Netlist) (places : List Sig) (given : List Word) → numbers places ≡ inputs_of n → AreInputs n given → length places ≡ length given
 inputs_long n places given e h =

@@ -3,3 +3,4 @@ pub mod Written
 pub mod InputLemmas
 pub mod Scenes
 pub mod Cycle
+pub mod Builds

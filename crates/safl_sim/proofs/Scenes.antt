@@ -1,11 +1,10 @@
 -- The values while the steps run.
-use Rattle.std.proofs.Common.{◌≡◌, ◌⊎◌, inl, inr, ℕ, zero, suc, ◌+◌, ◌<◌, ◌≤◌, ◌^◌, List, [], ◌∷◌, map, length, set, All, Option, Some, None, slice_get, slice_index, slice_index_or, refl, sym, ap, subst, ◌∙◌, arith}
+use Rattle.std.proofs.Common.{◌≡◌, inl, inr, ℕ, zero, suc, ◌+◌, ◌<◌, ◌≤◌, ◌^◌, List, [], ◌∷◌, map, length, set, Option, Some, None, slice_get, slice_index, slice_index_or, refl, sym, ap, subst, ◌∙◌, arith}
 use Rattle.safl_word.specs.Words.{Word, IsWord, AreWords}
-use Rattle.safl_net.specs.declared.cell.SigKind.TheVariants as SigKind
-use Rattle.safl_net.specs.Netlist.{Netlist, Signal, Kind, Input, Reg, Wire, Cell, width_in, width_of}
+use Rattle.safl_net.specs.Netlist.{Netlist, Signal, Wire, Cell, width_of}
 use Rattle.safl_net.specs.Valuations.{signal_word, cell_word}
 use Rattle.safl_net.specs.Widths.{op_width}
-use Rattle.safl_net.specs.Making.{kind_at, kind_in, cell_in, sort_of}
+use Rattle.safl_net.specs.Making.{kind_at, kind_in, cell_in}
 use Rattle.safl_net.specs.Rules.{IsNetlist, KindFits, CellFits}
 use Rattle.safl_net.specs.Laws.{FitWidths}
 use Rattle.safl_net.proofs.Naming.{within}
@@ -13,7 +12,7 @@ use Rattle.safl_net.proofs.CellWords.{cell_width, cell_is_word, shown_widths}
 use Rattle.safl_net.proofs.OneValuation.{map_same}
 use Rattle.safl_order.specs.Order.{IsOrder, IsWire, operands_of, operands_in}
 use Rattle.safl_sim.specs.declared.step.Step.{Step}
-use Rattle.safl_sim.specs.Steps.{word_of, action_number, Ready, Performs, IsStep, AreSteps}
+use Rattle.safl_sim.specs.Steps.{word_of, action_number, IsStep, AreSteps}
 use Rattle.safl_sim.specs.Writes.{after_steps, AllReady}
 use Rattle.safl_sim.proofs.Actions.{signal_word as a_word}
 use Rattle.safl_sim.proofs.Written.{same_or_not, lower_or_same, index_here, index_other, set_length}
@@ -48,7 +47,7 @@ cell_number_fits n values s c g made fits e is =
     let f : CellFits n g.width c = subst (λ k. KindFits n g.width k) is (made.signals s g e).kind in
     let q : op_width c.op (map (λ (v : Word). v.width) (map (signal_word n values) c.operands)) ≡ Some g.width = ap (op_width c.op) (shown_widths n values c.operands) ∙ f.gives in
     let w = cell_is_word c.op (map (signal_word n values) c.operands) g.width
-      (are_words (signal_word n values) c.operands (λ i t o. a_word n values t (width_of n t) made fits (let a = f.known i 0 (within c.operands i t o) in let b = index_get c.operands i t o in omega (arith, a, b)) refl)) f.word q in
+    (are_words (signal_word n values) c.operands (λ i t o. a_word n values t (width_of n t) made fits (let a = f.known i 0 (within c.operands i t o) in let b = index_get c.operands i t o in omega (arith, a, b)) refl)) f.word q in
     let wide = cell_width c.op (map (signal_word n values) c.operands) g.width q in
     subst (λ x. (cell_word c.op (map (signal_word n values) c.operands)).bits < 2 ^ x) wide w.fits
 
@@ -76,16 +75,17 @@ write_step n ws j s x c start values made o w at cell is =
     record {
       long = set_length values s x ∙ w.long;
       fits = λ t h e. elim (same_or_not t s) [
-          inl q ↦
+        | inl q ↦
             let g' : Some h ≡ Some g.0 = sym e ∙ ap (slice_get n.signals) q ∙ g.1 in
             let one : h ≡ g.0 = cc in
             small (slice_index (set values s x) t) (cell_word c.op (map (signal_word n values) c.operands)).bits g.0.width h.width
-              (ap (slice_index (set values s x)) q ∙ index_here values s x inside ∙ is) (ap (λ (y : Signal). y.width) (sym one))
-              (cell_number_fits n values s c g.0 made w.fits g.1 g.2)
-        | inr q ↦ small (slice_index (set values s x) t) (slice_index values t) h.width h.width (index_other values s x t q) refl (w.fits t h e) ];
+            (ap (slice_index (set values s x)) q ∙ index_here values s x inside ∙ is) (ap (λ (y : Signal). y.width) (sym one))
+            (cell_number_fits n values s c g.0 made w.fits g.1 g.2)
+        | inr q ↦ small (slice_index (set values s x) t) (slice_index values t) h.width h.width (index_other values s x t q) refl (w.fits t h e)
+      ];
       others = λ t v. index_other values s x t (λ q. v (subst (λ y. IsWire n y) (sym q) (o.wires j s at))) ∙ w.others t v;
       done = λ k t d h e f. elim (same_or_not t s) [
-          inl q ↦
+        | inl q ↦
             let same : Wire (Some d) ≡ Wire (Some c) = sym f ∙ ap (kind_at n) q ∙ cell in
             let one : d ≡ c = cc in
             ap (slice_index (set values s x)) q ∙ index_here values s x inside ∙ is
@@ -94,14 +94,15 @@ write_step n ws j s x c start values made o w at cell is =
         | inr q ↦
             let below : k < j = elim (lower_or_same k j h) [ inl l ↦ l | inr z ↦ absurd (q (let m : Some t ≡ Some s = sym e ∙ ap (slice_get ws) z ∙ at in cc)) ] in
             index_other values s x t q ∙ w.done k t d below e f
-            ∙ ap (λ l. (cell_word d.op l).bits) (sym (operands_same n values s x d.operands (λ i u m. apart n ws k j s t i u d o at e (omega (arith, below)) f m))) ];
+            ∙ ap (λ l. (cell_word d.op l).bits) (sym (operands_same n values s x d.operands (λ i u m. apart n ws k j s t i u d o at e (omega (arith, below)) f m)))
+      ];
     }
 
 scene_step : (n : Netlist) (ws : List ℕ) (j s : ℕ) (step : Step) (start values : List ℕ) → IsNetlist n → IsOrder n ws → Scene n ws j start values → slice_get ws j ≡ Some s → IsStep n s step
     → Scene n ws (j + 1) start (set values step.wire.0 (action_number (slice_index values) step.action))
 scene_step n ws j s step start values made o w at p =
     subst (λ y. Scene n ws (j + 1) start (set values y (action_number (slice_index values) step.action))) (sym p.wire)
-      (write_step n ws j s (action_number (slice_index values) step.action) p.cell start values made o w at p.is (p.performs.gives (slice_index values)))
+    (write_step n ws j s (action_number (slice_index values) step.action) p.cell start values made o w at p.is (p.performs.gives (slice_index values)))
 
 -- what the rest of the steps do
 pub record Ran (n : Netlist) (ws : List ℕ) (start values : List ℕ) (steps : List Step) (count : ℕ) : Type 0 where
@@ -117,12 +118,13 @@ run_scene n ws j (step ∷ steps) start values made o w p =
     let next = scene_step n ws j a.0 step start values made o w at a.2 in
     let g = wire_at n a.0 a.2.cell a.2.is in
     let rest = run_scene n ws (j + 1) steps start (set values step.wire.0 (action_number (slice_index values) step.action)) made o next
-      (λ k x e. let b = p (suc k) x e in (b.0, ap (slice_get ws) (let z : k + (j + 1) ≡ suc k + j = omega arith in z) ∙ b.1, b.2)) in
+    (λ k x e. let b = p (suc k) x e in (b.0, ap (slice_get ws) (let z : k + (j + 1) ≡ suc k + j = omega arith in z) ∙ b.1, b.2)) in
     record {
-      ready =
-        (a.2.performs.ready values w.long w.fits,
-         (let b = within n.signals a.0 g.0 g.1 in let c = w.long in let d = a.2.wire in omega (arith, b, c, d)),
-         rest.ready);
+      ready = (
+        a.2.performs.ready values w.long w.fits,
+        (let b = within n.signals a.0 g.0 g.1 in let c = w.long in let d = a.2.wire in omega (arith, b, c, d)),
+        rest.ready,
+      );
       scene = subst (λ k. Scene n ws k start (after_steps steps (set values step.wire.0 (action_number (slice_index values) step.action)))) (let z : j + 1 + length steps ≡ j + length (step ∷ steps) = omega arith in z) rest.scene;
     }
 
@@ -136,7 +138,7 @@ pub all_steps : (n : Netlist) (ws : List ℕ) (steps : List Step) (values : List
     → Ran n ws values values steps (0 + length steps)
 all_steps n ws steps values made o all long fits =
     run_scene n ws 0 steps values values made o
-      (record { long = long; fits = fits; others = λ s v. refl; done = λ k s c h. absurd (omega (arith, h)) })
-      (λ k step e.
-        let g = get_same ws k (let a = within steps k step e in let b = all.long in omega (arith, a, b)) in
-        (g.0, ap (slice_get ws) (let z : k + 0 ≡ k = omega arith in z) ∙ g.1, all.each k g.0 step g.1 e))
+    (record { long = long; fits = fits; others = λ s v. refl; done = λ k s c h. absurd (omega (arith, h)) })
+    (λ k step e.
+    let g = get_same ws k (let a = within steps k step e in let b = all.long in omega (arith, a, b)) in
+    (g.0, ap (slice_get ws) (let z : k + 0 ≡ k = omega arith in z) ∙ g.1, all.each k g.0 step g.1 e))

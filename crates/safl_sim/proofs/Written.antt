@@ -1,6 +1,5 @@
 -- Numbers at places that are written.
-use Rattle.std.proofs.Common.{◌≡◌, ◌⊎◌, inl, inr, ℕ, zero, suc, ◌+◌, ◌<◌, ◌≤◌, List, [], ◌∷◌, length, set, get_or, Some, None, slice_get, slice_index, refl, sym, ap, subst, ◌∙◌, arith}
-use Rattle.safl_net.proofs.Naming.{within}
+use Rattle.std.proofs.Common.{◌≡◌, ◌⊎◌, inl, inr, ℕ, zero, suc, ◌+◌, ◌<◌, List, [], ◌∷◌, length, set, get_or, Some, slice_get, slice_index, refl, sym, ap, subst, ◌∙◌, arith}
 use Rattle.safl_sim.specs.declared.step.Register.{Register}
 use Rattle.safl_word.specs.Words.{Word, IsWord}
 use Rattle.safl_net.specs.declared.cell.Sig.{Sig}
@@ -49,13 +48,15 @@ shown_step regs state old values i r w here in_old =
     record {
       long = long ∙ w.long;
       shown = λ k q h e. elim (same_or_not q.signal.0 r.signal.0) [
-          inl s ↦ ap (slice_index (set values r.signal.0 (slice_index state r.signal.0))) s ∙ index_here values r.signal.0 (slice_index state r.signal.0) inside ∙ ap (slice_index state) (sym s)
+        | inl s ↦ ap (slice_index (set values r.signal.0 (slice_index state r.signal.0))) s ∙ index_here values r.signal.0 (slice_index state r.signal.0) inside ∙ ap (slice_index state) (sym s)
         | inr n ↦ index_other values r.signal.0 (slice_index state r.signal.0) q.signal.0 n ∙ (elim (lower_or_same k i h) [
-              inl l ↦ w.shown k q l e
-            | inr s ↦ absurd (n (
-                let same : Some q ≡ Some r = sym e ∙ ap (slice_get regs) s ∙ here in
-                let one : q ≡ r = cc in
-                ap (λ (x : Register). x.signal.0) one)) ]) ];
+          | inl l ↦ w.shown k q l e
+          | inr s ↦ absurd (n (
+              let same : Some q ≡ Some r = sym e ∙ ap (slice_get regs) s ∙ here in
+              let one : q ≡ r = cc in
+              ap (λ (x : Register). x.signal.0) one))
+        ])
+      ];
       others = λ t h. index_other values r.signal.0 (slice_index state r.signal.0) t (λ s. h i r here (sym s)) ∙ w.others t h;
     }
 
@@ -69,13 +70,15 @@ kept_step regs values old state i r w here in_old next =
     record {
       long = long ∙ w.long;
       kept = λ k q h e. elim (same_or_not q.signal.0 r.signal.0) [
-          inl s ↦ ap (slice_index (set state r.signal.0 (slice_index values r.next.0))) s ∙ index_here state r.signal.0 (slice_index values r.next.0) inside ∙ ap (slice_index values) (sym (next k i q r e here s))
+        | inl s ↦ ap (slice_index (set state r.signal.0 (slice_index values r.next.0))) s ∙ index_here state r.signal.0 (slice_index values r.next.0) inside ∙ ap (slice_index values) (sym (next k i q r e here s))
         | inr n ↦ index_other state r.signal.0 (slice_index values r.next.0) q.signal.0 n ∙ (elim (lower_or_same k i h) [
-              inl l ↦ w.kept k q l e
-            | inr s ↦ absurd (n (
-                let same : Some q ≡ Some r = sym e ∙ ap (slice_get regs) s ∙ here in
-                let one : q ≡ r = cc in
-                ap (λ (x : Register). x.signal.0) one)) ]) ];
+          | inl l ↦ w.kept k q l e
+          | inr s ↦ absurd (n (
+              let same : Some q ≡ Some r = sym e ∙ ap (slice_get regs) s ∙ here in
+              let one : q ≡ r = cc in
+              ap (λ (x : Register). x.signal.0) one))
+        ])
+      ];
       others = λ t h. index_other state r.signal.0 (slice_index values r.next.0) t (λ s. h i r here (sym s)) ∙ w.others t h;
     }
 
@@ -93,18 +96,20 @@ put_step places given old values i s w h here word fits in_old once =
     record {
       long = set_length values s.0 w.bits ∙ h.long;
       put = λ k t v l e f. elim (lower_or_same k i l) [
-          inl m ↦ index_other values s.0 w.bits t.0 (λ q. absurd (let z = once k i t s e here q in omega (arith, z, m))) ∙ h.put k t v m e f
+        | inl m ↦ index_other values s.0 w.bits t.0 (λ q. absurd (let z = once k i t s e here q in omega (arith, z, m))) ∙ h.put k t v m e f
         | inr m ↦
             let same : Some t ≡ Some s = sym e ∙ ap (slice_get places) m ∙ here in
             let one : t ≡ s = cc in
             let same_word : Some v ≡ Some w = sym f ∙ ap (slice_get given) m ∙ word in
             let one_word : v ≡ w = cc in
-            ap (λ (x : Sig). slice_index (set values s.0 w.bits) x.0) one ∙ index_here values s.0 w.bits inside ∙ ap (λ (x : Word). x.bits) (sym one_word) ];
+            ap (λ (x : Sig). slice_index (set values s.0 w.bits) x.0) one ∙ index_here values s.0 w.bits inside ∙ ap (λ (x : Word). x.bits) (sym one_word)
+      ];
       words = λ k v l f. elim (lower_or_same k i l) [
-          inl m ↦ h.words k v m f
+        | inl m ↦ h.words k v m f
         | inr m ↦
             let same_word : Some v ≡ Some w = sym f ∙ ap (slice_get given) m ∙ word in
             let one_word : v ≡ w = cc in
-            subst IsWord (sym one_word) fits ];
+            subst IsWord (sym one_word) fits
+      ];
       others = λ t g. index_other values s.0 w.bits t (λ q. g i s here (sym q)) ∙ h.others t g;
     }

@@ -1,8 +1,8 @@
 -- Inputs and registers of a net, and its words at reset and after a cycle.
-use Rattle.std.specs.Prelude.{◌≡◌, ℕ, suc, ◌<◌, ◌^◌, List, [], ◌∷◌, map, slice_index}
+use Rattle.std.specs.Prelude.{◌≡◌, ℕ, suc, List, [], ◌∷◌, map, slice_index}
 use Rattle.safl_word.specs.Words.{Word}
 use Rattle.safl_net.specs.Netlist.{Netlist, Signal, Kind, Input, Reg, Wire, width_of}
-use Rattle.safl_net.specs.Valuations.{Valuation, Fits, kind_reset}
+use Rattle.safl_net.specs.Valuations.{Valuation, kind_reset}
 
 -- the numbers of the inputs, in order
 abbrev pub with_input : Kind → ℕ → List ℕ → List ℕ

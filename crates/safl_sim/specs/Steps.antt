@@ -1,9 +1,9 @@
 -- Steps that are prepared for evaluation.
-use Rattle.std.specs.Prelude.{◌≡◌, ℕ, zero, suc, ◌<◌, ◌^◌, List, [], ◌∷◌, map, length, Option, Some, None, IsSome, slice_get, slice_index}
+use Rattle.std.specs.Prelude.{◌≡◌, ℕ, ◌<◌, List, [], ◌∷◌, map, length, Some, IsSome, slice_get, slice_index}
 use Rattle.safl_word.specs.Words.{Word, IsWord, pick}
 use Rattle.safl_word.specs.Primitives.{result_width, apply_prim}
 use Rattle.safl_net.specs.declared.cell.Sig.{Sig}
-use Rattle.safl_net.specs.Netlist.{Netlist, Signal, Kind, Input, Reg, Wire, Cell, width_of}
+use Rattle.safl_net.specs.Netlist.{Netlist, Kind, Input, Reg, Wire, Cell, width_of}
 use Rattle.safl_net.specs.Valuations.{cell_word}
 use Rattle.safl_net.specs.Rules.{IsNetlist}
 use Rattle.safl_net.specs.Laws.{FitWidths}

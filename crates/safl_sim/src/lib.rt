@@ -1,6 +1,7 @@
 //! Simulation of netlists.
 #![tactic(auto)]
 
+mod parts;
 mod phases;
 pub mod sim;
 mod step;

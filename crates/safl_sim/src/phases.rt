@@ -3,6 +3,10 @@
 ghost use Rattle.std.specs.Prelude.{◌≡◌, ℕ, ◌<◌, length, Some, slice_get};
 ghost use Rattle.safl_net.specs.declared.cell.Sig.{Sig};
 ghost use Rattle.safl_sim.specs.declared.step.Register.{Register};
+ghost use Rattle.safl_order.specs.Order.{Order};
+ghost use Rattle.safl_sim.specs.Places.{AreInputs};
+ghost use Rattle.safl_sim.specs.Steps.{Keeps};
+ghost use Rattle.safl_sim.specs.Cycles.{Cycles};
 ghost use Rattle.safl_sim.specs.Writes.{HasPut, HasShown, HasKept, after_steps, AllReady};
 
 use crate::step::{Register, Step, act};
@@ -55,4 +59,23 @@ pub fn run_steps(values: &mut [Raw], steps: &[Step])
         let number = act(&s.action, values);
         values[s.wire.0 as usize] = number;
     }
+}
+
+/// A cycle.
+pub fn cycle(
+    values: &mut [Raw],
+    state: &mut [Raw],
+    steps: &[Step],
+    inputs: &[Sig],
+    registers: &[Register],
+    words: &[Word],
+)
+    requires { (o : Order) × Keeps o steps.now inputs.now registers.now state.old values.old × AreInputs o.net words.now }
+    ensures { (o : Order) → Keeps o steps.now inputs.now registers.now state.old values.old → AreInputs o.net words.now
+        → Cycles o steps.now inputs.now registers.now words.now state.old values.old state.new values.new }
+{
+    put_words(values, inputs, words);
+    show_registers(values, registers, state);
+    run_steps(values, steps);
+    keep_registers(state, registers, values);
 }

@@ -1,10 +1,12 @@
 //! A simulator.
 
-use crate::phases::{keep_registers, put_words, run_steps, show_registers};
+use crate::parts::Parts;
+use crate::phases::cycle;
 use crate::step::{Register, Step};
 use safl_net::{Net, Sig};
 use safl_order::Ordered;
 use safl_word::{Raw, Word};
+use std::alloc::Global;
 use std::marker::Model;
 
 /// A simulator of a net: steps in an order of evaluation, and the number of each signal.
@@ -31,10 +33,28 @@ impl Model for Sim {
 }
 
 impl Sim {
-    ghost use Rattle.std.specs.Prelude.{◌≡◌, ◌<◌, length, slice_index};
+    ghost use Rattle.std.specs.Prelude.{◌≡◌, ◌<◌, length, slice_index, IfOk, IfErr};
     ghost use Rattle.safl_net.specs.Netlist.{width_of};
-    ghost use Rattle.safl_sim.specs.Places.{AreInputs};
+    ghost use Rattle.safl_sim.specs.Places.{AreInputs, resets};
     ghost use Rattle.safl_sim.specs.Simulation.{Ticks};
+
+    /// The simulator of a net at reset. The error is want of memory; no other call takes any.
+    pub fn new(alloc: Global, ordered: Ordered) -> Result<Sim, Ordered>
+        ensures made { IfOk result (λ s. s ≡ record { net = ordered.net; state = resets ordered.net; values = resets ordered.net }) }
+        ensures refused { IfErr result (λ o. o ≡ ordered) }
+    {
+        match Parts::new(alloc, &ordered) {
+            Ok(parts) => Ok(Sim {
+                ordered,
+                steps: parts.steps,
+                inputs: parts.inputs,
+                registers: parts.registers,
+                state: parts.state,
+                values: parts.values,
+            }),
+            Err(_) => Err(ordered),
+        }
+    }
 
     /// The net.
     pub fn net(&self) -> &Net
@@ -57,9 +77,13 @@ impl Sim {
         requires { AreInputs self.old.net inputs.now }
         ensures { Ticks self.old self.new inputs.now }
     {
-        put_words(&mut self.values, &self.inputs, inputs);
-        show_registers(&mut self.values, &self.registers, &self.state);
-        run_steps(&mut self.values, &self.steps);
-        keep_registers(&mut self.state, &self.registers, &self.values);
+        cycle(
+            &mut self.values,
+            &mut self.state,
+            &self.steps,
+            &self.inputs,
+            &self.registers,
+            inputs,
+        );
     }
 }

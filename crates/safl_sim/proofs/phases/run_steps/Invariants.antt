@@ -4,6 +4,6 @@ use Rattle.safl_sim.proofs.phases.run_steps.Given as goal
 
 abbrev pub invariant-steps : goal.invariant-steps
 invariant-steps l = record {
-    ready : AllReady (drop l.s-index l.steps) l.values;
-    after : after_steps (drop l.s-index l.steps) l.values ≡ after_steps l.steps l.initial.values;
-  }
+  ready : AllReady (drop l.s-index l.steps) l.values;
+  after : after_steps (drop l.s-index l.steps) l.values ≡ after_steps l.steps l.initial.values;
+}

@@ -1,4 +1,4 @@
-use Rattle.std.proofs.Common.{◌≡◌, List, get_or, refl, sym, ap, subst, ◌∙◌}
+use Rattle.std.proofs.Common.{List, get_or, sym, subst}
 use Rattle.safl_net.specs.declared.cell.Sig.{Sig}
 use Rattle.safl_net.specs.Making.{cell_on}
 use Rattle.safl_net.specs.Rules.{CellFits}
@@ -14,7 +14,7 @@ returns-in-empty c =
     let e = c.as_slice.ensures.value in
     let f = c.requires.fits in
     subst (λ (l : List Sig). Performs n (cell_on o l) c.constant.result) e
-      (performs_const n o c.as_slice.result.now f.0 c.constant.result (subst (λ (l : List Sig). CellFits n f.0 (cell_on o l)) (sym e) f.1) c.in-empty.len_below c.constant.ensures)
+    (performs_const n o c.as_slice.result.now f.0 c.constant.result (subst (λ (l : List Sig). CellFits n f.0 (cell_on o l)) (sym e) f.1) c.in-empty.len_below c.constant.ensures)
 
 pub returns-in-Apply : goal.returns-in-Apply
 returns-in-Apply c =
@@ -23,7 +23,7 @@ returns-in-Apply c =
     let e = c.as_slice.ensures.value in
     let f = c.requires.fits in
     subst (λ (l : List Sig). Performs n (cell_on o l) (One c.in-Apply.p c.width.result (get_or c.as_slice.result.now 0 (record { 0 = 0 })).0)) e
-      (performs_one n c.in-Apply.p o c.as_slice.result.now f.0 c.width.result c.requires.netlist (subst (λ (l : List Sig). CellFits n f.0 (cell_on o l)) (sym e) f.1) c.in-len1.len_at_least c.in-len1.len_below c.in-Apply.is c.width.ensures)
+    (performs_one n c.in-Apply.p o c.as_slice.result.now f.0 c.width.result c.requires.netlist (subst (λ (l : List Sig). CellFits n f.0 (cell_on o l)) (sym e) f.1) c.in-len1.len_at_least c.in-len1.len_below c.in-Apply.is c.width.ensures)
 
 pub returns-in-Apply-op : goal.returns-in-Apply-op
 returns-in-Apply-op c =
@@ -32,7 +32,7 @@ returns-in-Apply-op c =
     let e = c.as_slice.ensures.value in
     let f = c.requires.fits in
     subst (λ (l : List Sig). Performs n (cell_on o l) (Two c.in-Apply-op.p c.width-in-Apply-op.result c.width-in-Apply-op-2.result (get_or c.as_slice.result.now 0 (record { 0 = 0 })).0 (get_or c.as_slice.result.now 1 (record { 0 = 0 })).0)) e
-      (performs_two n c.in-Apply-op.p o c.as_slice.result.now f.0 c.width-in-Apply-op.result c.width-in-Apply-op-2.result c.requires.netlist (subst (λ (l : List Sig). CellFits n f.0 (cell_on o l)) (sym e) f.1) c.in-len2.len_at_least c.in-len2.len_below c.in-Apply-op.is c.width-in-Apply-op.ensures c.width-in-Apply-op-2.ensures)
+    (performs_two n c.in-Apply-op.p o c.as_slice.result.now f.0 c.width-in-Apply-op.result c.width-in-Apply-op-2.result c.requires.netlist (subst (λ (l : List Sig). CellFits n f.0 (cell_on o l)) (sym e) f.1) c.in-len2.len_at_least c.in-len2.len_below c.in-Apply-op.is c.width-in-Apply-op.ensures c.width-in-Apply-op-2.ensures)
 
 pub returns-in-len3 : goal.returns-in-len3
 returns-in-len3 c =
@@ -41,4 +41,4 @@ returns-in-len3 c =
     let e = c.as_slice.ensures.value in
     let f = c.requires.fits in
     subst (λ (l : List Sig). Performs n (cell_on o l) (Mux (get_or c.as_slice.result.now 0 (record { 0 = 0 })).0 (get_or c.as_slice.result.now 1 (record { 0 = 0 })).0 (get_or c.as_slice.result.now 2 (record { 0 = 0 })).0)) e
-      (performs_mux n o c.as_slice.result.now f.0 (subst (λ (l : List Sig). CellFits n f.0 (cell_on o l)) (sym e) f.1) c.in-len3.len_at_least c.in-len3.len_below)
+    (performs_mux n o c.as_slice.result.now f.0 (subst (λ (l : List Sig). CellFits n f.0 (cell_on o l)) (sym e) f.1) c.in-len3.len_at_least c.in-len3.len_below)

@@ -1,4 +1,4 @@
-use Rattle.std.proofs.Common.{◌≡◌, is_some, Some, None, refl, sym, ap, ◌∙◌}
+use Rattle.std.proofs.Common.{is_some, sym, ap, ◌∙◌}
 use Rattle.safl_net.specs.Netlist.{Netlist, place}
 use Rattle.safl_net.proofs.Finding.{placed, not_placed}
 use Rattle.safl_net.proofs.net.Net.signal_named.Goals as goal

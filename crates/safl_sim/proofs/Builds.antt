@@ -1,0 +1,183 @@
+-- The parts of a simulator are what it keeps.
+use Rattle.std.proofs.Common.{◌≡◌, inl, inr, ℕ, zero, suc, ◌+◌, ◌<◌, ◌≤◌, ◌^◌, List, [], ◌∷◌, ◌++◌, map, length, take, drop, get_or, Option, Some, None, slice_get, slice_index, refl, sym, ap, subst, ◌∙◌, arith, append_assoc}
+use Rattle.std.proofs.lemmas.Nat.{pow_pos}
+use Rattle.std.proofs.lemmas.List.{append-nil}
+use Rattle.safl_net.specs.declared.cell.Sig.{Sig}
+use Rattle.safl_net.specs.Netlist.{Netlist, Signal, Kind, Input, Reg, Wire, Cell}
+use Rattle.safl_net.specs.Valuations.{kind_reset}
+use Rattle.safl_net.specs.Making.{numbers, kind_at, kind_in, cell_in}
+use Rattle.safl_net.specs.Rules.{IsNetlist, KindFits, CellFits}
+use Rattle.safl_net.specs.Laws.{FitWidths}
+use Rattle.safl_net.proofs.Naming.{pushed}
+use Rattle.safl_order.specs.Order.{Order, IsOrder}
+use Rattle.safl_sim.specs.declared.step.Step.{Step}
+use Rattle.safl_sim.specs.declared.step.Register.{Register}
+use Rattle.safl_sim.specs.Places.{with_input, inputs_from, inputs_of, resets}
+use Rattle.safl_sim.specs.Steps.{IsReg, IsStep, AreSteps, AreRegisters, Keeps}
+use Rattle.safl_sim.proofs.Written.{lower_or_same}
+
+-- a cell that a net shows fits its wire
+pub cell_found : (n : Netlist) (s : ℕ) (c : Cell) → IsNetlist n → cell_in (kind_at n s) ≡ Some c → (width : ℕ) × CellFits n width c
+cell_found n s c made e = by (slice_get n.signals s) refl e
+  where
+    on : (width : ℕ) (k : Kind) → KindFits n width k → cell_in k ≡ Some c → (width : ℕ) × CellFits n width c
+    on width Input f h = absurd (cc)
+    on width (Reg init next) f h = absurd (cc)
+    on width (Wire None) f h = absurd (cc)
+    on width (Wire (Some d)) f h = let q : d ≡ c = cc in (width, subst (λ x. CellFits n width x) q f)
+
+    by : (o : Option Signal) → slice_get n.signals s ≡ o → cell_in (kind_in o) ≡ Some c → (width : ℕ) × CellFits n width c
+    by None q h = absurd (cc)
+    by (Some g) q h = on g.width g.kind (made.signals s g q).kind h
+
+pub numbers_at : (xs : List Sig) (i : ℕ) (d : Sig) → i < length xs → slice_get (numbers xs) i ≡ Some (get_or xs i d).0
+numbers_at [] i d h = absurd (omega arith)
+numbers_at (x ∷ xs) zero d h = refl
+numbers_at (x ∷ xs) (suc i) d h = numbers_at xs i d (omega (arith, h))
+
+pub numbers_push : (xs : List Sig) (x : Sig) → numbers (xs ++ x ∷ []) ≡ numbers xs ++ x.0 ∷ []
+numbers_push [] x = refl
+numbers_push (y ∷ xs) x = ap (λ l. y.0 ∷ l) (numbers_push xs x)
+
+pub numbers_length : (xs : List Sig) → length (numbers xs) ≡ length xs
+numbers_length [] = refl
+numbers_length (x ∷ xs) = ap suc (numbers_length xs)
+
+length_push : {A : Type 0} (xs : List A) (x : A) → length (xs ++ x ∷ []) ≡ length xs + 1
+length_push [] x = omega arith
+length_push (a ∷ xs) x = let e = length_push xs x in omega (arith, e)
+
+pub record StepsTo (n : Netlist) (ws : List ℕ) (steps : List Step) (count : ℕ) : Type 0 where
+  pub long : length steps ≡ count
+  pub each : (k s : ℕ) (step : Step) → slice_get ws k ≡ Some s → slice_get steps k ≡ Some step → IsStep n s step
+
+pub steps_more : (n : Netlist) (ws : List ℕ) (steps : List Step) (i s : ℕ) (step : Step) → StepsTo n ws steps i → slice_get ws i ≡ Some s → IsStep n s step → StepsTo n ws (steps ++ step ∷ []) (i + 1)
+steps_more n ws steps i s step w at is = record {
+  long = (let a = length_push steps step in let b = w.long in omega (arith, a, b));
+  each = λ k t x e f. elim (pushed steps step x k f) [
+    | inl q ↦ w.each k t x e q
+    | inr q ↦
+        let same : Some t ≡ Some s = sym e ∙ ap (slice_get ws) (q.0 ∙ w.long) ∙ at in
+        let one : t ≡ s = cc in
+        subst (λ y. IsStep n t y) (sym q.1) (subst (λ y. IsStep n y step) (sym one) is)
+  ];
+}
+
+drop_at : (gs : List Signal) (i : ℕ) (g : Signal) → slice_get gs i ≡ Some g → drop i gs ≡ g ∷ drop (i + 1) gs
+drop_at [] i g e = absurd (cc)
+drop_at (h ∷ gs) zero g e = let q : h ≡ g = cc in ap (λ x. x ∷ gs) q
+drop_at (h ∷ gs) (suc i) g e = drop_at gs i g e ∙ ap (λ k. g ∷ drop k (h ∷ gs)) (let z : suc (i + 1) ≡ suc i + 1 = omega arith in z)
+
+with_append : (k : Kind) (i : ℕ) (is : List ℕ) → with_input k i is ≡ with_input k i [] ++ is
+with_append Input i is = refl
+with_append (Reg init next) i is = refl
+with_append (Wire cell) i is = refl
+
+get_some : (gs : List Signal) (s : ℕ) → s < length gs → (g : Signal) × (slice_get gs s ≡ Some g)
+get_some [] s h = absurd (omega arith)
+get_some (g ∷ gs) zero h = (g, refl)
+get_some (g ∷ gs) (suc s) h = get_some gs s (omega (arith, h))
+
+pub inputs_more : (n : Netlist) (old new : List ℕ) (i : ℕ) → i < length n.signals → old ++ inputs_from (drop i n.signals) i ≡ inputs_of n → new ≡ old ++ with_input (kind_at n i) i [] → new ++ inputs_from (drop (i + 1) n.signals) (i + 1) ≡ inputs_of n
+inputs_more n old new i h e f =
+    let g = get_some n.signals i h in
+    let kind : kind_at n i ≡ g.0.kind = ap kind_in g.1 in
+    ap (λ l. l ++ inputs_from (drop (i + 1) n.signals) (i + 1)) (f ∙ ap (λ k. old ++ with_input k i []) kind)
+    ∙ append_assoc old (with_input g.0.kind i []) (inputs_from (drop (i + 1) n.signals) (i + 1))
+    ∙ ap (λ l. old ++ l) (sym (with_append g.0.kind i (inputs_from (drop (i + 1) n.signals) (i + 1))))
+    ∙ ap (λ j. old ++ with_input g.0.kind i (inputs_from (drop (i + 1) n.signals) j)) (let z : i + 1 ≡ suc i = omega arith in z)
+    ∙ ap (λ l. old ++ inputs_from l i) (sym (drop_at n.signals i g.0 g.1))
+    ∙ e
+
+pub inputs_end : (n : Netlist) (all : List ℕ) (i : ℕ) → length n.signals ≤ i → all ++ inputs_from (drop i n.signals) i ≡ inputs_of n → all ≡ inputs_of n
+inputs_end n all i h e = sym (append-nil all) ∙ ap (λ l. all ++ inputs_from l i) (sym (past n.signals i h)) ∙ e
+  where
+    past : (gs : List Signal) (i : ℕ) → length gs ≤ i → drop i gs ≡ []
+    past [] zero h = refl
+    past [] (suc i) h = refl
+    past (g ∷ gs) zero h = absurd (omega (arith, h))
+    past (g ∷ gs) (suc i) h = past gs i (omega (arith, h))
+
+pub registers_more : (n : Netlist) (regs : List Register) (i : ℕ) (r : Register) → AreRegisters n i regs → r.signal.0 ≡ i → (init : ℕ) × (kind_at n r.signal.0 ≡ Reg init (Some r.next.0)) → AreRegisters n (i + 1) (regs ++ r ∷ [])
+registers_more n regs i r w e f = record {
+  each = λ k q g. elim (pushed regs r q k g) [
+    | inl h ↦ w.each k q h
+    | inr h ↦ subst (λ (y : Register). (init : ℕ) × (kind_at n y.signal.0 ≡ Reg init (Some y.next.0))) (sym h.1) f
+  ];
+  all = λ s h is. elim (lower_or_same s i h) [
+    | inl l ↦ let a = w.all s l is in (a.0, a.1, front regs (r ∷ []) a.0 a.1 a.2, a.3)
+    | inr q ↦ (length regs, r, end regs r, e ∙ sym q)
+  ];
+}
+  where
+    front : (xs ys : List Register) (k : ℕ) (x : Register) → slice_get xs k ≡ Some x → slice_get (xs ++ ys) k ≡ Some x
+    front [] ys k x e = absurd (cc)
+    front (y ∷ xs) ys zero x e = e
+    front (y ∷ xs) ys (suc k) x e = front xs ys k x e
+
+    end : (xs : List Register) (x : Register) → slice_get (xs ++ x ∷ []) (length xs) ≡ Some x
+    end [] x = refl
+    end (y ∷ xs) x = end xs x
+
+pub registers_same : (n : Netlist) (regs : List Register) (i : ℕ) → AreRegisters n i regs → ¬ (IsReg (kind_at n i)) → AreRegisters n (i + 1) regs
+registers_same n regs i w away = record {
+  each = w.each;
+  all = λ s h is. elim (lower_or_same s i h) [ inl l ↦ w.all s l is | inr q ↦ absurd (away (subst (λ y. IsReg (kind_at n y)) q is)) ];
+}
+
+take_push : (gs : List Signal) (i : ℕ) (g : Signal) → slice_get gs i ≡ Some g → take (i + 1) gs ≡ take i gs ++ g ∷ []
+take_push [] i g e = absurd (cc)
+take_push (h ∷ gs) zero g e = let q : h ≡ g = cc in ap (λ x. x ∷ []) q
+take_push (h ∷ gs) (suc i) g e = ap (λ k. take k (h ∷ gs)) (let z : suc i + 1 ≡ suc (i + 1) = omega arith in z) ∙ ap (λ l. h ∷ l) (take_push gs i g e)
+
+map_push : (f : Signal → ℕ) (gs : List Signal) (g : Signal) → map f (gs ++ g ∷ []) ≡ map f gs ++ f g ∷ []
+map_push f [] g = refl
+map_push f (h ∷ gs) g = ap (λ l. f h ∷ l) (map_push f gs g)
+
+pub resets_more : (n : Netlist) (old new : List ℕ) (i x : ℕ) → i < length n.signals → old ≡ map (λ (g : Signal). kind_reset g.kind) (take i n.signals) → x ≡ kind_reset (kind_at n i) → new ≡ old ++ x ∷ []
+    → new ≡ map (λ (g : Signal). kind_reset g.kind) (take (i + 1) n.signals)
+resets_more n old new i x h e f q =
+    let g = get_some n.signals i h in
+    q ∙ ap (λ l. l ++ x ∷ []) e ∙ ap (λ y. map (λ (g : Signal). kind_reset g.kind) (take i n.signals) ++ y ∷ []) (f ∙ ap kind_reset (ap kind_in g.1))
+    ∙ sym (ap (map (λ (g : Signal). kind_reset g.kind)) (take_push n.signals i g.0 g.1) ∙ map_push (λ (g : Signal). kind_reset g.kind) (take i n.signals) g.0)
+
+-- ---- a simulator at reset
+
+reset_at : (gs : List Signal) (s : ℕ) → slice_index (map (λ (g : Signal). kind_reset g.kind) gs) s ≡ kind_reset (kind_in (slice_get gs s))
+reset_at [] s = refl
+reset_at (g ∷ gs) zero = refl
+reset_at (g ∷ gs) (suc s) = reset_at gs s
+
+resets_long : (gs : List Signal) → length (map (λ (g : Signal). kind_reset g.kind) gs) ≡ length gs
+resets_long [] = refl
+resets_long (g ∷ gs) = ap suc (resets_long gs)
+
+kind_reset_fits : (n : Netlist) (width : ℕ) (k : Kind) → KindFits n width k → kind_reset k < 2 ^ width
+kind_reset_fits n width Input f = pow_pos width
+kind_reset_fits n width (Reg init None) f = f
+kind_reset_fits n width (Reg init (Some m)) f = f.0
+kind_reset_fits n width (Wire cell) f = pow_pos width
+
+not_reg_reset : (k : Kind) → ¬ (IsReg k) → kind_reset k ≡ 0
+not_reg_reset Input h = refl
+not_reg_reset (Reg init next) h = absurd (h tt)
+not_reg_reset (Wire cell) h = refl
+
+resets_fit : (n : Netlist) → IsNetlist n → FitWidths n (slice_index (resets n))
+resets_fit n made s g e = subst (λ x. x < 2 ^ g.width) (sym (reset_at n.signals s ∙ ap kind_reset (ap kind_in e))) (kind_reset_fits n g.width g.kind (made.signals s g e).kind)
+
+pub keeps_new : (o : Order) (steps : List Step) (places : List Sig) (regs : List Register) (state values : List ℕ) → IsNetlist o.net → IsOrder o.net o.wires → AreSteps o.net o.wires steps → numbers places ≡ inputs_of o.net
+    → AreRegisters o.net (length o.net.signals) regs → state ≡ resets o.net → values ≡ resets o.net → Keeps o steps places regs state values
+keeps_new o steps places regs state values made order all inputs registers e f =
+    subst (λ x. Keeps o steps places regs x values) (sym e) (subst (λ x. Keeps o steps places regs (resets o.net) x) (sym f) (record {
+      made = made;
+      order = order;
+      steps = all;
+      inputs = inputs;
+      registers = registers;
+      long = resets_long o.net.signals;
+      values = resets_fit o.net made;
+      state_long = resets_long o.net.signals;
+      state = resets_fit o.net made;
+      rest = λ s away. reset_at o.net.signals s ∙ not_reg_reset (kind_at o.net s) away;
+    }))

@@ -1,0 +1,17 @@
+use Rattle.std.proofs.Common.{◌+◌, List, get_or, sym, subst}
+use Rattle.safl_net.specs.declared.cell.Sig.{Sig}
+use Rattle.safl_net.specs.Making.{numbers}
+use Rattle.safl_sim.specs.declared.step.Step.{Step}
+use Rattle.safl_sim.proofs.Builds.{StepsTo, numbers_at, steps_more}
+use Rattle.safl_sim.proofs.parts.steps_of.Goals as goal
+
+pub step_of-requires-clause-wire : goal.step_of-requires-clause-wire
+step_of-requires-clause-wire c =
+    let none : Sig = record { 0 = 0 } in
+    c.requires.wires c.wires.i (get_or c.args.wires.now c.wires.i none).0 (numbers_at c.args.wires.now c.wires.i none c.wires-test.true)
+
+pub wires-preserved : goal.wires-preserved
+wires-preserved c =
+    let none : Sig = record { 0 = 0 } in
+    subst (λ (l : List Step). StepsTo c.args.net.now (numbers c.args.wires.now) l (c.wires.i + 1)) (sym c.in_ok-push.ensures.items)
+    (steps_more c.args.net.now (numbers c.args.wires.now) c.wires.steps.items c.wires.i (get_or c.args.wires.now c.wires.i none).0 c.step_of.result c.wires.invariant (numbers_at c.args.wires.now c.wires.i none c.wires-test.true) c.step_of.ensures)

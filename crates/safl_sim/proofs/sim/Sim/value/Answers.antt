@@ -1,0 +1,18 @@
+use Rattle.std.proofs.Common.{◌≡◌, ℕ, ◌<◌, length, sym, ap, subst, ◌∙◌, arith}
+use Rattle.std.proofs.lemmas.List.{get_or_read}
+use Rattle.safl_word.specs.Words.{IsWord}
+use Rattle.safl_net.specs.Netlist.{Netlist, width_of}
+use Rattle.safl_sim.specs.Simulation.{Simulation}
+use Rattle.safl_sim.specs.Steps.{word_of}
+use Rattle.safl_sim.proofs.Actions.{signal_word}
+use Rattle.safl_sim.proofs.sim.Sim.value.Goals as goal
+
+pub from_parts-requires : goal.from_parts-requires
+from_parts-requires c =
+    let s = c.self.inside in
+    let net : s.ordered.net ≡ c.args.self.now.net = ap (λ (x : Simulation). x.net) c.self.view_is in
+    let here : c.args.s.0 < length s.ordered.net.signals = (let a = ap (λ (n : Netlist). length n.signals) net in let b = c.requires in omega (arith, a, b)) in
+    let read = get_or_read s.values.items c.args.s.0 c.index.result.now (let a = c.self.invariant.long in omega (arith, a, here)) c.index.ensures 0 in
+    subst (λ (x : ℕ). IsWord (word_of c.width.result x)) (sym read)
+    (signal_word s.ordered.net s.values.items c.args.s.0 c.width.result c.self.invariant.made c.self.invariant.values here
+    (c.width.ensures ∙ ap (λ (n : Netlist). width_of n c.args.s.0) c.net.ensures.net))
