@@ -1,3 +1,4 @@
 pub mod Rows
 pub mod Loops
-pub mod Parsed
+pub mod Refusals
+pub mod Sources

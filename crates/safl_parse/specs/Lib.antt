@@ -1,4 +1,7 @@
 pub mod Gives
 pub mod Parts
-pub mod Parsed
+pub mod TokenAnswers
 pub mod Reads
+pub mod Spelled
+pub mod Answers
+pub mod Errors

@@ -4,9 +4,13 @@
 mod error;
 mod expr;
 mod leaves;
-pub mod parse;
+pub mod parsed;
 mod parser;
 mod part;
 mod program;
+pub mod syntax;
+#[cfg(test)]
+mod tests;
 
-pub use crate::parse::{ParseErr, parse_tokens};
+pub use crate::parsed::{Parsed, parse};
+pub use crate::syntax::{ParseErr, parse_tokens};

@@ -6,8 +6,8 @@ use Rattle.safl_tree.specs.Tree.{Definition}
 use Rattle.safl_tree.specs.Source.{TokensFault}
 use Rattle.safl_tree.specs.Shown.{shows_program}
 use Rattle.safl_tree.specs.declared.tree.Program.{Program}
-use Rattle.safl_parse.specs.declared.parse.ParseErr.{ParseErr}
-use Rattle.safl_parse.specs.declared.parse.ParseErr.TheVariants as answers
+use Rattle.safl_parse.specs.declared.syntax.ParseErr.{ParseErr}
+use Rattle.safl_parse.specs.declared.syntax.ParseErr.TheVariants as answers
 
 -- a refusal is the first fault of the tokens
 abbrev pub RefusedRightly : List ℕ → List Token → ParseErr → Type 0

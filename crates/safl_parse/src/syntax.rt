@@ -7,10 +7,12 @@ ghost use Rattle.safl_tree.specs.Terminals.{terminals};
 ghost use Rattle.safl_tree.specs.Source.{TokensSpell, TokensFault, rule_of, place_in, fault_at};
 ghost use Rattle.safl_tree.specs.Shown.{shows_program};
 ghost use Rattle.safl_parse.specs.Gives.{rule_of as grammar_rule};
-ghost use Rattle.safl_parse.specs.Parsed.{RefusedRightly, IsProgramUnlessNoMemory, IsFaultUnlessNoMemory};
+ghost use Rattle.safl_parse.specs.Errors.{error_of};
+ghost use Rattle.safl_parse.specs.TokenAnswers.{RefusedRightly, IsProgramUnlessNoMemory, IsFaultUnlessNoMemory};
 
 use crate::error::{Cause, ReadError};
 use crate::parser::Parser;
+use safl_text::LexErr;
 use safl_tree::Program;
 use safl_word::{Fault, Rule, Token};
 use std::alloc::Global;
@@ -20,6 +22,17 @@ use std::alloc::Global;
 pub enum ParseErr {
     Refused(Fault),
     NoMemory,
+}
+
+impl From<LexErr> for ParseErr {
+    ghost from_gives = { λ e answer. answer ≡ error_of e };
+
+    fn from(e: LexErr) -> ParseErr {
+        match e {
+            LexErr::Refused(fault) => ParseErr::Refused(fault),
+            LexErr::NoMemory => ParseErr::NoMemory,
+        }
+    }
 }
 
 /// The rule of a cause.

@@ -1,7 +1,7 @@
 use Rattle.safl_tree.specs.Shown.{shows_program}
 use Rattle.safl_tree.proofs.Sources.{one_program, not_both, one_fault}
-use Rattle.safl_parse.proofs.Parsed.{spelled, refused}
-use Rattle.safl_parse.proofs.parse.parse_tokens.Goals as goal
+use Rattle.safl_parse.proofs.Refusals.{spelled, refused}
+use Rattle.safl_parse.proofs.syntax.parse_tokens.Goals as goal
 
 pub returns-in-Ok-clause-program : goal.returns-in-Ok-clause-program
 returns-in-Ok-clause-program c = spelled c.args.source.now c.args.tokens.now c.in-Ok.field-0-1.now (shows_program c.in-Ok.program) c.in-Ok.ensures
