@@ -13,3 +13,7 @@ pub mod FillLemmas
 pub mod SpreadLemmas
 pub mod PeerLemmas
 pub mod CollectLemmas
+pub mod AbleLemmas
+pub mod KeepLemmas
+pub mod HoldLemmas
+pub mod WalkLemmas

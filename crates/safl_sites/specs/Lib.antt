@@ -10,4 +10,5 @@ pub mod Planned
 pub mod Filling
 pub mod Spreading
 pub mod Peers
+pub mod Keeping
 pub mod Collecting

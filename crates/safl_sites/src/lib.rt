@@ -3,6 +3,7 @@
 
 mod collect;
 mod fill;
+mod keep;
 pub mod laws;
 mod parallel;
 mod peers;

@@ -1,0 +1,13 @@
+use Rattle.std.proofs.Common.{◌+◌, ◌*◌}
+use Rattle.safl_check.specs.Sizes.{nodes, nodes_in}
+use Rattle.safl_check.specs.Tree.{tree, forest}
+use Rattle.safl_sites.proofs.keep.+keep.Given as goal
+
+abbrev pub decreases-walk : goal.decreases-walk
+decreases-walk l = 2 * nodes (tree l.t.now)
+
+abbrev pub decreases-walk_all : goal.decreases-walk_all
+decreases-walk_all l = 2 * nodes_in (forest l.ts.now) + 1
+
+abbrev pub decreases-bind_all : goal.decreases-bind_all
+decreases-bind_all l = 2 * nodes_in (forest l.ts.now) + 1

@@ -1,0 +1,169 @@
+//! Which sites' words decide a condition, or are held while the body of a let runs.
+
+ghost use Rattle.std.specs.Prelude.{◌≡◌, ℕ, ◌≤◌, length, OnOk};
+ghost use Rattle.safl_check.specs.Checked.{program_of, IsChecked};
+ghost use Rattle.safl_check.specs.Tree.{tree, forest};
+ghost use Rattle.safl_sites.specs.Kept.{InBody};
+ghost use Rattle.safl_sites.specs.Keeping.{MayKeep, MayKeepIn, IsHeldHere, Walks, WalksIn, Binds};
+ghost use Rattle.safl_sites.specs.Reach.{MayReach};
+ghost use Rattle.safl_sites.specs.Rows.{Has, Adds};
+
+use crate::reach::{reach, reach_in};
+use crate::row::Row;
+use crate::touched::touch;
+use safl_check::{Checked, Term};
+use std::alloc::AllocError;
+
+/// The sites that decide a condition, and those that are held for another site of their unit.
+pub struct Keeping {
+    pub decides: Row,
+    pub held: Row,
+}
+
+/// Walks down a term. `slots` has for each slot the sites whose words it may be; those whose words the term may
+/// be join `feeds`, and those that are kept `keeps`. `units` has the sites in reach of each unit, and `peers`
+/// the sites of each.
+#[cycle(keep)]
+pub fn walk(
+    c: &Checked,
+    units: &[Row],
+    peers: &[Row],
+    slots: &mut Vec<Row>,
+    t: &Term,
+    feeds: &mut Row,
+    keeps: &mut Keeping,
+) -> Result<(), AllocError>
+    requires { MayKeep (program_of c.now) units.now peers.now (length slots.old.items) (tree t.now) }
+    ensures same { OnOk result (slots.new.items ≡ slots.old.items) }
+    ensures done { OnOk result (Walks (program_of c.now) slots.old.items feeds.old feeds.new keeps.old keeps.new (tree t.now)) }
+{
+    match t {
+        Term::Const(_) => Ok(()),
+        Term::Var(slot) => {
+            feeds.union(&slots[*slot as usize]);
+            Ok(())
+        }
+        Term::If(condition, a, b) => {
+            let mut deciding = Row::new();
+            walk(c, units, peers, slots, condition, &mut deciding, keeps)?;
+            keeps.decides.union(&deciding);
+            feeds.union(&deciding);
+            walk(c, units, peers, slots, a, feeds, keeps)?;
+            walk(c, units, peers, slots, b, feeds, keeps)?;
+            Ok(())
+        }
+        Term::Let(_, bound, body) => {
+            let low = slots.len();
+            bind_all(c, units, peers, slots, bound, keeps)?;
+            hold(c, units, peers, slots, low, body, &mut keeps.held);
+            walk(c, units, peers, slots, body, feeds, keeps)?;
+            slots.truncate(low);
+            Ok(())
+        }
+        Term::Op(_, ts) => {
+            walk_all(c, units, peers, slots, ts, feeds, keeps)?;
+            Ok(())
+        }
+        Term::Call(_, k, ts) => {
+            let mut passed = Row::new();
+            walk_all(c, units, peers, slots, ts, &mut passed, keeps)?;
+            feeds.insert(*k);
+            Ok(())
+        }
+        Term::Loop(_, ts) => {
+            let mut passed = Row::new();
+            walk_all(c, units, peers, slots, ts, &mut passed, keeps)?;
+            Ok(())
+        }
+    }
+}
+
+#[cycle(keep)]
+fn walk_all(
+    c: &Checked,
+    units: &[Row],
+    peers: &[Row],
+    slots: &mut Vec<Row>,
+    ts: &[Term],
+    feeds: &mut Row,
+    keeps: &mut Keeping,
+) -> Result<(), AllocError>
+    requires { MayKeepIn (program_of c.now) units.now peers.now (length slots.old.items) (forest ts.now) }
+    ensures same { OnOk result (slots.new.items ≡ slots.old.items) }
+    ensures done { OnOk result (WalksIn (program_of c.now) slots.old.items feeds.old feeds.new keeps.old keeps.new (forest ts.now)) }
+{
+    let Some((first, rest)) = ts.split_first() else {
+        return Ok(());
+    };
+    walk(c, units, peers, slots, first, feeds, keeps)?;
+    walk_all(c, units, peers, slots, rest, feeds, keeps)?;
+    Ok(())
+}
+
+// Adds a slot for each binding, with the sites whose words it may be.
+#[cycle(keep)]
+fn bind_all(
+    c: &Checked,
+    units: &[Row],
+    peers: &[Row],
+    slots: &mut Vec<Row>,
+    ts: &[Term],
+    keeps: &mut Keeping,
+) -> Result<(), AllocError>
+    requires { MayKeepIn (program_of c.now) units.now peers.now (length slots.old.items) (forest ts.now) }
+    ensures { OnOk result (Binds (program_of c.now) slots.old.items slots.new.items keeps.old keeps.new (forest ts.now)) }
+{
+    let Some((first, rest)) = ts.split_first() else {
+        return Ok(());
+    };
+    let mut row = Row::new();
+    walk(c, units, peers, slots, first, &mut row, keeps)?;
+    let at = slots.len();
+    bind_all(c, units, peers, slots, rest, keeps)?;
+    slots.insert(at, row)?;
+    Ok(())
+}
+
+// Puts into `held` the sites in the rows of the slots from `low` on that a let's body uses, where the body has
+// another site of their unit in reach.
+fn hold(
+    c: &Checked,
+    units: &[Row],
+    peers: &[Row],
+    slots: &[Row],
+    low: usize,
+    body: &Term,
+    held: &mut Row,
+)
+    requires { (n : ℕ) × MayKeep (program_of c.now) units.now peers.now n (tree body.now) }
+    ensures { (k : ℕ) → 1 ≤ k → k ≤ (program_of c.now).sites → Adds (Has held.old k) (Has held.new k) (IsHeldHere (program_of c.now) slots.now low k (tree body.now)) }
+{
+    let _functions = c.functions();
+    let mut used = Row::new();
+    touch(slots, low, body, &mut used);
+    let mut within = Row::new();
+    reach_body(c, units, body, &mut within);
+    let sites = c.sites();
+    for done in 0..sites {
+        let k = done + 1;
+        if used.contains(k) && within.meets(&peers[c.unit(c.callee(k)) as usize], k) {
+            held.insert(k);
+        }
+    }
+}
+
+// Puts into a set the sites in reach of a let's body, or of its arguments where it is a call.
+fn reach_body(c: &Checked, units: &[Row], body: &Term, row: &mut Row)
+    requires { (n : ℕ) × MayReach (program_of c.now) units.now n (tree body.now) }
+    ensures { (k : ℕ) → Adds (Has row.old k) (Has row.new k) (InBody (program_of c.now) k (tree body.now)) }
+{
+    match body {
+        Term::Call(_, _, ts) => reach_in(c, units, ts, row),
+        Term::Const(_) => {}
+        Term::Var(_) => {}
+        Term::If(_, _, _) => reach(c, units, body, row),
+        Term::Let(_, _, _) => reach(c, units, body, row),
+        Term::Op(_, _) => reach(c, units, body, row),
+        Term::Loop(_, _) => reach(c, units, body, row),
+    }
+}
