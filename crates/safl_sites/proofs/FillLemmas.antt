@@ -28,7 +28,7 @@ module _ (p : CheckedProgram) (h : IsChecked p) where
   C = program_of p
 
   -- the body of a function is a part of it
-  body_part : (f : ℕ) → f < C.functions → IsPart C f (length (C.params f)) (C.body f)
+  pub body_part : (f : ℕ) → f < C.functions → IsPart C f (length (C.params f)) (C.body f)
   body_part f within =
       let (lo, hi, least, spans) = h.formed.numbered.bodies f in
       record { tail = true; lo = lo; hi = hi; spans = spans; least = least; most = h.formed.sites f within; scope = C.params f; count = refl; width = C.result f; typed = h.formed.widths f within }

@@ -141,3 +141,6 @@ not_op e = cc
 
 pub not_loop : {h : ℕ} {bs : Terms} {f j : ℕ} {ts : Terms} → Loop h bs ≡ Call f j ts → ⊥
 not_loop e = cc
+
+pub body_reached : (p : CheckedProgram) → IsChecked p → (g k : ℕ) → g < (program_of p).functions → Reaches (program_of p) k ((program_of p).body g) → IsSited p k
+body_reached p h g k within r = reached_site p h k (λ a s. (site_of_body p h g a within s).0) r

@@ -17,3 +17,5 @@ pub mod AbleLemmas
 pub mod KeepLemmas
 pub mod HoldLemmas
 pub mod WalkLemmas
+pub mod BodyLemmas
+pub mod PlanLemmas

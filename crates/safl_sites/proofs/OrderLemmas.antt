@@ -92,3 +92,7 @@ module _ (p : CheckedProgram) (h : IsChecked p) where
   -- the site of a later function stands later
   pub later_site : (j k : ℕ) → IsSited p j → IsSited p k → C.caller j < C.caller k → j < k
   later_site j k a b less = let r = rises (suc (C.caller j)) (C.caller k) (omega arith) (omega (arith, b.within)) in omega (arith, a.below, b.from)
+
+  -- a site in a function's interval is one of its own
+  pub own_site : (g k : ℕ) → g < C.functions → first_site_of p g ≤ k → k < first_site_of p (suc g) → IsSited p k × (C.caller k ≡ g)
+  own_site g k within a b = site_of_body g k within (spans_stand C g true _ _ (C.body g) k (h.own_sites g within) a b)

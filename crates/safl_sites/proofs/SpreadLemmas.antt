@@ -22,7 +22,7 @@ module _ (C : Program) (x : ℕ) where
     unfolding After Before
 
     -- the later term has a site from which k is reached
-    before_by : (k : ℕ) (t : Term) → Before C x k t → (b : ℕ) × After C x b t × Hits C k b
+    pub before_by : (k : ℕ) (t : Term) → Before C x k t → (b : ℕ) × After C x b t × Hits C k b
     before_by k (Const w) h = absurd h
     before_by k (Var i) h = absurd h
     before_by k (Op o ts) h = before_in_by k ts h
@@ -64,7 +64,7 @@ module _ (C : Program) (x : ℕ) where
   mutual
     unfolding After Stands
 
-    after_stands : (b : ℕ) (t : Term) → After C x b t → Stands b t
+    pub after_stands : (b : ℕ) (t : Term) → After C x b t → Stands b t
     after_stands b (Const w) h = h
     after_stands b (Var i) h = h
     after_stands b (Op o ts) h = after_stands_in b ts h

@@ -12,3 +12,4 @@ pub mod Spreading
 pub mod Peers
 pub mod Keeping
 pub mod Collecting
+pub mod Bodies

@@ -15,6 +15,7 @@ use safl_check::{Checked, Term};
 use std::alloc::AllocError;
 
 /// The sites that decide a condition, and those that are held for another site of their unit.
+#[derive(Drop)]
 pub struct Keeping {
     pub decides: Row,
     pub held: Row,

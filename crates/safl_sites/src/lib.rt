@@ -4,13 +4,16 @@
 mod collect;
 mod fill;
 mod keep;
+mod kept;
 pub mod laws;
 mod parallel;
 mod peers;
 mod planned;
+mod planning;
 mod reach;
 mod row;
 mod spread;
 mod touched;
 
 pub use crate::planned::Planned;
+pub use crate::planning::plan;

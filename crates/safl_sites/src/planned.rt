@@ -1,5 +1,6 @@
 //! A checked program with its plan.
 
+use crate::planning::Findings;
 use crate::row::Row;
 use safl_check::Checked;
 use std::marker::Model;
@@ -36,7 +37,21 @@ impl Planned {
     ghost use Rattle.safl_sites.specs.Conflicts.{Reaches, Conflict};
     ghost use Rattle.safl_sites.specs.Parallel.{ComesBefore};
     ghost use Rattle.safl_sites.specs.Plan.{IsPlan};
-    ghost use Rattle.safl_sites.specs.Planned.{arbiter_of, kept_of};
+    ghost use Rattle.safl_sites.specs.Planned.{IsPlanned, arbiter_of, kept_of};
+
+    /// The program with what was found of it.
+    pub fn new(checked: Checked, found: Findings) -> Planned
+        requires { IsPlanned (record { program = checked; arbiters = found.arbiters.items; keeps = found.keeps.items }) found.bodies.items found.before.items }
+        ensures { result.program ≡ checked }
+    {
+        Planned {
+            checked,
+            bodies: found.bodies,
+            before: found.before,
+            arbiters: found.arbiters,
+            keeps: found.keeps,
+        }
+    }
 
     /// The program.
     pub fn checked(&self) -> &Checked

@@ -1,0 +1,32 @@
+use Rattle.std.proofs.Common.{◌≡◌, ℕ, length, get_or, sym, ◌∙◌, subst}
+use Rattle.safl_check.specs.Checked.{program_of}
+use Rattle.safl_check.specs.Program.{arity}
+use Rattle.safl_check.specs.Terms.{Term}
+use Rattle.safl_check.specs.Tree.{tree}
+use Rattle.safl_sites.specs.declared.keep.Keeping.{Keeping}
+use Rattle.safl_sites.specs.Keeping.{MayKeep, Walks}
+use Rattle.safl_sites.specs.Rows.{no_row}
+use Rattle.safl_sites.proofs.BodyLemmas.{body_may_keep, body_kept}
+use Rattle.safl_sites.proofs.kept.keep_body.Goals as goal
+
+pub walk-requires : goal.walk-requires
+walk-requires c =
+    let C = program_of c.args.c.now in
+    let U = c.args.units.now in
+    let P = c.args.peers.now in
+    let g = c.args.g in
+    let count : length c.in_ok-slots.slots.items ≡ arity C g = c.in_ok-slots.ensures.count ∙ c.params.ensures in
+    let may = body_may_keep c.args.c.now c.functions-functions.ensures.checked g U P c.requires.within c.requires.units c.requires.peers in
+    subst (λ (n : ℕ). MayKeep C U P n (tree c.body.result.now)) (sym count) (subst (λ (x : Term). MayKeep C U P (arity C g) x) (sym c.body.ensures) may)
+
+pub returns : goal.returns
+returns c = λ k.
+    let p = c.args.c.now in
+    let C = program_of p in
+    let g = c.args.g in
+    let S = c.in_ok-slots.slots.items in
+    let count : length S ≡ arity C g = c.in_ok-slots.ensures.count ∙ c.params.ensures in
+    let a : Keeping = record { decides = c.new.result; held = c.new-2.result } in
+    let w : Walks C S c.new-feeds.result c.walk.new.feeds a c.walk.new.keeps (C.body g) = subst (λ (x : Term). Walks C S c.new-feeds.result c.walk.new.feeds a c.walk.new.keeps x) c.body.ensures c.in_ok-walk.ensures.done in
+    let table = λ (j : ℕ). c.requires.bodies.rows g j c.requires.within in
+    body_kept p c.functions-functions.ensures.checked g S c.args.peers.now (get_or c.args.bodies.now g no_row) c.new.result c.new.result c.new-feeds.result c.walk.new.feeds a c.walk.new.keeps c.requires.within c.requires.peers count c.in_ok-slots.ensures.empty c.new.ensures c.new-2.ensures w table k (c.keep_own.ensures k)

@@ -1,0 +1,102 @@
+//! Which sites of a body keep their words for its conditions and bindings.
+
+ghost use Rattle.std.specs.Prelude.{◌≡◌, ℕ, suc, ◌≤◌, ◌<◌, ◌↔◌, IsTrue, OnOk};
+ghost use Rattle.safl_check.specs.Checked.{program_of, first_site_of};
+ghost use Rattle.safl_sites.specs.Bodies.{UnitTable, MustKeep, IsOwnKept, IsBodyKept, IsKeptBelow};
+ghost use Rattle.safl_sites.specs.Peers.{ArePeers};
+ghost use Rattle.safl_sites.specs.Planned.{ReachTable};
+ghost use Rattle.safl_sites.specs.Rows.{Has, Adds};
+
+use crate::fill::empty_rows;
+use crate::keep::{Keeping, walk};
+use crate::row::Row;
+use safl_check::Checked;
+use std::alloc::{AllocError, Global};
+
+/// Puts into `kept` the sites of all bodies that keep their words for a condition or a binding.
+pub fn keep_all(
+    alloc: Global,
+    c: &Checked,
+    units: &[Row],
+    bodies: &[Row],
+    peers: &[Row],
+    kept: &mut Row,
+) -> Result<(), AllocError>
+    requires units { UnitTable (program_of c.now) units.now }
+    requires bodies { ReachTable (program_of c.now) bodies.now }
+    requires peers { ArePeers (program_of c.now) (program_of c.now).sites peers.now }
+    ensures { OnOk result ((k : ℕ) → Adds (Has kept.old k) (Has kept.new k) (IsKeptBelow (program_of c.now) (program_of c.now).functions k)) }
+{
+    let functions = c.functions();
+    for g in 0..functions {
+        keep_body(alloc, c, g, units, bodies, peers, kept)?;
+    }
+    Ok(())
+}
+
+fn keep_body(
+    alloc: Global,
+    c: &Checked,
+    g: u32,
+    units: &[Row],
+    bodies: &[Row],
+    peers: &[Row],
+    kept: &mut Row,
+) -> Result<(), AllocError>
+    requires within { g < (program_of c.now).functions }
+    requires units { UnitTable (program_of c.now) units.now }
+    requires bodies { ReachTable (program_of c.now) bodies.now }
+    requires peers { ArePeers (program_of c.now) (program_of c.now).sites peers.now }
+    ensures { OnOk result ((k : ℕ) → Adds (Has kept.old k) (Has kept.new k) (IsBodyKept (program_of c.now) g k)) }
+{
+    let _functions = c.functions();
+    let mut slots = empty_rows(alloc, c.params(g) as usize)?;
+    let mut feeds = Row::new();
+    let mut keeps = Keeping {
+        decides: Row::new(),
+        held: Row::new(),
+    };
+    walk(
+        c,
+        units,
+        peers,
+        &mut slots,
+        c.body(g),
+        &mut feeds,
+        &mut keeps,
+    )?;
+    keep_own(c, g, &bodies[g as usize], peers, &keeps, kept);
+    Ok(())
+}
+
+fn keep_own(c: &Checked, g: u32, reach: &Row, peers: &[Row], keeps: &Keeping, kept: &mut Row)
+    requires within { g < (program_of c.now).functions }
+    requires peers { ArePeers (program_of c.now) (program_of c.now).sites peers.now }
+    ensures { (k : ℕ) → Adds (Has kept.old k) (Has kept.new k) (IsOwnKept (program_of c.now) reach.now peers.now keeps.now (first_site_of c.now g) (first_site_of c.now (suc g)) k) }
+{
+    let _functions = c.functions();
+    let first = c.first_site(g);
+    let count = c.own_sites(g);
+    for i in 0..count {
+        let k = first + i;
+        if must_keep(c, k, reach, peers, keeps) {
+            kept.insert(k);
+        }
+    }
+}
+
+fn must_keep(c: &Checked, k: u32, reach: &Row, peers: &[Row], keeps: &Keeping) -> bool
+    requires least { 1 ≤ k }
+    requires most { k ≤ (program_of c.now).sites }
+    requires peers { ArePeers (program_of c.now) (program_of c.now).sites peers.now }
+    ensures { IsTrue result ↔ MustKeep (program_of c.now) reach.now peers.now keeps.now k }
+{
+    let _functions = c.functions();
+    if keeps.held.contains(k) {
+        return true;
+    }
+    if !keeps.decides.contains(k) {
+        return false;
+    }
+    reach.meets(&peers[c.unit(c.callee(k)) as usize], k)
+}

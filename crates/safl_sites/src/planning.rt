@@ -1,0 +1,97 @@
+//! The plan of a checked program.
+
+ghost use Rattle.std.specs.Prelude.{◌≡◌, ℕ, suc, ◌<◌, length, Bool, false, get_or, IfOk, IfErr};
+ghost use Rattle.safl_check.specs.Checked.{program_of};
+ghost use Rattle.safl_sites.specs.Collecting.{IsCollected};
+ghost use Rattle.safl_sites.specs.Peers.{ArePeers};
+ghost use Rattle.safl_sites.specs.Planned.{BeforeTable, IsPlanned};
+ghost use Rattle.safl_sites.specs.Rows.{has};
+
+use crate::collect::collect_site;
+use crate::fill::{Tables, fill};
+use crate::kept::keep_all;
+use crate::peers::peers;
+use crate::planned::Planned;
+use crate::row::Row;
+use crate::spread::spread;
+use safl_check::Checked;
+use std::alloc::{AllocError, Global};
+
+/// The plan of a checked program: for each unit whether it needs an arbiter, and for each site whether it keeps its
+/// word. Err is want of memory alone, and hands the program back.
+pub fn plan(alloc: Global, c: Checked) -> Result<Planned, Checked>
+    ensures ok { IfOk result (λ p. p.program ≡ c) }
+    ensures err { IfErr result (λ back. back ≡ c) }
+{
+    match find(alloc, &c) {
+        Ok(found) => Ok(Planned::new(c, found)),
+        Err(_) => Err(c),
+    }
+}
+
+/// What a plan is made of.
+#[derive(Drop)]
+pub struct Findings {
+    pub bodies: Vec<Row>,
+    pub before: Vec<Row>,
+    pub arbiters: Vec<bool>,
+    pub keeps: Vec<bool>,
+}
+
+fn find(alloc: Global, c: &Checked) -> Result<Findings, AllocError>
+    ensures { IfOk result (λ f. IsPlanned (record { program = c.now; arbiters = f.arbiters.items; keeps = f.keeps.items }) f.bodies.items f.before.items) }
+{
+    let _functions = c.functions();
+    let Tables {
+        bodies,
+        units,
+        after,
+    } = fill(alloc, c)?;
+    let mut before = after;
+    spread(alloc, c, &mut before)?;
+    let peers = peers(alloc, c)?;
+    let mut kept = Row::new();
+    let arbiters = collect(alloc, c, &before, &peers, &mut kept)?;
+    keep_all(alloc, c, &units, &bodies, &peers, &mut kept)?;
+    let keeps = listed(alloc, &kept, c.sites() + 1)?;
+    Ok(Findings {
+        bodies,
+        before,
+        arbiters,
+        keeps,
+    })
+}
+
+// By unit, whether two of its sites conflict; and the sites that conflict.
+fn collect(
+    alloc: Global,
+    c: &Checked,
+    before: &[Row],
+    peers: &[Row],
+    kept: &mut Row,
+) -> Result<Vec<bool>, AllocError>
+    requires conflicts { BeforeTable (program_of c.now) before.now }
+    requires peers { ArePeers (program_of c.now) (program_of c.now).sites peers.now }
+    requires empty { (k : ℕ) → has kept.old k ≡ false }
+    ensures { IfOk result (λ v. IsCollected (program_of c.now) (program_of c.now).sites v.items kept.new) }
+{
+    let mut arbiters = vec![in alloc; false; c.functions() as usize]?;
+    let sites = c.sites();
+    for done in 0..sites {
+        collect_site(c, done + 1, before, peers, &mut arbiters, kept);
+    }
+    Ok(arbiters)
+}
+
+// Whether each number below a bound is in a set.
+fn listed(alloc: Global, row: &Row, count: u32) -> Result<Vec<bool>, AllocError>
+    requires { count < 4033 }
+    ensures count { IfOk result (λ v. length v.items ≡ count) }
+    ensures items { IfOk result (λ v. (k : ℕ) → k < count → get_or v.items k false ≡ has row.now k) }
+{
+    let mut items = vec![in alloc; false; count as usize]?;
+    for k in 0..count {
+        items[k as usize] = row.contains(k);
+    }
+    Ok(items)
+}
