@@ -1,2 +1,4 @@
 pub mod Fronts
 pub mod Shown
+pub mod Gives
+pub mod Parsed
