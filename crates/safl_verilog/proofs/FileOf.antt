@@ -17,7 +17,8 @@ use Rattle.safl_verilog.specs.declared.token.Sort.TheVariants as sorts
 use Rattle.safl_verilog.specs.declared.token.Symbol.TheVariants as symbols
 use Rattle.safl_verilog.specs.Tokens.{Piece, text_of_all, symbol_text}
 use Rattle.safl_verilog.specs.Files.{Spot, Expression, Literal, Plain, Inverted, Binary, Choice, Joined, Slice, Declaration, Statement, Assign, Always, File}
-use Rattle.safl_verilog.specs.Laws.{IsInput, IsRegister, IsWire, Each}
+use Rattle.safl_verilog.specs.Laws.{IsInput, Each}
+use Rattle.safl_verilog.proofs.WholeNets.{IsUpdated, IsAssigned}
 use Rattle.safl_verilog.proofs.Printed.{sy, symbol_of, line_end, declaration_pieces, expression_pieces, statement_pieces, port_pieces, spot_of, header_end, body_pieces, last_pieces, file_pieces}
 use Rattle.safl_verilog.proofs.PrintedStands.{text_append}
 
@@ -205,18 +206,18 @@ cell_text n (ops.Apply p) xs = applied_text n p xs
 
 -- ---- the text of the whole
 
-module _ (n : Netlist) (is rs ws : List Signal) (whole : n.signals ≡ is ++ (rs ++ ws)) (inputs : Each IsInput is) (registers : Each IsRegister rs) (wires : Each IsWire ws) where
+module _ (n : Netlist) (is rs ws : List Signal) (whole : n.signals ≡ is ++ (rs ++ ws)) (inputs : Each IsInput is) (registers : Each IsUpdated rs) (wires : Each IsAssigned ws) where
   spread : (T : Signal → List ℕ) → flat_map T n.signals ≡ flat_map T is ++ (flat_map T rs ++ flat_map T ws)
   spread T = ap (flat_map T) whole ∙ flat_map-append T is (rs ++ ws) ∙ ap (λ (l : List ℕ). flat_map T is ++ l) (flat_map-append T rs ws)
 
-  only_inputs : (T : Signal → List ℕ) → ((g : Signal) → IsRegister g → T g ≡ []) → ((g : Signal) → IsWire g → T g ≡ []) → flat_map T n.signals ≡ flat_map T is
-  only_inputs T a b = spread T ∙ ap (λ (l : List ℕ). flat_map T is ++ (l ++ flat_map T ws)) (nothing T IsRegister a rs registers) ∙ ap (λ (l : List ℕ). flat_map T is ++ l) (nothing T IsWire b ws wires) ∙ append-nil (flat_map T is)
+  only_inputs : (T : Signal → List ℕ) → ((g : Signal) → IsUpdated g → T g ≡ []) → ((g : Signal) → IsAssigned g → T g ≡ []) → flat_map T n.signals ≡ flat_map T is
+  only_inputs T a b = spread T ∙ ap (λ (l : List ℕ). flat_map T is ++ (l ++ flat_map T ws)) (nothing T IsUpdated a rs registers) ∙ ap (λ (l : List ℕ). flat_map T is ++ l) (nothing T IsAssigned b ws wires) ∙ append-nil (flat_map T is)
 
-  only_registers : (T : Signal → List ℕ) → ((g : Signal) → IsInput g → T g ≡ []) → ((g : Signal) → IsWire g → T g ≡ []) → flat_map T n.signals ≡ flat_map T rs
-  only_registers T a b = spread T ∙ ap (λ (l : List ℕ). l ++ (flat_map T rs ++ flat_map T ws)) (nothing T IsInput a is inputs) ∙ ap (λ (l : List ℕ). flat_map T rs ++ l) (nothing T IsWire b ws wires) ∙ append-nil (flat_map T rs)
+  only_registers : (T : Signal → List ℕ) → ((g : Signal) → IsInput g → T g ≡ []) → ((g : Signal) → IsAssigned g → T g ≡ []) → flat_map T n.signals ≡ flat_map T rs
+  only_registers T a b = spread T ∙ ap (λ (l : List ℕ). l ++ (flat_map T rs ++ flat_map T ws)) (nothing T IsInput a is inputs) ∙ ap (λ (l : List ℕ). flat_map T rs ++ l) (nothing T IsAssigned b ws wires) ∙ append-nil (flat_map T rs)
 
-  only_wires : (T : Signal → List ℕ) → ((g : Signal) → IsInput g → T g ≡ []) → ((g : Signal) → IsRegister g → T g ≡ []) → flat_map T n.signals ≡ flat_map T ws
-  only_wires T a b = spread T ∙ ap (λ (l : List ℕ). l ++ (flat_map T rs ++ flat_map T ws)) (nothing T IsInput a is inputs) ∙ ap (λ (l : List ℕ). l ++ flat_map T ws) (nothing T IsRegister b rs registers)
+  only_wires : (T : Signal → List ℕ) → ((g : Signal) → IsInput g → T g ≡ []) → ((g : Signal) → IsUpdated g → T g ≡ []) → flat_map T n.signals ≡ flat_map T ws
+  only_wires T a b = spread T ∙ ap (λ (l : List ℕ). l ++ (flat_map T rs ++ flat_map T ws)) (nothing T IsInput a is inputs) ∙ ap (λ (l : List ℕ). l ++ flat_map T ws) (nothing T IsUpdated b rs registers)
 
   each_unit : {X : Type 0} (xs : List X) → Each (λ x. Unit {0}) xs
   each_unit [] = tt
@@ -239,8 +240,8 @@ module _ (n : Netlist) (is rs ws : List Signal) (whole : n.signals ≡ is ++ (rs
       let join : (xs ys : List Declaration) → pieces (xs ++ ys) ≡ pieces xs ++ pieces ys = λ xs ys. ap text_of_all (flat_map-append declaration_pieces xs ys) ∙ text_append (flat_map declaration_pieces xs) (flat_map declaration_pieces ys) in
       let a : pieces i ≡ flat_map input_declaration n.signals = texts declaration_pieces (declare_signal sorts.Input) input_declaration IsInput (λ g e. input_text g.width g.name ∙ ap (λ k. Written.if_input k (declaration (codes "input") g.width g.name)) (sym e)) is inputs ∙ sym (only_inputs input_declaration (λ g e. ap (λ k. Written.if_input k (declaration (codes "input") g.width g.name)) e.2) (λ g e. ap (λ k. Written.if_input k (declaration (codes "input") g.width g.name)) e.1)) in
       let b : pieces o ≡ flat_map (output_declaration n) n.outputs = texts declaration_pieces (declare_output n) (output_declaration n) (λ o. Unit {0}) (λ o e. output_text (width_of n o.1) o.0) n.outputs (each_unit n.outputs) in
-      let c : pieces r ≡ flat_map register_declaration n.signals = texts declaration_pieces (declare_signal sorts.Reg) register_declaration IsRegister (λ g e. register_text g.width g.name ∙ ap (λ k. Written.if_register k (declaration (codes "reg") g.width g.name)) (sym e.2)) rs registers ∙ sym (only_registers register_declaration (λ g e. ap (λ k. Written.if_register k (declaration (codes "reg") g.width g.name)) e) (λ g e. ap (λ k. Written.if_register k (declaration (codes "reg") g.width g.name)) e.1)) in
-      let d : pieces w ≡ flat_map wire_declaration n.signals = texts declaration_pieces (declare_signal sorts.Wire) wire_declaration IsWire (λ g e. wire_text g.width g.name ∙ ap (λ k. Written.if_wire k (declaration (codes "wire") g.width g.name)) (sym e.1)) ws wires ∙ sym (only_wires wire_declaration (λ g e. ap (λ k. Written.if_wire k (declaration (codes "wire") g.width g.name)) e) (λ g e. ap (λ k. Written.if_wire k (declaration (codes "wire") g.width g.name)) e.2)) in
+      let c : pieces r ≡ flat_map register_declaration n.signals = texts declaration_pieces (declare_signal sorts.Reg) register_declaration IsUpdated (λ g e. register_text g.width g.name ∙ ap (λ k. Written.if_register k (declaration (codes "reg") g.width g.name)) (sym e.2)) rs registers ∙ sym (only_registers register_declaration (λ g e. ap (λ k. Written.if_register k (declaration (codes "reg") g.width g.name)) e) (λ g e. ap (λ k. Written.if_register k (declaration (codes "reg") g.width g.name)) e.1)) in
+      let d : pieces w ≡ flat_map wire_declaration n.signals = texts declaration_pieces (declare_signal sorts.Wire) wire_declaration IsAssigned (λ g e. wire_text g.width g.name ∙ ap (λ k. Written.if_wire k (declaration (codes "wire") g.width g.name)) (sym e.1)) ws wires ∙ sym (only_wires wire_declaration (λ g e. ap (λ k. Written.if_wire k (declaration (codes "wire") g.width g.name)) e) (λ g e. ap (λ k. Written.if_wire k (declaration (codes "wire") g.width g.name)) e.2)) in
       let all : pieces (i ++ (o ++ (r ++ w))) ≡ flat_map input_declaration n.signals ++ (flat_map (output_declaration n) n.outputs ++ (flat_map register_declaration n.signals ++ flat_map wire_declaration n.signals)) =
       join i (o ++ (r ++ w)) ∙ ap (λ (l : List ℕ). l ++ pieces (o ++ (r ++ w))) a ∙ ap (λ (l : List ℕ). flat_map input_declaration n.signals ++ l) (join o (r ++ w) ∙ ap (λ (l : List ℕ). l ++ pieces (r ++ w)) b ∙ ap (λ (l : List ℕ). flat_map (output_declaration n) n.outputs ++ l) (join r w ∙ ap (λ (l : List ℕ). l ++ pieces w) c ∙ ap (λ (l : List ℕ). flat_map register_declaration n.signals ++ l) d)) in
       ap (λ (l : List ℕ). codes "  input clk;\n  input rst;\n" ++ l) all ∙ simp append_assoc
@@ -252,9 +253,9 @@ module _ (n : Netlist) (is rs ws : List Signal) (whole : n.signals ≡ is ++ (rs
       let r = map (update_signal n) rs in
       let pieces : List Statement → List ℕ = λ ss. text_of_all (flat_map statement_pieces ss) in
       let join : (xs ys : List Statement) → pieces (xs ++ ys) ≡ pieces xs ++ pieces ys = λ xs ys. ap text_of_all (flat_map-append statement_pieces xs ys) ∙ text_append (flat_map statement_pieces xs) (flat_map statement_pieces ys) in
-      let a : pieces w ≡ flat_map (wire_assignment n) n.signals = texts statement_pieces (assign_signal n) (wire_assignment n) IsWire (λ g e. ap (λ k. text_of_all (statement_pieces (Assign (signal_spot g) (driver n k)))) e.1 ∙ assign_text (signal_spot g) (expression_of n e.0) (operation e.0.op (names_of n e.0.operands)) (cell_text n e.0.op e.0.operands) ∙ ap (Written.cell_assignment n g.name) (sym e.1)) ws wires ∙ sym (only_wires (wire_assignment n) (λ g e. ap (Written.cell_assignment n g.name) e) (λ g e. ap (Written.cell_assignment n g.name) e.2)) in
+      let a : pieces w ≡ flat_map (wire_assignment n) n.signals = texts statement_pieces (assign_signal n) (wire_assignment n) IsAssigned (λ g e. ap (λ k. text_of_all (statement_pieces (Assign (signal_spot g) (driver n k)))) e.1 ∙ assign_text (signal_spot g) (expression_of n e.0) (operation e.0.op (names_of n e.0.operands)) (cell_text n e.0.op e.0.operands) ∙ ap (Written.cell_assignment n g.name) (sym e.1)) ws wires ∙ sym (only_wires (wire_assignment n) (λ g e. ap (Written.cell_assignment n g.name) e) (λ g e. ap (Written.cell_assignment n g.name) e.2)) in
       let b : pieces o ≡ flat_map (output_assignment n) n.outputs = texts statement_pieces (assign_output n) (output_assignment n) (λ o. Unit {0}) (λ o e. assign_text (output_spot o) (Plain (named_spot n o.1)) (name_of n o.1) (append-nil (name_of n o.1))) n.outputs (each_unit n.outputs) in
-      let c : pieces r ≡ flat_map (register_update n) n.signals = texts statement_pieces (update_signal n) (register_update n) IsRegister (λ g e. ap (λ k. text_of_all (statement_pieces (updated_by n g k))) e.2 ∙ update_text g.name (literal g.width e.0) (name_of n e.1) ∙ ap (Written.next_update n g.name g.width) (sym e.2)) rs registers ∙ sym (only_registers (register_update n) (λ g e. ap (Written.next_update n g.name g.width) e) (λ g e. ap (Written.next_update n g.name g.width) e.1)) in
+      let c : pieces r ≡ flat_map (register_update n) n.signals = texts statement_pieces (update_signal n) (register_update n) IsUpdated (λ g e. ap (λ k. text_of_all (statement_pieces (updated_by n g k))) e.2 ∙ update_text g.name (literal g.width e.0) (name_of n e.1) ∙ ap (Written.next_update n g.name g.width) (sym e.2)) rs registers ∙ sym (only_registers (register_update n) (λ g e. ap (Written.next_update n g.name g.width) e) (λ g e. ap (Written.next_update n g.name g.width) e.1)) in
       join w (o ++ r) ∙ ap (λ (l : List ℕ). l ++ pieces (o ++ r)) a ∙ ap (λ (l : List ℕ). flat_map (wire_assignment n) n.signals ++ l) (join o r ∙ ap (λ (l : List ℕ). l ++ pieces r) b ∙ ap (λ (l : List ℕ). flat_map (output_assignment n) n.outputs ++ l) c) ∙ simp append_assoc
 
   pub file_text : text_of_all (file_pieces clock (reset ∷ ports n is) (declarations_of n is rs ws) (statements_of n rs ws)) ≡ written n

@@ -11,6 +11,7 @@ pub mod Printed
 pub mod PrintedStands
 pub mod PrintedReads
 pub mod Bare
+pub mod WholeNets
 pub mod FileOf
 pub mod Decimals
 pub mod Distinct

@@ -13,7 +13,8 @@ use Rattle.safl_verilog.specs.Files.{Spot, Plain, Declaration, Statement, File}
 use Rattle.safl_verilog.specs.Faults.{is_data, is_reg, is_wire, is_output, operands, assigned, updated}
 use Rattle.safl_verilog.specs.Netlists
 use Rattle.safl_verilog.specs.Netlists.{signals_of, place_of, number_of, cell_of, driven, register_of, kind_of, signal_of, shown, output_of, netlist}
-use Rattle.safl_verilog.specs.Laws.{IsInput, IsRegister, IsWire, Each}
+use Rattle.safl_verilog.specs.Laws.{IsInput, Each}
+use Rattle.safl_verilog.proofs.WholeNets.{IsUpdated, IsAssigned}
 use Rattle.safl_verilog.proofs.Distinct.{Name, Distinct, each_join, each_mapped, each_of, each_both, filter_all, filter_none}
 use Rattle.safl_verilog.proofs.Lookups.{names, place_at}
 use Rattle.safl_verilog.proofs.Printed.{spot_of}
@@ -40,7 +41,7 @@ at_mapped f [] i x e = absurd cc
 at_mapped f (y ∷ xs) zero x e = let same : y ≡ x = cc in ap (λ z. Some (f z)) same
 at_mapped f (y ∷ xs) (suc i) x e = at_mapped f xs i x e
 
-module _ (n : Netlist) (net : IsNetlist n) (is rs ws : List Signal) (whole : n.signals ≡ is ++ (rs ++ ws)) (inputs : Each IsInput is) (registers : Each IsRegister rs) (wires : Each IsWire ws) where
+module _ (n : Netlist) (net : IsNetlist n) (is rs ws : List Signal) (whole : n.signals ≡ is ++ (rs ++ ws)) (inputs : Each IsInput is) (registers : Each IsUpdated rs) (wires : Each IsAssigned ws) where
   abbrev ds : List Declaration
   ds = declarations_of n is rs ws
 
@@ -120,8 +121,8 @@ module _ (n : Netlist) (net : IsNetlist n) (is rs ws : List Signal) (whole : n.s
   signals_are : signals_of ds ≡ map declared n.signals
   signals_are =
       let a = declared_as sorts.Input IsInput (λ g e. ap sort_by e) is inputs in
-      let b = declared_as sorts.Reg IsRegister (λ g e. ap sort_by e.2) rs registers in
-      let c = declared_as sorts.Wire IsWire (λ g e. ap sort_by e.1) ws wires in
+      let b = declared_as sorts.Reg IsUpdated (λ g e. ap sort_by e.2) rs registers in
+      let c = declared_as sorts.Wire IsAssigned (λ g e. ap sort_by e.1) ws wires in
       let whole_map : map declared n.signals ≡ i ++ (r ++ w) = ap (map declared) whole ∙ map-append declared is (rs ++ ws) ∙ ap (λ (l : List Declaration). l ++ map declared (rs ++ ws)) a ∙ ap (λ (l : List Declaration). i ++ l) (map-append declared rs ws ∙ ap (λ (l : List Declaration). l ++ map declared ws) b ∙ ap (λ (l : List Declaration). r ++ l) c) in
       ap (λ (l : List Declaration). l ++ filter (λ (d : Declaration). is_reg d.sort) ds ++ filter (λ (d : Declaration). is_wire d.sort) ds) data_are
       ∙ ap (λ (l : List Declaration). i ++ l ++ filter (λ (d : Declaration). is_wire d.sort) ds) registers_are

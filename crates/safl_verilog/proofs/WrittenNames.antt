@@ -9,7 +9,6 @@ use Rattle.safl_net.specs.Netlist.{Netlist, Signal, Kind, Input, Reg, Wire, widt
 use Rattle.safl_net.specs.Names.{is_good, is_identifier, is_reserved}
 use Rattle.safl_net.specs.Rules.{IsNetlist}
 use Rattle.safl_net.specs.Netlist
-use Rattle.safl_net.specs.Written
 use Rattle.safl_net.specs.Making
 use Rattle.safl_net.specs.Making.{name_at as name_of}
 use Rattle.safl_verilog.specs.declared.token.Keyword.{Keyword}
@@ -20,7 +19,8 @@ use Rattle.safl_verilog.specs.Tokens.{keyword_text, IsIdentifier}
 use Rattle.safl_verilog.specs.Files.{Declaration}
 use Rattle.safl_verilog.specs.Faults
 use Rattle.safl_verilog.specs.Faults.{find, passes, is_signal, is_clock, is_reset, range_width, width_in}
-use Rattle.safl_verilog.specs.Laws.{IsInput, IsRegister, IsWire, Each}
+use Rattle.safl_verilog.specs.Laws.{IsInput, Each}
+use Rattle.safl_verilog.proofs.WholeNets.{IsUpdated, IsAssigned}
 use Rattle.safl_verilog.proofs.Decimals.{decimal_value}
 use Rattle.safl_verilog.proofs.Distinct.{Name, Has, Distinct, Apart, has_either, has_left, has_right, distinct_between, has_at, distinct_at, each_left, each_right, each_join, each_map, each_both, each_at, other_name}
 use Rattle.safl_verilog.proofs.Lookups.{names, each_found}
@@ -106,7 +106,7 @@ named_outputs n (o ∷ os) = ap (λ (l : List Name). o.0 ∷ l) (named_outputs n
 pub names_append : (xs ys : List Declaration) → names (xs ++ ys) ≡ names xs ++ names ys
 names_append xs ys = map-append (λ (d : Declaration). d.name.bytes) xs ys
 
-module _ (n : Netlist) (net : IsNetlist n) (is rs ws : List Signal) (whole : n.signals ≡ is ++ (rs ++ ws)) (inputs : Each IsInput is) (registers : Each IsRegister rs) (wires : Each IsWire ws) where
+module _ (n : Netlist) (net : IsNetlist n) (is rs ws : List Signal) (whole : n.signals ≡ is ++ (rs ++ ws)) (inputs : Each IsInput is) (registers : Each IsUpdated rs) (wires : Each IsAssigned ws) where
   abbrev ds : List Declaration
   ds = declarations_of n is rs ws
 
@@ -208,10 +208,10 @@ module _ (n : Netlist) (net : IsNetlist n) (is rs ws : List Signal) (whole : n.s
   inputs_known = each_both IsInput (λ g. Found (declare_signal sorts.Input g)) Known (λ g e h. known_as sorts.Input g (sym (ap sort_by e)) h) is inputs (each_map Found (declare_signal sorts.Input) is (each_left Found (map (declare_signal sorts.Input) is) _ found_rest))
 
   pub registers_known : Each Known rs
-  registers_known = each_both IsRegister (λ g. Found (declare_signal sorts.Reg g)) Known (λ g e h. known_as sorts.Reg g (sym (ap sort_by e.2)) h) rs registers (each_map Found (declare_signal sorts.Reg) rs (each_left Found (map (declare_signal sorts.Reg) rs) _ found_last))
+  registers_known = each_both IsUpdated (λ g. Found (declare_signal sorts.Reg g)) Known (λ g e h. known_as sorts.Reg g (sym (ap sort_by e.2)) h) rs registers (each_map Found (declare_signal sorts.Reg) rs (each_left Found (map (declare_signal sorts.Reg) rs) _ found_last))
 
   pub wires_known : Each Known ws
-  wires_known = each_both IsWire (λ g. Found (declare_signal sorts.Wire g)) Known (λ g e h. known_as sorts.Wire g (sym (ap sort_by e.1)) h) ws wires (each_map Found (declare_signal sorts.Wire) ws (each_right Found (map (declare_signal sorts.Reg) rs) _ found_last))
+  wires_known = each_both IsAssigned (λ g. Found (declare_signal sorts.Wire g)) Known (λ g e h. known_as sorts.Wire g (sym (ap sort_by e.1)) h) ws wires (each_map Found (declare_signal sorts.Wire) ws (each_right Found (map (declare_signal sorts.Reg) rs) _ found_last))
 
   pub known : (s : ℕ) (g : Signal) → slice_get n.signals s ≡ Some g → Known g
   known s g e = each_at Known n.signals s g (subst (λ (l : List Signal). Each Known l) (sym whole) (each_join Known is (rs ++ ws) inputs_known (each_join Known rs ws registers_known wires_known))) e

@@ -11,7 +11,9 @@ use Rattle.safl_verilog.specs.declared.token.Sort.{Sort}
 use Rattle.safl_verilog.specs.declared.token.Sort.TheVariants as sorts
 use Rattle.safl_verilog.specs.Tokens.{IsIdentifier, tokens_from}
 use Rattle.safl_verilog.specs.Reads.{Reads}
-use Rattle.safl_verilog.specs.Laws.{IsInput, IsRegister, IsWire, Each, IsInOrder, HasPorts}
+use Rattle.safl_verilog.specs.Laws.{IsInput, Each, IsInOrder}
+use Rattle.safl_net.specs.Whole.{IsWhole}
+use Rattle.safl_verilog.proofs.WholeNets.{all_set, whole_ports, IsUpdated, IsAssigned, HasPorts}
 use Rattle.safl_verilog.proofs.Found.{no_keyword}
 use Rattle.safl_verilog.proofs.Grammar.{spelled}
 use Rattle.safl_verilog.proofs.Distinct.{Name, each_join, each_mapped, each_of, each_both}
@@ -39,7 +41,7 @@ fine_declaration s w name b h =
     let big : 128 < 2 ^ 128 = lit< tt in
     record { range = (decimal_numeral (w - 1) (omega arith), zero_numeral); name = h }
 
-module _ (n : Netlist) (net : IsNetlist n) (is rs ws : List Signal) (whole : n.signals ≡ is ++ (rs ++ ws)) (inputs : Each IsInput is) (registers : Each IsRegister rs) (wires : Each IsWire ws) where
+module _ (n : Netlist) (net : IsNetlist n) (is rs ws : List Signal) (whole : n.signals ≡ is ++ (rs ++ ws)) (inputs : Each IsInput is) (registers : Each IsUpdated rs) (wires : Each IsAssigned ws) where
   abbrev Member : Signal → Type 0
   Member g = WrittenRules.Member n net is rs ws whole inputs registers wires g
 
@@ -107,5 +109,7 @@ module _ (n : Netlist) (net : IsNetlist n) (is rs ws : List Signal) (whole : n.s
         means = alike_netlist back.file (file_of n is rs ws) back.same ∙ WrittenMeans.means n net is rs ws whole inputs registers wires;
       }
 
-pub written_reads : (n : Netlist) → IsNetlist n → IsInOrder n → HasPorts n → Reads (written n) n
-written_reads n net order p = reads n net order.inputs order.registers order.wires order.joined order.are_inputs order.are_registers order.are_wires p
+pub written_reads : (n : Netlist) → IsNetlist n → IsWhole n → IsInOrder n → Reads (written n) n
+written_reads n net h order =
+    let set = all_set n order.inputs order.registers order.wires h.set order.joined order.are_registers order.are_wires in
+    reads n net order.inputs order.registers order.wires order.joined order.are_inputs set.0 set.1 (whole_ports n h)

@@ -21,7 +21,8 @@ use Rattle.safl_verilog.specs.declared.fault.VFault.{VFault}
 use Rattle.safl_verilog.specs.Tokens.{IsIdentifier}
 use Rattle.safl_verilog.specs.Files.{Spot, Plain, Declaration, Statement, Assign, File}
 use Rattle.safl_verilog.specs.Faults.{is_range, declared_number_faults, stated_number_faults, all_number_faults, all_repeat_faults, declared_names, find, is_input, is_output, is_reg, is_port, passes, range_width, width_of, width_in, header_faults, port_faults, has_ports, all_port_faults, is_target, unfit_faults, operands, is_plain, expression_width, assigned, updated, is_none, width_faults, assign_faults, always_faults, statement_faults, all_statement_faults, missing_faults, faults}
-use Rattle.safl_verilog.specs.Laws.{IsInput, IsRegister, IsWire, Each, HasPorts}
+use Rattle.safl_verilog.specs.Laws.{IsInput, Each}
+use Rattle.safl_verilog.proofs.WholeNets.{IsUpdated, IsAssigned, HasPorts}
 use Rattle.safl_verilog.proofs.Decimals.{decimal_value, decimal_short}
 use Rattle.safl_verilog.proofs.Distinct.{Name, Has, Distinct, distinct_left, distinct_right, distinct_swap, distinct_apart, each_left, each_right, each_join, each_map, each_mapped, each_of, each_both, each_at, each_by_index, no_items, same_name}
 use Rattle.safl_verilog.proofs.Lookups.{spot_names, names, no_repeats, is_among, each_has, target, targets, not_assigned, not_updated, Does, each_does}
@@ -59,7 +60,7 @@ mapped_faults f b xs h = no_items f (map b xs) (each_mapped (λ y. f y ≡ []) b
 same_width : (place w f : ℕ) → w ≡ f → width_faults place w f ≡ []
 same_width place w f e = kept _ _ ((Decides-eqb w f).1 e)
 
-module _ (n : Netlist) (net : IsNetlist n) (is rs ws : List Signal) (whole : n.signals ≡ is ++ (rs ++ ws)) (inputs : Each IsInput is) (registers : Each IsRegister rs) (wires : Each IsWire ws) where
+module _ (n : Netlist) (net : IsNetlist n) (is rs ws : List Signal) (whole : n.signals ≡ is ++ (rs ++ ws)) (inputs : Each IsInput is) (registers : Each IsUpdated rs) (wires : Each IsAssigned ws) where
   abbrev pub ds : List Declaration
   ds = declarations_of n is rs ws
 
@@ -109,7 +110,7 @@ module _ (n : Netlist) (net : IsNetlist n) (is rs ws : List Signal) (whole : n.s
           let here : get_or xs i s ≡ s = sym (unwrap_or-slice_get xs i s) ∙ ap (λ o. unwrap_or o s) e in
           subst (λ k. k < length n.signals) here (h i s (slice_get_within xs i s e))
 
-  driven : (g : Signal) → IsWire g → Member g → Driven g
+  driven : (g : Signal) → IsAssigned g → Member g → Driven g
   driven g w m =
       let c = w.0 in
       let fits : CellFits n g.width c = subst (KindFits n g.width) w.1 m.0.kind in
@@ -119,7 +120,7 @@ module _ (n : Netlist) (net : IsNetlist n) (is rs ws : List Signal) (whole : n.s
       record { cell = c; kind_is = w.1; cell_fits = fits; sound = cell_sound n c.op c.operands g.width narrow fits.gives fits.word names; operands_used = u }
 
   pub wires_driven : Each Driven ws
-  wires_driven = each_both IsWire Member Driven driven ws wires members.2
+  wires_driven = each_both IsAssigned Member Driven driven ws wires members.2
 
   pub record Held (g : Signal) : Type 0 where
     pub init : ℕ
@@ -129,13 +130,13 @@ module _ (n : Netlist) (net : IsNetlist n) (is rs ws : List Signal) (whole : n.s
     pub next_used : Used next
     pub next_width : Netlist.width_of n next ≡ g.width
 
-  held : (g : Signal) → IsRegister g → Member g → Held g
+  held : (g : Signal) → IsUpdated g → Member g → Held g
   held g r m =
       let k : KindFits n g.width (Reg r.0 (Some r.1)) = subst (KindFits n g.width) r.2 m.0.kind in
       record { init = r.0; next = r.1; kind_is = r.2; literal_is = spelled g.width r.0 m.0.some m.0.most k.0; next_used = used r.1 k.1; next_width = k.2 }
 
   pub registers_held : Each Held rs
-  registers_held = each_both IsRegister Member Held held rs registers members.1
+  registers_held = each_both IsUpdated Member Held held rs registers members.1
 
   -- ---- numbers
 
@@ -191,10 +192,10 @@ module _ (n : Netlist) (net : IsNetlist n) (is rs ws : List Signal) (whole : n.s
   input_known = each_both IsInput Member (λ g. find ds g.name ≡ Some (declare_signal sorts.Input g)) (λ g e m. m.1 ∙ ap (λ k. Some (declare_signal (sort_by k) g)) e) is inputs members.0
 
   register_known : Each (λ g. find ds g.name ≡ Some (declare_signal sorts.Reg g)) rs
-  register_known = each_both IsRegister Member (λ g. find ds g.name ≡ Some (declare_signal sorts.Reg g)) (λ g e m. m.1 ∙ ap (λ k. Some (declare_signal (sort_by k) g)) e.2) rs registers members.1
+  register_known = each_both IsUpdated Member (λ g. find ds g.name ≡ Some (declare_signal sorts.Reg g)) (λ g e m. m.1 ∙ ap (λ k. Some (declare_signal (sort_by k) g)) e.2) rs registers members.1
 
   wire_known : Each (λ g. find ds g.name ≡ Some (declare_signal sorts.Wire g)) ws
-  wire_known = each_both IsWire Member (λ g. find ds g.name ≡ Some (declare_signal sorts.Wire g)) (λ g e m. m.1 ∙ ap (λ k. Some (declare_signal (sort_by k) g)) e.1) ws wires members.2
+  wire_known = each_both IsAssigned Member (λ g. find ds g.name ≡ Some (declare_signal sorts.Wire g)) (λ g e m. m.1 ∙ ap (λ k. Some (declare_signal (sort_by k) g)) e.1) ws wires members.2
 
   no_header_faults : flat_map (header_faults f0) (clock ∷ reset ∷ ports n is) ≡ []
   no_header_faults =

@@ -1,7 +1,8 @@
 -- What is claimed of files.
-use Rattle.std.specs.Prelude.{◌≡◌, ℕ, List, [], ◌∷◌, ◌++◌, ◌⊎◌, Some, slice_get, codes}
-use Rattle.safl_net.specs.Netlist.{Netlist, Signal, Cell, Input, Reg, Wire, width_of}
+use Rattle.std.specs.Prelude.{◌≡◌, ℕ, List, [], ◌∷◌, ◌++◌, ◌⊎◌, Option}
+use Rattle.safl_net.specs.Netlist.{Netlist, Signal, Cell, Input, Reg, Wire}
 use Rattle.safl_net.specs.Rules.{IsNetlist}
+use Rattle.safl_net.specs.Whole.{IsWhole}
 use Rattle.safl_net.specs.Written.{written}
 use Rattle.safl_verilog.specs.declared.fault.VFault.{VFault}
 use Rattle.safl_verilog.specs.Tokens.{Terminal}
@@ -24,15 +25,15 @@ NotBoth = (text : List ℕ) (n : Netlist) (f : VFault) → Reads text n → HasF
 abbrev pub NoShorterFile : Type 0
 NoShorterFile = (u v : List Terminal) (a b : File) → IsFile u a → IsFile (u ++ v) b → v ≡ []
 
--- a signal is an input, a register with a next signal, a wire with a cell
+-- what a signal is
 abbrev pub IsInput : Signal → Type 0
 IsInput g = g.kind ≡ Input
 
 abbrev pub IsRegister : Signal → Type 0
-IsRegister g = (init next : ℕ) × (g.kind ≡ Reg init (Some next))
+IsRegister g = (init : ℕ) × (next : Option ℕ) × (g.kind ≡ Reg init next)
 
 abbrev pub IsWire : Signal → Type 0
-IsWire g = (c : Cell) × (g.kind ≡ Wire (Some c))
+IsWire g = (cell : Option Cell) × (g.kind ≡ Wire cell)
 
 abbrev pub Each : {X : Type 0} → (X → Type 0) → List X → Type 0
 Each P [] = Unit {0}
@@ -48,18 +49,6 @@ pub record IsInOrder (n : Netlist) : Type 0 where
   pub are_registers : Each IsRegister registers
   pub are_wires : Each IsWire wires
 
--- the ports that each file has: an input `start` and an output `done` of width 1, and an output `result`
-pub record HasPorts (n : Netlist) : Type 0 where
-  pub start : ℕ
-  pub is_start : slice_get n.signals start ≡ Some (record { name = codes "start"; width = 1; kind = Input })
-  pub done : ℕ
-  pub done_shows : ℕ
-  pub is_done : slice_get n.outputs done ≡ Some (codes "done", done_shows)
-  pub done_bit : width_of n done_shows ≡ 1
-  pub result : ℕ
-  pub result_shows : ℕ
-  pub is_result : slice_get n.outputs result ≡ Some (codes "result", result_shows)
-
--- the text that is written of a netlist reads as that netlist
+-- the text that is written of a whole net reads as that net, where its signals stand in this order
 abbrev pub WrittenReads : Type 0
-WrittenReads = (n : Netlist) → IsNetlist n → IsInOrder n → HasPorts n → Reads (written n) n
+WrittenReads = (n : Netlist) → IsNetlist n → IsWhole n → IsInOrder n → Reads (written n) n

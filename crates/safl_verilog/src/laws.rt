@@ -27,8 +27,8 @@ pub fn no_shorter_file_law()
     ensures { NoShorterFile }
 {}
 
-/// The text that is written of a netlist reads as that netlist, where its signals stand as inputs, then registers with
-/// a next signal, then wires with a cell, and the ports that each file has are there.
+/// The text that is written of a whole net reads as that net, where its signals stand as inputs, then registers, then
+/// wires.
 pub fn written_reads_law()
     ensures { WrittenReads }
 {}

@@ -75,13 +75,17 @@ goes_over text w p n ts e le k h =
     let c = piece_found (drop p text) x.0 (ap first_piece (sym e) ∙ x.1) in
     let f = further text p ts x.0 le k c in
     let s = no_token x.0 n (0 + length (text_of_all k.pieces)) x.2 in
-    let g : (p + length (text_of x.0) ≤ length text) × IsCutUpTo text (p + length (text_of x.0)) ts × (1 ≤ length (text_of x.0)) = (f.within, record {
-      pieces = k.pieces ++ x.0 ∷ [];
-      joined = f.joined;
-      stand = f.stand;
-      place = f.place;
-      tokens = k.tokens ∙ sym (append-nil (tokens_from 0 k.pieces)) ∙ ap (λ (l : List Terminal). tokens_from 0 k.pieces ++ l) (sym s.1) ∙ sym (tokens_after k.pieces (x.0 ∷ []) 0);
-    }, no_empty x.0 c.rest c.stands) in
+    let g : (p + length (text_of x.0) ≤ length text) × IsCutUpTo text (p + length (text_of x.0)) ts × (1 ≤ length (text_of x.0)) = (
+      f.within,
+      record {
+        pieces = k.pieces ++ x.0 ∷ [];
+        joined = f.joined;
+        stand = f.stand;
+        place = f.place;
+        tokens = k.tokens ∙ sym (append-nil (tokens_from 0 k.pieces)) ∙ ap (λ (l : List Terminal). tokens_from 0 k.pieces ++ l) (sym s.1) ∙ sym (tokens_after k.pieces (x.0 ∷ []) 0);
+      },
+      no_empty x.0 c.rest c.stands,
+    ) in
     subst (λ m. (p + m ≤ length text) × IsCutUpTo text (p + m) ts × (1 ≤ m)) s.0 g
 
 -- ---- a token
@@ -102,13 +106,17 @@ takes text w p n kind ts us e le k h more =
     let bytes : take (p + n - p) (drop p text) ≡ t.0 = ap (λ j. take j (drop p text)) size ∙ f.front in
     let here : p ≡ 0 + length (text_of_all k.pieces) = omega (arith, k.place) in
     let last : shown text (record { start = p; stop = p + n; kind = kind }) ≡ record { place = 0 + length (text_of_all k.pieces); kind = kind; bytes = t.0 } = ap (λ (b : List ℕ). record { place = p; kind = kind; bytes = b }) bytes ∙ ap (λ q. record { place = q; kind = kind; bytes = t.0 }) here in
-    let g : (p + length t.0 ≤ length text) × IsCutUpTo text (p + length t.0) us × (1 ≤ length t.0) = (f.within, record {
-      pieces = k.pieces ++ Lexeme kind t.0 ∷ [];
-      joined = f.joined;
-      stand = f.stand;
-      place = f.place;
-      tokens = ap (shown_all text) more ∙ map-append (shown text) ts _ ∙ ap (λ (l : List Terminal). l ++ shown_all text (record { start = p; stop = p + n; kind = kind } ∷ [])) k.tokens ∙ ap (λ y. tokens_from 0 k.pieces ++ y ∷ []) last ∙ sym (tokens_after k.pieces (Lexeme kind t.0 ∷ []) 0);
-    }, no_empty (Lexeme kind t.0) c.rest c.stands) in
+    let g : (p + length t.0 ≤ length text) × IsCutUpTo text (p + length t.0) us × (1 ≤ length t.0) = (
+      f.within,
+      record {
+        pieces = k.pieces ++ Lexeme kind t.0 ∷ [];
+        joined = f.joined;
+        stand = f.stand;
+        place = f.place;
+        tokens = ap (shown_all text) more ∙ map-append (shown text) ts _ ∙ ap (λ (l : List Terminal). l ++ shown_all text (record { start = p; stop = p + n; kind = kind } ∷ [])) k.tokens ∙ ap (λ y. tokens_from 0 k.pieces ++ y ∷ []) last ∙ sym (tokens_after k.pieces (Lexeme kind t.0 ∷ []) 0);
+      },
+      no_empty (Lexeme kind t.0) c.rest c.stands,
+    ) in
     subst (λ m. (p + m ≤ length text) × IsCutUpTo text (p + m) us × (1 ≤ m)) t.2 g
 
 -- ---- no piece

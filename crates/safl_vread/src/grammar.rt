@@ -12,10 +12,7 @@ use std::alloc::{AllocError, Global};
 
 impl<'s> Parser<'s> {
     #[tactic(auto, unfolding(safl_verilog::specs::Reader::read_constant))]
-    fn constant<'a>(
-        &self,
-        tokens: &'a [Token],
-    ) -> Result<(Expression, &'a [Token]), ReadError<'a>>
+    fn constant<'a>(&self, tokens: &'a [Token]) -> Result<(Expression, &'a [Token]), ReadError<'a>>
         ensures { Gives self.now.text.now (λ x. (expression_at self.now.text.now x.0, x.1.now)) result (read_constant (shown_all self.now.text.now tokens.now)) }
     {
         let (l, rest) = self.literal(tokens)?;
@@ -23,10 +20,7 @@ impl<'s> Parser<'s> {
     }
 
     #[tactic(auto, unfolding(safl_verilog::specs::Reader::read_inverted))]
-    fn inverted<'a>(
-        &self,
-        tokens: &'a [Token],
-    ) -> Result<(Expression, &'a [Token]), ReadError<'a>>
+    fn inverted<'a>(&self, tokens: &'a [Token]) -> Result<(Expression, &'a [Token]), ReadError<'a>>
         ensures { Gives self.now.text.now (λ x. (expression_at self.now.text.now x.0, x.1.now)) result (read_inverted (shown_all self.now.text.now tokens.now)) }
     {
         let (_, rest) = self.symbol(tokens, Symbol::Tilde)?;
@@ -141,10 +135,7 @@ impl<'s> Parser<'s> {
     }
 
     #[tactic(auto, unfolding(safl_verilog::specs::Reader::read_range))]
-    fn range<'a>(
-        &self,
-        tokens: &'a [Token],
-    ) -> Result<(Option<Range>, &'a [Token]), ReadError<'a>>
+    fn range<'a>(&self, tokens: &'a [Token]) -> Result<(Option<Range>, &'a [Token]), ReadError<'a>>
         ensures { Gives self.now.text.now (λ x. (range_at self.now.text.now x.0, x.1.now)) result (read_range (shown_all self.now.text.now tokens.now)) }
     {
         if self.comes_symbol(tokens, Symbol::OpenBracket) {

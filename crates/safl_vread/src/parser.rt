@@ -291,10 +291,7 @@ impl<'s> Parser<'s> {
     }
 
     /// An identifier.
-    pub fn identifier<'a>(
-        &self,
-        tokens: &'a [Token],
-    ) -> Result<(Span, &'a [Token]), ReadError<'a>>
+    pub fn identifier<'a>(&self, tokens: &'a [Token]) -> Result<(Span, &'a [Token]), ReadError<'a>>
         ensures { Gives self.now.text.now (λ x. (spot_at self.now.text.now x.0, x.1.now)) result (read_code 1 (shown_all self.now.text.now tokens.now)) }
     {
         self.of_code(tokens, 1)

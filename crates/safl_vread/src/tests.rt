@@ -66,9 +66,18 @@ fn wrong_files(rt: HostRuntime) -> Result<(), Fail> {
         v02(b"module m (clk); always (posedge clk)", 23),
         v02(b"module m (clk); always @(clk)", 25),
         v02(b"module m (clk); always @(posedge clk) r", 38),
-        v02(b"module m (clk); always @(posedge clk) if (rst) r = 1'd0;", 49),
-        v02(b"module m (clk); always @(posedge clk) if (rst) r <= 0;", 52),
-        v02(b"module m (clk); always @(posedge clk) if (rst) r <= 1'd0; r <= a;", 58),
+        v02(
+            b"module m (clk); always @(posedge clk) if (rst) r = 1'd0;",
+            49,
+        ),
+        v02(
+            b"module m (clk); always @(posedge clk) if (rst) r <= 0;",
+            52,
+        ),
+        v02(
+            b"module m (clk); always @(posedge clk) if (rst) r <= 1'd0; r <= a;",
+            58,
+        ),
         v02(b"module m (clk); endmodule endmodule", 26),
         v02(b"module m (clk); endmodul", 16),
         v02(b"module m (clk); endmodulex", 16),
