@@ -1,0 +1,83 @@
+-- A source is accepted by its tokens, and what it is then compiled to is its program's circuit.
+use Rattle.std.proofs.Common.{◌≡◌, ℕ, ◌-◌, ◌<◌, ◌≤◌, ◌%◌, ◌^◌, List, length, take, drop, min, Option, Some, None, refl, sym, ap, ◌∙◌, arith, subst}
+use Rattle.std.specs.Prelude.{IfNone, IfSome, IsSomeAnd, ◌↔◌}
+use Rattle.std.proofs.lemmas.List.{take_min, drop_min, take_all, length-drop}
+use Rattle.std.proofs.Math.Nat.{mod-eq_of_lt}
+use Rattle.safl_word.specs.Words.{Word}
+use Rattle.safl_word.specs.Faults.{fault_text}
+use Rattle.safl_word.specs.Tokens.{HasTokens, HasLexicalFault}
+use Rattle.safl_word.specs.TokenLaws.{TokensOnce, TokensOrFault}
+use Rattle.safl_word.specs.declared.fault.Fault.{Fault}
+use Rattle.safl_word.specs.declared.token.Token.{Token}
+use Rattle.safl_text.specs.Lexing.{Refuses}
+use Rattle.safl_text.specs.declared.error.LexErr.{LexErr}
+use Rattle.safl_text.specs.declared.error.LexErr.TheVariants as errors
+use Rattle.safl_net.specs.Netlist.{Netlist}
+use Rattle.safl_net.specs.Written.{written}
+use Rattle.safl_io.specs.Shelf.{Files, file_of}
+use Rattle.safl_io.specs.Reading.{HasFile}
+use Rattle.safl_unit.specs.Correct.{Correct}
+use Rattle.safl_unit.specs.Constant.{constant_program, main_names, no_choice}
+use Rattle.safl_unit.specs.Theorem.{IsCircuit}
+use Rattle.safl_tool.specs.Answers.{IsCircuitOf, IsRefused, refused_fault}
+use Rattle.safl_tool.specs.Constants.{IsConstantSource, AreConstant, IsSourceOf, byte}
+use Rattle.safl_tool.specs.Lines.{placed_line, source_line, line_at, column_at}
+use Rattle.safl_tool.specs.Limits.{source_max}
+use Rattle.safl_tool.specs.Outside.{ShelfState, OfFile}
+use Rattle.safl_tool.specs.Refusals.{Explains, RefusesSource}
+use Rattle.safl_tool.specs.declared.refusal.Refusal.{Refusal}
+use Rattle.safl_tool.specs.declared.refusal.Refusal.TheVariants as refusal
+
+-- places beyond the text are cut to it
+pub clipped : (source : List ℕ) (start n a k : ℕ) → a ≡ min start (length source) → k ≡ min n (length (take (length source - a) (drop a source))) → take k (take (length source - a) (drop a source)) ≡ take n (drop start source)
+clipped source start n a k begins counts =
+    let rest : List ℕ = take (length source - a) (drop a source) in
+    let long : length (drop a source) ≡ length source - a = length-drop a source in
+    let whole : rest ≡ drop a source = take_all (length source - a) (drop a source) (omega (arith, long)) in
+    let there : drop a source ≡ drop start source = ap (λ (x : ℕ). drop x source) begins ∙ drop_min start source in
+    ap (λ (x : ℕ). take x rest) counts ∙ take_min n rest ∙ ap (λ (l : List ℕ). take n l) (whole ∙ there)
+
+-- where a text's tokens are no constant's, nothing makes it one
+pub no_constant : TokensOnce → (source : List ℕ) (ts : List Token) (answer : Option ℕ) → HasTokens source ts → IfNone answer ((n : ℕ) → n < 256 → AreConstant source ts n → ⊥) → IfNone answer ((n : ℕ) → IsConstantSource source n → ⊥)
+no_constant once source ts None cut none = λ n p. none n p.small (subst (λ us. AreConstant source us n) (once source p.tokens ts p.cut cut) p.are)
+no_constant once source ts (Some m) cut none = tt
+
+-- nor where it has a lexical fault
+pub faulty : TokensOrFault → (source : List ℕ) (e : LexErr) (f : Fault) → e ≡ errors.Refused f → Refuses source e → (n : ℕ) → IsConstantSource source n → ⊥
+faulty or source e f is refuses n p = (or source).0 (p.tokens, p.cut) (f.rule, f.place, (subst (λ d. Refuses source d) is refuses).0)
+
+-- a text without a number below 256 as its constant is refused
+pub is_refused : (source : List ℕ) (answer : Option ℕ) → length source ≤ source_max → answer ≡ None → IfNone answer ((n : ℕ) → IsConstantSource source n → ⊥) → IsRefused source
+is_refused source answer small is none =
+    let never : (n : ℕ) → IsConstantSource source n → ⊥ = subst (λ a. IfNone a ((n : ℕ) → IsConstantSource source n → ⊥)) is none in
+    (small, λ C D s. never s.number s.tokens)
+
+-- the circuit of a constant is that of its source's program
+pub is_circuit : (source : List ℕ) (m k : ℕ) (w : Word) (n : Netlist) (text : List ℕ) → IsConstantSource source m → k ≡ m → w ≡ record { width = 8; bits = k % 2 ^ 8 } → IsCircuit (constant_program w) main_names no_choice n → text ≡ written n → IsCircuitOf source text
+is_circuit source m k w n text p same is circuit spelled =
+    let low : k % 2 ^ 8 ≡ m = ap (λ (x : ℕ). x % 2 ^ 8) same ∙ mod-eq_of_lt p.small in
+    let word : w ≡ byte m = is ∙ ap (λ (x : ℕ). byte x) low in
+    (constant_program (byte m), main_names, n, record { number = m; tokens = p; program = refl; names = refl }, spelled, subst (λ v. Correct (constant_program v) main_names n) word circuit.correct)
+
+some_of : (name bytes : List ℕ) (P : List ℕ → Type 0) (o : Option (List ℕ)) → o ≡ Some bytes → P bytes → IsSomeAnd o P
+some_of name bytes P o is p = subst (λ x. IsSomeAnd x P) (sym is) p
+
+of_file : (holds : Option Files) (name bytes : List ℕ) (P : List ℕ → Type 0) → IfSome holds (HasFile name bytes) → P bytes → OfFile holds name P
+of_file None name bytes P has p = tt
+of_file (Some files) name bytes P has p = some_of name bytes P (file_of files name) has p
+
+-- what refuses a source that was read explains the call
+pub source_refused : (before after : ShelfState) (input output source : List ℕ) (r : Refusal) → IfSome before.holds (HasFile input source) → RefusesSource source r → Explains before after input output r
+source_refused before after input output source (refusal.Source f line column) has (refused, fault_is, line_is, column_is) =
+    let lines : placed_line input line column (fault_text f) ≡ source_line input source refused_fault =
+    ap (λ (x : ℕ). placed_line input x column (fault_text f)) line_is
+    ∙ ap (λ (x : ℕ). placed_line input (line_at source 0) x (fault_text f)) column_is
+    ∙ ap (λ (x : Fault). placed_line input (line_at source 0) (column_at source 0) (fault_text x)) fault_is in
+    record {
+      says = of_file before.holds input source IsRefused has refused;
+      line = of_file before.holds input source (λ s. placed_line input line column (fault_text f) ≡ source_line input s refused_fault) has lines;
+    }
+source_refused before after input output source refusal.Read has never = absurd never
+source_refused before after input output source refusal.TooLong has never = absurd never
+source_refused before after input output source refusal.Write has never = absurd never
+source_refused before after input output source refusal.NoMemory has _ = record { says = tt; line = refl }

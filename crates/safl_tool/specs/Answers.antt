@@ -1,0 +1,110 @@
+-- What each status of the program says.
+use Rattle.std.specs.Prelude.{◌≡◌, ℕ, ◌<◌, ◌≤◌, ◌⊎◌, List, [], length, Option, Some, None, IsSomeAnd, OnSome}
+use Rattle.safl_word.specs.declared.fault.Fault.{Fault}
+use Rattle.safl_word.specs.declared.fault.Rule.TheVariants as rule
+use Rattle.safl_io.specs.Counts.{Rose}
+use Rattle.safl_io.specs.Shelf.{Files, file_of}
+use Rattle.safl_io.specs.Told.{TellsOn}
+use Rattle.safl_io.specs.Sink.{Sends, SendsPart}
+use Rattle.safl_net.specs.Netlist.{Netlist}
+use Rattle.safl_net.specs.Written.{written}
+use Rattle.safl_check.specs.Program.{Program}
+use Rattle.safl_unit.specs.Names.{Names}
+use Rattle.safl_unit.specs.Correct.{Correct}
+use Rattle.safl_tool.specs.Commands.{Command, Build}
+use Rattle.safl_tool.specs.Constants.{IsSourceOf}
+use Rattle.safl_tool.specs.Limits.{source_max}
+use Rattle.safl_tool.specs.Lines.{usage_line, memory_line, read_line, write_line, long_line, source_line}
+use Rattle.safl_tool.specs.Outside.{ShelfState, SinkState, OfFile}
+use Rattle.safl_tool.specs.declared.status.Status.{Status}
+use Rattle.safl_tool.specs.declared.status.Status.TheVariants as status
+
+-- the source is within the limit and accepted
+abbrev pub IsAccepted : List ℕ → Type 0
+IsAccepted source = (length source ≤ source_max) × (C : Program) × (D : Names) × IsSourceOf source C D
+
+-- it is within the limit, and no program's source
+abbrev pub IsRefused : List ℕ → Type 0
+IsRefused source = (length source ≤ source_max) × ((C : Program) (D : Names) → IsSourceOf source C D → ⊥)
+
+-- the fault of a source that is refused
+abbrev pub refused_fault : Fault
+refused_fault = record { rule = rule.E02; place = 0; first = 0; second = 0 }
+
+-- the file is the Verilog text of a netlist that is correct for the source's program
+abbrev pub IsCircuitOf : List ℕ → List ℕ → Type 0
+IsCircuitOf source text =
+    (C : Program) × (D : Names) × (n : Netlist) × IsSourceOf source C D × (text ≡ written n) × Correct C D n
+
+-- the output file is there, where the shelf tells, and is such a text
+abbrev pub Built : Option Files → Option Files → List ℕ → List ℕ → Type 0
+Built before after input output =
+    OfFile before input (λ source. (length source ≤ source_max) × IsSomeAnd after (λ files. IsSomeAnd (file_of files output) (IsCircuitOf source)))
+
+-- What a status of `build` says, of the shelf before the call and after it:
+-- Ok, that the circuit was written; SourceRefused and TooLong, that the source is so; ReadFault, that the shelf failed in a
+-- read; WriteFault, that the source is accepted and the shelf failed in a write. Want of memory may come at any point.
+abbrev pub BuildSays : ShelfState → ShelfState → List ℕ → List ℕ → Status → Type 0
+BuildSays before after input output status.Ok = Built before.holds after.holds input output
+BuildSays before after input output status.SourceRefused = OfFile before.holds input IsRefused
+BuildSays before after input output status.Usage = ⊥
+BuildSays before after input output status.ReadFault = Rose before.read_faults after.read_faults
+BuildSays before after input output status.WriteFault = OfFile before.holds input IsAccepted × Rose before.write_faults after.write_faults
+BuildSays before after input output status.NoMemory = Unit {0}
+BuildSays before after input output status.NoResult = ⊥
+BuildSays before after input output status.VerilogRefused = ⊥
+BuildSays before after input output status.BadArgs = ⊥
+BuildSays before after input output status.ProbeFault = ⊥
+BuildSays before after input output status.TooLong = OfFile before.holds input (λ source. source_max < length source)
+
+-- what a status says where the words are no command
+abbrev pub UsageSays : Status → Type 0
+UsageSays s = (s ≡ status.Usage) ⊎ (s ≡ status.NoMemory)
+
+abbrev pub Says : Option Command → ShelfState → ShelfState → Status → Type 0
+Says None before after s = UsageSays s
+Says (Some (Build input output)) before after s = BuildSays before after input output s
+
+-- the line that a status of `build` sends
+abbrev pub IsBuildLine : Option Files → List ℕ → List ℕ → Status → List ℕ → Type 0
+IsBuildLine holds input output status.Ok line = ⊥
+IsBuildLine holds input output status.SourceRefused line =
+    OfFile holds input (λ source. line ≡ source_line input source refused_fault)
+IsBuildLine holds input output status.Usage line = ⊥
+IsBuildLine holds input output status.ReadFault line = line ≡ read_line input
+IsBuildLine holds input output status.WriteFault line = line ≡ write_line output
+IsBuildLine holds input output status.NoMemory line = line ≡ memory_line
+IsBuildLine holds input output status.NoResult line = ⊥
+IsBuildLine holds input output status.VerilogRefused line = ⊥
+IsBuildLine holds input output status.BadArgs line = ⊥
+IsBuildLine holds input output status.ProbeFault line = ⊥
+IsBuildLine holds input output status.TooLong line = line ≡ long_line input source_max
+
+abbrev pub IsLine : Option Command → Option Files → Status → List ℕ → Type 0
+IsLine None holds s line = (s ≡ status.Usage) × (line ≡ usage_line)
+IsLine (Some (Build input output)) holds s line = IsBuildLine holds input output s line
+
+-- the whole line was sent, or the count rose and a prefix of it was
+abbrev pub Got : List ℕ → SinkState → SinkState → Type 0
+Got line before after =
+    TellsOn (Sends line) before.sent after.sent ⊎ (Rose before.faults after.faults × TellsOn (SendsPart line) before.sent after.sent)
+
+-- a prefix of a status's line, of any status, was sent
+abbrev pub GotPart : Option Command → Option Files → SinkState → SinkState → Type 0
+GotPart command holds before after =
+    (s : Status) × (line : List ℕ) × IsLine command holds s line × TellsOn (SendsPart line) before.sent after.sent
+
+-- What was sent to the sink of refusals: nothing at Ok, a prefix of a line where memory ran out, and else the status's line.
+abbrev pub Told : Option Command → Option Files → SinkState → SinkState → Status → Type 0
+Told command holds before after status.Ok = after ≡ before
+Told command holds before after status.NoMemory = GotPart command holds before after
+Told command holds before after s = (line : List ℕ) × IsLine command holds s line × Got line before after
+
+-- the shelf holds the files that the command reads, where it tells
+abbrev pub HoldsInputs : Option Command → Option Files → Type 0
+HoldsInputs None holds = Unit {0}
+HoldsInputs (Some (Build input output)) holds = OfFile holds input (λ source. Unit {0})
+
+-- it is asked for no name that it tells it doesn't hold
+abbrev pub SameStrays : Option Command → ShelfState → ShelfState → Type 0
+SameStrays command before after = HoldsInputs command before.holds → OnSome before.holds (after.strays ≡ before.strays)

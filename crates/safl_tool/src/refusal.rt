@@ -1,0 +1,104 @@
+//! Why a command ends without its result, and the line that says so.
+
+ghost use Rattle.std.specs.Prelude.{◌≡◌, ◌++◌, ◌≤◌, length, IfOk, OnOk};
+ghost use Rattle.safl_tool.specs.Lines.{line_at, column_at};
+ghost use Rattle.safl_tool.specs.Refusals.{status_of, line_of};
+
+use crate::status::Status;
+use safl_word::{Fault, NoMemory, Raw, push_decimal, push_fault};
+use std::alloc::Global;
+
+/// The most bytes of a source.
+pub const SOURCE_MAX: u64 = 1_048_576;
+
+/// Why a command ends without its result.
+#[derive(Clone, Copy, Debug, PartialEq, Eq)]
+pub enum Refusal {
+    /// The source has this fault at this line and column, both counted from 1.
+    Source(Fault, usize, usize),
+    /// The input could not be read.
+    Read,
+    /// The input is longer than the limit.
+    TooLong,
+    /// The output file could not be written.
+    Write,
+    NoMemory,
+}
+
+impl Refusal {
+    /// The status of the program.
+    pub fn status(self) -> Status
+        ensures { result ≡ status_of self }
+    {
+        match self {
+            Refusal::Source(_, _, _) => Status::SourceRefused,
+            Refusal::Read => Status::ReadFault,
+            Refusal::TooLong => Status::TooLong,
+            Refusal::Write => Status::WriteFault,
+            Refusal::NoMemory => Status::NoMemory,
+        }
+    }
+
+    /// The line, of a command with this input and this output.
+    pub fn line(self, alloc: Global, input: &str, output: &str) -> Result<Vec<u8>, NoMemory>
+        ensures { IfOk result (λ text. text.items ≡ line_of self input.now output.now) }
+    {
+        let mut out = Vec::new(alloc);
+        match self {
+            Refusal::Source(fault, line, column) => {
+                push(&mut out, input.as_bytes())?;
+                push(&mut out, b":")?;
+                push_decimal(line as Raw, &mut out)?;
+                push(&mut out, b":")?;
+                push_decimal(column as Raw, &mut out)?;
+                push(&mut out, b": ")?;
+                push_fault(fault, &mut out)?;
+            }
+            Refusal::Read => {
+                push(&mut out, b"cannot read ")?;
+                push(&mut out, input.as_bytes())?;
+            }
+            Refusal::TooLong => {
+                push(&mut out, input.as_bytes())?;
+                push(&mut out, b" is longer than ")?;
+                push_decimal(SOURCE_MAX as Raw, &mut out)?;
+                push(&mut out, b" bytes")?;
+            }
+            Refusal::Write => {
+                push(&mut out, b"cannot write ")?;
+                push(&mut out, output.as_bytes())?;
+            }
+            Refusal::NoMemory => push(&mut out, b"out of memory")?,
+        }
+        push(&mut out, b"\n")?;
+        Ok(out)
+    }
+}
+
+/// The line of a place in a source, from 1.
+pub fn line_number(source: &[u8], place: usize) -> usize
+    requires { place ≤ length source.now }
+    ensures { result ≡ line_at source.now place }
+{
+    source[..place].iter().filter(|c| **c == b'\n').count() + 1
+}
+
+/// The column of a place in a source, in bytes, from 1.
+pub fn column_number(source: &[u8], place: usize) -> usize
+    requires { place ≤ length source.now }
+    ensures { result ≡ column_at source.now place }
+{
+    let mut column = 1;
+    for c in &source[..place] {
+        column = if *c == b'\n' { 1 } else { column + 1 };
+    }
+    column
+}
+
+// Appends a piece.
+fn push(out: &mut Vec<u8>, piece: &[u8]) -> Result<(), NoMemory>
+    ensures { OnOk result (out.new.items ≡ out.old.items ++ piece.now) }
+{
+    out.extend_from_slice(piece)?;
+    Ok(())
+}

@@ -1,0 +1,26 @@
+//! The status with which the program ends.
+
+/// How a call of the program ended. The variants' numbers are the program's exit statuses.
+#[derive(Clone, Copy, Debug, PartialEq, Eq)]
+pub enum Status {
+    Ok = 0,
+    /// The source is refused.
+    SourceRefused = 1,
+    /// The words are no command.
+    Usage = 2,
+    /// A file could not be read.
+    ReadFault = 3,
+    /// A file or the output could not be written.
+    WriteFault = 4,
+    NoMemory = 5,
+    /// Done didn't rise below the limit, or main didn't return.
+    NoResult = 6,
+    /// The Verilog file is refused.
+    VerilogRefused = 7,
+    /// The arguments don't fit main's parameters.
+    BadArgs = 8,
+    /// A probe failed.
+    ProbeFault = 9,
+    /// The input file is longer than the limit.
+    TooLong = 10,
+}

@@ -1,0 +1,99 @@
+//! The top call.
+
+ghost use Rattle.std.specs.Prelude.{◌≡◌, Some, map, string_bytes};
+ghost use Rattle.safl_tool.specs.Answers.{Says, Told, SameStrays};
+ghost use Rattle.safl_tool.specs.Commands.{Build, command_of};
+ghost use Rattle.safl_tool.specs.Refusals.{Tells, Refuses};
+
+use crate::build::build;
+use crate::command::{Command, read_words};
+use crate::refusal::Refusal;
+use crate::status::Status;
+use safl_io::{OutErr, Shelf, Sink};
+use safl_word::NoMemory;
+use std::alloc::Global;
+
+// The line that names the commands.
+const USAGE: &[u8] =
+    b"usage: safl check IN | build IN OUT | sim IN --cycles L [ARG..] | run FILE --cycles L [ARG..] | walk IN --order SEED --steps N [ARG..] | report IN | gen SEED COUNT | bench SEED COUNT --cycles L\n";
+
+/// Does what the words of a command line ask for, and answers the status with which the program ends.
+///
+/// `out` gets what a command prints, and `err` the line of a refusal.
+pub fn run<S: Shelf, O: Sink, E: Sink>(
+    alloc: Global,
+    words: &[String],
+    shelf: &mut S,
+    out: &mut O,
+    err: &mut E,
+) -> Status
+    // The cause of each status; at Ok of `build IN OUT`, that OUT holds the Verilog text of a netlist that is correct for IN's program.
+    ensures says { Says (command_of (map string_bytes words.now))
+        (record { holds = S.holds shelf.old; read_faults = S.read_faults shelf.old; write_faults = S.write_faults shelf.old; strays = S.strays shelf.old })
+        (record { holds = S.holds shelf.new; read_faults = S.read_faults shelf.new; write_faults = S.write_faults shelf.new; strays = S.strays shelf.new }) result }
+    // What `err` got.
+    ensures told { Told (command_of (map string_bytes words.now)) (S.holds shelf.old)
+        (record { sent = E.sent err.old; faults = E.faults err.old }) (record { sent = E.sent err.new; faults = E.faults err.new }) result }
+    ensures prints_nothing { (O.sent out.new ≡ O.sent out.old) }
+    ensures no_fault_of_out { (O.faults out.new ≡ O.faults out.old) }
+    // No name is used on a shelf that tells that it holds none of it.
+    ensures no_stray { SameStrays (command_of (map string_bytes words.now))
+        (record { holds = S.holds shelf.old; read_faults = S.read_faults shelf.old; write_faults = S.write_faults shelf.old; strays = S.strays shelf.old })
+        (record { holds = S.holds shelf.new; read_faults = S.read_faults shelf.new; write_faults = S.write_faults shelf.new; strays = S.strays shelf.new }) }
+{
+    let _ = &out;
+    match read_words(words) {
+        None => tell(err, USAGE, Status::Usage),
+        Some(Command::Build { input, output }) => run_build(alloc, input, output, shelf, err),
+    }
+}
+
+// Builds, and sends the line of a refusal.
+fn run_build<S: Shelf, E: Sink>(
+    alloc: Global,
+    input: &str,
+    output: &str,
+    shelf: &mut S,
+    err: &mut E,
+) -> Status
+    ensures says { Says (Some (Build input.now output.now))
+        (record { holds = S.holds shelf.old; read_faults = S.read_faults shelf.old; write_faults = S.write_faults shelf.old; strays = S.strays shelf.old })
+        (record { holds = S.holds shelf.new; read_faults = S.read_faults shelf.new; write_faults = S.write_faults shelf.new; strays = S.strays shelf.new }) result }
+    ensures told { Told (Some (Build input.now output.now)) (S.holds shelf.old)
+        (record { sent = E.sent err.old; faults = E.faults err.old }) (record { sent = E.sent err.new; faults = E.faults err.new }) result }
+    ensures no_stray { SameStrays (Some (Build input.now output.now))
+        (record { holds = S.holds shelf.old; read_faults = S.read_faults shelf.old; write_faults = S.write_faults shelf.old; strays = S.strays shelf.old })
+        (record { holds = S.holds shelf.new; read_faults = S.read_faults shelf.new; write_faults = S.write_faults shelf.new; strays = S.strays shelf.new }) }
+{
+    match build(alloc, shelf, input, output) {
+        Ok(()) => Status::Ok,
+        Err(refusal) => refuse(alloc, err, refusal, input, output),
+    }
+}
+
+// Sends the line of a refusal.
+fn refuse<E: Sink>(
+    alloc: Global,
+    err: &mut E,
+    refusal: Refusal,
+    input: &str,
+    output: &str,
+) -> Status
+    ensures { Refuses refusal input.now output.now (record { sent = E.sent err.old; faults = E.faults err.old }) (record { sent = E.sent err.new; faults = E.faults err.new }) result }
+{
+    match refusal.line(alloc, input, output) {
+        Ok(text) => tell(err, &text, refusal.status()),
+        Err(NoMemory) => tell(err, b"out of memory\n", Status::NoMemory),
+    }
+}
+
+// Sends a line. A sink that fails changes nothing of the status.
+fn tell<E: Sink>(err: &mut E, line: &[u8], status: Status) -> Status
+    ensures { Tells status line.now (record { sent = E.sent err.old; faults = E.faults err.old }) (record { sent = E.sent err.new; faults = E.faults err.new }) result }
+{
+    match err.put(line) {
+        Ok(()) => status,
+        Err(OutErr::Failed) => status,
+        Err(OutErr::NoMemory) => Status::NoMemory,
+    }
+}
