@@ -14,6 +14,7 @@ use Rattle.safl_text.specs.declared.error.LexErr.{LexErr}
 use Rattle.safl_text.specs.declared.error.LexErr.TheVariants as errors
 use Rattle.safl_net.specs.Netlist.{Netlist}
 use Rattle.safl_net.specs.Written.{written}
+use Rattle.safl_verilog.specs.Reads.{Reads}
 use Rattle.safl_io.specs.Shelf.{Files, file_of}
 use Rattle.safl_io.specs.Reading.{HasFile}
 use Rattle.safl_unit.specs.Correct.{Correct}
@@ -53,11 +54,11 @@ is_refused source answer small is none =
     (small, λ C D s. never s.number s.tokens)
 
 -- the circuit of a constant is that of its source's program
-pub is_circuit : (source : List ℕ) (m k : ℕ) (w : Word) (n : Netlist) (text : List ℕ) → IsConstantSource source m → k ≡ m → w ≡ record { width = 8; bits = k % 2 ^ 8 } → IsCircuit (constant_program w) main_names no_choice n → text ≡ written n → IsCircuitOf source text
-is_circuit source m k w n text p same is circuit spelled =
+pub is_circuit : (source : List ℕ) (m k : ℕ) (w : Word) (n : Netlist) (text : List ℕ) → IsConstantSource source m → k ≡ m → w ≡ record { width = 8; bits = k % 2 ^ 8 } → IsCircuit (constant_program w) main_names no_choice n → text ≡ written n → Reads (written n) n → IsCircuitOf source text
+is_circuit source m k w n text p same is circuit spelled reads =
     let low : k % 2 ^ 8 ≡ m = ap (λ (x : ℕ). x % 2 ^ 8) same ∙ mod-eq_of_lt p.small in
     let word : w ≡ byte m = is ∙ ap (λ (x : ℕ). byte x) low in
-    (constant_program (byte m), main_names, n, record { number = m; tokens = p; program = refl; names = refl }, spelled, subst (λ v. Correct (constant_program v) main_names n) word circuit.correct)
+    (constant_program (byte m), main_names, n, record { number = m; tokens = p; program = refl; names = refl }, spelled, subst (λ t. Reads t n) (sym spelled) reads, subst (λ v. Correct (constant_program v) main_names n) word circuit.correct)
 
 some_of : (name bytes : List ℕ) (P : List ℕ → Type 0) (o : Option (List ℕ)) → o ≡ Some bytes → P bytes → IsSomeAnd o P
 some_of name bytes P o is p = subst (λ x. IsSomeAnd x P) (sym is) p

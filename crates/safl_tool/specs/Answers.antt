@@ -8,6 +8,7 @@ use Rattle.safl_io.specs.Told.{TellsOn}
 use Rattle.safl_io.specs.Sink.{Sends, SendsPart}
 use Rattle.safl_net.specs.Netlist.{Netlist}
 use Rattle.safl_net.specs.Written.{written}
+use Rattle.safl_verilog.specs.Reads.{Reads}
 use Rattle.safl_check.specs.Program.{Program}
 use Rattle.safl_unit.specs.Names.{Names}
 use Rattle.safl_unit.specs.Correct.{Correct}
@@ -31,10 +32,10 @@ IsRefused source = (length source ≤ source_max) × ((C : Program) (D : Names) 
 abbrev pub refused_fault : Fault
 refused_fault = record { rule = rule.E02; place = 0; first = 0; second = 0 }
 
--- the file is the Verilog text of a netlist that is correct for the source's program
+-- the file is the Verilog text of a netlist that is correct for the source's program, and reads as that netlist
 abbrev pub IsCircuitOf : List ℕ → List ℕ → Type 0
 IsCircuitOf source text =
-    (C : Program) × (D : Names) × (n : Netlist) × IsSourceOf source C D × (text ≡ written n) × Correct C D n
+    (C : Program) × (D : Names) × (n : Netlist) × IsSourceOf source C D × (text ≡ written n) × Reads text n × Correct C D n
 
 -- the output file is there, where the shelf tells, and is such a text
 abbrev pub Built : Option Files → Option Files → List ℕ → List ℕ → Type 0

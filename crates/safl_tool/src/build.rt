@@ -12,6 +12,7 @@ use crate::constant::constant_of;
 use crate::refusal::{Refusal, SOURCE_MAX, column_number, line_number};
 use safl_io::{OutErr, ReadErr, Shelf, read_file, write_file};
 use safl_unit::compile_constant;
+use safl_verilog::laws::written_reads_law;
 use safl_vwrite::text_of;
 use safl_word::{Fault, NoMemory, Raw, Rule, Word};
 use std::alloc::Global;
@@ -70,6 +71,7 @@ fn circuit_text(alloc: Global, source: &[u8]) -> Result<Option<Vec<u8>>, NoMemor
         None => Ok(None),
         Some(number) => {
             let circuit = compile_constant(alloc, Word::from_low_bits(8, Raw::from(number)))?;
+            written_reads_law();
             let text = text_of(alloc, &circuit.into_net())?;
             Ok(Some(text))
         }
