@@ -1,6 +1,5 @@
 -- What is found at the front of a text.
-use Rattle.std.proofs.Common.{◌≡◌, ◌≢◌, ℕ, zero, suc, ◌+◌, ◌-◌, ◌<◌, ◌≤◌, List, [], ◌∷◌, ◌++◌, length, take, drop, get_or, Bool, true, false, cond, not, ◌==◌, ◌&&◌, nat_le, Some, None, Option, refl, sym, ap, subst, ◌∙◌, arith, inl, inr, drop-cons, length-drop, drop-drop}
-use Rattle.std.specs.List.{list_all}
+use Rattle.std.proofs.Common.{◌≡◌, ◌≢◌, ℕ, suc, ◌+◌, ◌-◌, ◌<◌, ◌≤◌, List, [], ◌∷◌, length, take, drop, get_or, Bool, true, false, cond, not, ◌==◌, ◌&&◌, nat_le, Some, None, Option, refl, sym, ap, ◌∙◌, arith, drop-cons, length-drop, drop-drop}
 use Rattle.std.proofs.Math.Seq.{take-length}
 use Rattle.std.proofs.lemmas.List.{take-append-drop, length-take-le}
 use Rattle.std.proofs.lemmas.Bool.{and_parts}
@@ -12,9 +11,9 @@ use Rattle.safl_verilog.specs.declared.token.Keyword.{Keyword}
 use Rattle.safl_verilog.specs.declared.token.Symbol.{Symbol}
 use Rattle.safl_verilog.specs.declared.token.Symbol.TheVariants as symbols
 use Rattle.safl_verilog.specs.declared.token.TokenKind.TheVariants as kinds
-use Rattle.safl_verilog.specs.Tokens.{keyword_text, symbol_text, stops, next_base, base_with, name_max, Piece, Lexeme}
+use Rattle.safl_verilog.specs.Tokens.{keyword_text, symbol_text, stops, next_base}
 use Rattle.safl_verilog.specs.Pieces.{run, named, all_keywords, single_symbols, double_symbols, word_kind, first_bytes, first_word, sized_length, first_number, one_symbol, two_symbols, first_symbol, closing, one_more, block, first_comment, first_piece}
-use Rattle.safl_verilog.proofs.Runs.{chosen, run_of, named_none}
+use Rattle.safl_verilog.proofs.Runs.{run_of, named_none}
 use Rattle.safl_verilog.proofs.Symbols.{keyword_named, double_named}
 use Rattle.safl_vread.specs.declared.front.Front.{Front}
 use Rattle.safl_vread.specs.declared.front.Front.TheVariants as fronts

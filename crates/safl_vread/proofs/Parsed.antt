@@ -1,5 +1,5 @@
 -- From the answer on tokens to the answer on a text.
-use Rattle.std.proofs.Common.{◌≡◌, ℕ, List, Ok, Err, refl, sym, subst}
+use Rattle.std.proofs.Common.{ℕ, List, Ok, Err}
 use Rattle.std.specs.Prelude.{Result, IfOk, IfErr}
 use Rattle.safl_verilog.specs.Tokens.{Terminal, HasTokens}
 use Rattle.safl_verilog.specs.Reads.{lexical, unexpected}

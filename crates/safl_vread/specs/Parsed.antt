@@ -1,9 +1,8 @@
 -- What parsing a text answers.
-use Rattle.std.specs.Prelude.{◌≡◌, ℕ, List, [], Result, Ok, Err}
+use Rattle.std.specs.Prelude.{◌≡◌, ℕ, List, Result, Ok, Err}
 use Rattle.safl_grammar.specs.Syntax.{Rule}
 use Rattle.safl_verilog.specs.declared.fault.VRule.TheVariants as rules
-use Rattle.safl_verilog.specs.declared.fault.VFault.{VFault}
-use Rattle.safl_verilog.specs.Tokens.{Terminal, HasTokens, HasLexicalFault}
+use Rattle.safl_verilog.specs.Tokens.{Terminal, HasTokens}
 use Rattle.safl_verilog.specs.Files
 use Rattle.safl_verilog.specs.Faults.{at}
 use Rattle.safl_verilog.specs.Reads.{IsFile, HasUnexpected, place_in, HasFault}

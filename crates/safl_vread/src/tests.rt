@@ -1,6 +1,7 @@
 //! Short files, right and wrong, with the places of their faults.
 
 use crate::{VErr, VRule, parse};
+use std::alloc::Global;
 use std::test::Fail;
 
 // A text, and the rule that it breaks at a place.
@@ -24,6 +25,17 @@ const fn v02(text: &'static [u8], place: u32) -> Row {
         text,
         rule: VRule::V02,
         place,
+    }
+}
+
+// The rule that a text breaks, and the place.
+fn refusal(alloc: Global, text: &[u8]) -> Option<(VRule, u32)> {
+    if text.len() >= 4294967296 {
+        return None;
+    }
+    match parse(alloc, text) {
+        Err(VErr::Refused(fault)) => Some((fault.rule, fault.place)),
+        _ => None,
     }
 }
 
@@ -84,12 +96,7 @@ fn wrong_files(rt: HostRuntime) -> Result<(), Fail> {
         v01(b"module m (clk); endmodule $", 26),
     ];
     for row in rows.iter() {
-        let refusal = match parse(rt.alloc(), row.text) {
-            Ok(_) => None,
-            Err(VErr::NoMemory) => None,
-            Err(VErr::Refused(fault)) => Some((fault.rule, fault.place)),
-        };
-        assert_eq!(rt; refusal, Some((row.rule, row.place)));
+        assert_eq!(rt; refusal(rt.alloc(), row.text), Some((row.rule, row.place)));
     }
     Ok(())
 }

@@ -1,7 +1,5 @@
 use Rattle.std.proofs.Common.{◌≡◌, ◌==◌, not, take, true}
 use Rattle.std.specs.List.{list_all}
-use Rattle.safl_word.specs.Numerals.{is_digit}
-use Rattle.safl_net.specs.Names.{is_part}
 use Rattle.safl_vread.proofs.front.line_length.Given as goal
 
 abbrev pub invariant-loop-i : goal.invariant-loop-i

@@ -1,4 +1,4 @@
-use Rattle.std.proofs.Common.{◌≡◌, ◌∙◌, ◌≤◌, ◌-◌, ap, sym, subst, take, drop, length, length-drop, List, ℕ, Some, None, arith}
+use Rattle.std.proofs.Common.{◌≡◌, ◌∙◌, ◌≤◌, ◌-◌, ap, sym, subst, take, drop, length, List, ℕ, Some, None}
 use Rattle.safl_word.specs.Numerals.{is_digit}
 use Rattle.safl_verilog.specs.Tokens.{next_base}
 use Rattle.safl_vread.specs.Fronts.{IsRun}

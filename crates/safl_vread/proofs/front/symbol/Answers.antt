@@ -1,4 +1,4 @@
-use Rattle.std.proofs.Common.{◌≡◌, ◌∙◌, ap, sym, drop, get_or, List, ℕ}
+use Rattle.std.proofs.Common.{◌∙◌, ap, sym, drop, get_or, List, ℕ}
 use Rattle.safl_verilog.specs.Pieces.{first_symbol}
 use Rattle.safl_vread.specs.Fronts.{measured}
 use Rattle.safl_vread.proofs.Fronts.{two_missing, first_and_rest}

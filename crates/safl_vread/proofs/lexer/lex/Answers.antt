@@ -1,4 +1,4 @@
-use Rattle.std.proofs.Common.{◌≡◌, ◌≤◌, ◌+◌, ◌<◌, length, drop, refl, arith}
+use Rattle.std.proofs.Common.{refl, arith}
 use Rattle.safl_vread.proofs.Fronts.{slice_rest}
 use Rattle.safl_vread.proofs.Cuts.{goes_over, takes, token_within, stops_at, whole}
 use Rattle.safl_vread.proofs.lexer.lex.Goals as goal

@@ -1,4 +1,4 @@
-use Rattle.std.proofs.Common.{◌≡◌, ◌≤◌, ◌-◌, length}
+use Rattle.std.proofs.Common.{◌≤◌, ◌-◌, length}
 use Rattle.safl_vread.specs.Fronts.{IsCutUpTo}
 use Rattle.safl_vread.proofs.lexer.lex.Given as goal
 

@@ -1,4 +1,4 @@
-use Rattle.std.proofs.Common.{◌≡◌, ◌∷◌, [], length}
+use Rattle.std.proofs.Common.{◌≡◌, length}
 use Rattle.safl_grammar.specs.Reading.{read_many}
 use Rattle.safl_verilog.specs.Grammar.{sort_codes}
 use Rattle.safl_verilog.specs.Reader.{comes, read_another_decl, read_decls}

@@ -1,6 +1,5 @@
 use Rattle.std.proofs.Common.{◌≡◌, ◌∷◌, [], length}
 use Rattle.safl_grammar.specs.Reading.{read_many}
-use Rattle.safl_verilog.specs.Grammar.{sort_codes}
 use Rattle.safl_verilog.specs.Reader.{comes, read_another_id, read_ids}
 use Rattle.safl_vread.specs.Shown.{shown_all, spots_at}
 use Rattle.safl_vread.proofs.parser.Parser.names.Given as goal

@@ -1,7 +1,6 @@
 use Rattle.std.proofs.Common.{sym, ◌∙◌, [], ◌∷◌}
 use Rattle.std.proofs.lemmas.Result.{err_from_is_err_and}
 use Rattle.safl_grammar.proofs.Many.{goes_on, stops_here}
-use Rattle.safl_verilog.specs.Grammar.{sort_codes}
 use Rattle.safl_verilog.specs.Reader.{comes, read_another_stmt}
 use Rattle.safl_vread.specs.Shown.{shown_all, statements_at}
 use Rattle.safl_vread.proofs.Loops.{another_stmt_eats, fails}
