@@ -6,11 +6,15 @@ mod mixed;
 use std::io;
 
 fn main(rt: HostRuntime) -> io::Result<()> {
-    for width in [64u8, 128] {
-        let Ok(shown) = mixed::run(rt.alloc(), width, 10_000, 20_000) else {
+    for (width, wires, ticks) in [
+        (64, 10_000, 20_000),
+        (128, 10_000, 20_000),
+        (64, 1_000_000, 100),
+    ] {
+        let Ok(shown) = mixed::run(rt.alloc(), width, wires, ticks) else {
             return println!(rt; "out of memory");
         };
-        println!(rt; "{width} bits: {shown}")?;
+        println!(rt; "{wires} wires of {width} bits, {ticks} cycles: {shown}")?;
     }
     Ok(())
 }

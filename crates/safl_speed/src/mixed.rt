@@ -18,13 +18,13 @@ fn operator(i: u32) -> Primitive
     ensures { (w : ℕ) → op_width (Op.Apply result) (w ∷ w ∷ []) ≡ Some w }
 {
     match i % 8 {
-        0 => Primitive::Add,
-        1 => Primitive::Xor,
-        2 => Primitive::Sub,
-        3 => Primitive::Mul,
-        4 => Primitive::Or,
+        0 => Primitive::Mul,
+        1 => Primitive::Add,
+        2 => Primitive::And,
+        3 => Primitive::Sub,
+        4 => Primitive::Xor,
         5 => Primitive::Shl,
-        6 => Primitive::And,
+        6 => Primitive::Or,
         _ => Primitive::Shr,
     }
 }
@@ -44,7 +44,7 @@ fn wire(net: &mut Net, p: Primitive, width: u8, a: Sig, b: Sig) -> Result<Sig, A
     net.temp(Op::Apply(p), &[a, b])
 }
 
-// So many wires, each on the one before and another.
+// So many wires, each on the two before it.
 fn chain(net: &mut Net, width: u8, input: Sig, count: u32) -> Result<Sig, AllocError>
     requires tidy { IsTidy net.old }
     requires has { Has net.old width input }

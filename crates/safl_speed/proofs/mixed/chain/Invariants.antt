@@ -6,9 +6,9 @@ use Rattle.safl_speed.proofs.mixed.chain.Given as goal
 
 abbrev pub invariant-wires : goal.invariant-wires
 invariant-wires l = record {
-    tidy : IsTidy l.net;
-    grows : Grows l.initial.net l.net;
-    few : length l.net.signals ≤ length l.initial.net.signals + l.i;
-    last : Has l.net l.width l.last;
-    other : Has l.net l.width l.other;
-  }
+  tidy : IsTidy l.net;
+  grows : Grows l.initial.net l.net;
+  few : length l.net.signals ≤ length l.initial.net.signals + l.i;
+  last : Has l.net l.width l.last;
+  other : Has l.net l.width l.other;
+}

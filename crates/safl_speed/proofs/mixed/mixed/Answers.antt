@@ -8,8 +8,8 @@ use Rattle.safl_speed.proofs.mixed.mixed.Goals as goal
 pub returns-clause-takes : goal.returns-clause-takes
 returns-clause-takes c =
     takes_one c.input.new.self c.chain.new.net (codes "x") c.args.width
-      (c.in-Ok.ensures.added ∙ ap (λ (n : Netlist). with_signal n (record { name = codes "x"; width = c.args.width; kind = Input })) c.new-net.ensures)
-      c.chain.ensures.grows
+    (c.in-Ok.ensures.added ∙ ap (λ (n : Netlist). with_signal n (record { name = codes "x"; width = c.args.width; kind = Input })) c.new-net.ensures)
+    c.chain.ensures.grows
 
 pub returns-clause-last : goal.returns-clause-last
 returns-clause-last c = within c.chain.new.net c.in_ok-last.last.0 c.args.width c.in_ok-last.ensures.has

@@ -4,6 +4,6 @@ use Rattle.safl_speed.proofs.mixed.run.Given as goal
 
 abbrev pub invariant-ticks : goal.invariant-ticks
 invariant-ticks l = record {
-    takes : TakesOne l.sim.net l.width;
-    last : l.last.0 < length l.sim.net.signals;
-  }
+  takes : TakesOne l.sim.net l.width;
+  last : l.last.0 < length l.sim.net.signals;
+}
