@@ -7,7 +7,7 @@ use Rattle.safl_core.proofs.Numbered.{Numbered}
 use Rattle.safl_core.specs.Machine.{State, Mode, Idle, Runs, Delivers, opening, after, back}
 use Rattle.safl_core.proofs.Basics.{serves}
 use Rattle.safl_sites.specs.Conflicts.{Reaches, Here, Through, ReachesIn, Apart, ApartIn, Conflict}
-use Rattle.safl_core.specs.Interference.{Busy, OneInUse}
+use Rattle.safl_core.specs.Interference.{Busy, BusySitesConflict, OneInUse}
 use Rattle.safl_check.proofs.Once.{Once, OnceIn}
 use Rattle.safl_check.specs.Readiness.{Answer, Ready, LoopTo, NotYet, select, with_all, answer, answers, wanted, wanted_in, Unsent, Sent, back_word}
 use Rattle.safl_check.specs.Program.{Program, unit_for}
@@ -307,6 +307,12 @@ module _ (C : Program) (good : Numbered C) (s : State) (inv : Inv C s) where
       let f = found C args s (suc k) w.0 w.1 in
       record { pos = pos; within = f.within; asks = f.asks pos; out = ap (λ x. is_some (back_word x)) f.unsent }
   busy_live args (suc k) pos (inr sent) = sent_live k sent
+
+pub busy_conflict : (C : Program) → Numbered C → BusySitesConflict C
+busy_conflict C good args es legal j k pj pk other same bj bk =
+    let s = after C args opening es in
+    let inv = inv_after C args good es legal in
+    conflicts C good s inv j k (busy_live C good s inv args j pj bj) (busy_live C good s inv args k pk bk) other same
 
 pub arbiter_serves : (C : Program) (arbiter : ℕ → Bool) → Numbered C → ((j k : ℕ) → Conflict C j k → arbiter (unit_for C j) ≡ true) → OneInUse C arbiter
 arbiter_serves C arbiter good arbs = record {

@@ -1,8 +1,9 @@
 -- What a plan owes to the circuit: arbiters where sites meet, and shown words that serve.
-use Rattle.std.specs.Prelude.{◌≡◌, ℕ, zero, suc, ◌<◌, List, Option, Some, None, Bool, false, cond, ◌⊎◌}
+use Rattle.std.specs.Prelude.{◌≡◌, ◌≢◌, ℕ, zero, suc, ◌<◌, List, Option, Some, None, Bool, false, cond, ◌⊎◌}
 use Rattle.safl_word.specs.Words.{Word}
 use Rattle.safl_check.specs.Program.{Program, unit_for}
 use Rattle.safl_check.specs.Readiness.{Stage, Unsent, Sent, Returned, answer, wanted}
+use Rattle.safl_sites.specs.Conflicts.{Conflict}
 use Rattle.safl_core.specs.Machine.{State, Runs, Event, opening, asked, back, after, last_word, EachList}
 
 -- The words that a circuit shows which keeps those of some sites: of a site that has returned its own word, where it is
@@ -21,6 +22,12 @@ shown C kept d args es (suc k) =
 -- wanted and unsent, or in flight: sent and not returned
 abbrev pub Busy : Program → List Word → State → ℕ → Type 0
 Busy C args s k = ((ws : List Word) × (asked C args s k ≡ Some ws)) ⊎ (s.site k ≡ Sent)
+
+-- two sites of a unit that are busy at once conflict
+abbrev pub BusySitesConflict : Program → Type 0
+BusySitesConflict C =
+    EachList C (λ args es. (j k : ℕ) → 0 < j → 0 < k → j ≢ k → unit_for C j ≡ unit_for C k
+    → Busy C args (after C args opening es) j → Busy C args (after C args opening es) k → Conflict C j k)
 
 -- at a unit without an arbiter at most one site is busy
 pub record OneInUse (C : Program) (arbiter : ℕ → Bool) : Type 0 where

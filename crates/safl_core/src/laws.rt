@@ -4,7 +4,7 @@ ghost use Rattle.std.specs.Prelude.{ℕ, Bool};
 ghost use Rattle.safl_check.specs.Program.{Program};
 ghost use Rattle.safl_check.specs.WellFormed.{IsWellFormed};
 ghost use Rattle.safl_sites.specs.Plan.{Suffices};
-ghost use Rattle.safl_core.specs.Interference.{OneInUse, ShownWordsServe};
+ghost use Rattle.safl_core.specs.Interference.{BusySitesConflict, OneInUse, ShownWordsServe};
 ghost use Rattle.safl_core.specs.Laws.{Bounded, GoesOn, Right, SameCalls, SameNumber, Stops};
 
 /// What main has returned is its value, and the list has three events for each call but two less for each
@@ -29,6 +29,11 @@ pub fn bound_law()
 pub fn calls_law()
     ensures lists { (C : Program) → IsWellFormed C → SameCalls C }
     ensures number { (C : Program) → IsWellFormed C → SameNumber C }
+{}
+
+/// Two sites of a unit that are wanted or in flight at once conflict.
+pub fn conflict_law()
+    ensures { (C : Program) → IsWellFormed C → BusySitesConflict C }
 {}
 
 /// At a unit without an arbiter at most one site is wanted or in flight.
