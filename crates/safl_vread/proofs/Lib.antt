@@ -2,3 +2,4 @@ pub mod Fronts
 pub mod Cuts
 pub mod Loops
 pub mod Parsed
+pub mod NumberLemmas

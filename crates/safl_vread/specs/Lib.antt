@@ -2,3 +2,4 @@ pub mod Fronts
 pub mod Shown
 pub mod Gives
 pub mod Parsed
+pub mod Numbers
