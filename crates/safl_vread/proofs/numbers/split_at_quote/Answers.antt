@@ -1,4 +1,4 @@
-use Rattle.std.proofs.Common.{◌≡◌, ◌∙◌, ap, sym, drop, List, ℕ}
+use Rattle.std.proofs.Common.{◌∙◌, ap, sym, drop, List, ℕ}
 use Rattle.safl_vread.proofs.Fronts.{slice_rest}
 use Rattle.safl_vread.proofs.NumberLemmas.{quote_parts}
 use Rattle.safl_vread.proofs.numbers.split_at_quote.Goals as goal
