@@ -5,6 +5,7 @@ pub mod Tidy
 pub mod Bounds
 pub mod Finding
 pub mod Growth
+pub mod Settling
 pub mod CellWords
 pub mod Saying
 pub mod OneValuation

@@ -9,4 +9,5 @@ pub mod Making
 pub mod Rules
 pub mod Stored
 pub mod Growth
+pub mod Settled
 pub mod Whole
