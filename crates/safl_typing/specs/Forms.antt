@@ -1,0 +1,143 @@
+-- The numbered form of a program, and which form a program has.
+use Rattle.std.specs.Prelude.{◌≡◌, ℕ, suc, ◌+◌, ◌≤◌, List, [], ◌∷◌, ◌++◌, length, map, sum_by, true, codes}
+use Rattle.std.specs.String.{string_bytes}
+use Rattle.safl_check.specs.declared.checked.Site.{Site}
+use Rattle.safl_check.specs.declared.checked.Function.{Function}
+use Rattle.safl_check.specs.declared.checked.Parameter as code
+use Rattle.safl_check.specs.Checked.{CheckedProgram}
+use Rattle.safl_check.specs.Terms.{Term, Const, Var, If, Let, Op, Call, Loop, Terms, Nil, Cons}
+use Rattle.safl_check.specs.Tree.{tree}
+use Rattle.safl_tree.specs.Tree.{Tree, Definition, Parameter}
+use Rattle.safl_typing.specs.Rewriting.{Expression, Number, Sized, Variable, Choice, Binding, Applied, Called, Expressions, no_expression, an_expression, Bindings, no_binding, a_binding, rewritten, nodes}
+use Rattle.safl_typing.specs.Heads.{Slot, Head, Known, unit_of, params_of, heads}
+use Rattle.safl_typing.specs.Typing.{Differ, names, Has}
+
+pub record FunctionForm : Type 0 where
+  pub name : List ℕ
+  pub params : List Slot
+  pub width : ℕ
+  -- the number of the first member of its group, and of the first site of its body and of those that follow
+  pub unit : ℕ
+  pub first_site : ℕ
+  pub body : Term
+
+pub record Form : Type 0 where
+  pub functions : List FunctionForm
+  pub sites : List Site
+
+-- the form that a checked program shows
+abbrev pub shown_param : code.Parameter → Slot
+shown_param p = record { name = string_bytes p.name; width = p.width }
+
+abbrev pub shown_function : Function → FunctionForm
+shown_function f = record { name = string_bytes f.name; params = map shown_param f.params.items; width = f.width; unit = f.unit; first_site = f.first_site; body = tree f.body }
+
+abbrev pub shown : CheckedProgram → Form
+shown c = record { functions = map shown_function c.functions; sites = c.sites }
+
+-- the sites of the body of g, in order
+abbrev mutual
+  pub sites_of : ℕ → Term → List Site
+  sites_of g (Const w) = []
+  sites_of g (Var i) = []
+  sites_of g (If c a b) = sites_of g c ++ (sites_of g a ++ sites_of g b)
+  sites_of g (Let ts b) = sites_of_all g ts ++ sites_of g b
+  sites_of g (Op o ts) = sites_of_all g ts
+  sites_of g (Call f i ts) = record { caller = g; callee = f } ∷ sites_of_all g ts
+  sites_of g (Loop h ts) = sites_of_all g ts
+
+  pub sites_of_all : ℕ → Terms → List Site
+  sites_of_all g Nil = []
+  sites_of_all g (Cons t ts) = sites_of g t ++ sites_of_all g ts
+
+-- the sites of functions that are numbered from n on
+abbrev pub all_sites : ℕ → List FunctionForm → List Site
+all_sites n [] = []
+all_sites n (f ∷ fs) = sites_of n f.body ++ all_sites (suc n) fs
+
+-- ---- limits
+
+abbrev pub max_functions : ℕ
+max_functions = 1000
+
+abbrev pub max_params : ℕ
+max_params = 16
+
+abbrev pub max_bindings : ℕ
+max_bindings = 16
+
+abbrev pub max_sites : ℕ
+max_sites = 4000
+
+abbrev pub max_nodes : ℕ
+max_nodes = 50000
+
+-- each let has few enough bindings
+abbrev mutual
+  pub HasShortLets : Expression → Type 0
+  HasShortLets (Number p n) = Unit {0}
+  HasShortLets (Sized p w n) = Unit {0}
+  HasShortLets (Variable p x) = Unit {0}
+  HasShortLets (Choice p c a b) = HasShortLets c × HasShortLets a × HasShortLets b
+  HasShortLets (Binding p bs b) = (length (names bs) ≤ max_bindings) × HaveShortBound bs × HasShortLets b
+  HasShortLets (Applied p o es) = HaveShortLets es
+  HasShortLets (Called p f es) = HaveShortLets es
+
+  pub HaveShortLets : Expressions → Type 0
+  HaveShortLets no_expression = Unit {0}
+  HaveShortLets (an_expression e es) = HasShortLets e × HaveShortLets es
+
+  pub HaveShortBound : Bindings → Type 0
+  HaveShortBound no_binding = Unit {0}
+  HaveShortBound (a_binding p x w e bs) = HasShortLets e × HaveShortBound bs
+
+abbrev pub nodes_of : List Definition → ℕ
+nodes_of ds = sum_by (λ d. nodes (rewritten d.body)) ds
+
+-- ---- forms
+
+-- the names of a definition's parameters
+abbrev pub param_names : Definition → List (List ℕ)
+param_names d = map (λ p. p.name) d.params
+
+-- a definition of group u, of a program with these heads, has this form, where the sites before lo are those of the
+-- functions before it, and those from hi on of the functions after it
+pub record IsFunctionOf (all : List Head) (u lo hi : ℕ) (d : Definition) (f : FunctionForm) : Type 0 where
+  pub name : f.name ≡ d.name
+  pub params : f.params ≡ params_of d
+  pub width : f.width ≡ d.width
+  pub unit : f.unit ≡ u
+  pub first_site : f.first_site ≡ lo
+  pub params_differ : Differ (param_names d)
+  pub few_params : length d.params ≤ max_params
+  pub short_lets : HasShortLets (rewritten d.body)
+  -- the body has the function's width, in tail position
+  pub body : Has (record { heads = all; unit = u }) (params_of d) true lo hi (rewritten d.body) d.width f.body
+
+-- definitions have these forms, where the first is function n, u is the group before it and w that group's width, and the
+-- sites are those from lo up to hi, hi apart; a joined one has the width of its group
+abbrev pub AreFunctionsOf : List Head → ℕ → ℕ → ℕ → ℕ → ℕ → List Definition → List FunctionForm → Type 0
+AreFunctionsOf all n u w lo hi [] [] = lo ≡ hi
+AreFunctionsOf all n u w lo hi [] (f ∷ fs) = ⊥
+AreFunctionsOf all n u w lo hi (d ∷ ds) [] = ⊥
+AreFunctionsOf all n u w lo hi (d ∷ ds) (f ∷ fs) = (m : ℕ) × IsFunctionOf all (unit_of n u d) lo m d f × (d.joined ≡ true → d.width ≡ w) × AreFunctionsOf all (suc n) (unit_of n u d) d.width m hi ds fs
+
+-- the last name
+abbrev pub IsLast : List ℕ → List Definition → Type 0
+IsLast x [] = ⊥
+IsLast x (d ∷ []) = d.name ≡ x
+IsLast x (d ∷ (e ∷ ds)) = IsLast x (e ∷ ds)
+
+abbrev pub function_names : List Definition → List (List ℕ)
+function_names ds = map (λ d. d.name) ds
+
+-- the program has this numbered form
+pub record IsFormOf (ds : List Definition) (c : Form) : Type 0 where
+  pub last_site : ℕ
+  pub functions : AreFunctionsOf (heads ds) 0 0 0 1 (suc last_site) ds c.functions
+  pub sites : c.sites ≡ all_sites 0 c.functions
+  pub functions_differ : Differ (function_names ds)
+  pub main : IsLast (codes "main") ds
+  pub few_functions : length ds ≤ max_functions
+  pub few_sites : last_site ≤ max_sites
+  pub few_nodes : nodes_of ds ≤ max_nodes

@@ -1,0 +1,92 @@
+-- What is known of the functions of a program, and which of them a call may name.
+use Rattle.std.specs.Prelude.{ℕ, zero, suc, ◌+◌, List, [], ◌∷◌, map, Option, Some, None, Bool, ◌&&◌, ◌==◌, nat_lt, if◌then◌else◌}
+use Rattle.std.specs.Str.{bytes_eq}
+use Rattle.safl_tree.specs.Tree.{Definition, Parameter}
+use Rattle.safl_typing.specs.Rewriting.{Expression, Number, Sized, Variable, Choice, Binding, Applied, Called, Expressions, no_expression, an_expression, Bindings, no_binding, a_binding}
+
+-- a name with its width: a parameter or a binding
+pub record Slot : Type 0 where
+  pub name : List ℕ
+  pub width : ℕ
+
+-- a function's name, its parameters, the width of its result, and its group: the number of the group's first member
+pub record Head : Type 0 where
+  pub name : List ℕ
+  pub params : List Slot
+  pub width : ℕ
+  pub unit : ℕ
+
+abbrev pub slot_of : Parameter → Slot
+slot_of p = record { name = p.name; width = p.width }
+
+abbrev pub params_of : Definition → List Slot
+params_of d = map slot_of d.params
+
+-- the group of function n, where u is that of the function before it
+abbrev pub unit_of : ℕ → ℕ → Definition → ℕ
+unit_of n u d = if d.joined then u else n
+
+abbrev pub head_of : ℕ → Definition → Head
+head_of u d = record { name = d.name; params = params_of d; width = d.width; unit = u }
+
+-- the heads of functions that are numbered from n on
+abbrev pub heads_from : ℕ → ℕ → List Definition → List Head
+heads_from n u [] = []
+heads_from n u (d ∷ ds) = head_of (unit_of n u d) d ∷ heads_from (suc n) (unit_of n u d) ds
+
+abbrev pub heads : List Definition → List Head
+heads ds = heads_from 0 0 ds
+
+-- what a body sees: all heads of the program, and its own group
+pub record Known : Type 0 where
+  pub heads : List Head
+  pub unit : ℕ
+
+-- a function's number and head
+pub record Numbered : Type 0 where
+  pub number : ℕ
+  pub head : Head
+
+-- the first head that passes the test
+abbrev pub first_head : (Head → Bool) → ℕ → List Head → Option Numbered
+first_head test n [] = None
+first_head test n (h ∷ hs) = if test h then Some (record { number = n; head = h }) else first_head test (suc n) hs
+
+-- a call's callee: a member of the own group, or a function of an earlier one
+pub data Callee : Type 0 where
+  Member : (number : ℕ) (head : Head) → Callee
+  Above : (number : ℕ) (head : Head) → Callee
+  Unknown : Callee
+
+abbrev pub member_or : Option Numbered → Option Numbered → Callee
+member_or (Some m) above = Member m.number m.head
+member_or None (Some m) = Above m.number m.head
+member_or None None = Unknown
+
+abbrev pub callee : Known → List ℕ → Callee
+callee k f = member_or (first_head (λ h. h.unit == k.unit && bytes_eq h.name f) 0 k.heads) (first_head (λ h. nat_lt h.unit k.unit && bytes_eq h.name f) 0 k.heads)
+
+-- a call is a site where no member of the own group has its name
+abbrev pub is_site : Callee → ℕ
+is_site (Member i h) = 0
+is_site (Above i h) = 1
+is_site Unknown = 1
+
+-- how many sites an expression has
+abbrev mutual
+  pub sites : Known → Expression → ℕ
+  sites k (Number p n) = 0
+  sites k (Sized p w n) = 0
+  sites k (Variable p x) = 0
+  sites k (Choice p c a b) = sites k c + (sites k a + sites k b)
+  sites k (Binding p bs b) = sites_bound k bs + sites k b
+  sites k (Applied p o es) = sites_in k es
+  sites k (Called p f es) = is_site (callee k f) + sites_in k es
+
+  pub sites_in : Known → Expressions → ℕ
+  sites_in k no_expression = 0
+  sites_in k (an_expression e es) = sites k e + sites_in k es
+
+  pub sites_bound : Known → Bindings → ℕ
+  sites_bound k no_binding = 0
+  sites_bound k (a_binding p x w e bs) = sites k e + sites_bound k bs

@@ -1,0 +1,32 @@
+-- What is claimed of checking.
+use Rattle.std.specs.Prelude.{◌≡◌, ◌↔◌, ℕ, List, [], ◌∷◌, Option, Some, None, Result, Ok, slice_get, false}
+use Rattle.safl_tree.specs.Tree.{Definition}
+use Rattle.safl_tree.specs.Printable.{IsFormedProgram}
+use Rattle.safl_check.specs.Checked.{CheckedProgram, IsChecked}
+use Rattle.safl_typing.specs.Forms.{FunctionForm, Form, IsFormOf, shown}
+use Rattle.safl_typing.specs.Walk.{outcome, first_fault}
+
+-- the walk gives exactly the form that the program has
+abbrev pub WalkGivesForm : Type 0
+WalkGivesForm = (ds : List Definition) (c : Form) → IsFormedProgram ds → (outcome ds ≡ Ok c) ↔ IsFormOf ds c
+
+-- a program has no fault exactly where it has a form
+abbrev pub FaultOrForm : Type 0
+FaultOrForm = (ds : List Definition) → IsFormedProgram ds → (first_fault ds ≡ None) ↔ ((c : Form) × IsFormOf ds c)
+
+-- a program has one form at most
+abbrev pub OneForm : Type 0
+OneForm = (ds : List Definition) (c d : Form) → IsFormedProgram ds → IsFormOf ds c → IsFormOf ds d → c ≡ d
+
+-- a checked program's form is well formed, within limits, and in the order of the text
+abbrev pub FormsAreChecked : Type 0
+FormsAreChecked = (ds : List Definition) (c : CheckedProgram) → IsFormedProgram ds → IsFormOf ds (shown c) → IsChecked c
+
+-- no definition belongs to the group of the one before it
+abbrev pub NoneJoined : List Definition → Type 0
+NoneJoined [] = Unit {0}
+NoneJoined (d ∷ ds) = (d.joined ≡ false) × NoneJoined ds
+
+-- where none is joined, each function is a group by itself
+abbrev pub AloneUnits : Type 0
+AloneUnits = (ds : List Definition) (c : Form) (n : ℕ) (f : FunctionForm) → NoneJoined ds → IsFormOf ds c → slice_get c.functions n ≡ Some f → f.unit ≡ n

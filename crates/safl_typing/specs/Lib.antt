@@ -1,0 +1,6 @@
+pub mod Rewriting
+pub mod Heads
+pub mod Typing
+pub mod Forms
+pub mod Walk
+pub mod Laws

@@ -1,0 +1,132 @@
+-- Expressions in which each `case` is rewritten as a let and ifs.
+use Rattle.std.specs.Prelude.{ℕ, ◌+◌, List, Option, None, Bool, true, false, ◌&&◌, codes}
+use Rattle.safl_word.specs.declared.primitive.Primitive.{Primitive}
+use Rattle.safl_word.specs.declared.primitive.Primitive.TheVariants as prims
+use Rattle.safl_tree.specs.Tree as source
+use Rattle.safl_tree.specs.Tree.{Tree, Trees, Binds, Arms, place_of}
+
+mutual
+  -- an expression without `case`; each one has its place first
+  pub data Expression : Type 0 where
+    Number : (place value : ℕ) → Expression
+    Sized : (place width value : ℕ) → Expression
+    Variable : (place : ℕ) → (name : List ℕ) → Expression
+    Choice : (place : ℕ) → (condition first second : Expression) → Expression
+    Binding : (place : ℕ) → Bindings → Expression → Expression
+    Applied : (place : ℕ) → Primitive → Expressions → Expression
+    Called : (place : ℕ) → (name : List ℕ) → Expressions → Expression
+
+  pub data Expressions : Type 0 where
+    no_expression : Expressions
+    an_expression : Expression → Expressions → Expressions
+
+  -- bindings, each with its place, its name, its width where one is written, and its value
+  pub data Bindings : Type 0 where
+    no_binding : Bindings
+    a_binding : (place : ℕ) → (name : List ℕ) → Option ℕ → Expression → Bindings → Bindings
+
+-- the name of what a `case` looks at; no name of a source has a `$`
+abbrev pub scrutinee : List ℕ
+scrutinee = codes "$case"
+
+-- whether the scrutinee is the label: the test and its variable have the label's place
+abbrev pub test_at : ℕ → Expression → Expression
+test_at p l = Applied p prims.Eq (an_expression (Variable p scrutinee) (an_expression l no_expression))
+
+-- A case of e is a let of its scrutinee over an if for each labelled arm, in order, and then the default; the let and
+-- the ifs have the place of the `case`
+abbrev mutual
+  pub rewritten : Tree → Expression
+  rewritten (source.Number p n) = Number p n
+  rewritten (source.Sized p w n) = Sized p w n
+  rewritten (source.Variable p x) = Variable p x
+  rewritten (source.Choice p c a b) = Choice p (rewritten c) (rewritten a) (rewritten b)
+  rewritten (source.Binding p bs t) = Binding p (rewritten_binds bs) (rewritten t)
+  rewritten (source.Cases p e arms) = Binding p (a_binding p scrutinee None (rewritten e) no_binding) (rewritten_arms p arms)
+  rewritten (source.Applied p o ts) = Applied p o (rewritten_all ts)
+  rewritten (source.Called p f ts) = Called p f (rewritten_all ts)
+
+  pub rewritten_all : Trees → Expressions
+  rewritten_all source.no_tree = no_expression
+  rewritten_all (source.a_tree t ts) = an_expression (rewritten t) (rewritten_all ts)
+
+  pub rewritten_binds : Binds → Bindings
+  rewritten_binds source.no_bind = no_binding
+  rewritten_binds (source.a_bind p x w t bs) = a_binding p x w (rewritten t) (rewritten_binds bs)
+
+  pub rewritten_arms : ℕ → Arms → Expression
+  rewritten_arms p (source.default_arm t) = rewritten t
+  rewritten_arms p (source.an_arm l t arms) = Choice p (test_at (place_of l) (rewritten l)) (rewritten t) (rewritten_arms p arms)
+
+-- what an operator asks of the widths of its operands: that all are alike, and that the result is (`+ - * & | ^ ~`), or
+-- is one bit (a comparison); that the result has the first one's (a shift); or a row of the table (`cat`, `bits`, `ext`)
+pub data Shape : Type 0 where
+  Alike : Shape
+  Comparing : Shape
+  Shifting : Shape
+  Resizing : Shape
+
+abbrev pub shape : Primitive → Shape
+shape prims.Add = Alike
+shape prims.Sub = Alike
+shape prims.Mul = Alike
+shape prims.And = Alike
+shape prims.Or = Alike
+shape prims.Xor = Alike
+shape prims.Not = Alike
+shape prims.Eq = Comparing
+shape prims.Ne = Comparing
+shape prims.Lt = Comparing
+shape prims.Le = Comparing
+shape prims.Gt = Comparing
+shape prims.Ge = Comparing
+shape prims.Shl = Shifting
+shape prims.Shr = Shifting
+shape prims.Cat = Resizing
+shape (prims.Bits high low) = Resizing
+shape (prims.Ext n) = Resizing
+
+abbrev pub takes_width : Shape → Bool
+takes_width Alike = true
+takes_width Comparing = false
+takes_width Shifting = false
+takes_width Resizing = false
+
+-- A number is flexible, and what is made of flexible parts alone by an operator whose operands are alike, by an if of
+-- two flexible branches, or by a let with a flexible body. Every other expression is rigid
+abbrev mutual
+  pub flexible : Expression → Bool
+  flexible (Number p n) = true
+  flexible (Sized p w n) = false
+  flexible (Variable p x) = false
+  flexible (Choice p c a b) = flexible a && flexible b
+  flexible (Binding p bs b) = flexible b
+  flexible (Applied p o ts) = takes_width (shape o) && all_flexible ts
+  flexible (Called p f ts) = false
+
+  pub all_flexible : Expressions → Bool
+  all_flexible no_expression = true
+  all_flexible (an_expression e es) = flexible e && all_flexible es
+
+abbrev pub count : Expressions → ℕ
+count no_expression = 0
+count (an_expression e es) = 1 + count es
+
+-- how many expressions stand in one, itself counted
+abbrev mutual
+  pub nodes : Expression → ℕ
+  nodes (Number p n) = 1
+  nodes (Sized p w n) = 1
+  nodes (Variable p x) = 1
+  nodes (Choice p c a b) = 1 + (nodes c + (nodes a + nodes b))
+  nodes (Binding p bs b) = 1 + (nodes_bound bs + nodes b)
+  nodes (Applied p o es) = 1 + nodes_in es
+  nodes (Called p f es) = 1 + nodes_in es
+
+  pub nodes_in : Expressions → ℕ
+  nodes_in no_expression = 0
+  nodes_in (an_expression e es) = nodes e + nodes_in es
+
+  pub nodes_bound : Bindings → ℕ
+  nodes_bound no_binding = 0
+  nodes_bound (a_binding p x w e bs) = nodes e + nodes_bound bs

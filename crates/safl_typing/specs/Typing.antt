@@ -1,0 +1,110 @@
+-- Which widths an expression has, and the term that stands for it: a relation without an order of checking.
+use Rattle.std.specs.Prelude.{◌≡◌, ℕ, zero, suc, List, [], ◌∷◌, ◌++◌, map, Option, Some, None, Bool, true, false, slice_get, if◌then◌else◌, ◌⊎◌}
+use Rattle.std.specs.Str.{bytes_eq}
+use Rattle.safl_word.specs.Words.{Word, IsWord}
+use Rattle.safl_word.specs.declared.primitive.Primitive.{Primitive}
+use Rattle.safl_word.specs.Primitives.{result_width}
+use Rattle.safl_check.specs.Terms.{Term, Const, Var, If, Let, Op, Call, Loop, Terms, Nil, Cons}
+use Rattle.safl_typing.specs.Rewriting.{Expression, Number, Sized, Variable, Choice, Binding, Applied, Called, Expressions, no_expression, an_expression, Bindings, no_binding, a_binding, Shape, Alike, Comparing, Shifting, Resizing, shape, flexible, all_flexible}
+use Rattle.safl_typing.specs.Heads.{Slot, Head, Known, Callee, Member, Above, Unknown, callee}
+
+-- a slot's number and width
+pub record At : Type 0 where
+  pub slot : ℕ
+  pub width : ℕ
+
+abbrev pub later : Option At → Option At → Option At
+later (Some a) earlier = Some a
+later None earlier = earlier
+
+-- the innermost variable of a name, where the slots are numbered from i on: the last one
+abbrev pub innermost : List ℕ → ℕ → List Slot → Option At
+innermost x i [] = None
+innermost x i (v ∷ vs) = later (innermost x (suc i) vs) (if bytes_eq v.name x then Some (record { slot = i; width = v.width }) else None)
+
+-- no name stands twice
+abbrev pub Differ : List (List ℕ) → Type 0
+Differ names = (i j : ℕ) (name : List ℕ) → slice_get names i ≡ Some name → slice_get names j ≡ Some name → i ≡ j
+
+abbrev pub names : Bindings → List (List ℕ)
+names no_binding = []
+names (a_binding p x w e bs) = x ∷ names bs
+
+-- bindings with their widths
+abbrev pub slots : Bindings → List ℕ → List Slot
+slots no_binding ws = []
+slots (a_binding p x v e bs) [] = []
+slots (a_binding p x v e bs) (w ∷ ws) = record { name = x; width = w } ∷ slots bs ws
+
+-- a binding has the width that is written, or is rigid
+abbrev pub Keeps : Option ℕ → Expression → ℕ → Type 0
+Keeps (Some v) e w = v ≡ w
+Keeps None e w = flexible e ≡ false
+
+abbrev pub AreAll : ℕ → List ℕ → Type 0
+AreAll w [] = Unit {0}
+AreAll w (v ∷ vs) = (v ≡ w) × AreAll w vs
+
+abbrev pub AllRigid : Expressions → Type 0
+AllRigid no_expression = Unit {0}
+AllRigid (an_expression e es) = (flexible e ≡ false) × AllRigid es
+
+-- each is rigid, or is flexible and has width w
+abbrev pub RigidOr : ℕ → Expressions → List ℕ → Type 0
+RigidOr w no_expression vs = Unit {0}
+RigidOr w (an_expression e es) [] = ⊥
+RigidOr w (an_expression e es) (v ∷ vs) = ((flexible e ≡ false) ⊎ (v ≡ w)) × RigidOr w es vs
+
+-- the first operand of a shift is rigid and has width w
+abbrev pub Shifts : ℕ → Expressions → List ℕ → Type 0
+Shifts w no_expression vs = ⊥
+Shifts w (an_expression e es) [] = ⊥
+Shifts w (an_expression e es) (v ∷ vs) = (flexible e ≡ false) × (v ≡ w) × RigidOr w es vs
+
+-- Operands of widths vs suit the operator, which gives width w: all have w; or it is a comparison, w is 1, all have one
+-- width, and one is rigid; or a shift; or the operands are rigid and the table has a row for them
+abbrev pub Suits : Shape → Primitive → Expressions → List ℕ → ℕ → Type 0
+Suits Alike o es vs w = AreAll w vs
+Suits Comparing o es vs w = (w ≡ 1) × (u : ℕ) × AreAll u vs × (all_flexible es ≡ false)
+Suits Shifting o es vs w = Shifts w es vs
+Suits Resizing o es vs w = AllRigid es × (result_width o vs ≡ Some w)
+
+abbrev pub word : ℕ → ℕ → Word
+word w n = record { width = w; bits = n }
+
+abbrev pub widths_of : List Slot → List ℕ
+widths_of ps = map (λ p. p.width) ps
+
+-- A call with arguments us of widths ws is a loop where it names a member of the own group, in tail position alone;
+-- where it names a function of an earlier group, it has a site, which stands before those of the arguments
+abbrev pub Calls : Callee → Bool → ℕ → ℕ → List ℕ → Terms → ℕ → Term → Type 0
+Calls (Member i h) tail lo m ws us w t = (tail ≡ true) × (m ≡ lo) × (ws ≡ widths_of h.params) × (h.width ≡ w) × (t ≡ Loop i us)
+Calls (Above i h) tail lo m ws us w t = (m ≡ suc lo) × (ws ≡ widths_of h.params) × (h.width ≡ w) × (t ≡ Call i lo us)
+Calls Unknown tail lo m ws us w t = ⊥
+
+-- In a body that sees k, where the slots are s, the expression has width w and term t, and its sites are those from lo up
+-- to hi, hi apart, in the order of the text. The branches of an if and the body of a let are in tail position where it is;
+-- no other part is
+abbrev mutual
+  pub Has : Known → List Slot → Bool → ℕ → ℕ → Expression → ℕ → Term → Type 0
+  Has k s tail lo hi (Number p n) w t = (lo ≡ hi) × IsWord (word w n) × (t ≡ Const (word w n))
+  Has k s tail lo hi (Sized p v n) w t = (lo ≡ hi) × (v ≡ w) × IsWord (word v n) × (t ≡ Const (word v n))
+  Has k s tail lo hi (Variable p x) w t = (lo ≡ hi) × (i : ℕ) × (innermost x 0 s ≡ Some (record { slot = i; width = w })) × (t ≡ Var i)
+  Has k s tail lo hi (Choice p c a b) w t = (m : ℕ) × (n : ℕ) × (x : Term) × (y : Term) × (z : Term) × Has k s false lo m c 1 x × Has k s tail m n a w y × Has k s tail n hi b w z × (t ≡ If x y z)
+  Has k s tail lo hi (Binding p bs b) w t = (m : ℕ) × (ws : List ℕ) × (us : Terms) × (y : Term) × Differ (names bs) × HaveBound k s lo m bs ws us × Has k (s ++ slots bs ws) tail m hi b w y × (t ≡ Let us y)
+  Has k s tail lo hi (Applied p o es) w t = (ws : List ℕ) × (us : Terms) × HaveAll k s lo hi es ws us × Suits (shape o) o es ws w × (t ≡ Op o us)
+  Has k s tail lo hi (Called p f es) w t = (m : ℕ) × (ws : List ℕ) × (us : Terms) × HaveAll k s m hi es ws us × Calls (callee k f) tail lo m ws us w t
+
+  -- operands or arguments with their widths and terms
+  pub HaveAll : Known → List Slot → ℕ → ℕ → Expressions → List ℕ → Terms → Type 0
+  HaveAll k s lo hi no_expression [] us = (lo ≡ hi) × (us ≡ Nil)
+  HaveAll k s lo hi no_expression (w ∷ ws) us = ⊥
+  HaveAll k s lo hi (an_expression e es) [] us = ⊥
+  HaveAll k s lo hi (an_expression e es) (w ∷ ws) us = (m : ℕ) × (t : Term) × (ts : Terms) × Has k s false lo m e w t × HaveAll k s m hi es ws ts × (us ≡ Cons t ts)
+
+  -- bindings, which see the outer slots alone
+  pub HaveBound : Known → List Slot → ℕ → ℕ → Bindings → List ℕ → Terms → Type 0
+  HaveBound k s lo hi no_binding [] us = (lo ≡ hi) × (us ≡ Nil)
+  HaveBound k s lo hi no_binding (w ∷ ws) us = ⊥
+  HaveBound k s lo hi (a_binding p x v e bs) [] us = ⊥
+  HaveBound k s lo hi (a_binding p x v e bs) (w ∷ ws) us = (m : ℕ) × (t : Term) × (ts : Terms) × Keeps v e w × Has k s false lo m e w t × HaveBound k s m hi bs ws ts × (us ≡ Cons t ts)

@@ -1,0 +1,302 @@
+-- The first fault of a program, in the order in which it is checked, or else its numbered form.
+use Rattle.std.specs.Prelude.{ℕ, suc, ◌+◌, ◌*◌, ◌^◌, List, [], ◌∷◌, ◌++◌, length, map, Option, Some, None, Bool, true, false, ◌&&◌, ◌==◌, nat_lt, nat_le, if◌then◌else◌, codes, slice_get, Result, Ok, Err}
+use Rattle.std.specs.List.{list_any}
+use Rattle.std.specs.Result.{result_err}
+use Rattle.std.specs.Str.{bytes_eq}
+use Rattle.safl_word.specs.declared.fault.Rule.{Rule}
+use Rattle.safl_word.specs.declared.fault.Rule.TheVariants as rules
+use Rattle.safl_word.specs.declared.fault.Fault.{Fault}
+use Rattle.safl_word.specs.declared.primitive.Primitive.{Primitive}
+use Rattle.safl_word.specs.Primitives.{result_width}
+use Rattle.safl_check.specs.Terms.{Term, Const, Var, If, Let, Op, Call, Loop, Terms, Nil, Cons}
+use Rattle.safl_tree.specs.Tree.{Definition, Parameter}
+use Rattle.safl_typing.specs.Rewriting.{Expression, Number, Sized, Variable, Choice, Binding, Applied, Called, Expressions, no_expression, an_expression, Bindings, no_binding, a_binding, Shape, Alike, Comparing, Shifting, Resizing, shape, flexible, count, rewritten, nodes}
+use Rattle.safl_typing.specs.Heads.{Slot, Head, Known, Callee, Member, Above, Unknown, callee, sites, sites_in, sites_bound, unit_of, params_of, heads}
+use Rattle.safl_typing.specs.Typing.{At, innermost, slots, word, widths_of}
+use Rattle.safl_typing.specs.Forms.{FunctionForm, Form, all_sites, max_functions, max_params, max_bindings, max_sites, max_nodes}
+
+-- ---- faults
+
+abbrev pub fault : Rule → ℕ → Fault
+fault e p = record { rule = e; place = p; first = 0; second = 0 }
+
+-- with the wanted and the found number, or a limit's number and value
+abbrev pub fault_with : Rule → ℕ → ℕ → ℕ → Fault
+fault_with e p wanted found = record { rule = e; place = p; first = wanted; second = found }
+
+-- the rest of the walk, where what comes before it has no fault
+abbrev pub after : {A B : Type 0} → Result A Fault → (A → Result B Fault) → Result B Fault
+after (Err f) rest = Err f
+after (Ok a) rest = rest a
+
+abbrev pub unless : {A : Type 0} → Option Fault → Result A Fault → Result A Fault
+unless (Some f) rest = Err f
+unless None rest = rest
+
+-- the first of two faults
+abbrev pub or_else : Option Fault → Option Fault → Option Fault
+or_else (Some f) g = Some f
+or_else None g = g
+
+-- the fault, where the test fails
+abbrev pub needs : Bool → Fault → Option Fault
+needs b f = if b then None else Some f
+
+-- ---- expressions
+
+-- a width and a term, or the widths and the terms of several
+pub record Typed : Type 0 where
+  pub width : ℕ
+  pub term : Term
+
+pub record TypedAll : Type 0 where
+  pub widths : List ℕ
+  pub terms : Terms
+
+-- terms of one width
+pub record TypedAlike : Type 0 where
+  pub width : ℕ
+  pub terms : Terms
+
+-- how an expression is looked at: its width is found, or it is expected at a width
+pub data Wanted : Type 0 where
+  Any : Wanted
+  Exactly : (width : ℕ) → Wanted
+
+abbrev pub is_any : Wanted → Bool
+is_any Any = true
+is_any (Exactly w) = false
+
+abbrev pub wanted_by : Option ℕ → Wanted
+wanted_by None = Any
+wanted_by (Some w) = Exactly w
+
+-- an expression whose width is found to be v; E12 where another is expected
+abbrev pub settle : ℕ → Wanted → ℕ → Term → Result Typed Fault
+settle p Any v t = Ok (record { width = v; term = t })
+settle p (Exactly w) v t = if w == v then Ok (record { width = v; term = t }) else Err (fault_with rules.E12 p w v)
+
+-- a number has any width that it fits
+abbrev pub number : ℕ → ℕ → Wanted → Result Typed Fault
+number p n Any = Err (fault rules.E14 p)
+number p n (Exactly w) = if nat_lt n (2 ^ w) then Ok (record { width = w; term = Const (word w n) }) else Err (fault rules.E13 p)
+
+abbrev pub sized : ℕ → ℕ → ℕ → Wanted → Result Typed Fault
+sized p v n m = if nat_lt n (2 ^ v) then settle p m v (Const (word v n)) else Err (fault rules.E13 p)
+
+abbrev pub variable : ℕ → Wanted → Option At → Result Typed Fault
+variable p m None = Err (fault rules.E08 p)
+variable p m (Some a) = settle p m a.width (Var a.slot)
+
+-- two branches: where no width is expected, the first rigid one gives it
+abbrev pub branches : Bool → Wanted → (Wanted → Result Typed Fault) → (Wanted → Result Typed Fault) → Term → Result Typed Fault
+branches true m first second x = after (second m) (λ z. after (first (Exactly z.width)) (λ y. Ok (record { width = z.width; term = If x y.term z.term })))
+branches false m first second x = after (first m) (λ y. after (second (Exactly y.width)) (λ z. Ok (record { width = y.width; term = If x y.term z.term })))
+
+-- operands of one width: an operand, and those that follow it
+abbrev pub alike : Bool → Wanted → (Wanted → Result Typed Fault) → (Wanted → Result TypedAlike Fault) → Result TypedAlike Fault
+alike true m first others = after (others m) (λ r. after (first (Exactly r.width)) (λ x. Ok (record { width = r.width; terms = Cons x.term r.terms })))
+alike false m first others = after (first m) (λ x. after (others (Exactly x.width)) (λ r. Ok (record { width = x.width; terms = Cons x.term r.terms })))
+
+-- a width where the table has one
+abbrev pub resized : ℕ → Wanted → Primitive → Option ℕ → Terms → Result Typed Fault
+resized p m o None us = Err (fault rules.E05 p)
+resized p m o (Some w) us = settle p m w (Op o us)
+
+-- an operator, by what it asks of its operands
+abbrev pub operated : Shape → ℕ → Wanted → Primitive → (Wanted → Result TypedAlike Fault) → Result TypedAlike Fault → Result TypedAll Fault → Result Typed Fault
+operated Alike p m o alike shift all = after (alike m) (λ r. Ok (record { width = r.width; term = Op o r.terms }))
+operated Comparing p m o alike shift all = after (alike Any) (λ r. settle p m 1 (Op o r.terms))
+operated Shifting p m o alike shift all = after shift (λ r. settle p m r.width (Op o r.terms))
+operated Resizing p m o alike shift all = after all (λ r. resized p m o (result_width o r.widths) r.terms)
+
+-- a call: its callee, the number of its arguments, and then they, each at its parameter's width
+abbrev pub arguments : ℕ → Wanted → Head → ℕ → Result TypedAll Fault → (Terms → Term) → Result Typed Fault
+arguments p m h n args call =
+    unless (needs (length h.params == n) (fault_with rules.E11 p (length h.params) n))
+    (after args (λ r. settle p m h.width (call r.terms)))
+
+abbrev pub called : Callee → Bool → ℕ → ℕ → Wanted → ℕ → (ℕ → List ℕ → Result TypedAll Fault) → Result Typed Fault
+called (Member i h) tail lo p m n args = unless (needs tail (fault rules.E10 p)) (arguments p m h n (args lo (widths_of h.params)) (λ us. Loop i us))
+called (Above i h) tail lo p m n args = arguments p m h n (args (suc lo) (widths_of h.params)) (λ us. Call i lo us)
+called Unknown tail lo p m n args = Err (fault rules.E09 p)
+
+-- a name with its place
+pub record Placed : Type 0 where
+  pub place : ℕ
+  pub name : List ℕ
+
+-- E07 at the first name that stands earlier in the list, or among those that were seen
+abbrev pub repeated : List (List ℕ) → List Placed → Option Fault
+repeated seen [] = None
+repeated seen (x ∷ xs) = if list_any (bytes_eq x.name) seen then Some (fault rules.E07 x.place) else repeated (x.name ∷ seen) xs
+
+abbrev pub placed : Bindings → List Placed
+placed no_binding = []
+placed (a_binding p x w e bs) = record { place = p; name = x } ∷ placed bs
+
+-- each operand of `cat`, `bits` and `ext` is found; the second one of a shift where it is rigid
+abbrev pub all_any : Expressions → List Wanted
+all_any no_expression = []
+all_any (an_expression e es) = Any ∷ all_any es
+
+abbrev pub amounts : ℕ → Expressions → List Wanted
+amounts w no_expression = []
+amounts w (an_expression e es) = (if flexible e then Exactly w else Any) ∷ amounts w es
+
+abbrev pub exactly : List ℕ → List Wanted
+exactly ws = map (λ w. Exactly w) ws
+
+-- Checks an expression in a body that sees k, where the slots are s and its sites are numbered from lo on. Sites are
+-- numbered in the order of the text, whatever is looked at first
+abbrev mutual
+  pub check : Known → List Slot → Bool → ℕ → Wanted → Expression → Result Typed Fault
+  check k s tail lo m (Number p n) = number p n m
+  check k s tail lo m (Sized p v n) = sized p v n m
+  check k s tail lo m (Variable p x) = variable p m (innermost x 0 s)
+  check k s tail lo m (Choice p c a b) =
+      unless (needs (if is_any m then (if flexible a then (if flexible b then false else true) else true) else true) (fault rules.E14 p))
+      (after (check k s false lo (Exactly 1) c)
+      (λ x. branches (is_any m && flexible a) m (λ v. check k s tail (lo + sites k c) v a) (λ v. check k s tail (lo + sites k c + sites k a) v b) x.term))
+  check k s tail lo m (Binding p bs b) =
+      unless (needs (if is_any m then (if flexible b then false else true) else true) (fault rules.E14 p))
+      (unless (repeated [] (placed bs))
+      (after (check_bound k s lo bs)
+      (λ r. after (check k (s ++ slots bs r.widths) tail (lo + sites_bound k bs) m b)
+      (λ y. Ok (record { width = y.width; term = Let r.terms y.term })))))
+  check k s tail lo m (Applied p o es) = operated (shape o) p m o (λ v. check_alike k s lo p v es) (check_shift k s lo p es) (check_all k s lo (all_any es) es)
+  check k s tail lo m (Called p f es) = called (callee k f) tail lo p m (count es) (λ first ws. check_all k s first (exactly ws) es)
+
+  -- several in order, each as it is wanted
+  pub check_all : Known → List Slot → ℕ → List Wanted → Expressions → Result TypedAll Fault
+  check_all k s lo ms no_expression = Ok (record { widths = []; terms = Nil })
+  check_all k s lo [] (an_expression e es) = Ok (record { widths = []; terms = Nil })
+  check_all k s lo (m ∷ ms) (an_expression e es) =
+      after (check k s false lo m e)
+      (λ x. after (check_all k s (lo + sites k e) ms es)
+      (λ r. Ok (record { widths = x.width ∷ r.widths; terms = Cons x.term r.terms })))
+
+  -- operands of one width: where none is expected, the first rigid one gives it, and is looked at first
+  pub check_alike : Known → List Slot → ℕ → ℕ → Wanted → Expressions → Result TypedAlike Fault
+  check_alike k s lo p Any no_expression = Err (fault rules.E14 p)
+  check_alike k s lo p (Exactly w) no_expression = Ok (record { width = w; terms = Nil })
+  check_alike k s lo p m (an_expression e es) =
+      alike (is_any m && flexible e) m (λ v. check k s false lo v e) (λ v. check_alike k s (lo + sites k e) p v es)
+
+  -- the first operand's width is found, and then the others are looked at
+  pub check_shift : Known → List Slot → ℕ → ℕ → Expressions → Result TypedAlike Fault
+  check_shift k s lo p no_expression = Err (fault rules.E14 p)
+  check_shift k s lo p (an_expression e es) =
+      after (check k s false lo Any e)
+      (λ x. after (check_all k s (lo + sites k e) (amounts x.width es) es)
+      (λ r. Ok (record { width = x.width; terms = Cons x.term r.terms })))
+
+  -- bindings in order, each expected at its written width, or else found
+  pub check_bound : Known → List Slot → ℕ → Bindings → Result TypedAll Fault
+  check_bound k s lo no_binding = Ok (record { widths = []; terms = Nil })
+  check_bound k s lo (a_binding p x v e bs) =
+      after (check k s false lo (wanted_by v) e)
+      (λ x. after (check_bound k s (lo + sites k e) bs)
+      (λ r. Ok (record { widths = x.width ∷ r.widths; terms = Cons x.term r.terms })))
+
+-- ---- limits
+
+-- the place of the binding that is one too many, of the first let that has one
+abbrev pub or_place : Option ℕ → Option ℕ → Option ℕ
+or_place (Some p) q = Some p
+or_place None q = q
+
+-- the first place past so many
+abbrev pub excess : ℕ → List ℕ → Option ℕ
+excess n places = slice_get places n
+
+abbrev mutual
+  pub long_let : Expression → Option ℕ
+  long_let (Number p n) = None
+  long_let (Sized p w n) = None
+  long_let (Variable p x) = None
+  long_let (Choice p c a b) = or_place (long_let c) (or_place (long_let a) (long_let b))
+  long_let (Binding p bs b) = or_place (excess max_bindings (map (λ x. x.place) (placed bs))) (or_place (long_let_bound bs) (long_let b))
+  long_let (Applied p o es) = long_let_in es
+  long_let (Called p f es) = long_let_in es
+
+  pub long_let_in : Expressions → Option ℕ
+  long_let_in no_expression = None
+  long_let_in (an_expression e es) = or_place (long_let e) (long_let_in es)
+
+  pub long_let_bound : Bindings → Option ℕ
+  long_let_bound no_binding = None
+  long_let_bound (a_binding p x w e bs) = or_place (long_let e) (long_let_bound bs)
+
+abbrev pub limit : ℕ → ℕ → Option ℕ → Option Fault
+limit number value None = None
+limit number value (Some p) = Some (fault_with rules.E16 p number value)
+
+-- the first definition that passes a limit, where the first is function n, u is the group before it, and so many sites and
+-- nodes stand before it
+abbrev pub limits_from : List Head → ℕ → ℕ → ℕ → ℕ → List Definition → Option Fault
+limits_from all n u placed_sites placed_nodes [] = None
+limits_from all n u placed_sites placed_nodes (d ∷ ds) =
+    let body : Expression = rewritten d.body in
+    let in_all : ℕ = placed_sites + sites (record { heads = all; unit = unit_of n u d }) body in
+    let nodes_all : ℕ = placed_nodes + nodes body in
+    or_else (limit 2 max_params (excess max_params (map (λ p. p.place) d.params)))
+    (or_else (limit 3 max_bindings (long_let body))
+    (or_else (needs (nat_le in_all max_sites) (fault_with rules.E16 d.place 4 max_sites))
+    (or_else (needs (nat_le nodes_all max_nodes) (fault_with rules.E16 d.place 5 max_nodes))
+    (limits_from all (suc n) (unit_of n u d) in_all nodes_all ds))))
+
+abbrev pub limits : List Definition → Option Fault
+limits ds = or_else (limit 1 max_functions (excess max_functions (map (λ d. d.place) ds))) (limits_from (heads ds) 0 0 0 0 ds)
+
+-- ---- definitions
+
+abbrev pub placed_params : Definition → List Placed
+placed_params d = map (λ p. record { place = p.place; name = p.name }) d.params
+
+-- a head: E06 where an earlier definition has the name, E12 where the width is not the group's, and E07
+abbrev pub head_fault : List (List ℕ) → ℕ → Definition → Option Fault
+head_fault earlier w d =
+    or_else (if list_any (bytes_eq d.name) earlier then Some (fault rules.E06 d.place) else None)
+    (or_else (needs (w == d.width) (fault_with rules.E12 d.place w d.width))
+    (repeated [] (placed_params d)))
+
+-- the heads of the members that follow, member by member
+abbrev pub joined_faults : List (List ℕ) → ℕ → List Definition → Option Fault
+joined_faults earlier w [] = None
+joined_faults earlier w (d ∷ ds) = if d.joined then or_else (head_fault earlier w d) (joined_faults (d.name ∷ earlier) w ds) else None
+
+-- all heads of a group are looked at before its first body
+abbrev pub group_fault : List (List ℕ) → Definition → List Definition → Option Fault
+group_fault earlier d ds = if d.joined then None else or_else (head_fault earlier d.width d) (joined_faults (d.name ∷ earlier) d.width ds)
+
+abbrev pub function : ℕ → ℕ → Definition → Term → FunctionForm
+function u lo d t = record { name = d.name; params = params_of d; width = d.width; unit = u; first_site = lo; body = t }
+
+-- the definitions in order, where the first is function n, u is the group before it, and its sites are numbered from lo on
+abbrev pub functions_from : List Head → List (List ℕ) → ℕ → ℕ → ℕ → List Definition → Result (List FunctionForm) Fault
+functions_from all earlier n u lo [] = Ok []
+functions_from all earlier n u lo (d ∷ ds) =
+    let known : Known = record { heads = all; unit = unit_of n u d } in
+    let body : Expression = rewritten d.body in
+    unless (group_fault earlier d ds)
+    (after (check known (params_of d) true lo (Exactly d.width) body)
+    (λ x. after (functions_from all (d.name ∷ earlier) (suc n) (unit_of n u d) (lo + sites known body) ds)
+    (λ fs. Ok (function (unit_of n u d) lo d x.term ∷ fs))))
+
+-- the last definition is `main`
+abbrev pub main_fault : List Definition → Option Fault
+main_fault [] = Some (fault rules.E15 0)
+main_fault (d ∷ []) = needs (bytes_eq d.name (codes "main")) (fault rules.E15 d.place)
+main_fault (d ∷ (e ∷ ds)) = main_fault (e ∷ ds)
+
+-- the walk over a program: limits, then the definitions, and `main` last
+unfoldable pub outcome : List Definition → Result Form Fault
+outcome ds =
+    unless (limits ds)
+    (after (functions_from (heads ds) [] 0 0 1 ds)
+    (λ fs. unless (main_fault ds) (Ok (record { functions = fs; sites = all_sites 0 fs }))))
+
+-- the first fault of a program
+abbrev pub first_fault : List Definition → Option Fault
+first_fault ds = result_err (outcome ds)

@@ -1,0 +1,1 @@
+//! Laws of checking, over the definitions alone.
