@@ -1,12 +1,12 @@
 -- What keeps a net settled.
-use Rattle.std.proofs.Common.{◌≡◌, ℕ, zero, suc, ◌+◌, ◌<◌, List, [], ◌∷◌, ◌++◌, length, Option, Some, None, Bool, true, false, cond, ◌==◌, Result, Ok, Err, IfOk, OnOk, OnErr, ◌⊎◌, inl, inr, slice_get, refl, sym, ap, subst, ◌∙◌, arith}
+use Rattle.std.proofs.Common.{◌≡◌, ℕ, zero, suc, ◌+◌, ◌<◌, List, [], ◌∷◌, ◌++◌, length, Option, Some, None, Bool, true, false, cond, ◌==◌, Result, Ok, Err, IfOk, OnOk, ◌⊎◌, inl, inr, slice_get, refl, sym, ap, subst, ◌∙◌, arith}
 use Rattle.std.proofs.lemmas.Bool.Decides.{Decides-eqb}
 use Rattle.safl_net.specs.declared.cell.Sig.{Sig}
 use Rattle.safl_net.specs.declared.cell.Op.{Op}
 use Rattle.safl_net.specs.Netlist.{Netlist, Signal, Kind, Reg, Wire, Cell}
 use Rattle.safl_net.specs.Making.{with_signal, with_output, with_kind, set_kind, numbers, cell_on, temporary, kind_in, kind_at}
 use Rattle.safl_net.specs.Growth.{HasCell, Grows}
-use Rattle.safl_net.specs.Settled.{IsDriven, IsDrivenIn, IsSteady, AreSteady, IsSettled, Settles}
+use Rattle.safl_net.specs.Settled.{IsDriven, IsDrivenIn, IsSteady, AreSteady, IsSettled, SettledOn, Settles}
 use Rattle.safl_net.proofs.Naming.{pushed, within}
 use Rattle.safl_net.proofs.Growth.{get_kept, get_new}
 
@@ -206,14 +206,10 @@ pub steady_new : (n m : Netlist) (g : Signal) (s : ℕ) → IsDriven g.kind → 
 steady_new n m g s h e f = steady_by m s g (get_new n m g s e f) h
 
 -- what a caller of `temp` has
-pub record MadeSteady {E : Type 0} (n m : Netlist) (r : Result Sig E) (xs : List Sig) : Type 0 where
-  pub settles : AreSteady n xs → Settles n m
-  pub steady : IfOk r (λ s. IsSteady m s.0)
-
-pub made_steady : {E : Type 0} (n m : Netlist) (r : Result Sig E) (op : Op) (xs : List Sig) → OnOk r (m ≡ with_signal n (temporary n op xs)) → IfOk r (λ s. s.0 ≡ length n.signals) → OnErr r (m ≡ n)
-    → MadeSteady n m r xs
-made_steady n m (Ok s) op xs a b c = record { settles = λ h. settles_temp n m op xs h a; steady = steady_new n m (temporary n op xs) s.0 tt a b }
-made_steady n m (Err e) op xs a b c = record { settles = λ h. settles_same n m c; steady = tt }
+pub made_settled : {E : Type 0} (n m : Netlist) (r : Result Sig E) (op : Op) (xs : List Sig) → OnOk r (m ≡ with_signal n (temporary n op xs)) → IfOk r (λ s. s.0 ≡ length n.signals)
+    → IfOk r (λ s. SettledOn n xs → SettledOn m (s ∷ []))
+made_settled n m (Ok s) op xs a b = λ h. record { net = (settles_temp n m op xs h.signals a).settled h.net; signals = (steady_new n m (temporary n op xs) s.0 tt a b, tt) }
+made_settled n m (Err e) op xs a b = tt
 
 -- ---- another kind
 
