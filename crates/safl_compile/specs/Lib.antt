@@ -1,0 +1,6 @@
+pub mod Sources
+pub mod Tables
+pub mod Cycles
+pub mod Stages
+pub mod Ties
+pub mod Finished

@@ -1,0 +1,84 @@
+-- Tables of signals by number, and what they show under a valuation.
+use Rattle.std.specs.Prelude.{Vec, ◌≡◌, ℕ, List, [], ◌∷◌, Option, Some, None, Bool, false, slice_get, slice_index_or}
+use Rattle.std.specs.Global.{Global}
+use Rattle.safl_word.specs.Words.{Word}
+use Rattle.safl_net.specs.declared.cell.Sig.{Sig}
+use Rattle.safl_net.specs.Netlist.{Netlist}
+use Rattle.safl_net.specs.Growth.{Val, words}
+use Rattle.safl_lower.specs.Bits.{on}
+use Rattle.safl_lower.specs.Entries.{gate}
+use Rattle.safl_compile.specs.declared.parts.Load.{Load}
+use Rattle.safl_compile.specs.Sources.{IsSource, AreSources}
+
+-- the signal of a number
+abbrev pub pin : List Sig → ℕ → Sig
+pin xs i = slice_index_or xs i (record { 0 = 0 })
+
+-- the signals of a number
+abbrev pub items_in : Option (Vec Sig Global) → List Sig
+items_in None = []
+items_in (Some v) = v.items
+
+abbrev pub row : List (Vec Sig Global) → ℕ → List Sig
+row xs i = items_in (slice_get xs i)
+
+-- the words that are taken, where the bit is 1
+abbrev pub taken : Val → Load → Option (List Word)
+taken v l = gate (on v l.bit) (Some (words v l.words.items))
+
+abbrev pub taken_in : Val → Option Load → Option (List Word)
+taken_in v None = None
+taken_in v (Some l) = taken v l
+
+-- the load of a number, where there is one
+abbrev pub load_in : Option (Option Load) → Option Load
+load_in None = None
+load_in (Some o) = o
+
+-- what a table of loads takes at a number
+abbrev pub taken_at : Val → List Load → ℕ → Option (List Word)
+taken_at v xs i = taken_in v (slice_get xs i)
+
+abbrev pub taken_from : Val → List (Option Load) → ℕ → Option (List Word)
+taken_from v xs i = taken_in v (load_in (slice_get xs i))
+
+-- a bit where there is one
+abbrev pub on_in : Val → Option Sig → Bool
+on_in v None = false
+on_in v (Some s) = on v s
+
+abbrev pub sig_in : Option (Option Sig) → Option Sig
+sig_in None = None
+sig_in (Some o) = o
+
+abbrev pub on_from : Val → List (Option Sig) → ℕ → Bool
+on_from v xs i = on_in v (sig_in (slice_get xs i))
+
+-- one word as a list
+abbrev pub one_word : Option Word → Option (List Word)
+one_word None = None
+one_word (Some w) = Some (w ∷ [])
+
+-- a load has a bit, and words of these widths
+pub record LoadFits (n : Netlist) (l : Load) (ws : List ℕ) : Type 0 where
+  pub bit : IsSource n l.bit 1
+  pub words : AreSources n l.words.items ws
+
+abbrev pub FitsIn : Netlist → Option Load → List ℕ → Type 0
+FitsIn n None ws = Unit {0}
+FitsIn n (Some l) ws = LoadFits n l ws
+
+-- the loads of these tables have these widths
+abbrev pub LoadsFit : Netlist → List Load → (ℕ → List ℕ) → Type 0
+LoadsFit n xs ws = (i : ℕ) (l : Load) → slice_get xs i ≡ Some l → LoadFits n l (ws i)
+
+abbrev pub SomeFit : Netlist → List (Option Load) → (ℕ → List ℕ) → Type 0
+SomeFit n xs ws = (i : ℕ) → FitsIn n (load_in (slice_get xs i)) (ws i)
+
+-- each bit that is there is one
+abbrev pub IsBitIn : Netlist → Option Sig → Type 0
+IsBitIn n None = Unit {0}
+IsBitIn n (Some s) = IsSource n s 1
+
+abbrev pub BitsFit : Netlist → List (Option Sig) → Type 0
+BitsFit n xs = (i : ℕ) → IsBitIn n (sig_in (slice_get xs i))

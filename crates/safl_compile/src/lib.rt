@@ -1,0 +1,4 @@
+//! The circuit of a checked program.
+#![tactic(auto)]
+
+pub mod parts;

@@ -1,0 +1,70 @@
+//! The signals of a circuit, by what they stand for.
+
+use safl_lower::SitePorts;
+use safl_net::Sig;
+
+/// The signals of the registers, or those of their next words.
+///
+/// By function: `run`, `fin` and `res` of its unit, its own `at`, which counts where its unit has another member,
+/// and its `args`. By site, where the first entry counts for nothing: `sent`, `got`, and `keep`, which counts where
+/// the site keeps its word.
+#[derive(Drop)]
+pub struct Bank {
+    pub run: Vec<Sig>,
+    pub fin: Vec<Sig>,
+    pub res: Vec<Sig>,
+    pub at: Vec<Sig>,
+    pub args: Vec<Vec<Sig>>,
+    pub sent: Vec<Sig>,
+    pub got: Vec<Sig>,
+    pub keep: Vec<Sig>,
+}
+
+/// The ports and the registers of a circuit. The registers are numbered from `first_register` on, and the named wires
+/// from `first_wire` on, in their order.
+#[derive(Drop)]
+pub struct Pins {
+    pub start: Sig,
+    pub words: Vec<Sig>,
+    pub bank: Bank,
+    pub first_register: u32,
+    pub first_wire: u32,
+}
+
+/// Of each site, where the first entry counts for nothing: the bit that its value is delivered, and the ports with
+/// which its body is lowered.
+#[derive(Drop)]
+pub struct Returns {
+    pub ret: Vec<Sig>,
+    pub ports: Vec<SitePorts>,
+}
+
+/// Words that are taken where a bit is 1.
+#[derive(Drop)]
+pub struct Load {
+    pub bit: Sig,
+    pub words: Vec<Sig>,
+}
+
+/// What the bodies come to.
+///
+/// By function: `ends`, that the body ends, with its word, and `loops`, that a tail call goes to the function, with
+/// its arguments; none where no tail call does. By site: `wants`, that its call is wanted, with its arguments; the
+/// first entry is the call of main from outside, which is wanted by `start` with the words of the ports.
+#[derive(Drop)]
+pub struct Outcomes {
+    pub ends: Vec<Load>,
+    pub loops: Vec<Option<Load>>,
+    pub wants: Vec<Load>,
+}
+
+/// What the named wires copy: by function `ends` and `loops`, and by site `wants`, `rets` and `goes`. The first entry
+/// of `goes` is main's; the other first entries by site count for nothing.
+#[derive(Drop)]
+pub struct Controls {
+    pub ends: Vec<Sig>,
+    pub loops: Vec<Sig>,
+    pub wants: Vec<Sig>,
+    pub rets: Vec<Sig>,
+    pub goes: Vec<Sig>,
+}
