@@ -6,7 +6,7 @@ mod file;
 mod front;
 mod grammar;
 mod lexer;
-mod numbers;
+pub mod numbers;
 mod parser;
 mod read;
 mod symbols;

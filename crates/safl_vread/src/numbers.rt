@@ -35,8 +35,8 @@ fn followed(base: u8, number: Raw, c: u8) -> Option<Raw>
         .checked_add(Raw::from(digit(c)))
 }
 
-// What a digit counts.
-fn digit(c: u8) -> u8
+/// What a digit counts.
+pub fn digit(c: u8) -> u8
     ensures { result ≡ digit c }
 {
     if c <= 57 {

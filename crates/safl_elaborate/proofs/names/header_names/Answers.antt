@@ -1,0 +1,13 @@
+use Rattle.std.proofs.Common.{ap, ◌∙◌, Some}
+use Rattle.safl_verilog.specs.declared.fault.VRule.TheVariants as rules
+use Rattle.safl_verilog.specs.Files.{Declaration}
+use Rattle.safl_verilog.specs.Faults.{at, declared_names}
+use Rattle.safl_vread.specs.Shown.{spot_at, spots_at, declaration_at, declarations_at}
+use Rattle.safl_elaborate.proofs.NameLemmas.{item_at, item_at_both, refused, added}
+use Rattle.safl_elaborate.proofs.names.header_names.Goals as goal
+
+pub returns-then-not-branch-clause-faults : goal.returns-then-not-branch-clause-faults
+returns-then-not-branch-clause-faults c = ap Some c.fault_at.ensures ∙ refused (spots_at c.args.text.now c.args.header.now) c.loop-x.x-index _ c.loop-x.names (item_at (spot_at c.args.text.now) c.args.header.now c.loop-x.x-index _ c.loop-x-test.true) c.loop-x.invariant c.bytes_of.result.now c.bytes_of.ensures c.in_ok-add.field-0 c.in_ok-add.ensures.new c.if-not-branch.true
+
+pub loop-x-preserved : goal.loop-x-preserved
+loop-x-preserved c = added (spots_at c.args.text.now c.args.header.now) c.loop-x.x-index _ c.loop-x.names (item_at (spot_at c.args.text.now) c.args.header.now c.loop-x.x-index _ c.loop-x-test.true) c.loop-x.invariant c.bytes_of.result.now c.bytes_of.ensures c.in_ok-add.field-0 c.in_ok-add.ensures.new c.add.new.self c.in_ok-add.ensures.names c.if-not-branch.false

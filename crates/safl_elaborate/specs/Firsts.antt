@@ -1,0 +1,15 @@
+-- The first fault of a list.
+use Rattle.std.specs.Prelude.{◌≡◌, List, [], ◌∷◌, Option, None, Some, Result, Ok, Err}
+use Rattle.safl_verilog.specs.declared.fault.VFault.{VFault}
+use Rattle.safl_vread.specs.declared.error.VErr.{VErr}
+use Rattle.safl_vread.specs.declared.error.VErr.TheVariants as errors
+
+abbrev pub first : List VFault → Option VFault
+first [] = None
+first (f ∷ fs) = Some f
+
+-- a refusal names the first fault, and else there is none; want of memory says nothing of them
+abbrev pub Answers : {A : Type 0} → List VFault → Result A VErr → Type 0
+Answers faults (Ok x) = faults ≡ []
+Answers faults (Err (errors.Refused f)) = Some f ≡ first faults
+Answers faults (Err errors.NoMemory) = Unit {0}

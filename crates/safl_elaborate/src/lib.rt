@@ -1,0 +1,7 @@
+//! From the text of a Verilog file to the net that it reads as, or to its first fault.
+#![tactic(auto)]
+
+mod names;
+mod numbers;
+mod scope;
+mod spans;

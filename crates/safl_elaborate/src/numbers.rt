@@ -1,0 +1,120 @@
+//! The rules on numbers in declarations, slices and literals.
+
+ghost use Rattle.std.specs.Prelude.{◌≡◌, ◌==◌};
+ghost use Rattle.std.specs.List.{flat_map};
+ghost use Rattle.safl_word.specs.Numerals.{value};
+ghost use Rattle.safl_verilog.specs.Faults.{number_faults, literal_faults, range_faults, declared_number_faults, expression_number_faults, stated_number_faults, all_number_faults};
+ghost use Rattle.safl_vread.specs.Shown.{spot_at, range_at, declarations_at, expression_at, statement_at, statements_at, file_at};
+ghost use Rattle.safl_elaborate.specs.Firsts.{first};
+
+use crate::spans::{bytes_of, fault_at};
+use safl_verilog::{VFault, VRule};
+use safl_vread::numbers::{bounded, digit, literal};
+use safl_vread::{Declaration, Expression, File, Range, Span, Statement};
+
+/// The first fault in the numbers of a file.
+pub fn number_fault(text: &[u8], file: &File) -> Option<VFault>
+    ensures { result ≡ first (all_number_faults (file_at text.now file.now)) }
+{
+    let declared = declared_fault(text, &file.declarations);
+    if declared.is_some() {
+        declared
+    } else {
+        stated_fault(text, &file.statements)
+    }
+}
+
+fn declared_fault(text: &[u8], declarations: &[Declaration]) -> Option<VFault>
+    ensures { result ≡ first (flat_map declared_number_faults (declarations_at text.now declarations.now)) }
+{
+    for d in declarations {
+        let fault = range_fault(text, d.range);
+        if fault.is_some() {
+            return fault;
+        }
+    }
+    None
+}
+
+fn stated_fault(text: &[u8], statements: &[Statement]) -> Option<VFault>
+    ensures { result ≡ first (flat_map stated_number_faults (statements_at text.now statements.now)) }
+{
+    for s in statements {
+        let fault = statement_fault(text, s);
+        if fault.is_some() {
+            return fault;
+        }
+    }
+    None
+}
+
+fn range_fault(text: &[u8], range: Option<Range>) -> Option<VFault>
+    ensures { result ≡ first (range_faults (range_at text.now range)) }
+{
+    let Some(range) = range else {
+        return None;
+    };
+    match bounded(10, bytes_of(text, range.high)) {
+        None => Some(fault_at(VRule::V06, range.high.start)),
+        Some(high) if high < 128 && is_zero(bytes_of(text, range.low)) => {
+            digits_fault(text, range.low)
+        }
+        Some(_) => Some(fault_at(VRule::V05, range.high.start)),
+    }
+}
+
+fn statement_fault(text: &[u8], statement: &Statement) -> Option<VFault>
+    ensures { result ≡ first (stated_number_faults (statement_at text.now statement.now)) }
+{
+    match statement {
+        Statement::Assign(_, expression) => expression_fault(text, expression),
+        Statement::Always(update) => literal_fault(text, update.initial),
+    }
+}
+
+fn expression_fault(text: &[u8], expression: &Expression) -> Option<VFault>
+    ensures { result ≡ first (expression_number_faults (expression_at text.now expression.now)) }
+{
+    match expression {
+        Expression::Literal(span) => literal_fault(text, *span),
+        Expression::Slice(_, high, low) => {
+            let fault = digits_fault(text, *high);
+            if fault.is_some() {
+                fault
+            } else {
+                digits_fault(text, *low)
+            }
+        }
+        _ => None,
+    }
+}
+
+fn digits_fault(text: &[u8], number: Span) -> Option<VFault>
+    ensures { result ≡ first (number_faults (spot_at text.now number)) }
+{
+    match bounded(10, bytes_of(text, number)) {
+        Some(_) => None,
+        None => Some(fault_at(VRule::V06, number.start)),
+    }
+}
+
+fn literal_fault(text: &[u8], number: Span) -> Option<VFault>
+    ensures { result ≡ first (literal_faults (spot_at text.now number)) }
+{
+    match literal(bytes_of(text, number)) {
+        Some(_) => None,
+        None => Some(fault_at(VRule::V06, number.start)),
+    }
+}
+
+// Whether the digits count 0, however many they are.
+fn is_zero(bytes: &[u8]) -> bool
+    ensures { result ≡ (value 10 bytes.now == 0) }
+{
+    for c in bytes {
+        if digit(*c) != 0 {
+            return false;
+        }
+    }
+    true
+}
