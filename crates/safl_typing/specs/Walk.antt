@@ -1,5 +1,5 @@
 -- The first fault of a program, in the order in which it is checked, or else its numbered form.
-use Rattle.std.specs.Prelude.{ℕ, suc, ◌+◌, ◌*◌, ◌^◌, List, [], ◌∷◌, ◌++◌, length, map, Option, Some, None, Bool, true, false, ◌&&◌, ◌==◌, nat_lt, nat_le, if◌then◌else◌, codes, slice_get, Result, Ok, Err}
+use Rattle.std.specs.Prelude.{ℕ, suc, ◌+◌, ◌*◌, ◌^◌, List, [], ◌∷◌, ◌++◌, length, map, Option, Some, None, Bool, true, false, ◌&&◌, not, ◌==◌, nat_lt, nat_le, if◌then◌else◌, codes, slice_get, Result, Ok, Err}
 use Rattle.std.specs.List.{list_any}
 use Rattle.std.specs.Result.{result_err}
 use Rattle.std.specs.Str.{bytes_eq}
@@ -66,6 +66,11 @@ pub data Wanted : Type 0 where
 abbrev pub is_any : Wanted → Bool
 is_any Any = true
 is_any (Exactly w) = false
+
+-- a width is expected, or the expression is rigid
+abbrev pub is_known : Wanted → Bool → Bool
+is_known Any is_flexible = not is_flexible
+is_known (Exactly w) is_flexible = true
 
 abbrev pub wanted_by : Option ℕ → Wanted
 wanted_by None = Any
@@ -155,11 +160,11 @@ abbrev mutual
   check k s tail lo m (Sized p v n) = sized p v n m
   check k s tail lo m (Variable p x) = variable p m (innermost x 0 s)
   check k s tail lo m (Choice p c a b) =
-      unless (needs (if is_any m then (if flexible a then (if flexible b then false else true) else true) else true) (fault rules.E14 p))
+      unless (needs (is_known m (flexible a && flexible b)) (fault rules.E14 p))
       (after (check k s false lo (Exactly 1) c)
       (λ x. branches (is_any m && flexible a) m (λ v. check k s tail (lo + sites k c) v a) (λ v. check k s tail (lo + sites k c + sites k a) v b) x.term))
   check k s tail lo m (Binding p bs b) =
-      unless (needs (if is_any m then (if flexible b then false else true) else true) (fault rules.E14 p))
+      unless (needs (is_known m (flexible b)) (fault rules.E14 p))
       (unless (repeated [] (placed bs))
       (after (check_bound k s lo bs)
       (λ r. after (check k (s ++ slots bs r.widths) tail (lo + sites_bound k bs) m b)
