@@ -1,0 +1,143 @@
+-- What is known of a net is known of what is built on it.
+use Rattle.std.proofs.Common.{◌≡◌, ℕ, ◌<◌, ◌≤◌, List, Option, Some, None, Bool, slice_get}
+use Rattle.safl_check.specs.Program.{Program}
+use Rattle.safl_net.specs.declared.cell.Sig.{Sig}
+use Rattle.safl_net.specs.Netlist.{Netlist}
+use Rattle.safl_net.specs.Growth.{Val}
+use Rattle.safl_net.proofs.Growth.{wired_before}
+use Rattle.safl_lower.specs.declared.parts.SitePorts.{SitePorts}
+use Rattle.safl_unit.specs.Equations.{Registers, Inputs, Choice}
+use Rattle.safl_compile.specs.declared.parts.Bank.{Bank}
+use Rattle.safl_compile.specs.declared.parts.Pins.{Pins}
+use Rattle.safl_compile.specs.declared.parts.Load.{Load}
+use Rattle.safl_compile.specs.declared.parts.Returns.{Returns}
+use Rattle.safl_compile.specs.declared.parts.Outcomes.{Outcomes}
+use Rattle.safl_compile.specs.declared.parts.Controls.{Controls}
+use Rattle.safl_compile.specs.Sources.{Builds}
+use Rattle.safl_compile.specs.Tables.{load_in, sig_in, LoadFits, FitsIn, LoadsFit, SomeFit, IsBitIn, BitsFit}
+use Rattle.safl_compile.specs.Cycles.{BankFits, PinsFit, Cycle, InEachCycle}
+use Rattle.safl_compile.specs.Stages.{PortFits, ReturnsFit, HasReturns, OutcomesFit, HasOutcomes, HasGoes, HasEnds, HasLoads, HasBits, HasNext}
+use Rattle.safl_compile.specs.Finished.{ControlsFit, HasControls}
+use Rattle.safl_compile.proofs.Building.{source_kept, sources_kept}
+
+module _ {a b : Netlist} {most : ℕ} (h : Builds a b most) where
+  -- ---- widths and sources
+
+  pub load_kept : {l : Load} {ws : List ℕ} → LoadFits a l ws → LoadFits b l ws
+  load_kept q = record { bit = source_kept h q.bit; words = sources_kept h q.words }
+
+  pub maybe_load_kept : (o : Option Load) (ws : List ℕ) → FitsIn a o ws → FitsIn b o ws
+  maybe_load_kept None ws q = tt
+  maybe_load_kept (Some l) ws q = load_kept q
+
+  pub loads_kept : (xs : List Load) (ws : ℕ → List ℕ) → LoadsFit a xs ws → LoadsFit b xs ws
+  loads_kept xs ws q = λ i l e. load_kept (q i l e)
+
+  pub some_kept : (xs : List (Option Load)) (ws : ℕ → List ℕ) → SomeFit a xs ws → SomeFit b xs ws
+  some_kept xs ws q = λ i. maybe_load_kept (load_in (slice_get xs i)) (ws i) (q i)
+
+  pub maybe_bit_kept : (o : Option Sig) → IsBitIn a o → IsBitIn b o
+  maybe_bit_kept None q = tt
+  maybe_bit_kept (Some s) q = source_kept h q
+
+  pub bits_kept : (xs : List (Option Sig)) → BitsFit a xs → BitsFit b xs
+  bits_kept xs q = λ i. maybe_bit_kept (sig_in (slice_get xs i)) (q i)
+
+  pub port_kept : {p : SitePorts} {w : ℕ} → PortFits a p w → PortFits b p w
+  port_kept q = record { sent = source_kept h q.sent; returned = source_kept h q.returned; value = source_kept h q.value }
+
+  pub bank_kept : {C : Program} {r : Bank} → BankFits C a r → BankFits C b r
+  bank_kept q = record {
+    run_length = q.run_length;
+    fin_length = q.fin_length;
+    res_length = q.res_length;
+    at_length = q.at_length;
+    args_length = q.args_length;
+    sent_length = q.sent_length;
+    got_length = q.got_length;
+    keep_length = q.keep_length;
+    run = λ f l. source_kept h (q.run f l);
+    fin = λ f l. source_kept h (q.fin f l);
+    res = λ f l. source_kept h (q.res f l);
+    at = λ f l. source_kept h (q.at f l);
+    args = λ f l. sources_kept h (q.args f l);
+    sent = λ k l m. source_kept h (q.sent k l m);
+    got = λ k l m. source_kept h (q.got k l m);
+    keep = λ k l m. source_kept h (q.keep k l m);
+  }
+
+  pub pins_kept : {C : Program} {p : Pins} → PinsFit C a p → PinsFit C b p
+  pins_kept q = record { start = source_kept h q.start; words = sources_kept h q.words; bank = bank_kept q.bank }
+
+  -- ---- cycles
+
+  pub cycle_before : {C : Program} {P : Choice} {p : Pins} {v : Val} {r : Registers} {i : Inputs} → Cycle C P b p v r i → Cycle C P a p v r i
+  cycle_before c = record { wired = wired_before h.grows c.wired; start = c.start; words = c.words; bank = c.bank }
+
+  pub cycles_kept : (C : Program) (P : Choice) (p : Pins) (Q : Val → Registers → Inputs → Type 0) → InEachCycle C P a p Q → InEachCycle C P b p Q
+  cycles_kept C P p Q q = λ v r i c. q v r i (cycle_before c)
+
+  -- ---- the parts
+
+  pub returns_kept : {C : Program} {P : Choice} {p : Pins} {s : Returns} → HasReturns C P a p s → HasReturns C P b p s
+  returns_kept q = record {
+    fits = record {
+      ret_length = q.fits.ret_length;
+      ports_length = q.fits.ports_length;
+      ret = λ k l m. source_kept h (q.fits.ret k l m);
+      port = λ k x l m e. port_kept (q.fits.port k x l m e);
+    };
+    shows = λ v r i c. q.shows v r i (cycle_before c);
+  }
+
+  pub outcomes_kept : {C : Program} {P : Choice} {p : Pins} {o : Outcomes} → HasOutcomes C P a p o → HasOutcomes C P b p o
+  outcomes_kept {C} {P} {p} {o} q = record {
+    fits = record {
+      ends_length = q.fits.ends_length;
+      loops_length = q.fits.loops_length;
+      wants_length = q.fits.wants_length;
+      ends = λ f l e. load_kept (q.fits.ends f l e);
+      loops = some_kept o.loops.items C.params q.fits.loops;
+      wants = λ k l e. load_kept (q.fits.wants k l e);
+    };
+    shows = λ v r i c. q.shows v r i (cycle_before c);
+  }
+
+  pub goes_kept : {C : Program} {P : Choice} {p : Pins} {goes : List Sig} → HasGoes C P a p goes → HasGoes C P b p goes
+  goes_kept q = record { count = q.count; fits = λ k l. source_kept h (q.fits k l); shows = λ v r i c. q.shows v r i (cycle_before c) }
+
+  pub ends_kept : {C : Program} {P : Choice} {p : Pins} {all : List (Option Load)} → HasEnds C P a p all → HasEnds C P b p all
+  ends_kept {C} {P} {p} {all} q = record { count = q.count; fits = λ u. maybe_load_kept (load_in (slice_get all u)) _ (q.fits u); shows = λ v r i c. q.shows v r i (cycle_before c) }
+
+  pub all_loads_kept : {C : Program} {P : Choice} {p : Pins} {all : List (Option Load)} → HasLoads C P a p all → HasLoads C P b p all
+  all_loads_kept {C} {P} {p} {all} q = record { count = q.count; fits = some_kept all C.params q.fits; shows = λ v r i c. q.shows v r i (cycle_before c) }
+
+  pub tests_kept : (C : Program) (P : Choice) (p : Pins) (bits : List (Option Sig)) (test : Registers → Inputs → ℕ → Bool) → HasBits C P a p bits test → HasBits C P b p bits test
+  tests_kept C P p bits test q = record { count = q.count; fits = bits_kept bits q.fits; shows = λ v r i c. q.shows v r i (cycle_before c) }
+
+  pub next_kept : {C : Program} {P : Choice} {p : Pins} {r : Bank} → HasNext C P a p r → HasNext C P b p r
+  next_kept q = record { fits = bank_kept q.fits; shows = λ v r i c. q.shows v r i (cycle_before c) }
+
+  pub controls_fit_kept : {C : Program} {T : Controls} → ControlsFit C a T → ControlsFit C b T
+  controls_fit_kept q = record {
+    ends_length = q.ends_length;
+    loops_length = q.loops_length;
+    wants_length = q.wants_length;
+    rets_length = q.rets_length;
+    goes_length = q.goes_length;
+    ends = λ f l. source_kept h (q.ends f l);
+    loops = λ f l. source_kept h (q.loops f l);
+    wants = λ k l m. source_kept h (q.wants k l m);
+    rets = λ k l m. source_kept h (q.rets k l m);
+    goes = λ k l. source_kept h (q.goes k l);
+  }
+
+  pub controls_kept : {C : Program} {P : Choice} {p : Pins} {T : Controls} → HasControls C P a p T → HasControls C P b p T
+  controls_kept q = record {
+    fits = controls_fit_kept q.fits;
+    ends = λ v r i c. q.ends v r i (cycle_before c);
+    loops = λ v r i c. q.loops v r i (cycle_before c);
+    wants = λ v r i c. q.wants v r i (cycle_before c);
+    rets = λ v r i c. q.rets v r i (cycle_before c);
+    goes = λ v r i c. q.goes v r i (cycle_before c);
+  }
