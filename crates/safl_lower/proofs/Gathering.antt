@@ -7,15 +7,18 @@ use Rattle.safl_net.specs.declared.cell.Sig.{Sig}
 use Rattle.safl_net.specs.Netlist.{Netlist}
 use Rattle.safl_net.specs.Growth.{Val, words, Wired, Grows, Sized}
 use Rattle.safl_net.proofs.Growth.{grows_on, grows_none, width_kept, wired_before, sized_kept}
+use Rattle.safl_net.specs.Settled.{IsSettled, SettledOn}
 use Rattle.safl_lower.specs.declared.parts.TailCall.{TailCall}
 use Rattle.safl_lower.specs.declared.parts.Rows.{Rows}
 use Rattle.safl_lower.specs.Bits.{on}
 use Rattle.safl_lower.specs.Typing.{Owner}
 use Rattle.safl_lower.specs.Entries.{gate, member_of, Between, LoopFits, LoopsFit, cost}
 use Rattle.safl_lower.specs.Rows.{given, taken_to, RowFits, Untaken, Row, RowAt, Adds, RowsFit, Merged}
+use Rattle.safl_lower.specs.Steady.{LoopsSteady, RowsSteady}
+use Rattle.safl_lower.proofs.Steadying.{loops_steady_front, loops_grown}
 use Rattle.safl_lower.proofs.Arms.{or_none, or_assoc}
 use Rattle.safl_lower.proofs.Gathered.{map_end, loops_kept, cost_end}
-use Rattle.safl_lower.proofs.Laid.{AllZero, AllEmpty, given_zero, between_front, set_here, set_other, set_length, no_equal, some_sig, some_row}
+use Rattle.safl_lower.proofs.Laid.{AllZero, AllEmpty, rows_start, given_zero, between_front, set_here, set_other, set_length, no_equal, some_sig, some_row}
 
 zero_only : (z : Sig) (xs : List Sig) (k : ℕ) (l : Sig) → AllZero z xs → slice_get xs k ≡ Some l → l ≡ z
 zero_only z [] k l h e = absurd (cc)
@@ -45,9 +48,11 @@ pub record Merging (z : Sig) (first count : ℕ) (old new : Netlist) (all rest :
   pub left : (F : Owner) → LoopsFit F old all → LoopsFit F new rest
   pub fits : (F : Owner) → LoopsFit F old all → RowsFit F new z first bits args
   pub told : (v : Val) → Wired new v → on v z ≡ false → (i : ℕ) → or_else (taken_to v rest (first + i)) (given v (slice_get bits i) (slice_get args i)) ≡ taken_to v all (first + i)
+  pub settled : SettledOn old (z ∷ []) → LoopsSteady old all → IsSettled new × RowsSteady new bits args × LoopsSteady new rest
 
 pub merging_start : (z : Sig) (first count : ℕ) (n : Netlist) (all : List TailCall) (bits : List Sig) (args : List (Vec Sig Global)) → AllZero z bits → AllEmpty args → length bits ≡ count → length args ≡ count → Between first (first + count) (map member_of all) → Merging z first count n n all all bits args
 merging_start z first count n all bits args h a e f b = record {
+  settled = λ s l. (s.net, rows_start n z bits args h a s.signals.0, l);
   grows = grows_none n;
   room = omega arith;
   bits_length = e;
@@ -165,6 +170,11 @@ module _ {z : Sig} {first count : ℕ} {old cur : Netlist} {all all_rest : List 
           bits_length = ap length d.bits_is ∙ set_length bits (e.member - first) d.bit ∙ ll;
           args_length = ap length d.args_is ∙ set_length args (e.member - first) d.row ∙ al;
           within = (between_front first (first + count) (map member_of rest) e.member (subst (Between first (first + count)) split h.within)).0;
+          settled = λ s l.
+              let k = h.settled s l in
+              let t = loops_steady_front cur rest e (subst (LoopsSteady cur) q k.2) in
+              let r = d.settled (record { net = k.0; signals = (t.1, t.2) }) k.1 in
+              (r.0, r.1, loops_grown g rest t.0);
           left = λ F x. loops_kept F rest g (loops_front F cur rest e (subst (LoopsFit F cur) q (h.left F x))).0;
           fits = λ F x i l a p r.
               let lo = there bits (e.member - first) lb in
@@ -178,6 +188,7 @@ module _ {z : Sig} {first count : ℕ} {old cur : Netlist} {all all_rest : List 
 
 pub merging_end : {z : Sig} {first count : ℕ} {old cur : Netlist} {all rest : List TailCall} (m : Rows) → rest ≡ [] → Merging z first count old cur all rest m.bits.items m.args.items → Merged z first count old cur all m
 merging_end {first = first} m q h = record {
+  settled = λ s l. let k = h.settled s l in (k.0, k.1);
   bits_length = h.bits_length;
   args_length = h.args_length;
   fits = h.fits;

@@ -1,6 +1,7 @@
 pub mod Arms
 pub mod Typing
 pub mod Kept
+pub mod Steadying
 pub mod Gathered
 pub mod Branches
 pub mod Leaves

@@ -11,6 +11,8 @@ use Rattle.safl_net.specs.declared.cell.Sig.{Sig}
 use Rattle.safl_net.specs.Netlist.{Netlist}
 use Rattle.safl_net.specs.Growth.{words, Sized}
 use Rattle.safl_net.proofs.Growth.{grows_on, grows_none, wired_before, width_kept, sized_kept, sized_more}
+use Rattle.safl_net.specs.Settled.{AreSteady}
+use Rattle.safl_net.proofs.Settling.{steady_grown, are_steady_grown, are_steady_more}
 use Rattle.safl_lower.specs.declared.parts.Ports.{Ports}
 use Rattle.safl_lower.specs.declared.parts.Lowered.{Lowered}
 use Rattle.safl_lower.specs.declared.parts.LoweredAll.{LoweredAll}
@@ -20,6 +22,8 @@ use Rattle.safl_lower.specs.Typing.{Owner, Typed, TypedAll, nodes, nodes_in, sit
 use Rattle.safl_lower.specs.Entries.{gate, asked, went, site_of}
 use Rattle.safl_lower.specs.Lowering.{back_of, open_at, shown, goes_of, ShapedAll, Lowers, LowersAll}
 use Rattle.safl_lower.proofs.Arms.{or_assoc, or_none, gate_or, and_then, join}
+use Rattle.safl_lower.specs.Steady.{listed}
+use Rattle.safl_lower.proofs.Steadying.{sites_grown, out_grown}
 use Rattle.safl_lower.proofs.Kept.{setting_kept}
 use Rattle.safl_lower.proofs.Gathered.{words_more, stays, stays_by, no_goes, no_more, more_twice, out_kept, told_by, told_more, gate_is_none, some_nodes}
 
@@ -104,6 +108,7 @@ none_shape F env (w ∷ ws) n r e f t = absurd t
 pub lowers_none : {P : Ports} {slots : List Sig} {path : Sig} {n : Netlist} {o : Out} {r : LoweredAll} → r.ready ≡ None → r.values.items ≡ [] → LowersAll P slots path n n o o r Nil
 unfolding answer wanted
 lowers_none {P} {slots} {path} {n} {o} {r} e f = record {
+  settled = λ p h k. (record { net = h.net; signals = subst (λ (q : Option Sig). AreSteady n (listed q)) (sym e) tt }, subst (AreSteady n) (sym f) tt, k);
   quiet = λ F env ws t. refl;
   long = let k = ap length f in omega (arith, k);
   more = [];
@@ -123,6 +128,12 @@ pub lowers_more : {P : Ports} {slots : List Sig} {path : Sig} {n0 n1 n2 n3 : Net
     → LowersAll P slots path n0 n1 o0 o1 r ts → Lowers P slots path n1 n2 o1 o2 one t → Both n2 n3 r.ready one.ready s.ready → s.values.items ≡ r.values.items ++ one.value ∷ []
     → LowersAll P slots path n0 n3 o0 o2 s (end ts t)
 lowers_more {P} {slots} {path} {n0} {n1} {n2} {n3} {o0} {o1} {o2} {r} {s} {one} {ts} {t} hs ht hb e = record {
+  settled = λ p h k.
+      let at1 = hs.settled p h k in
+      let at2 = ht.settled (sites_grown P hs.grows p) (record { net = at1.0.net; signals = are_steady_grown hs.grows (path ∷ slots) h.signals }) at1.2 in
+      let at3 = hb.settled (record { net = at2.0.net; signals = are_steady_grown ht.grows (listed r.ready) at1.0.signals }) at2.0.signals.1 in
+      let front = are_steady_grown (grows_on ht.grows hb.grows) r.values.items at1.1 in
+      (at3, subst (AreSteady n3) (sym e) (are_steady_more n3 r.values.items (one.value ∷ []) front (steady_grown hb.grows one.value.0 at2.0.signals.0, tt)), out_grown hb.grows at2.1);
   quiet = λ F env ws ty. let l = last_typed F env ts t ws ty in ht.quiet F env l.width l.last ∙ hs.quiet F env l.front l.typed;
   long = let k = ap length e ∙ length-append r.values.items (one.value ∷ []) in let i = hs.long in let j = some_nodes t in omega (arith, k, i, j, nodes_end ts t);
   more = hs.more ++ ht.more;

@@ -7,6 +7,8 @@ use Rattle.safl_net.specs.declared.cell.Sig.{Sig}
 use Rattle.safl_net.specs.Netlist.{Netlist}
 use Rattle.safl_net.specs.Growth.{Val, words, Wired, Grows}
 use Rattle.safl_net.proofs.Growth.{grows_on, wired_before, width_kept}
+use Rattle.safl_net.specs.Settled.{IsSettled, SettledOn}
+use Rattle.safl_net.proofs.Settling.{steady_grown}
 use Rattle.safl_lower.specs.declared.parts.Ports.{Ports}
 use Rattle.safl_lower.specs.declared.parts.Lowered.{Lowered}
 use Rattle.safl_lower.specs.declared.parts.Rows.{Rows}
@@ -19,6 +21,8 @@ use Rattle.safl_lower.specs.Entries.{gate, asked, went, Told, site_of, member_of
 use Rattle.safl_lower.specs.Lowering.{back_of, open_at, goes_of, Lowerable, Lowers}
 use Rattle.safl_lower.specs.Rows.{Apart, Listed, to_member, RowFits, Untaken, Spreads, Merged}
 use Rattle.safl_lower.specs.Bodies.{IsBody, CanLower, NeverTaken, Bodies}
+use Rattle.safl_lower.specs.Steady.{listed, WantsSteady, LoopsSteady}
+use Rattle.safl_lower.proofs.Steadying.{wants_grown, loops_grown}
 use Rattle.safl_lower.proofs.Arms.{gate_gate}
 use Rattle.safl_lower.proofs.Typing.{places}
 use Rattle.safl_lower.proofs.Gathered.{wants_kept, loops_kept}
@@ -83,12 +87,23 @@ never_or n m z l a ws b off (inr f) = inr f
 pub bodies : {P : Ports} {args : List Sig} {run : Sig} {n0 n1 n2 n3 n4 : Netlist} {o p : Out} {r : Lowered} {t : Term} (ends off : Sig) (s m : Rows)
     → o.wants.items ≡ [] → o.loops.items ≡ [] → CanLower n0 P args run t
     → Lowers P args run n0 n1 o p r t
-    → Grows n1 n2 → length n2.signals ≤ length n1.signals + 1 → BitAt n2 ends → ((v : Val) → Wired n2 v → on v ends ≡ (on v run && is_ready v r.ready))
-    → Grows n2 n3 → length n3.signals ≤ length n2.signals + 1 → BitAt n3 off → ((v : Val) → Wired n3 v → on v off ≡ false)
+    → Grows n1 n2 → length n2.signals ≤ length n1.signals + 1 → BitAt n2 ends → ((v : Val) → Wired n2 v → on v ends ≡ (on v run && is_ready v r.ready)) → (SettledOn n1 (run ∷ listed r.ready) → SettledOn n2 (ends ∷ []))
+    → Grows n2 n3 → length n3.signals ≤ length n2.signals + 1 → BitAt n3 off → ((v : Val) → Wired n3 v → on v off ≡ false) → (IsSettled n2 → SettledOn n3 (off ∷ []))
     → Spreads off P.first_site (length P.sites.items) p.wants.items s
     → Grows n3 n4 → length n4.signals ≤ length n3.signals + cost p.loops.items → Merged off P.first_member P.members n3 n4 p.loops.items m
     → Bodies P args run n0 n4 (record { ends = ends; value = r.value; wants = s.bits; site_args = s.args; loops = m.bits; loop_args = m.args }) t
-bodies {P} {args} {run} {n0} {n1} {n2} {n3} {n4} {o} {p} {r} {t} ends off s m ew el c h g2 c2 b2 is g3 c3 bz z sp g4 c4 me = record {
+bodies {P} {args} {run} {n0} {n1} {n2} {n3} {n4} {o} {p} {r} {t} ends off s m ew el c h g2 c2 b2 is s2 g3 c3 bz z s3 sp g4 c4 me = record {
+  settled = λ ports k.
+      let at1 = h.settled ports k (record { wants = subst (WantsSteady n0) (sym ew) tt; loops = subst (LoopsSteady n0) (sym el) tt }) in
+      let at2 = s2 (record { net = at1.0.net; signals = (steady_grown h.grows run.0 k.signals.0, at1.0.signals.1) }) in
+      let at3 = s3 at2.net in
+      let at4 = me.settled at3 (loops_grown (grows_on g2 g3) p.loops.items at1.1.loops) in
+      let g = grows_on g2 (grows_on g3 g4) in
+      record {
+        on = record { net = at4.0; signals = (steady_grown (grows_on g3 g4) ends.0 at2.signals.0, (steady_grown g r.value.0 at1.0.signals.0, tt)) };
+        wants = sp.steady n4 (steady_grown g4 off.0 at3.signals.0) (wants_grown g p.wants.items at1.1.wants);
+        loops = at4.1;
+      };
   grows = grows_on h.grows (grows_on g2 (grows_on g3 g4));
   count = let i = h.count in let j = merge_cost ew el c h in omega (arith, i, j, c2, c3, c4);
   wants_length = sp.bits_length;

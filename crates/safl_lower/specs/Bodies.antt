@@ -1,15 +1,17 @@
 -- What the circuit of a body gives, under each valuation that the net allows.
-use Rattle.std.specs.Prelude.{Vec, ◌≡◌, ℕ, ◌+◌, ◌*◌, ◌≤◌, ◌<◌, ◌⊎◌, List, [], length, Some, true, false, not, ◌&&◌, slice_get}
+use Rattle.std.specs.Prelude.{Vec, ◌≡◌, ℕ, ◌+◌, ◌*◌, ◌≤◌, ◌<◌, ◌⊎◌, List, [], ◌∷◌, length, Some, true, false, not, ◌&&◌, slice_get}
 use Rattle.std.specs.Global.{Global}
 use Rattle.safl_check.specs.Terms.{Term}
 use Rattle.safl_check.specs.Readiness.{word_of, answer, wanted}
 use Rattle.safl_net.specs.declared.cell.Sig.{Sig}
 use Rattle.safl_net.specs.Netlist.{Netlist}
 use Rattle.safl_net.specs.Growth.{Val, words, Wired, width_at, Grows}
+use Rattle.safl_net.specs.Settled.{SettledOn}
 use Rattle.safl_lower.specs.declared.parts.Ports.{Ports}
 use Rattle.safl_lower.specs.declared.parts.Body.{Body}
 use Rattle.safl_lower.specs.Bits.{on, BitAt}
 use Rattle.safl_lower.specs.Typing.{Owner, Typed, nodes}
+use Rattle.safl_lower.specs.Steady.{SitesSteady, RowsSteady}
 use Rattle.safl_lower.specs.Entries.{gate}
 use Rattle.safl_lower.specs.Lowering.{back_of, sent_of, goes_of, Setting}
 use Rattle.safl_lower.specs.Rows.{given, to_member, RowFits}
@@ -44,6 +46,12 @@ pub record BodyFits (P : Ports) (old new : Netlist) (b : Body) (F : Owner) (w : 
   -- each member has a bit, and arguments of its widths or no tail call
   pub loops : (i : ℕ) (l : Sig) (a : Vec Sig Global) → slice_get b.loops.items i ≡ Some l → slice_get b.loop_args.items i ≡ Some a → NeverTaken new l a.items ⊎ RowFits new l a.items (F.program.params (P.first_member + i))
 
+-- the net is settled, and all that the body gives is steady
+pub record BodySteady (n : Netlist) (b : Body) : Type 0 where
+  pub on : SettledOn n (b.ends ∷ b.value ∷ [])
+  pub wants : RowsSteady n b.wants.items b.site_args.items
+  pub loops : RowsSteady n b.loops.items b.loop_args.items
+
 pub record Bodies (P : Ports) (args : List Sig) (run : Sig) (old new : Netlist) (b : Body) (t : Term) : Type 0 where
   pub grows : Grows old new
   pub count : length new.signals ≤ length old.signals + 32 * nodes t + 32
@@ -53,6 +61,8 @@ pub record Bodies (P : Ports) (args : List Sig) (run : Sig) (old new : Netlist) 
   pub loops_length : length b.loops.items ≡ P.members
   pub loop_args_length : length b.loop_args.items ≡ P.members
   pub fits : (F : Owner) (env : List ℕ) (w : ℕ) → Setting old F P args env run → IsBody F env t w → BodyFits P old new b F w
+  -- where the net was settled, and its run, arguments and ports steady
+  pub settled : SitesSteady old P → SettledOn old (run ∷ args) → BodySteady new b
   -- `ends` is 1 where the body runs and is ready, and `value` is its word then
   pub ends : (v : Val) → Wired new v → gate (on v b.ends) (Some (v b.value.0)) ≡ gate (on v run) (word_of (answer (back_of v P) (words v args) t))
   -- an own site is wanted where the body runs, the site wasn't sent and the body wants it, with the same words

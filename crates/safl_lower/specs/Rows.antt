@@ -6,11 +6,13 @@ use Rattle.safl_check.specs.Readiness.{or_else}
 use Rattle.safl_net.specs.declared.cell.Sig.{Sig}
 use Rattle.safl_net.specs.Netlist.{Netlist}
 use Rattle.safl_net.specs.Growth.{Val, words, Wired, Sized}
+use Rattle.safl_net.specs.Settled.{IsSteady, IsSettled, SettledOn}
 use Rattle.safl_lower.specs.declared.parts.Want.{Want}
 use Rattle.safl_lower.specs.declared.parts.TailCall.{TailCall}
 use Rattle.safl_lower.specs.declared.parts.Rows.{Rows}
 use Rattle.safl_lower.specs.Bits.{on, BitAt}
 use Rattle.safl_lower.specs.Typing.{Owner}
+use Rattle.safl_lower.specs.Steady.{WantsSteady, LoopsSteady, RowsSteady}
 use Rattle.safl_lower.specs.Entries.{gate, asked, site_of, WantsFit, LoopsFit}
 
 abbrev pub Differs : ℕ → List ℕ → Type 0
@@ -44,6 +46,7 @@ pub record Spreads (zero : Sig) (first count : ℕ) (all : List Want) (s : Rows)
   pub args_length : length s.args.items ≡ count
   pub fits : (F : Owner) (n : Netlist) → WantsFit F n all → (i : ℕ) (l : Sig) (a : Vec Sig Global) → Listed (first + i) (map site_of all) → slice_get s.bits.items i ≡ Some l → slice_get s.args.items i ≡ Some a → RowFits n l a.items (F.program.params (F.program.callee (first + i)))
   pub told : (v : Val) → on v zero ≡ false → (i : ℕ) → given v (slice_get s.bits.items i) (slice_get s.args.items i) ≡ asked v all (first + i)
+  pub steady : (n : Netlist) → IsSteady n zero.0 → WantsSteady n all → RowsSteady n s.bits.items s.args.items
 
 -- the arguments of the first tail call to the member that is made
 abbrev pub taken_to : Val → List TailCall → ℕ → Option (List Word)
@@ -75,6 +78,7 @@ pub record Adds (old new : Netlist) (z : Sig) (place : ℕ) (bits bits' : List S
   pub args_is : args' ≡ slice_set args place row
   pub fits : (ws : List ℕ) → RowFits old e.taken e.args.items ws → (slice_get bits place ≡ Some z) ⊎ ((a : Vec Sig Global) × (slice_get args place ≡ Some a) × Sized old a.items ws) → RowFits new bit row.items ws
   pub told : (v : Val) → Wired new v → on v z ≡ false → given v (Some bit) (Some row) ≡ or_else (gate (on v e.taken) (Some (words v e.args.items))) (given v (slice_get bits place) (slice_get args place))
+  pub settled : SettledOn old (e.taken ∷ e.args.items) → RowsSteady old bits args → IsSettled new × RowsSteady new bits' args'
 
 -- each member's row has its widths, or no tail call goes to it
 abbrev pub RowsFit : Owner → Netlist → Sig → ℕ → List Sig → List (Vec Sig Global) → Type 0
@@ -86,3 +90,4 @@ pub record Merged (z : Sig) (first count : ℕ) (old new : Netlist) (all : List 
   pub args_length : length m.args.items ≡ count
   pub fits : (F : Owner) → LoopsFit F old all → RowsFit F new z first m.bits.items m.args.items
   pub told : (v : Val) → Wired new v → on v z ≡ false → (i : ℕ) → given v (slice_get m.bits.items i) (slice_get m.args.items i) ≡ taken_to v all (first + i)
+  pub settled : SettledOn old (z ∷ []) → LoopsSteady old all → IsSettled new × RowsSteady new m.bits.items m.args.items

@@ -16,7 +16,8 @@ use safl_net::{Net, Sig};
 use std::alloc::{AllocError, Global};
 
 /// The circuit of a body, which runs where `run` is 1, with its parameters on `args`. It adds temporaries alone,
-/// at most 32 for each of the body's terms and 32 more. The net is tidy before and after. The error is want of
+/// at most 32 for each of the body's terms and 32 more. They close no loop of cells where there was none and the
+/// ports, `run` and `args` are no wires without cells. The net is tidy before and after. The error is want of
 /// memory; some temporaries may stand in the net then.
 pub fn lower(
     alloc: Global,

@@ -8,4 +8,4 @@ operate-requires-clause-sized c = (1 ∷ 1 ∷ [], 1, (c.requires.first, (c.requ
 pub returns : goal.returns
 returns c =
     let e = c.operate.ensures in
-    record { tidy = e.tidy; grows = e.grows; count = e.count; width = e.width (1 ∷ 1 ∷ []) 1 (c.requires.first, (c.requires.second, tt)) refl; value = and_on c.args.net.now c.operate.new.net c.operate.result c.args.a c.args.b c.requires.first c.requires.second e.grows e.value }
+    record { tidy = e.tidy; grows = e.grows; count = e.count; width = e.width (1 ∷ 1 ∷ []) 1 (c.requires.first, (c.requires.second, tt)) refl; value = and_on c.args.net.now c.operate.new.net c.operate.result c.args.a c.args.b c.requires.first c.requires.second e.grows e.value; settled = e.settled }

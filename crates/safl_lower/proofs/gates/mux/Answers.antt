@@ -2,6 +2,7 @@ use Rattle.std.proofs.Common.{◌≡◌, ℕ, [], ◌∷◌, Some}
 use Rattle.safl_net.specs.declared.cell.Op.TheVariants.{Mux}
 use Rattle.safl_net.specs.Growth.{width_at}
 use Rattle.safl_net.proofs.Growth.{made, sized_known, sized_fits, sized_gives}
+use Rattle.safl_net.proofs.Settling.{made_settled}
 use Rattle.safl_lower.proofs.BitWords.{mux_width, mux_value}
 use Rattle.safl_lower.proofs.gates.mux.Goals as goal
 
@@ -19,4 +20,4 @@ returns c =
     let h = λ (w : ℕ) (p : width_at c.args.net.now c.args.a.0 ≡ Some w) (q : width_at c.args.net.now c.args.b.0 ≡ Some w).
     made c.args.net.now c.temp.new.self c.temp.result w Mux xs (sized_gives c.args.net.now Mux xs (1 ∷ w ∷ w ∷ []) w (c.requires.test, (p, (q, tt))) (mux_width w)) e.added e.numbered e.refused in
     let k = h b.0 b.1 b.2 in
-    record { tidy = e.tidy; grows = k.grows; count = k.count; width = λ w p q. (h w p q).width; value = mux_value c.temp.new.self c.temp.result c.args.c c.args.a c.args.b k.word }
+    record { tidy = e.tidy; grows = k.grows; count = k.count; width = λ w p q. (h w p q).width; value = mux_value c.temp.new.self c.temp.result c.args.c c.args.a c.args.b k.word; settled = made_settled c.args.net.now c.temp.new.self c.temp.result Mux xs e.added e.numbered }

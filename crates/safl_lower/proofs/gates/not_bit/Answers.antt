@@ -8,4 +8,4 @@ operate-requires-clause-sized c = (1 ∷ [], 1, (c.requires.bit, tt), refl)
 pub returns : goal.returns
 returns c =
     let e = c.operate.ensures in
-    record { tidy = e.tidy; grows = e.grows; count = e.count; width = e.width (1 ∷ []) 1 (c.requires.bit, tt) refl; value = not_on c.args.net.now c.operate.new.net c.operate.result c.args.a c.requires.bit e.grows e.value }
+    record { tidy = e.tidy; grows = e.grows; count = e.count; width = e.width (1 ∷ []) 1 (c.requires.bit, tt) refl; value = not_on c.args.net.now c.operate.new.net c.operate.result c.args.a c.requires.bit e.grows e.value; settled = e.settled }

@@ -1,5 +1,6 @@
 use Rattle.std.proofs.Common.{ap, ◌∙◌, ◌&&◌}
 use Rattle.safl_net.proofs.Growth.{width_kept, grows_on, wired_before}
+use Rattle.safl_net.proofs.Settling.{steady_grown}
 use Rattle.safl_lower.specs.Bits.{on, is_ready}
 use Rattle.safl_lower.proofs.joins.branch_paths.Goals as goal
 
@@ -37,3 +38,14 @@ returns-clause-grows c = grows_on c.and_ready.ensures.grows (grows_on c.and_bit.
 
 pub returns-clause-widths : goal.returns-clause-widths
 returns-clause-widths c = (width_kept (grows_on c.not_bit.ensures.grows c.and_bit-2.ensures.grows) c.in_ok-yes.yes.0 1 c.in_ok-yes.ensures.width, c.in_ok-no.ensures.width)
+
+pub returns-clause-settled : goal.returns-clause-settled
+returns-clause-settled c = λ h.
+    let a = c.in_ok-reached.ensures.settled (record { net = h.net; signals = (h.signals.0, h.signals.1.1) }) in
+    let g = c.and_ready.ensures.grows in
+    let test = steady_grown g c.args.test.value.0 h.signals.1.0 in
+    let b = c.in_ok-yes.ensures.settled (record { net = a.net; signals = (a.signals.0, (test, tt)) }) in
+    let d = c.in_ok-otherwise.ensures.settled (record { net = b.net; signals = (steady_grown c.and_bit.ensures.grows c.args.test.value.0 test, tt) }) in
+    let reached = steady_grown (grows_on c.and_bit.ensures.grows c.not_bit.ensures.grows) c.in_ok-reached.reached.0 a.signals.0 in
+    let e = c.in_ok-no.ensures.settled (record { net = d.net; signals = (reached, d.signals) }) in
+    record { net = e.net; signals = (steady_grown (grows_on c.not_bit.ensures.grows c.and_bit-2.ensures.grows) c.in_ok-yes.yes.0 b.signals.0, e.signals) }

@@ -1,4 +1,6 @@
 use Rattle.safl_net.proofs.Growth.{width_kept, grows_on, wired_before}
+use Rattle.safl_net.proofs.Settling.{steady_grown, are_steady_grown}
+use Rattle.safl_lower.specs.Steady.{listed, results}
 use Rattle.safl_lower.proofs.joins.choose.Goals as goal
 
 pub returns-clause-value : goal.returns-clause-value
@@ -12,3 +14,10 @@ returns-clause-grows c = grows_on c.mux.ensures.grows c.choose_ready.ensures.gro
 
 pub returns-clause-shape : goal.returns-clause-shape
 returns-clause-shape c = λ w y n. record { ready = c.in_ok-ready.ensures.shape; width = width_kept c.choose_ready.ensures.grows c.in_ok-value.value.0 w (c.in_ok-value.ensures.width w y.width n.width) }
+
+pub returns-clause-settled : goal.returns-clause-settled
+returns-clause-settled c = λ h y n.
+    let a = c.in_ok-value.ensures.settled (record { net = h.net; signals = (h.signals.0, (y.0, (n.0, tt))) }) in
+    let g = c.mux.ensures.grows in
+    let b = c.in_ok-ready.ensures.settled (record { net = a.net; signals = are_steady_grown g (results c.args.test) h.signals }) (are_steady_grown g (listed c.args.yes.ready) y.1) (are_steady_grown g (listed c.args.no.ready) n.1) in
+    record { net = b.net; signals = (steady_grown c.choose_ready.ensures.grows c.in_ok-value.value.0 a.signals.0, b.signals) }

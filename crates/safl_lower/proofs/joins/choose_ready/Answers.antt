@@ -1,5 +1,7 @@
 use Rattle.std.proofs.Common.{ap, ◌∙◌, ◌&&◌, cond, Bool}
 use Rattle.safl_net.proofs.Growth.{width_kept, grows_on, wired_before}
+use Rattle.safl_net.proofs.Settling.{steady_grown, are_steady_grown}
+use Rattle.safl_lower.specs.Steady.{listed}
 use Rattle.safl_lower.specs.Bits.{on, is_ready}
 use Rattle.safl_lower.proofs.Kept.{ready_kept, swap_and, mux_on}
 use Rattle.safl_lower.proofs.joins.choose_ready.Goals as goal
@@ -38,3 +40,13 @@ returns-in_err-and_ready-clause-grows c = grows_on c.ready_bit.ensures.grows (gr
 
 pub returns-clause-grows : goal.returns-clause-grows
 returns-clause-grows c = grows_on c.ready_bit.ensures.grows (grows_on c.ready_bit-2.ensures.grows (grows_on c.mux.ensures.grows c.and_ready.ensures.grows))
+
+pub returns-clause-settled : goal.returns-clause-settled
+returns-clause-settled c = λ h y n.
+    let g1 = c.ready_bit.ensures.grows in
+    let g2 = c.ready_bit-2.ensures.grows in
+    let a = c.in_ok-yes.ensures.settled (record { net = h.net; signals = y }) in
+    let b = c.in_ok-no.ensures.settled (record { net = a.net; signals = are_steady_grown g1 (listed c.args.no) n }) in
+    let test = steady_grown (grows_on g1 g2) c.args.test.value.0 h.signals.0 in
+    let d = c.in_ok-chosen.ensures.settled (record { net = b.net; signals = (test, (steady_grown g2 c.in_ok-yes.yes.0 a.signals.0, b.signals)) }) in
+    c.in_ok-and_ready.ensures.settled (record { net = d.net; signals = (d.signals.0, are_steady_grown (grows_on g1 (grows_on g2 c.mux.ensures.grows)) (listed c.args.test.ready) h.signals.1) })

@@ -1,7 +1,10 @@
-use Rattle.std.proofs.Common.{ap, ◌∙◌}
+use Rattle.std.proofs.Common.{ap, ◌∙◌, sym, subst}
 use Rattle.safl_net.specs.Growth.{words}
 use Rattle.safl_net.proofs.Growth.{grows_on, wired_before, width_kept}
 use Rattle.safl_lower.specs.declared.parts.TailCall.{TailCall}
+use Rattle.safl_net.proofs.Settling.{steady_grown, are_steady_grown}
+use Rattle.safl_lower.specs.Steady.{LoopsSteady}
+use Rattle.safl_lower.proofs.Steadying.{out_grown, loops_steady_end}
 use Rattle.safl_lower.specs.Bits.{on, is_ready}
 use Rattle.safl_check.specs.Readiness.{or_else}
 use Rattle.safl_lower.specs.Entries.{went}
@@ -35,3 +38,16 @@ returns-clause-grows c = grows_on c.and_ready.ensures.grows (grows_on c.bit.ensu
 
 pub returns-clause-shape : goal.returns-clause-shape
 returns-clause-shape c = record { ready = width_kept c.no_value.ensures.grows c.in_ok-never.never.0 1 c.in_ok-never.ensures.width; width = c.in_ok-value.ensures.width }
+
+pub returns-clause-settled : goal.returns-clause-settled
+returns-clause-settled c = λ h values out.
+    let e : TailCall = record { member = c.args.member; taken = c.in_ok-taken.taken; args = c.args.all.values } in
+    let a = c.in_ok-taken.ensures.settled h in
+    let b = c.in_ok-never.ensures.settled a.net in
+    let d = c.in_ok-value.ensures.settled b.net in
+    let g1 = grows_on c.bit.ensures.grows c.no_value.ensures.grows in
+    let g = grows_on c.and_ready.ensures.grows g1 in
+    let more = out_grown g out in (
+      record { net = d.net; signals = (d.signals.0, (steady_grown c.no_value.ensures.grows c.in_ok-never.never.0 b.signals.0, tt)) },
+      record { wants = more.wants; loops = subst (LoopsSteady c.no_value.new.net) (sym c.in_ok-push.ensures.items) (loops_steady_end c.no_value.new.net c.args.out.now.loops.items e more.loops (steady_grown g1 c.in_ok-taken.taken.0 a.signals.0) (are_steady_grown g c.args.all.values.items values)) },
+    )

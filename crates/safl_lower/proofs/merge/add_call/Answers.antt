@@ -2,6 +2,7 @@ use Rattle.std.proofs.Common.{◌≡◌, List, Vec, Global, cond, slice_get, get
 use Rattle.std.proofs.lemmas.Option.{slice_get_read, slice_get-get_or}
 use Rattle.safl_net.specs.declared.cell.Sig.{Sig}
 use Rattle.safl_net.specs.Growth.{Sized, words}
+use Rattle.safl_net.specs.Settled.{AreSteady}
 use Rattle.safl_lower.specs.Bits.{on}
 use Rattle.safl_net.proofs.Growth.{grows_on, width_kept, sized_kept}
 use Rattle.safl_lower.proofs.Members.{not_first, row_here, first_added, next_added}
@@ -59,6 +60,8 @@ returns-clause-added c =
     next_added c.args.net.now c.mux.new.net c.mux_all.new.net c.args.zero c.index-known.result.now c.in_ok-both.both c.args.place a c.in_ok-row.row n c.args.args.now.items c.args.call at2 rt q b.grows w.grows (b.width 1 c.requires.taken r.row.bit) b.value
     (λ ws s t. w.width ws (subst (λ (x : List Sig). Sized c.mux.new.net x ws) (sym c.deref.ensures.value) (sized_kept b.grows c.args.call.args.items ws s)) (subst (λ (x : List Sig). Sized c.mux.new.net x ws) (sym c.deref-2.ensures.value) (sized_kept b.grows a.items ws t)))
     (λ v h. w.value v h ∙ ap (λ (x : List Sig). cond (on v c.args.call.taken) (words v x) (words v c.deref-2.result.now)) c.deref.ensures.value ∙ ap (λ (x : List Sig). cond (on v c.args.call.taken) (words v c.args.call.args.items) (words v x)) c.deref-2.ensures.value)
+    b.settled
+    (λ h t. w.settled (record { net = h.net; signals = (h.signals.0, subst (AreSteady c.mux.new.net) (sym c.deref.ensures.value) h.signals.1) }) (subst (AreSteady c.mux.new.net) (sym c.deref-2.ensures.value) t))
 
 pub returns-clause-grows : goal.returns-clause-grows
 returns-clause-grows c = grows_on c.mux.ensures.grows c.mux_all.ensures.grows

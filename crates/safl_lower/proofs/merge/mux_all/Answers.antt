@@ -1,8 +1,10 @@
-use Rattle.std.proofs.Common.{◌+◌, List, cond, take, get_or, sym, ap, subst, ◌∙◌, arith}
+use Rattle.std.proofs.Common.{◌+◌, List, [], ◌∷◌, cond, take, get_or, sym, ap, subst, ◌∙◌, arith}
 use Rattle.std.proofs.lemmas.Option.{slice_get-get_or}
 use Rattle.safl_net.specs.declared.cell.Sig.{Sig}
 use Rattle.safl_net.specs.Growth.{words, Sized}
 use Rattle.safl_net.proofs.Growth.{grows_on, wired_before, width_kept, sized_kept}
+use Rattle.safl_net.specs.Settled.{AreSteady}
+use Rattle.safl_net.proofs.Settling.{steady_grown, are_steady_grown, are_steady_more, steady_at}
 use Rattle.safl_lower.proofs.Members.{as_long}
 use Rattle.safl_lower.specs.Bits.{on}
 use Rattle.safl_lower.proofs.Members.{row_value, sized_at, same_at, row_sized, take_all}
@@ -50,6 +52,13 @@ loop-i-preserved c =
           subst (λ (l : List Sig). Sized c.mux.new.net l (take (i + 1) ws)) (sym c.in_ok-push.ensures.items)
           (row_sized c.mux.new.net c.loop-i.row.items c.in_ok-s.s ws i p.width p.at (sized_kept c.in_ok-s.ensures.grows c.loop-i.row.items (take i ws) (n.width ws u w))
           (c.in_ok-s.ensures.width p.width p.sized (same_at c.loop-i.net ws i (get_or c.args.first.now i d) (get_or c.args.second.now i d) p q)));
+      settled = λ h t.
+          let k = n.settled h t in
+          let one = steady_grown n.grows c.args.test.0 h.signals.0 in
+          let fst = steady_grown n.grows (get_or c.args.first.now i d).0 (steady_at c.args.net.now c.args.first.now i (get_or c.args.first.now i d) h.signals.1 a1) in
+          let snd = steady_grown n.grows (get_or c.args.second.now i d).0 (steady_at c.args.net.now c.args.second.now i (get_or c.args.second.now i d) t a2) in
+          let m = c.in_ok-s.ensures.settled (record { net = k.net; signals = (one, (fst, (snd, tt))) }) in
+          record { net = m.net; signals = subst (AreSteady c.mux.new.net) (sym c.in_ok-push.ensures.items) (are_steady_more c.mux.new.net c.loop-i.row.items (c.in_ok-s.s ∷ []) (are_steady_grown c.in_ok-s.ensures.grows c.loop-i.row.items k.signals) m.signals) };
       value = λ v h.
           ap (words v) c.in_ok-push.ensures.items
           ∙ row_value v (on v c.args.test) c.loop-i.row.items c.args.first.now c.args.second.now i c.in_ok-s.s (get_or c.args.first.now i d) (get_or c.args.second.now i d) a1 a2

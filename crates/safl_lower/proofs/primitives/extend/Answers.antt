@@ -2,6 +2,7 @@ use Rattle.std.proofs.Common.{◌≡◌, ℕ, ◌+◌, ◌-◌, [], ◌∷◌, S
 use Rattle.safl_word.specs.Words.{Word}
 use Rattle.safl_net.specs.Growth.{width_at}
 use Rattle.safl_net.proofs.Growth.{grows_on, width_kept, width_is}
+use Rattle.safl_lower.proofs.Steadying.{prefixed}
 use Rattle.safl_lower.proofs.Extending.{joined_width, stays_wide, extended}
 use Rattle.safl_lower.proofs.primitives.extend.Goals as goal
 
@@ -42,3 +43,6 @@ returns-clause-value c =
     let e = c.width-narrow.ensures in
     let le = r.2 in
     extended c.args.net.now c.constant.new.net c.operate.new.net c.operate.result c.in_ok-before-in-Some.before c.args.a c.in-Some.zeros (c.args.width - c.width-narrow.result) r.0 c.args.width c.operate.ensures.grows c.constant.ensures.grows r.1 c.in-Some.ensures.value (omega (arith, w, e, le)) c.in_ok-before-in-Some.ensures.value c.operate.ensures.value
+
+pub returns-clause-settled : goal.returns-clause-settled
+returns-clause-settled c = prefixed c.args.net.now c.constant.new.net c.operate.new.net c.operate.result c.in_ok-before-in-Some.before c.args.a c.constant.ensures.grows c.in_ok-before-in-Some.ensures.settled c.operate.ensures.settled

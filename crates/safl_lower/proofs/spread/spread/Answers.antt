@@ -1,5 +1,5 @@
 use Rattle.std.proofs.Common.{rules, ◌≡◌, ◌+◌, [], ◌∷◌, length, length-append, sym, ap, subst, ◌∙◌, arith}
-use Rattle.safl_lower.proofs.Laid.{AllZero, zeros_end, so_far_start, so_far_step, so_far_end, last_within}
+use Rattle.safl_lower.proofs.Laid.{AllZero, AllEmpty, zeros_end, empties_end, so_far_start, so_far_step, so_far_end, last_within}
 use Rattle.safl_lower.proofs.spread.spread.Goals as goal
 
 pub zeros-preserved : goal.zeros-preserved
@@ -9,6 +9,7 @@ zeros-preserved c =
     let b = c.in_ok-push-2.ensures.items in
     record {
       zeros = subst (AllZero c.args.zero) (sym a) (zeros_end c.args.zero c.zeros.bits.items i.zeros);
+      empty = subst AllEmpty (sym b) (empties_end c.zeros.args.items c.new.result i.empty c.new.ensures.items);
       bits = ap length a ∙ length-append c.zeros.bits.items (c.args.zero ∷ []) ∙ ap (λ n. n + 1) i.bits;
       args = ap length b ∙ length-append c.zeros.args.items (c.new.result ∷ []) ∙ ap (λ n. n + 1) i.args;
     }
@@ -18,7 +19,7 @@ calls-init c =
     let i = c.zeros.invariant in
     let w = i.bits in
     let a = i.args in
-    so_far_start c.args.zero c.args.first c.args.count c.args.calls.items c.zeros.bits.items c.zeros.args.items c.requires.apart c.requires.within i.zeros (omega arith) (omega arith)
+    so_far_start c.args.zero c.args.first c.args.count c.args.calls.items c.zeros.bits.items c.zeros.args.items c.requires.apart c.requires.within i.zeros i.empty (omega arith) (omega arith)
 
 pub calls-preserved : goal.calls-preserved
 calls-preserved c = so_far_step c.pop.new.self.items c.in-Some.call c.in-Some.ensures.items c.calls.invariant

@@ -1,9 +1,10 @@
-use Rattle.std.proofs.Common.{rules, ◌≡◌, ℕ, ◌+◌, ◌*◌, ◌<◌, List, ◌++◌, length, drop, suc, Some, None, refl, sym, ap, subst, ◌∙◌, arith}
+use Rattle.std.proofs.Common.{rules, ◌≡◌, ℕ, ◌+◌, ◌*◌, ◌<◌, List, [], ◌∷◌, ◌++◌, length, drop, suc, Some, None, refl, sym, ap, subst, ◌∙◌, arith}
 use Rattle.std.proofs.lemmas.Option.{slice_get_read}
 use Rattle.safl_word.specs.Primitives.{apply_prim, result_width}
 use Rattle.safl_net.specs.declared.cell.Sig.{Sig}
 use Rattle.safl_net.specs.Growth.{words, Sized}
 use Rattle.safl_net.proofs.Growth.{grows_on}
+use Rattle.safl_net.specs.Settled.{SettledOn}
 use Rattle.safl_check.specs.declared.term.Term as declared
 use Rattle.safl_check.specs.Terms.{Term, Terms, Cons}
 use Rattle.safl_check.specs.Tree.{tree, forest}
@@ -62,7 +63,7 @@ lower_all-loop-t-preserved t c =
       lowered = subst (λ (x : Terms). LowersAll c.args.ports.now c.args.slots.now.items c.args.path c.args.net.now c.both_ready.new.net c.args.out.now c.lower_term.new.out (record { ready = c.in_ok-ready.ready; values = c.push.new.self }) x)
           (sym (forest_more c.args.ts.now c.loop-t.t-index c.t-item.result at))
           (lowers_more c.loop-t.invariant.lowered (renamed c.loop-t.invariant.same refl c.in_ok-one.ensures.done)
-          (record { grows = c.in_ok-ready.ensures.grows; count = c.in_ok-ready.ensures.count; bit = c.in_ok-ready.ensures.width; is = c.in_ok-ready.ensures.value })
+          (record { grows = c.in_ok-ready.ensures.grows; count = c.in_ok-ready.ensures.count; bit = c.in_ok-ready.ensures.width; is = c.in_ok-ready.ensures.value; settled = c.in_ok-ready.ensures.settled })
           c.in_ok-push.ensures.items);
       same = c.in_ok-one.ensures.slots ∙ c.loop-t.invariant.same;
     }
@@ -79,7 +80,7 @@ pub lower_term-returns-in_ok-value-in-Const-clause-done : goal.lower_term-return
 lower_term-returns-in_ok-value-in-Const-clause-done t c =
     let h = c.in_ok-value-in-Const.ensures in
     subst (λ (x : Term). Lowers c.args.ports.now c.args.slots.now.items c.args.path c.args.net.now c.constant.new.net c.args.out.now c.args.out.now (record { ready = None; value = c.in_ok-value-in-Const.value }) x) (sym (ap tree c.in-Const.is))
-    (lowers_const h.grows h.count h.width h.value)
+    (lowers_const h.grows h.count h.width h.value h.settled)
 
 pub lower_term-index-requires : goal.lower_term-index-requires
 lower_term-index-requires t c =
@@ -124,7 +125,8 @@ lower_term-returns-in_ok-value-in-Op-clause-done t c =
     let h = c.in_ok-value-in-Op.ensures in
     let d = c.deref-in-Op-2.ensures.value in
     subst (λ (x : Term). Lowers c.args.ports.now c.args.slots.now.items c.args.path c.args.net.now c.apply.new.net c.args.out.now c.lower_all-in-Op.new.out (record { ready = c.in_ok-all-in-Op.all.ready; value = c.in_ok-value-in-Op.value }) x) (sym e)
-    (lowers_op hs h.grows h.count (λ ws w p q. h.width ws w (subst (λ (xs : List Sig). Sized c.lower_all-in-Op.new.net xs ws) (sym d) p) q) (λ v w. h.value v w ∙ ap (λ (xs : List Sig). apply_prim c.in-Op.p (words v xs)) d))
+    (lowers_op hs h.grows h.count (λ ws w p q. h.width ws w (subst (λ (xs : List Sig). Sized c.lower_all-in-Op.new.net xs ws) (sym d) p) q) (λ v w. h.value v w ∙ ap (λ (xs : List Sig). apply_prim c.in-Op.p (words v xs)) d)
+    (subst (λ (xs : List Sig). SettledOn c.lower_all-in-Op.new.net xs → SettledOn c.apply.new.net (c.in_ok-value-in-Op.value ∷ [])) d h.settled))
 
 -- ---- a call
 
@@ -165,7 +167,7 @@ lower_term-returns-in_ok-all-in-Call-clause-done t c =
     let e = ap tree c.in-Call.is ∙ tree-Call c.in-Call.field-0 c.in-Call.k c.in-Call.ts in
     let hs = renamed_all refl c.deref-in-Call.ensures.value c.in_ok-all-in-Call.ensures.done in
     let h = c.ask.ensures in
-    done_call c.ask.new.out c.in-Call.field-0 c.in-Call.k c.ask.result e hs h.grows h.count h.given h.entry h.loops h.wants
+    done_call c.ask.new.out c.in-Call.field-0 c.in-Call.k c.ask.result e hs h.grows h.count h.given h.entry h.loops h.wants h.settled
 
 -- ---- a tail call
 
@@ -200,7 +202,7 @@ lower_term-returns-in_ok-all-in-Loop-clause-done t c =
     let e = ap tree c.in-Loop.is ∙ tree-Loop c.in-Loop.h c.in-Loop.ts in
     let hs = renamed_all refl c.deref-in-Loop.ensures.value c.in_ok-all-in-Loop.ensures.done in
     let h = c.go_on.ensures in
-    done_loop c.go_on.new.out c.go_on.result e hs h.grows h.count h.shape h.never h.entry h.wants h.loops
+    done_loop c.go_on.new.out c.go_on.result e hs h.grows h.count h.shape h.never h.entry h.wants h.loops h.settled
 
 -- ---- an if
 
@@ -229,7 +231,7 @@ lower_term-lower_term-requires-in-If t c =
     let a = subst (λ (x : Term). Lowerable c.args.net.now c.args.ports.now c.args.slots.now.items c.args.path x) e c.requires.able in
     let hc = renamed refl c.deref.ensures c.in_ok-test-in-If.ensures.done in
     let p = c.in_ok-paths-in-If.ensures in
-    let hp : Branches c.args.path c.lower_term.new.net c.branch_paths.new.net c.in_ok-test-in-If.test c.in_ok-paths-in-If.paths.yes c.in_ok-paths-in-If.paths.no = record { grows = p.grows; count = p.count; yes_bit = p.widths.0; no_bit = p.widths.1; yes_on = p.yes; no_on = p.no } in
+    let hp : Branches c.args.path c.lower_term.new.net c.branch_paths.new.net c.in_ok-test-in-If.test c.in_ok-paths-in-If.paths.yes c.in_ok-paths-in-If.paths.no = record { grows = p.grows; count = p.count; yes_bit = p.widths.0; no_bit = p.widths.1; yes_on = p.yes; no_on = p.no; settled = p.settled } in
     let smaller : 2 * nodes (tree c.deref-in-If.result.now) < 2 * nodes (tree c.args.t.now) = omega (arith, ap nodes e, ap (λ (x : declared.Term). nodes (tree x)) c.deref-in-If.ensures) in
     let ok : Lowerable c.branch_paths.new.net c.args.ports.now c.lower_term.new.slots.items c.in_ok-paths-in-If.paths.yes (tree c.deref-in-If.result.now) = subst (λ (x : declared.Term). Lowerable c.branch_paths.new.net c.args.ports.now c.lower_term.new.slots.items c.in_ok-paths-in-If.paths.yes (tree x)) (sym c.deref-in-If.ensures)
     (subst (λ (s : List Sig). Lowerable c.branch_paths.new.net c.args.ports.now s c.in_ok-paths-in-If.paths.yes (tree c.in-If.a.value)) (sym c.in_ok-test-in-If.ensures.slots) (Able.able_yes a hc hp)) in
@@ -241,7 +243,7 @@ lower_term-lower_term-requires-in-If-2 t c =
     let a = subst (λ (x : Term). Lowerable c.args.net.now c.args.ports.now c.args.slots.now.items c.args.path x) e c.requires.able in
     let hc = renamed refl c.deref.ensures c.in_ok-test-in-If.ensures.done in
     let p = c.in_ok-paths-in-If.ensures in
-    let hp : Branches c.args.path c.lower_term.new.net c.branch_paths.new.net c.in_ok-test-in-If.test c.in_ok-paths-in-If.paths.yes c.in_ok-paths-in-If.paths.no = record { grows = p.grows; count = p.count; yes_bit = p.widths.0; no_bit = p.widths.1; yes_on = p.yes; no_on = p.no } in
+    let hp : Branches c.args.path c.lower_term.new.net c.branch_paths.new.net c.in_ok-test-in-If.test c.in_ok-paths-in-If.paths.yes c.in_ok-paths-in-If.paths.no = record { grows = p.grows; count = p.count; yes_bit = p.widths.0; no_bit = p.widths.1; yes_on = p.yes; no_on = p.no; settled = p.settled } in
     let s1 = c.in_ok-test-in-If.ensures.slots in
     let ha = renamed s1 c.deref-in-If.ensures c.in_ok-yes-in-If.ensures.done in
     let smaller : 2 * nodes (tree c.deref-in-If-2.result.now) < 2 * nodes (tree c.args.t.now) = omega (arith, ap nodes e, ap (λ (x : declared.Term). nodes (tree x)) c.deref-in-If-2.ensures) in
@@ -255,7 +257,7 @@ lower_term-choose-requires-clause-test t c =
     let a = subst (λ (x : Term). Lowerable c.args.net.now c.args.ports.now c.args.slots.now.items c.args.path x) e c.requires.able in
     let hc = renamed refl c.deref.ensures c.in_ok-test-in-If.ensures.done in
     let p = c.in_ok-paths-in-If.ensures in
-    let hp : Branches c.args.path c.lower_term.new.net c.branch_paths.new.net c.in_ok-test-in-If.test c.in_ok-paths-in-If.paths.yes c.in_ok-paths-in-If.paths.no = record { grows = p.grows; count = p.count; yes_bit = p.widths.0; no_bit = p.widths.1; yes_on = p.yes; no_on = p.no } in
+    let hp : Branches c.args.path c.lower_term.new.net c.branch_paths.new.net c.in_ok-test-in-If.test c.in_ok-paths-in-If.paths.yes c.in_ok-paths-in-If.paths.no = record { grows = p.grows; count = p.count; yes_bit = p.widths.0; no_bit = p.widths.1; yes_on = p.yes; no_on = p.no; settled = p.settled } in
     let s1 = c.in_ok-test-in-If.ensures.slots in
     let ha = renamed s1 c.deref-in-If.ensures c.in_ok-yes-in-If.ensures.done in
     let s2 = c.in_ok-yes-in-If.ensures.slots ∙ s1 in
@@ -268,7 +270,7 @@ lower_term-choose-requires-clause-branches t c =
     let a = subst (λ (x : Term). Lowerable c.args.net.now c.args.ports.now c.args.slots.now.items c.args.path x) e c.requires.able in
     let hc = renamed refl c.deref.ensures c.in_ok-test-in-If.ensures.done in
     let p = c.in_ok-paths-in-If.ensures in
-    let hp : Branches c.args.path c.lower_term.new.net c.branch_paths.new.net c.in_ok-test-in-If.test c.in_ok-paths-in-If.paths.yes c.in_ok-paths-in-If.paths.no = record { grows = p.grows; count = p.count; yes_bit = p.widths.0; no_bit = p.widths.1; yes_on = p.yes; no_on = p.no } in
+    let hp : Branches c.args.path c.lower_term.new.net c.branch_paths.new.net c.in_ok-test-in-If.test c.in_ok-paths-in-If.paths.yes c.in_ok-paths-in-If.paths.no = record { grows = p.grows; count = p.count; yes_bit = p.widths.0; no_bit = p.widths.1; yes_on = p.yes; no_on = p.no; settled = p.settled } in
     let s1 = c.in_ok-test-in-If.ensures.slots in
     let ha = renamed s1 c.deref-in-If.ensures c.in_ok-yes-in-If.ensures.done in
     let s2 = c.in_ok-yes-in-If.ensures.slots ∙ s1 in
@@ -281,7 +283,7 @@ lower_term-choose-requires-clause-room t c =
     let a = subst (λ (x : Term). Lowerable c.args.net.now c.args.ports.now c.args.slots.now.items c.args.path x) e c.requires.able in
     let hc = renamed refl c.deref.ensures c.in_ok-test-in-If.ensures.done in
     let p = c.in_ok-paths-in-If.ensures in
-    let hp : Branches c.args.path c.lower_term.new.net c.branch_paths.new.net c.in_ok-test-in-If.test c.in_ok-paths-in-If.paths.yes c.in_ok-paths-in-If.paths.no = record { grows = p.grows; count = p.count; yes_bit = p.widths.0; no_bit = p.widths.1; yes_on = p.yes; no_on = p.no } in
+    let hp : Branches c.args.path c.lower_term.new.net c.branch_paths.new.net c.in_ok-test-in-If.test c.in_ok-paths-in-If.paths.yes c.in_ok-paths-in-If.paths.no = record { grows = p.grows; count = p.count; yes_bit = p.widths.0; no_bit = p.widths.1; yes_on = p.yes; no_on = p.no; settled = p.settled } in
     let s1 = c.in_ok-test-in-If.ensures.slots in
     let ha = renamed s1 c.deref-in-If.ensures c.in_ok-yes-in-If.ensures.done in
     let s2 = c.in_ok-yes-in-If.ensures.slots ∙ s1 in
@@ -298,13 +300,13 @@ lower_term-returns-in_ok-no-in-If-clause-done t c =
     let e = ap tree c.in-If.is in
     let hc = renamed refl c.deref.ensures c.in_ok-test-in-If.ensures.done in
     let p = c.in_ok-paths-in-If.ensures in
-    let hp : Branches c.args.path c.lower_term.new.net c.branch_paths.new.net c.in_ok-test-in-If.test c.in_ok-paths-in-If.paths.yes c.in_ok-paths-in-If.paths.no = record { grows = p.grows; count = p.count; yes_bit = p.widths.0; no_bit = p.widths.1; yes_on = p.yes; no_on = p.no } in
+    let hp : Branches c.args.path c.lower_term.new.net c.branch_paths.new.net c.in_ok-test-in-If.test c.in_ok-paths-in-If.paths.yes c.in_ok-paths-in-If.paths.no = record { grows = p.grows; count = p.count; yes_bit = p.widths.0; no_bit = p.widths.1; yes_on = p.yes; no_on = p.no; settled = p.settled } in
     let s1 = c.in_ok-test-in-If.ensures.slots in
     let ha = renamed s1 c.deref-in-If.ensures c.in_ok-yes-in-If.ensures.done in
     let s2 = c.in_ok-yes-in-If.ensures.slots ∙ s1 in
     let hb = renamed s2 c.deref-in-If-2.ensures c.in_ok-no-in-If.ensures.done in
     let h = c.choose.ensures in
-    done_if c.choose.result e hc hp ha hb h.grows h.count h.shape h.value h.ready
+    done_if c.choose.result e hc hp ha hb h.grows h.count h.shape h.value h.ready h.settled
 
 -- ---- a let
 
@@ -342,7 +344,7 @@ lower_term-lower_term-requires-in-Let t c =
     let a = subst (λ (x : Term). Lowerable c.args.net.now c.args.ports.now c.args.slots.now.items c.args.path x) e c.requires.able in
     let hs = renamed_all refl c.deref-in-Let.ensures.value c.in_ok-bound-in-Let.ensures.done in
     let q = c.in_ok-inner-in-Let.ensures in
-    let hi : Inner c.args.path c.lower_all.new.net c.and_ready.new.net c.in_ok-bound-in-Let.bound.ready c.in_ok-inner-in-Let.inner = record { grows = q.grows; count = q.count; bit = q.width; is = q.value } in
+    let hi : Inner c.args.path c.lower_all.new.net c.and_ready.new.net c.in_ok-bound-in-Let.bound.ready c.in_ok-inner-in-Let.inner = record { grows = q.grows; count = q.count; bit = q.width; is = q.value; settled = q.settled } in
     let s3 = c.in_ok-extend_from_slice-in-Let.ensures.items ∙ ap (λ (l : List Sig). c.lower_all.new.slots.items ++ l) c.deref-in-Let-2.ensures.value ∙ ap (λ (l : List Sig). l ++ c.in_ok-bound-in-Let.bound.values.items) c.in_ok-bound-in-Let.ensures.slots in
     let smaller : 2 * nodes (tree c.deref-in-Let-3.result.now) < 2 * nodes (tree c.args.t.now) = omega (arith, ap nodes e, ap (λ (x : declared.Term). nodes (tree x)) c.deref-in-Let-3.ensures) in
     let ok : Lowerable c.and_ready.new.net c.args.ports.now c.extend_from_slice.new.self.items c.in_ok-inner-in-Let.inner (tree c.deref-in-Let-3.result.now) = subst (λ (x : declared.Term). Lowerable c.and_ready.new.net c.args.ports.now c.extend_from_slice.new.self.items c.in_ok-inner-in-Let.inner (tree x)) (sym c.deref-in-Let-3.ensures)
@@ -362,7 +364,7 @@ lower_term-both_ready-requires-clause-second t c =
     let a = subst (λ (x : Term). Lowerable c.args.net.now c.args.ports.now c.args.slots.now.items c.args.path x) e c.requires.able in
     let hs = renamed_all refl c.deref-in-Let.ensures.value c.in_ok-bound-in-Let.ensures.done in
     let q = c.in_ok-inner-in-Let.ensures in
-    let hi : Inner c.args.path c.lower_all.new.net c.and_ready.new.net c.in_ok-bound-in-Let.bound.ready c.in_ok-inner-in-Let.inner = record { grows = q.grows; count = q.count; bit = q.width; is = q.value } in
+    let hi : Inner c.args.path c.lower_all.new.net c.and_ready.new.net c.in_ok-bound-in-Let.bound.ready c.in_ok-inner-in-Let.inner = record { grows = q.grows; count = q.count; bit = q.width; is = q.value; settled = q.settled } in
     let s3 = c.in_ok-extend_from_slice-in-Let.ensures.items ∙ ap (λ (l : List Sig). c.lower_all.new.slots.items ++ l) c.deref-in-Let-2.ensures.value ∙ ap (λ (l : List Sig). l ++ c.in_ok-bound-in-Let.bound.values.items) c.in_ok-bound-in-Let.ensures.slots in
     let hb = renamed s3 c.deref-in-Let-3.ensures c.in_ok-body-in-Let.ensures.done in
     (Able.body_shape a hs hi hb).ready
@@ -373,7 +375,7 @@ lower_term-both_ready-requires-clause-room t c =
     let a = subst (λ (x : Term). Lowerable c.args.net.now c.args.ports.now c.args.slots.now.items c.args.path x) e c.requires.able in
     let hs = renamed_all refl c.deref-in-Let.ensures.value c.in_ok-bound-in-Let.ensures.done in
     let q = c.in_ok-inner-in-Let.ensures in
-    let hi : Inner c.args.path c.lower_all.new.net c.and_ready.new.net c.in_ok-bound-in-Let.bound.ready c.in_ok-inner-in-Let.inner = record { grows = q.grows; count = q.count; bit = q.width; is = q.value } in
+    let hi : Inner c.args.path c.lower_all.new.net c.and_ready.new.net c.in_ok-bound-in-Let.bound.ready c.in_ok-inner-in-Let.inner = record { grows = q.grows; count = q.count; bit = q.width; is = q.value; settled = q.settled } in
     let s3 = c.in_ok-extend_from_slice-in-Let.ensures.items ∙ ap (λ (l : List Sig). c.lower_all.new.slots.items ++ l) c.deref-in-Let-2.ensures.value ∙ ap (λ (l : List Sig). l ++ c.in_ok-bound-in-Let.bound.values.items) c.in_ok-bound-in-Let.ensures.slots in
     let hb = renamed s3 c.deref-in-Let-3.ensures c.in_ok-body-in-Let.ensures.done in
     let r = a.room in
@@ -387,12 +389,12 @@ lower_term-returns-in_ok-ready-in-Let-clause-done t c =
     let e = ap tree c.in-Let.is ∙ tree-Let c.in-Let.field-0 c.in-Let.ts c.in-Let.b in
     let hs = renamed_all refl c.deref-in-Let.ensures.value c.in_ok-bound-in-Let.ensures.done in
     let q = c.in_ok-inner-in-Let.ensures in
-    let hi : Inner c.args.path c.lower_all.new.net c.and_ready.new.net c.in_ok-bound-in-Let.bound.ready c.in_ok-inner-in-Let.inner = record { grows = q.grows; count = q.count; bit = q.width; is = q.value } in
+    let hi : Inner c.args.path c.lower_all.new.net c.and_ready.new.net c.in_ok-bound-in-Let.bound.ready c.in_ok-inner-in-Let.inner = record { grows = q.grows; count = q.count; bit = q.width; is = q.value; settled = q.settled } in
     let s3 = c.in_ok-extend_from_slice-in-Let.ensures.items ∙ ap (λ (l : List Sig). c.lower_all.new.slots.items ++ l) c.deref-in-Let-2.ensures.value ∙ ap (λ (l : List Sig). l ++ c.in_ok-bound-in-Let.bound.values.items) c.in_ok-bound-in-Let.ensures.slots in
     let hb = renamed s3 c.deref-in-Let-3.ensures c.in_ok-body-in-Let.ensures.done in
     let b = c.in_ok-ready-in-Let.ensures in
     subst (λ (x : Term). Lowers c.args.ports.now c.args.slots.now.items c.args.path c.args.net.now c.both_ready.new.net c.args.out.now c.lower_term-in-Let.new.out (record { ready = c.in_ok-ready-in-Let.ready; value = c.in_ok-body-in-Let.body.value }) x) (sym e)
-    (lowers_let hs hi hb (record { grows = b.grows; count = b.count; bit = b.width; is = b.value }))
+    (lowers_let hs hi hb (record { grows = b.grows; count = b.count; bit = b.width; is = b.value; settled = b.settled }))
 
 -- ---- the net grows
 
