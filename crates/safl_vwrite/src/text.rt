@@ -1,19 +1,28 @@
 //! The whole text.
 
-ghost use Rattle.std.specs.Prelude.{◌≡◌, IfOk};
+ghost use Rattle.std.specs.Prelude.{◌≡◌, ◌≤◌, length, IfOk};
+ghost use Rattle.safl_net.specs.Whole.{IsWhole};
 ghost use Rattle.safl_net.specs.Written.{written};
+ghost use Rattle.safl_verilog.specs.Laws.{IsInOrder};
+ghost use Rattle.safl_verilog.specs.Reads.{Reads};
+ghost use Rattle.safl_vwrite.specs.Sizes.{text_max};
 
 use crate::declarations::{push_declarations, push_header};
 use crate::pieces::push;
 use crate::statements::push_statements;
 use safl_net::Net;
+use safl_verilog::laws::written_reads_law;
 use safl_word::NoMemory;
 use std::alloc::Global;
 
-/// The Verilog text of a net.
+/// The Verilog text of a net: at most 1,200 bytes for each signal and each output, and 1,200 more.
 #[tactic(auto, unfolding(safl_net::specs::Written::written))]
 pub fn text_of(alloc: Global, net: &Net) -> Result<Vec<u8>, NoMemory>
-    ensures { IfOk result (λ text. text.items ≡ written net.now) }
+    ensures written { IfOk result (λ text. text.items ≡ written net.now) }
+    ensures short { IfOk result (λ text. length text.items ≤ text_max net.now) }
+
+    // Read back, it is the net, where the signals stand as inputs, then registers, then wires.
+    ensures reads_back { IfOk result (λ text. IsWhole net.now → IsInOrder net.now → Reads text.items net.now) }
 {
     let signals = net.signals() as usize;
     let mut out = Vec::with_capacity(alloc, signals)?;
@@ -21,5 +30,6 @@ pub fn text_of(alloc: Global, net: &Net) -> Result<Vec<u8>, NoMemory>
     push_declarations(&mut out, net)?;
     push_statements(&mut out, net)?;
     push(&mut out, b"endmodule\n")?;
+    written_reads_law();
     Ok(out)
 }

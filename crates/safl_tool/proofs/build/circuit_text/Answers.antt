@@ -17,5 +17,5 @@ returns-in_ok-text-in-Some-clause-text c =
     (subst (λ a. IfSome a (λ n. IsConstantSource c.args.source.now n)) c.in-Some.is c.in_ok-constant_of.ensures.found)
     c.from.ensures c.from_low_bits.ensures
     (subst (λ n. IsCircuit (constant_program c.from_low_bits.result) main_names no_choice n) (sym c.into_net.ensures) c.in_ok-circuit-in-Some.ensures.circuit)
-    c.in_ok-text-in-Some.ensures
+    c.in_ok-text-in-Some.ensures.written
     (reads_back c.written_reads_law.ensures c.from_low_bits.result c.into_net.result (c.into_net.ensures ∙ c.in_ok-circuit-in-Some.ensures.net) (subst (λ n. IsNetlist n) c.text_of.view_is c.text_of.invariant.netlist))

@@ -1,0 +1,59 @@
+//! The text of a net, in a file of a shelf.
+
+ghost use Rattle.std.specs.Prelude.{◌≡◌, ◌≤◌, OnOk, OnErr, OnSome, IsErrOf};
+ghost use Rattle.safl_io.specs.Counts.{Rose};
+ghost use Rattle.safl_io.specs.Told.{TellsOn};
+ghost use Rattle.safl_io.specs.Shelf.{Leaves, LeavesOldOrPart};
+ghost use Rattle.safl_net.specs.Whole.{IsWhole};
+ghost use Rattle.safl_net.specs.Written.{written};
+ghost use Rattle.safl_verilog.specs.Laws.{IsInOrder};
+
+use crate::text::text_of;
+use safl_io::{OutErr, Shelf, write_file};
+use safl_net::Net;
+use std::alloc::Global;
+
+/// Why a net was not written.
+#[derive(Clone, Copy, Debug, PartialEq, Eq, thiserror::Error)]
+pub enum WriteErr {
+    /// The shelf failed. It has counted that.
+    #[error("writing failed")]
+    Failed,
+    #[error("out of memory")]
+    NoMemory,
+}
+
+/// Writes the Verilog text of a net to a file, in place of an old one of that name: it creates the file and appends
+/// pieces of 1,024 bytes, the last of them shorter. The net is whole, and its signals stand as inputs, then registers,
+/// then wires.
+pub fn write_net<S: Shelf>(
+    alloc: Global,
+    net: &Net,
+    shelf: &mut S,
+    name: &str,
+) -> Result<(), WriteErr>
+    requires whole { IsWhole net.now }
+    requires in_order { IsInOrder net.now }
+    ensures written { OnOk result (TellsOn (Leaves name.now (written net.now)) (S.holds shelf.old) (S.holds shelf.new)) }
+    ensures failed { IsErrOf result WriteErr.Failed → Rose (S.write_faults shelf.old) (S.write_faults shelf.new) }
+
+    // After an error the old file or a front of the text stands there.
+    ensures not_written { OnErr result (TellsOn (LeavesOldOrPart name.now (written net.now)) (S.holds shelf.old) (S.holds shelf.new)) }
+
+    ensures same_reads { S.read_faults shelf.new ≡ S.read_faults shelf.old }
+    ensures writes_later { S.write_faults shelf.old ≤ S.write_faults shelf.new }
+
+    // A shelf that tells what it holds is asked for no stray name.
+    ensures same_strays { OnSome (S.holds shelf.old) (S.strays shelf.new ≡ S.strays shelf.old) }
+    ensures strays_later { S.strays shelf.old ≤ S.strays shelf.new }
+{
+    let text = match text_of(alloc, net) {
+        Ok(text) => text,
+        Err(_) => return Err(WriteErr::NoMemory),
+    };
+    match write_file(shelf, name, &text) {
+        Ok(()) => Ok(()),
+        Err(OutErr::Failed) => Err(WriteErr::Failed),
+        Err(OutErr::NoMemory) => Err(WriteErr::NoMemory),
+    }
+}
