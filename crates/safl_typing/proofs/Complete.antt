@@ -86,7 +86,7 @@ operated_met Comparing p m o es ws us w t same shift all s h q f g k = after_giv
 operated_met Shifting p m o es ws us w t same shift all s h q f g k = after_gives _ _ (typed_alike w us) _ (g s) (settle_met p m false w w (Op o us) t h refl (sym q))
 operated_met Resizing p m o es ws us w t same shift all s h q f g k = after_gives _ _ (typed_all ws us) _ (k s.0) (rw s.1 (settle_met p m false w w (Op o us) t h refl (sym q)))
 
-length_widths : (ps : List Slot) → length (widths_of ps) ≡ length ps
+pub length_widths : (ps : List Slot) → length (widths_of ps) ≡ length ps
 length_widths [] = refl
 length_widths (p ∷ ps) = ap (λ n. suc n) (length_widths ps)
 
