@@ -1,0 +1,58 @@
+//! The arguments of a call.
+
+ghost use Rattle.std.specs.Prelude.{◌≡◌, ◌≤◌, length};
+
+use safl_word::Word;
+use std::marker::Model;
+
+/// The most arguments of a call.
+pub const ARGS_MAX: usize = 16;
+
+/// At most `ARGS_MAX` words, which take no memory of their own.
+#[derive(Drop)]
+pub struct Args {
+    words: [Word; ARGS_MAX],
+    count: usize,
+}
+
+impl Model for Args {
+    ghost use Rattle.std.specs.Prelude.{◌≤◌, List, take};
+    ghost use Rattle.safl_word.specs.Words.{Word};
+
+    ghost Value = { List Word };
+
+    ghost view = { λ a. take a.count a.words };
+
+    ghost invariant = { λ a. a.count ≤ 16 };
+}
+
+impl Args {
+    /// These words.
+    pub fn new(words: &[Word]) -> Args
+        requires { length words.now ≤ 16 }
+        ensures { result ≡ words.now }
+    {
+        let mut held = [Word::from_parts(1, 0); ARGS_MAX];
+        let count = words.len();
+        held[..count].copy_from_slice(words);
+        Args { words: held, count }
+    }
+
+    /// The words.
+    pub fn words(&self) -> &[Word]
+        ensures words { result.now ≡ self.now }
+        ensures few { length self.now ≤ 16 }
+    {
+        &self.words[..self.count]
+    }
+
+    /// The same words once more.
+    pub fn again(&self) -> Args
+        ensures { result ≡ self.now }
+    {
+        Args {
+            words: self.words,
+            count: self.count,
+        }
+    }
+}

@@ -1,0 +1,6 @@
+//! The call machine, as code.
+#![tactic(auto)]
+
+pub mod args;
+pub mod evaluate;
+pub mod stage;
