@@ -1,0 +1,135 @@
+-- The text of a program, with least parentheses.
+use Rattle.std.specs.Prelude.{ℕ, List, [], ◌∷◌, ◌++◌, Option, Some, None, Bool, true, false, nat_le, codes, decimal}
+use Rattle.safl_word.specs.declared.token.Key.{Key}
+use Rattle.safl_word.specs.declared.token.Key.TheVariants as keys
+use Rattle.safl_word.specs.declared.token.Sym.{Sym}
+use Rattle.safl_word.specs.declared.token.Sym.TheVariants as syms
+use Rattle.safl_word.specs.declared.token.TokenKind.{TokenKind}
+use Rattle.safl_word.specs.declared.token.TokenKind.TheVariants as kinds
+use Rattle.safl_word.specs.declared.primitive.Primitive.{Primitive}
+use Rattle.safl_word.specs.declared.primitive.Primitive.TheVariants as prims
+use Rattle.safl_word.specs.Tokens.{key_text, sym_text}
+use Rattle.safl_tree.specs.Tree.{Tree, Number, Sized, Variable, Choice, Binding, Cases, Applied, Called, Trees, no_tree, a_tree, Binds, no_bind, a_bind, Arms, default_arm, an_arm, Parameter, Definition}
+use Rattle.safl_tree.specs.Printable.{left_place, right_place, own}
+
+-- ---- tokens
+
+-- a token without its place: its kind and its text
+pub record Word : Type 0 where
+  pub kind : TokenKind
+  pub text : List ℕ
+
+abbrev pub key : Key → Word
+key k = record { kind = kinds.Key k; text = key_text k }
+
+abbrev pub sym : Sym → Word
+sym s = record { kind = kinds.Sym s; text = sym_text s }
+
+abbrev pub name : List ℕ → Word
+name x = record { kind = kinds.Name; text = x }
+
+-- numbers are written in shortest decimal
+abbrev pub number : ℕ → Word
+number n = record { kind = kinds.Num n; text = decimal n }
+
+abbrev pub sized : ℕ → ℕ → Word
+sized w n = record { kind = kinds.Sized w n; text = decimal w ++ codes "'d" ++ decimal n }
+
+-- the symbol of an operator
+abbrev pub symbol_of : Primitive → Sym
+symbol_of prims.Mul = syms.Star
+symbol_of prims.Add = syms.Plus
+symbol_of prims.Sub = syms.Minus
+symbol_of prims.Shl = syms.ShiftLeft
+symbol_of prims.Shr = syms.ShiftRight
+symbol_of prims.Eq = syms.Equal
+symbol_of prims.Ne = syms.NotEqual
+symbol_of prims.Lt = syms.Less
+symbol_of prims.Le = syms.LessEqual
+symbol_of prims.Gt = syms.Greater
+symbol_of prims.Ge = syms.GreaterEqual
+symbol_of prims.And = syms.Ampersand
+symbol_of prims.Xor = syms.Caret
+symbol_of prims.Or = syms.Bar
+symbol_of _ = syms.Tilde
+
+-- ---- expressions
+
+-- parts with a word between each and the next
+abbrev pub separated : Word → List (List Word) → List Word
+separated s [] = []
+separated s (x ∷ []) = x
+separated s (x ∷ y ∷ xs) = x ++ (s ∷ separated s (y ∷ xs))
+
+-- as it is, or in parentheses
+abbrev pub enclosed : Bool → List Word → List Word
+enclosed true ws = ws
+enclosed false ws = sym syms.OpenParen ∷ (ws ++ (sym syms.CloseParen ∷ []))
+
+-- an operator and its operands
+abbrev pub applied : Primitive → List (List Word) → List Word
+applied prims.Not parts = sym syms.Tilde ∷ separated (sym syms.Comma) parts
+applied prims.Cat parts = key keys.Cat ∷ (sym syms.OpenParen ∷ (separated (sym syms.Comma) parts ++ (sym syms.CloseParen ∷ [])))
+applied (prims.Bits h l) parts = key keys.Bits ∷ (sym syms.OpenParen ∷ (separated (sym syms.Comma) parts ++ (sym syms.Comma ∷ (number h ∷ (sym syms.Comma ∷ (number l ∷ (sym syms.CloseParen ∷ [])))))))
+applied (prims.Ext n) parts = key keys.Ext ∷ (sym syms.OpenParen ∷ (separated (sym syms.Comma) parts ++ (sym syms.Comma ∷ (number n ∷ (sym syms.CloseParen ∷ [])))))
+applied o parts = separated (sym (symbol_of o)) parts
+
+-- `:` and the width, where one is written
+abbrev pub written : Option ℕ → List Word
+written None = []
+written (Some w) = sym syms.Colon ∷ (number w ∷ [])
+
+-- an expression without parentheses around it
+abbrev mutual
+  pub words : Tree → List Word
+  words (Number p n) = number n ∷ []
+  words (Sized p w n) = sized w n ∷ []
+  words (Variable p x) = name x ∷ []
+  words (Choice p c a b) = key keys.If ∷ (words c ++ (key keys.Then ∷ (words a ++ (key keys.Else ∷ words b))))
+  words (Binding p bs t) = key keys.Let ∷ (separated (sym syms.Comma) (bind_words bs) ++ (key keys.In ∷ words t))
+  words (Cases p e arms) = key keys.Case ∷ (words e ++ (sym syms.OpenBrace ∷ (arm_words arms ++ (sym syms.CloseBrace ∷ []))))
+  words (Applied p o ts) = applied o (part_words (left_place o) (right_place o) ts)
+  words (Called p f ts) = name f ∷ (sym syms.OpenParen ∷ (separated (sym syms.Comma) (part_words 8 8 ts) ++ (sym syms.CloseParen ∷ [])))
+
+  -- parts, the first at a place of so many layers, and the others at one of so many; in parentheses where the place has too few
+  pub part_words : ℕ → ℕ → Trees → List (List Word)
+  part_words k right no_tree = []
+  part_words k right (a_tree t ts) = enclosed (nat_le (own t) k) (words t) ∷ part_words right right ts
+
+  pub bind_words : Binds → List (List Word)
+  bind_words no_bind = []
+  bind_words (a_bind p x w t bs) = (name x ∷ (written w ++ (sym syms.Assign ∷ words t))) ∷ bind_words bs
+
+  pub arm_words : Arms → List Word
+  arm_words (default_arm t) = key keys.Default ∷ (sym syms.Arrow ∷ words t)
+  arm_words (an_arm l t arms) = words l ++ (sym syms.Arrow ∷ (words t ++ (sym syms.Comma ∷ arm_words arms)))
+
+-- ---- programs
+
+abbrev pub param_words : List Parameter → List (List Word)
+param_words [] = []
+param_words (p ∷ ps) = (name p.name ∷ (sym syms.Colon ∷ (number p.width ∷ []))) ∷ param_words ps
+
+-- a definition behind its `fun` or `and`
+abbrev pub one_words : Definition → List Word
+one_words d = name d.name ∷ (sym syms.OpenParen ∷ (separated (sym syms.Comma) (param_words d.params) ++ (sym syms.CloseParen ∷ (sym syms.Colon ∷ (number d.width ∷ (sym syms.Assign ∷ words d.body))))))
+
+-- a joined definition follows `and`, any other `fun`
+abbrev pub opening : Bool → Word
+opening true = key keys.And
+opening false = key keys.Fun
+
+-- ---- texts
+
+-- a space before each token
+abbrev pub spaced : List Word → List ℕ
+spaced [] = []
+spaced (x ∷ xs) = 32 ∷ (x.text ++ spaced xs)
+
+-- a definition's line, which a line feed ends
+abbrev pub line : Definition → List ℕ
+line d = (opening d.joined).text ++ (spaced (one_words d) ++ (10 ∷ []))
+
+abbrev pub printed : List Definition → List ℕ
+printed [] = []
+printed (d ∷ ds) = line d ++ printed ds

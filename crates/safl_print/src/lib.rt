@@ -1,0 +1,4 @@
+//! Programs as text, with least parentheses.
+#![tactic(auto)]
+
+pub mod laws;
