@@ -92,7 +92,8 @@ abbrev mutual
   HaveShortBound (a_binding p x w e bs) = HasShortLets e × HaveShortBound bs
 
 abbrev pub nodes_of : List Definition → ℕ
-nodes_of ds = sum_by (λ d. nodes (rewritten d.body)) ds
+nodes_of [] = 0
+nodes_of (d ∷ ds) = nodes (rewritten d.body) + nodes_of ds
 
 -- ---- forms
 
