@@ -2,7 +2,7 @@
 use Rattle.std.specs.Prelude.{◌≡◌, ℕ, zero, suc, ◌-◌, ◌<◌, ◌≤◌, List, [], length, map, sum_by, Some, slice_get, true, codes}
 use Rattle.std.specs.Option.{option_map_or}
 use Rattle.std.specs.String.{string_bytes}
-use Rattle.safl_word.specs.Words.{no_word}
+use Rattle.safl_word.specs.Words.{no_word, max_width}
 use Rattle.safl_check.specs.declared.checked.Function.{Function}
 use Rattle.safl_check.specs.declared.checked.Site.{Site}
 use Rattle.safl_word.specs.Tokens.{IsName}
@@ -68,9 +68,15 @@ pub record AreNamed (c : CheckedProgram) : Type 0 where
   pub of_params : (f i : ℕ) (name : List ℕ) → slice_get (param_names c f) i ≡ Some name → IsName name
   pub of_params_differ : (f i j : ℕ) (name : List ℕ) → slice_get (param_names c f) i ≡ Some name → slice_get (param_names c f) j ≡ Some name → i ≡ j
 
+-- each width of a result and of a parameter is one that a word has
+pub record HasWordWidths (C : Program) : Type 0 where
+  pub results : (f : ℕ) → f < C.functions → (1 ≤ C.result f) × (C.result f ≤ max_width)
+  pub params : (f i w : ℕ) → slice_get (C.params f) i ≡ Some w → (1 ≤ w) × (w ≤ max_width)
+
 -- the program is well formed, within limits, and in the order of the text
 pub record IsChecked (c : CheckedProgram) : Type 0 where
   pub formed : IsWellFormed (program_of c)
+  pub widths : HasWordWidths (program_of c)
   pub limits : IsWithinLimits c
   -- the members of a group follow each other
   pub groups : (f g : ℕ) → g < (program_of c).functions → (program_of c).unit g ≤ f → f ≤ g → (program_of c).unit f ≡ (program_of c).unit g
