@@ -13,9 +13,10 @@ use Rattle.safl_lower.specs.declared.parts.Ports.{Ports}
 use Rattle.safl_lower.specs.declared.parts.Lowered.{Lowered}
 use Rattle.safl_lower.specs.declared.parts.LoweredAll.{LoweredAll}
 use Rattle.safl_lower.specs.declared.parts.Out.{Out}
+use Rattle.safl_lower.specs.declared.parts.TailCall.{TailCall}
 use Rattle.safl_lower.specs.Bits.{on, is_ready, BitAt, ReadyAt}
-use Rattle.safl_lower.specs.Typing.{sites_of, sites_in}
-use Rattle.safl_lower.specs.Entries.{gate, asked, went, Told, site_of, cost}
+use Rattle.safl_lower.specs.Typing.{sites_of, sites_in, tails_of}
+use Rattle.safl_lower.specs.Entries.{gate, asked, went, Told, site_of, member_of, cost}
 use Rattle.safl_lower.specs.Lowering.{back_of, sent_of, goes_of, Shaped, Lowers, LowersAll}
 use Rattle.safl_lower.proofs.Arms.{or_assoc, gate_or, if_value, if_wants, let_value, let_wants}
 use Rattle.safl_lower.specs.Steady.{listed, results}
@@ -72,6 +73,7 @@ pub lowers_if : {P : Ports} {slots : List Sig} {path py pn : Sig} {n0 n1 n2 n3 n
     → Lowers P slots path n0 n5 o0 o3 r (If c a b)
 unfolding answer wanted
 lowers_if {P} {slots} {path} {py} {pn} {n0} {n1} {n2} {n3} {n4} {n5} {o0} {o1} {o2} {o3} {test} {yes} {no} {r} {c} {a} {b} hc hp ha hb hr = record {
+  tails = λ F tail env w t. more_twice (map member_of o0.loops.items) (map member_of o2.loops.items) (map member_of o3.loops.items) (tails_of a) (tails_of b) (ha.tails F tail env w (yes_typed t) ∙ ap (λ (l : List TailCall). map member_of l ++ tails_of a) (hc.quiet F env 1 (test_typed t))) (hb.tails F tail env w (no_typed t));
   settled = λ p h k.
       let g2 = grows_on hc.grows hp.grows in
       let g3 = grows_on g2 ha.grows in
@@ -186,6 +188,7 @@ pub lowers_let : {P : Ports} {slots : List Sig} {path inner : Sig} {n0 n1 n2 n3 
     → Lowers P slots path n0 n4 o0 o2 (record { ready = ready; value = body.value }) (Let bs b)
 unfolding answer wanted
 lowers_let {P} {slots} {path} {inner} {n0} {n1} {n2} {n3} {n4} {o0} {o1} {o2} {bound} {body} {ready} {bs} {b} hs hi hb hr = record {
+  tails = λ F tail env w t. hb.tails F tail (env ++ t.width.0) w (body_typed t) ∙ ap (λ (l : List TailCall). map member_of l ++ tails_of b) (hs.quiet F env t.width.0 (bound_typed t));
   settled = λ p h k.
       let g2 = grows_on hs.grows hi.grows in
       let at1 = hs.settled p h k in

@@ -18,6 +18,7 @@ use Rattle.safl_lower.specs.declared.parts.Ports.{Ports}
 use Rattle.safl_lower.specs.declared.parts.Lowered.{Lowered}
 use Rattle.safl_lower.specs.declared.parts.LoweredAll.{LoweredAll}
 use Rattle.safl_lower.specs.declared.parts.Out.{Out}
+use Rattle.safl_lower.specs.declared.parts.TailCall.{TailCall}
 use Rattle.safl_lower.specs.Bits.{on, is_ready}
 use Rattle.safl_lower.specs.Typing.{Owner, Typed, sites_in}
 use Rattle.safl_lower.specs.Entries.{gate, asked, went, site_of, member_of, Between, WantsFit, LoopsFit, cost}
@@ -27,7 +28,7 @@ use Rattle.safl_lower.specs.Steady.{listed, results, SitesSteady, OutSteady}
 use Rattle.safl_lower.proofs.Steadying.{sites_grown}
 use Rattle.safl_lower.proofs.Kept.{shaped_all_kept}
 use Rattle.safl_lower.proofs.Typing.{args_typed, next_typed}
-use Rattle.safl_lower.proofs.Gathered.{stays_by, pick_none, more_twice, map_end, out_kept, wants_end, loops_end, told_by, told_more, never_is, taken_tells, cost_end, between_end, between_same}
+use Rattle.safl_lower.proofs.Gathered.{stays_by, pick_none, no_more, more_twice, map_end, out_kept, wants_end, loops_end, told_by, told_more, never_is, taken_tells, cost_end, between_end, between_same}
 
 goes_call : (o : Option Word) → goes_of (ready_from o) ≡ None
 goes_call None = refl
@@ -101,6 +102,7 @@ pub lowers_call : {P : Ports} {slots : List Sig} {path : Sig} {n0 n1 n2 : Netlis
     → Lowers P slots path n0 n2 o0 o2 r (Call f k ts)
 unfolding answer wanted
 lowers_call {P} {slots} {path} {n0} {n1} {n2} {o0} {o1} {o2} {all} {f} {k} {ts} {r} hs ha x = record {
+  tails = λ F tail env w t. ap (map member_of) (ha.loops ∙ hs.quiet F env (F.program.params f) (args_typed t)) ∙ no_more (map member_of o0.loops.items);
   settled = λ p h y.
       let a = hs.settled p h y in
       ha.settled (sites_grown P hs.grows p) (record { net = a.0.net; signals = (steady_grown hs.grows path.0 h.signals.0, a.0.signals) }) a.1 a.2;
@@ -168,6 +170,7 @@ pub lowers_loop : {P : Ports} {slots : List Sig} {path : Sig} {n0 n1 n2 : Netlis
     → Lowers P slots path n0 n2 o0 o2 r (Loop h ts)
 unfolding answer wanted
 lowers_loop {P} {slots} {path} {n0} {n1} {n2} {o0} {o1} {o2} {all} {h} {ts} {r} hs hg = record {
+  tails = λ F tail env w t. ap (map member_of) hg.entry.is ∙ map_end member_of o1.loops.items _ ∙ ap (λ (l : List TailCall). map member_of l ++ h ∷ []) (hs.quiet F env (F.program.params h) (next_typed t));
   settled = λ p k y.
       let a = hs.settled p k y in
       hg.settled (record { net = a.0.net; signals = (steady_grown hs.grows path.0 k.signals.0, a.0.signals) }) a.1 a.2;

@@ -13,7 +13,7 @@ use Rattle.safl_lower.specs.declared.parts.Rows.{Rows}
 use Rattle.safl_lower.specs.Bits.{on}
 use Rattle.safl_lower.specs.Typing.{Owner}
 use Rattle.safl_lower.specs.Entries.{gate, member_of, Between, LoopFits, LoopsFit, cost}
-use Rattle.safl_lower.specs.Rows.{given, taken_to, RowFits, Untaken, Row, RowAt, Adds, RowsFit, Merged}
+use Rattle.safl_lower.specs.Rows.{Listed, given, taken_to, RowFits, Untaken, Row, RowAt, Adds, RowsFit, Merged}
 use Rattle.safl_lower.specs.Steady.{LoopsSteady, RowsSteady}
 use Rattle.safl_lower.proofs.Steadying.{loops_steady_front, loops_grown}
 use Rattle.safl_lower.proofs.Arms.{or_none, or_assoc}
@@ -34,6 +34,15 @@ taken_end : (v : Val) (es : List TailCall) (e : TailCall) (h : ℕ) → taken_to
 taken_end v [] e h = or_none (gate ((e.member == h) && on v e.taken) (Some (words v e.args.items)))
 taken_end v (d ∷ es) e h = ap (or_else (gate ((d.member == h) && on v d.taken) (Some (words v d.args.items)))) (taken_end v es e h) ∙ sym (or_assoc (gate ((d.member == h) && on v d.taken) (Some (words v d.args.items))) (taken_to v es h) (gate ((e.member == h) && on v e.taken) (Some (words v e.args.items))))
 
+listed_more : (k : ℕ) (js : List ℕ) (j : ℕ) → Listed k js → Listed k (js ++ j ∷ [])
+listed_more k [] j h = absurd h
+listed_more k (i ∷ js) j (inl e) = inl e
+listed_more k (i ∷ js) j (inr h) = inr (listed_more k js j h)
+
+listed_last : (js : List ℕ) (j : ℕ) → Listed j (js ++ j ∷ [])
+listed_last [] j = inl refl
+listed_last (i ∷ js) j = inr (listed_last js j)
+
 loops_front : (F : Owner) (n : Netlist) (es : List TailCall) (e : TailCall) → LoopsFit F n (es ++ e ∷ []) → LoopsFit F n es × LoopFits F n e
 loops_front F n [] e h = (tt, h.0)
 loops_front F n (d ∷ es) e h = let r = loops_front F n es e h.1 in ((h.0, r.0), r.1)
@@ -48,10 +57,14 @@ pub record Merging (z : Sig) (first count : ℕ) (old new : Netlist) (all rest :
   pub left : (F : Owner) → LoopsFit F old all → LoopsFit F new rest
   pub fits : (F : Owner) → LoopsFit F old all → RowsFit F new z first bits args
   pub told : (v : Val) → Wired new v → on v z ≡ false → (i : ℕ) → or_else (taken_to v rest (first + i)) (given v (slice_get bits i) (slice_get args i)) ≡ taken_to v all (first + i)
+  pub part : (k : ℕ) → Listed k (map member_of rest) → Listed k (map member_of all)
+  pub idle : (i : ℕ) (l : Sig) (a : Vec Sig Global) → slice_get bits i ≡ Some l → slice_get args i ≡ Some a → ¬ Listed (first + i) (map member_of all) → Untaken z l a.items
   pub settled : SettledOn old (z ∷ []) → LoopsSteady old all → IsSettled new × RowsSteady new bits args × LoopsSteady new rest
 
 pub merging_start : (z : Sig) (first count : ℕ) (n : Netlist) (all : List TailCall) (bits : List Sig) (args : List (Vec Sig Global)) → AllZero z bits → AllEmpty args → length bits ≡ count → length args ≡ count → Between first (first + count) (map member_of all) → Merging z first count n n all all bits args
 merging_start z first count n all bits args h a e f b = record {
+  part = λ k x. x;
+  idle = λ i l r p q no. (zero_only z bits i l h p, empty_only args i r a q);
   settled = λ s l. (s.net, rows_start n z bits args h a s.signals.0, l);
   grows = grows_none n;
   room = omega arith;
@@ -170,6 +183,13 @@ module _ {z : Sig} {first count : ℕ} {old cur : Netlist} {all all_rest : List 
           bits_length = ap length d.bits_is ∙ set_length bits (e.member - first) d.bit ∙ ll;
           args_length = ap length d.args_is ∙ set_length args (e.member - first) d.row ∙ al;
           within = (between_front first (first + count) (map member_of rest) e.member (subst (Between first (first + count)) split h.within)).0;
+          part = λ k x. h.part k (subst (Listed k) (sym split) (listed_more k (map member_of rest) e.member x));
+          idle = λ i l a p r no.
+              let here = h.part e.member (subst (Listed e.member) (sym split) (listed_last (map member_of rest) e.member)) in
+              let at = place_is in
+              let o : i ≡ e.member - first → ⊥ = λ s. no (subst (λ (k : ℕ). Listed k (map member_of all)) (let m : e.member ≡ first + i = omega (arith, s, at) in m) here) in
+              h.idle i l a (sym (ap (λ (j : List Sig). slice_get j i) d.bits_is ∙ set_other bits (e.member - first) i d.bit o) ∙ p)
+              (sym (ap (λ (j : List (Vec Sig Global)). slice_get j i) d.args_is ∙ set_other args (e.member - first) i d.row o) ∙ r) no;
           settled = λ s l.
               let k = h.settled s l in
               let t = loops_steady_front cur rest e (subst (LoopsSteady cur) q k.2) in
@@ -188,6 +208,7 @@ module _ {z : Sig} {first count : ℕ} {old cur : Netlist} {all all_rest : List 
 
 pub merging_end : {z : Sig} {first count : ℕ} {old cur : Netlist} {all rest : List TailCall} (m : Rows) → rest ≡ [] → Merging z first count old cur all rest m.bits.items m.args.items → Merged z first count old cur all m
 merging_end {first = first} m q h = record {
+  idle = h.idle;
   settled = λ s l. let k = h.settled s l in (k.0, k.1);
   bits_length = h.bits_length;
   args_length = h.args_length;

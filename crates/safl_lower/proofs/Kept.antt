@@ -1,19 +1,21 @@
 -- What stays as the net grows, and one more call or tail call.
-use Rattle.std.proofs.Common.{◌≡◌, ℕ, T, ◌+◌, List, [], ◌∷◌, ◌++◌, Option, Some, None, Bool, true, false, ◌&&◌, cond, ◌==◌, refl, sym, ap, ◌∙◌}
+use Rattle.std.proofs.Common.{◌≡◌, ℕ, T, ◌+◌, List, [], ◌∷◌, ◌++◌, Option, Some, None, Bool, true, false, ◌&&◌, cond, ◌==◌, Result, Ok, Err, IfOk, OnOk, length, slice_get, refl, sym, ap, ◌∙◌}
 use Rattle.std.proofs.Math.Dec.{eqb_refl}
 use Rattle.safl_word.specs.Words.{Word}
 use Rattle.safl_check.specs.Readiness.{or_else}
 use Rattle.safl_net.specs.declared.cell.Sig.{Sig}
-use Rattle.safl_net.specs.Netlist.{Netlist}
+use Rattle.safl_net.specs.declared.cell.Op.TheVariants.{Const}
+use Rattle.safl_net.specs.Netlist.{Netlist, Signal, Wire, Cell}
+use Rattle.safl_net.specs.Making.{with_signal, temporary, kind_in, kind_at}
 use Rattle.safl_net.specs.Growth.{Val, Sized, Grows}
-use Rattle.safl_net.proofs.Growth.{width_kept, sized_kept, sized_more}
+use Rattle.safl_net.proofs.Growth.{get_kept, get_new, width_kept, sized_kept, sized_more}
 use Rattle.safl_lower.specs.declared.parts.SitePorts.{SitePorts}
 use Rattle.safl_lower.specs.declared.parts.Ports.{Ports}
 use Rattle.safl_lower.specs.declared.parts.Want.{Want}
 use Rattle.safl_lower.specs.declared.parts.TailCall.{TailCall}
 use Rattle.safl_lower.specs.declared.parts.Lowered.{Lowered}
 use Rattle.safl_lower.specs.declared.parts.LoweredAll.{LoweredAll}
-use Rattle.safl_lower.specs.Bits.{BitAt, ReadyAt}
+use Rattle.safl_lower.specs.Bits.{BitAt, ReadyAt, IsConstant}
 use Rattle.safl_lower.specs.Typing.{Owner}
 use Rattle.safl_lower.specs.Entries.{gate, asks, asked, goes, went}
 use Rattle.safl_lower.specs.Lowering.{Sited, Setting, Shaped, ShapedAll, goes_with}
@@ -91,3 +93,19 @@ pub goes_gate : (h : ℕ) (ws : List Word) (w b r : Bool) → w ≡ (b && r) →
 goes_gate h ws w true true e = ap (λ (t : Bool). gate t (Some (h, ws))) e
 goes_gate h ws w true false e = ap (λ (t : Bool). gate t (Some (h, ws))) e
 goes_gate h ws w false r e = ap (λ (t : Bool). gate t (Some (h, ws))) e
+
+-- ---- cells
+
+kind_kept : {a b : Netlist} → Grows a b → (s : ℕ) (cell : Option Cell) → kind_at a s ≡ Wire cell → kind_at b s ≡ Wire cell
+kind_kept {a} {b} g s cell e = by (slice_get a.signals s) refl e
+  where
+    by : (o : Option Signal) → slice_get a.signals s ≡ o → kind_in o ≡ Wire cell → kind_at b s ≡ Wire cell
+    by None q f = absurd (cc)
+    by (Some h) q f = ap kind_in (get_kept g s h q) ∙ f
+
+pub constant_kept : {a b : Netlist} → Grows a b → (s : Sig) (w : Word) → IsConstant a s w → IsConstant b s w
+constant_kept g s w h = kind_kept g s.0 (Some (record { op = Const w; operands = [] })) h
+
+pub made_constant : {E : Type 0} (n m : Netlist) (r : Result Sig E) (w : Word) → OnOk r (m ≡ with_signal n (temporary n (Const w) [])) → IfOk r (λ s. s.0 ≡ length n.signals) → IfOk r (λ s. IsConstant m s w)
+made_constant n m (Ok s) w a b = ap kind_in (get_new n m (temporary n (Const w) []) s.0 a b)
+made_constant n m (Err e) w a b = tt

@@ -15,7 +15,7 @@ use Rattle.safl_lower.specs.declared.parts.Ports.{Ports}
 use Rattle.safl_lower.specs.declared.parts.LoweredAll.{LoweredAll}
 use Rattle.safl_lower.specs.declared.parts.Out.{Out}
 use Rattle.safl_lower.specs.Bits.{on, is_ready}
-use Rattle.safl_lower.specs.Entries.{gate, asked, went, site_of, cost}
+use Rattle.safl_lower.specs.Entries.{gate, asked, went, site_of, member_of, cost}
 use Rattle.safl_lower.specs.Lowering.{back_of, goes_of, Lowers, LowersAll}
 use Rattle.safl_lower.specs.Steady.{listed}
 use Rattle.safl_lower.proofs.Steadying.{out_grown}
@@ -30,6 +30,7 @@ pub lowers_const : {P : Ports} {slots : List Sig} {path s : Sig} {n0 n1 : Netlis
     → Lowers P slots path n0 n1 o o (record { ready = None; value = s }) (Const w)
 unfolding answer wanted
 lowers_const {P} {slots} {path} {s} {n0} {n1} {o} {w} g c x y st = record {
+  tails = λ F tail env n t. no_more (map member_of o.loops.items);
   settled = λ p h k. (st h.net, out_grown g k);
   quiet = λ F env n t. refl;
   cheap = λ F tail env n t. omega arith;
@@ -72,6 +73,7 @@ pub lowers_var : {P : Ports} {slots : List Sig} {path s : Sig} {n : Netlist} {o 
     → Lowers P slots path n n o o (record { ready = None; value = s }) (Var i)
 unfolding answer wanted
 lowers_var {P} {slots} {path} {s} {n} {o} {i} e = record {
+  tails = λ F tail env n t. no_more (map member_of o.loops.items);
   settled = λ p h k. (record { net = h.net; signals = (steady_at n slots i s h.signals.1 e, tt) }, k);
   quiet = λ F env n t. refl;
   cheap = λ F tail env n t. omega arith;
@@ -108,6 +110,7 @@ pub lowers_op : {P : Ports} {slots : List Sig} {path s : Sig} {n0 n1 n2 : Netlis
     → Lowers P slots path n0 n2 o0 o1 (record { ready = all.ready; value = s }) (Op p ts)
 unfolding answer wanted
 lowers_op {P} {slots} {path} {s} {n0} {n1} {n2} {o0} {o1} {all} {p} {ts} hs g c x y st = record {
+  tails = λ F tail env w t. ap (map member_of) (hs.quiet F env t.width.0 (parts_typed t)) ∙ no_more (map member_of o0.loops.items);
   settled = λ q h k.
       let a = hs.settled q h k in
       let b = st (record { net = a.0.net; signals = a.1 }) in

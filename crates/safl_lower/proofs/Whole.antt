@@ -15,8 +15,8 @@ use Rattle.safl_lower.specs.declared.parts.Rows.{Rows}
 use Rattle.safl_lower.specs.declared.parts.Out.{Out}
 use Rattle.safl_lower.specs.declared.parts.Want.{Want}
 use Rattle.safl_lower.specs.declared.parts.TailCall.{TailCall}
-use Rattle.safl_lower.specs.Bits.{on, is_ready, BitAt, ReadyAt}
-use Rattle.safl_lower.specs.Typing.{Owner, nodes, sites_of}
+use Rattle.safl_lower.specs.Bits.{on, is_ready, BitAt, ReadyAt, IsConstant}
+use Rattle.safl_lower.specs.Typing.{Owner, nodes, sites_of, tails_of}
 use Rattle.safl_lower.specs.Entries.{gate, asked, went, Told, site_of, member_of, Between, OutFits, WantsFit, LoopsFit, cost}
 use Rattle.safl_lower.specs.Lowering.{back_of, open_at, goes_of, Lowerable, Lowers}
 use Rattle.safl_lower.specs.Rows.{Apart, Listed, to_member, RowFits, Untaken, Spreads, Merged}
@@ -24,6 +24,7 @@ use Rattle.safl_lower.specs.Bodies.{IsBody, CanLower, NeverTaken, Bodies}
 use Rattle.safl_lower.specs.Steady.{listed, WantsSteady, LoopsSteady}
 use Rattle.safl_lower.proofs.Steadying.{wants_grown, loops_grown}
 use Rattle.safl_lower.proofs.Arms.{gate_gate}
+use Rattle.safl_lower.proofs.Kept.{constant_kept}
 use Rattle.safl_lower.proofs.Typing.{places}
 use Rattle.safl_lower.proofs.Gathered.{wants_kept, loops_kept}
 use Rattle.safl_lower.proofs.Members.{member_told}
@@ -88,11 +89,16 @@ pub bodies : {P : Ports} {args : List Sig} {run : Sig} {n0 n1 n2 n3 n4 : Netlist
     → o.wants.items ≡ [] → o.loops.items ≡ [] → CanLower n0 P args run t
     → Lowers P args run n0 n1 o p r t
     → Grows n1 n2 → length n2.signals ≤ length n1.signals + 1 → BitAt n2 ends → ((v : Val) → Wired n2 v → on v ends ≡ (on v run && is_ready v r.ready)) → (SettledOn n1 (run ∷ listed r.ready) → SettledOn n2 (ends ∷ []))
-    → Grows n2 n3 → length n3.signals ≤ length n2.signals + 1 → BitAt n3 off → ((v : Val) → Wired n3 v → on v off ≡ false) → (IsSettled n2 → SettledOn n3 (off ∷ []))
+    → Grows n2 n3 → length n3.signals ≤ length n2.signals + 1 → BitAt n3 off → ((v : Val) → Wired n3 v → on v off ≡ false) → (IsSettled n2 → SettledOn n3 (off ∷ [])) → IsConstant n3 off (record { width = 1; bits = 0 })
     → Spreads off P.first_site (length P.sites.items) p.wants.items s
     → Grows n3 n4 → length n4.signals ≤ length n3.signals + cost p.loops.items → Merged off P.first_member P.members n3 n4 p.loops.items m
     → Bodies P args run n0 n4 (record { ends = ends; value = r.value; wants = s.bits; site_args = s.args; loops = m.bits; loop_args = m.args }) t
-bodies {P} {args} {run} {n0} {n1} {n2} {n3} {n4} {o} {p} {r} {t} ends off s m ew el c h g2 c2 b2 is s2 g3 c3 bz z s3 sp g4 c4 me = record {
+bodies {P} {args} {run} {n0} {n1} {n2} {n3} {n4} {o} {p} {r} {t} ends off s m ew el c h g2 c2 b2 is s2 g3 c3 bz z s3 k3 sp g4 c4 me = record {
+  zero = off;
+  constant = constant_kept g4 off (record { width = 1; bits = 0 }) k3;
+  idle = λ F env w b i l a x y no.
+      let to = h.tails F true env w b.typed ∙ ap (λ (q : List TailCall). map member_of q ++ tails_of t) el in
+      me.idle i l a x y (λ q. no (subst (Listed (P.first_member + i)) to q));
   settled = λ ports k.
       let at1 = h.settled ports k (record { wants = subst (WantsSteady n0) (sym ew) tt; loops = subst (LoopsSteady n0) (sym el) tt }) in
       let at2 = s2 (record { net = at1.0.net; signals = (steady_grown h.grows run.0 k.signals.0, at1.0.signals.1) }) in

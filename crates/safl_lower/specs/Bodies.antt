@@ -9,12 +9,12 @@ use Rattle.safl_net.specs.Growth.{Val, words, Wired, width_at, Grows}
 use Rattle.safl_net.specs.Settled.{SettledOn}
 use Rattle.safl_lower.specs.declared.parts.Ports.{Ports}
 use Rattle.safl_lower.specs.declared.parts.Body.{Body}
-use Rattle.safl_lower.specs.Bits.{on, BitAt}
-use Rattle.safl_lower.specs.Typing.{Owner, Typed, nodes}
+use Rattle.safl_lower.specs.Bits.{on, BitAt, IsConstant}
+use Rattle.safl_lower.specs.Typing.{Owner, Typed, nodes, tails_of}
 use Rattle.safl_lower.specs.Steady.{SitesSteady, RowsSteady}
 use Rattle.safl_lower.specs.Entries.{gate}
 use Rattle.safl_lower.specs.Lowering.{back_of, sent_of, goes_of, Setting}
-use Rattle.safl_lower.specs.Rows.{given, to_member, RowFits}
+use Rattle.safl_lower.specs.Rows.{given, to_member, RowFits, Listed, Untaken}
 
 -- the term is the whole body of its owner, at the tail position, with the sites of the owner's interval
 pub record IsBody (F : Owner) (env : List ℕ) (t : Term) (w : ℕ) : Type 0 where
@@ -61,6 +61,10 @@ pub record Bodies (P : Ports) (args : List Sig) (run : Sig) (old new : Netlist) 
   pub loops_length : length b.loops.items ≡ P.members
   pub loop_args_length : length b.loop_args.items ≡ P.members
   pub fits : (F : Owner) (env : List ℕ) (w : ℕ) → Setting old F P args env run → IsBody F env t w → BodyFits P old new b F w
+  -- the members to which no tail call of the body goes share one constant 0, and have no arguments
+  pub zero : Sig
+  pub constant : IsConstant new zero (record { width = 1; bits = 0 })
+  pub idle : (F : Owner) (env : List ℕ) (w : ℕ) → IsBody F env t w → (i : ℕ) (l : Sig) (a : Vec Sig Global) → slice_get b.loops.items i ≡ Some l → slice_get b.loop_args.items i ≡ Some a → ¬ Listed (P.first_member + i) (tails_of t) → Untaken zero l a.items
   -- where the net was settled, and its run, arguments and ports steady
   pub settled : SitesSteady old P → SettledOn old (run ∷ args) → BodySteady new b
   -- `ends` is 1 where the body runs and is ready, and `value` is its word then

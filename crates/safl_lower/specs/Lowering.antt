@@ -15,7 +15,7 @@ use Rattle.safl_lower.specs.declared.parts.TailCall.{TailCall}
 use Rattle.safl_lower.specs.declared.parts.Want.{Want}
 use Rattle.safl_lower.specs.declared.parts.Out.{Out}
 use Rattle.safl_lower.specs.Bits.{on, is_ready, BitAt, ReadyAt}
-use Rattle.safl_lower.specs.Typing.{Owner, Typed, TypedAll, nodes, nodes_in, sites_of, sites_in}
+use Rattle.safl_lower.specs.Typing.{Owner, Typed, TypedAll, nodes, nodes_in, sites_of, sites_in, tails_of}
 use Rattle.safl_lower.specs.Steady.{listed, results, SitesSteady, OutSteady}
 use Rattle.safl_lower.specs.Entries.{gate, asked, went, Told, site_of, member_of, Between, OutFits, cost}
 
@@ -124,6 +124,7 @@ pub record Lowers (P : Ports) (slots : List Sig) (path : Sig) (old new : Netlist
   pub loops : (F : Owner) (tail : Bool) (env : List ℕ) (w : ℕ) → Typed F tail env t w → (v : Val) → Wired new v → went v p.loops.items ≡ or_else (went v o.loops.items) (gate (on v path) (goes_of (answer (back_of v P) (words v slots) t)))
   pub sites : map site_of p.wants.items ≡ map site_of o.wants.items ++ sites_of t
   pub fits : (F : Owner) (tail : Bool) (env : List ℕ) (w : ℕ) → Setting old F P slots env path → Typed F tail env t w → OutFits F old o → OutFits F new p
+  pub tails : (F : Owner) (tail : Bool) (env : List ℕ) (w : ℕ) → Typed F tail env t w → map member_of p.loops.items ≡ map member_of o.loops.items ++ tails_of t
   -- outside tail position no tail call stands
   pub quiet : (F : Owner) (env : List ℕ) (w : ℕ) → Typed F false env t w → p.loops.items ≡ o.loops.items
   pub cheap : (F : Owner) (tail : Bool) (env : List ℕ) (w : ℕ) → Typed F tail env t w → cost p.loops.items ≤ cost o.loops.items + nodes t

@@ -13,7 +13,7 @@ use Rattle.safl_lower.specs.declared.parts.Rows.{Rows}
 use Rattle.safl_lower.specs.Bits.{on, BitAt}
 use Rattle.safl_lower.specs.Typing.{Owner}
 use Rattle.safl_lower.specs.Steady.{WantsSteady, LoopsSteady, RowsSteady}
-use Rattle.safl_lower.specs.Entries.{gate, asked, site_of, WantsFit, LoopsFit}
+use Rattle.safl_lower.specs.Entries.{gate, asked, site_of, member_of, WantsFit, LoopsFit}
 
 abbrev pub Differs : ℕ → List ℕ → Type 0
 Differs k [] = Unit {0}
@@ -89,5 +89,6 @@ pub record Merged (z : Sig) (first count : ℕ) (old new : Netlist) (all : List 
   pub bits_length : length m.bits.items ≡ count
   pub args_length : length m.args.items ≡ count
   pub fits : (F : Owner) → LoopsFit F old all → RowsFit F new z first m.bits.items m.args.items
+  pub idle : (i : ℕ) (l : Sig) (a : Vec Sig Global) → slice_get m.bits.items i ≡ Some l → slice_get m.args.items i ≡ Some a → ¬ Listed (first + i) (map member_of all) → Untaken z l a.items
   pub told : (v : Val) → Wired new v → on v z ≡ false → (i : ℕ) → given v (slice_get m.bits.items i) (slice_get m.args.items i) ≡ taken_to v all (first + i)
   pub settled : SettledOn old (z ∷ []) → LoopsSteady old all → IsSettled new × RowsSteady new m.bits.items m.args.items

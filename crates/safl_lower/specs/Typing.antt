@@ -58,3 +58,13 @@ abbrev mutual
   pub sites_in : Terms → List ℕ
   sites_in Nil = []
   sites_in (Cons t ts) = sites_of t ++ sites_in ts
+
+-- the members to which the tail calls of a term go
+abbrev pub tails_of : Term → List ℕ
+tails_of (Const w) = []
+tails_of (Var i) = []
+tails_of (Op p ts) = []
+tails_of (If c a b) = tails_of a ++ tails_of b
+tails_of (Let bs b) = tails_of b
+tails_of (Call f k ts) = []
+tails_of (Loop h ts) = h ∷ []

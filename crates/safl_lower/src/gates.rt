@@ -1,13 +1,13 @@
 //! Cells: gates over bits, and readiness where most terms are always ready.
 
 ghost use Rattle.std.specs.Prelude.{◌≡◌, ℕ, ◌+◌, ◌<◌, ◌≤◌, ◌&&◌, List, [], ◌∷◌, not, cond, length, Some, None, IfOk, OnOk};
-ghost use Rattle.safl_word.specs.Primitives.{apply_prim, result_width};
+ghost use Rattle.safl_word.specs.Primitives.{apply_prim, bit_of, result_width};
 ghost use Rattle.safl_net.specs.Names.{IsTidy};
 ghost use Rattle.safl_net.specs.Widths.{prim_width};
 ghost use Rattle.safl_net.specs.Growth.{Val, words, Wired, width_at, Sized, Grows};
 ghost use Rattle.safl_net.specs.Settled.{AreSteady, IsSettled, SettledOn};
 ghost use Rattle.safl_lower.specs.Steady.{listed};
-ghost use Rattle.safl_lower.specs.Bits.{on, is_ready, BitAt, ReadyAt};
+ghost use Rattle.safl_lower.specs.Bits.{on, is_ready, BitAt, ReadyAt, IsConstant};
 
 use safl_net::{Net, Op, Sig};
 use safl_word::{Primitive, Word};
@@ -23,6 +23,7 @@ pub fn constant(net: &mut Net, word: Word) -> Result<Sig, AllocError>
     ensures width { IfOk result (λ s. width_at net.new s.0 ≡ Some word.width) }
     ensures value { IfOk result (λ s. (v : Val) → Wired net.new v → v s.0 ≡ word) }
     ensures settled { IfOk result (λ s. IsSettled net.old → SettledOn net.new (s ∷ [])) }
+    ensures cell { IfOk result (λ s. IsConstant net.new s word) }
 {
     net.temp(Op::Const(word), &[])
 }
@@ -99,6 +100,7 @@ pub fn bit(net: &mut Net, one: bool) -> Result<Sig, AllocError>
     ensures width { IfOk result (λ s. BitAt net.new s) }
     ensures value { IfOk result (λ s. (v : Val) → Wired net.new v → on v s ≡ one) }
     ensures settled { IfOk result (λ s. IsSettled net.old → SettledOn net.new (s ∷ [])) }
+    ensures cell { IfOk result (λ s. IsConstant net.new s (record { width = 1; bits = bit_of one })) }
 {
     match Word::new(1, u128::from(one)) {
         Some(word) => constant(net, word),

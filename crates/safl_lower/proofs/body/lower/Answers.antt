@@ -97,4 +97,4 @@ returns-clause-done c =
     let m = c.in_ok-tails.ensures in
     let l = c.len.ensures in
     let k : c.len.result ≡ length c.args.ports.now.sites.items = omega (arith, l, c.args.ports.now.sites.ok.0) in
-    bodies c.in_ok-ends.ends c.in_ok-zero.zero c.in_ok-sites.sites c.in_ok-tails.tails c.new.ensures.items c.new-2.ensures.items c.requires.able h e.grows e.count e.width e.value e.settled z.grows z.count z.width z.value z.settled (subst (λ (k : ℕ). Spreads c.in_ok-zero.zero c.args.ports.now.first_site k c.lower_term.new.out.wants.items c.in_ok-sites.sites) k c.in_ok-sites.ensures) m.grows m.count m.merged
+    bodies c.in_ok-ends.ends c.in_ok-zero.zero c.in_ok-sites.sites c.in_ok-tails.tails c.new.ensures.items c.new-2.ensures.items c.requires.able h e.grows e.count e.width e.value e.settled z.grows z.count z.width z.value z.settled z.cell (subst (λ (k : ℕ). Spreads c.in_ok-zero.zero c.args.ports.now.first_site k c.lower_term.new.out.wants.items c.in_ok-sites.sites) k c.in_ok-sites.ensures) m.grows m.count m.merged
