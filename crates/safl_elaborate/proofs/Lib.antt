@@ -1,3 +1,4 @@
 pub mod FirstLemmas
 pub mod Zeros
 pub mod NameLemmas
+pub mod ScopeLemmas

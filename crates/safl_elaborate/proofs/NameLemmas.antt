@@ -49,7 +49,7 @@ module _ {X Y Z : Type 0} (f : Y → Z) (g : X → Y) (xs : List X) where
 
 -- ---- names that stand twice
 
-among_has : (xs : List Spot) (w : List ℕ) → among xs w ≡ has (bytes_of_all xs) w
+pub among_has : (xs : List Spot) (w : List ℕ) → among xs w ≡ has (bytes_of_all xs) w
 among_has [] w = refl
 among_has (x ∷ xs) w = ap (λ b. b || among xs w) (bytes_flip x.bytes w) ∙ ap (λ b. bytes_eq w x.bytes || b) (among_has xs w)
 

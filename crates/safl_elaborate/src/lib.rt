@@ -3,5 +3,6 @@
 
 mod names;
 mod numbers;
+mod ports;
 mod scope;
 mod spans;

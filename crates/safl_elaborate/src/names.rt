@@ -57,6 +57,13 @@ impl<'t> Names<'t> {
     {
         self.set.get_index_of(name)
     }
+
+    /// Whether a name is one of these.
+    pub fn has(&self, name: &[u8]) -> bool
+        ensures { result ≡ has self.now name.now }
+    {
+        self.set.contains(name)
+    }
 }
 
 /// The names of the header, or V03 at the first that stands twice.

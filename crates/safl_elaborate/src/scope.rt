@@ -43,16 +43,20 @@ impl<'t> Scope<'t> {
     pub fn find(&self, name: &[u8]) -> Option<Item>
         ensures { Describes (declarations_at self.now.text.now self.now.declarations.now) (find (declarations_at self.now.text.now self.now.declarations.now) name.now) result }
     {
-        let place = self.names.place(name)?;
-        let sort = self.declarations[place].sort;
-        let width = self.widths[place];
-        let signal = is_signal(sort, name);
-        Some(Item {
-            place,
-            sort,
-            width,
-            signal,
-        })
+        match self.names.place(name) {
+            None => None,
+            Some(place) => {
+                let sort = self.declarations[place].sort;
+                let width = self.widths[place];
+                let signal = is_signal(sort, name);
+                Some(Item {
+                    place,
+                    sort,
+                    width,
+                    signal,
+                })
+            }
+        }
     }
 }
 
@@ -61,7 +65,7 @@ fn is_signal(sort: Sort, name: &[u8]) -> bool
     ensures { result ≡ is_signal (record { sort = sort; range = None; name = record { place = 0; bytes = name.now } }) }
 {
     match sort {
-        Sort::Input => name != b"clk" && name != b"rst",
+        Sort::Input => name != b"clk".as_slice() && name != b"rst".as_slice(),
         Sort::Output => false,
         Sort::Reg | Sort::Wire => true,
     }
