@@ -16,7 +16,7 @@ FaultOrForm = (ds : List Definition) → IsFormedProgram ds → (first_fault ds 
 
 -- a program has one form at most
 abbrev pub OneForm : Type 0
-OneForm = (ds : List Definition) (c d : Form) → IsFormedProgram ds → IsFormOf ds c → IsFormOf ds d → c ≡ d
+OneForm = (ds : List Definition) (c d : Form) → IsFormOf ds c → IsFormOf ds d → c ≡ d
 
 -- a checked program's form is well formed, within limits, and in the order of the text
 abbrev pub FormsAreChecked : Type 0

@@ -1,1 +1,23 @@
 //! Laws of checking, over the definitions alone.
+
+ghost use Rattle.safl_typing.specs.Laws.{WalkGivesForm, FaultOrForm, OneForm, AloneUnits};
+
+/// The walk gives exactly the form that the program has: it meets no fault where there is one, and then it gives it.
+pub fn walk_law()
+    ensures { WalkGivesForm }
+{}
+
+/// A program has a first fault exactly where it has no form.
+pub fn fault_or_form_law()
+    ensures { FaultOrForm }
+{}
+
+/// A program has one numbered form at most: one width, one term and one number for each site.
+pub fn one_form_law()
+    ensures { OneForm }
+{}
+
+/// Where no definition belongs to the group of another, each function is a group by itself.
+pub fn alone_law()
+    ensures { AloneUnits }
+{}
