@@ -37,7 +37,7 @@ word_like c w h = rw (start_part c h, h, are_parts-all (take (run is_part w) w),
 pub no_keyword : (w : List ℕ) → named keyword_text all_keywords w ≡ None → (k : Keyword) → w ≢ keyword_text k
 no_keyword w e k h = let f = ap (named keyword_text all_keywords) h ∙ keyword_named k in let g : None ≡ Some k = sym e ∙ f in cc
 
-word_kinds : (w rest : List ℕ) → is_identifier w ≡ true → length w ≤ name_max → stops is_part rest ≡ true → (o : Option Keyword) → named keyword_text all_keywords w ≡ o → IsToken (word_kind o) w rest
+pub word_kinds : (w rest : List ℕ) → is_identifier w ≡ true → length w ≤ name_max → stops is_part rest ≡ true → (o : Option Keyword) → named keyword_text all_keywords w ≡ o → IsToken (word_kind o) w rest
 word_kinds w rest like short stop None e = (record { like = like; short = short; free = no_keyword w e }, stop)
 word_kinds w rest like short stop (Some k) e = (named_has keyword_text all_keywords w k e, stop)
 

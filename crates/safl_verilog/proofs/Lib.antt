@@ -21,3 +21,7 @@ pub mod WrittenNames
 pub mod WrittenRules
 pub mod WrittenMeans
 pub mod WrittenReads
+pub mod Fronts
+pub mod Endings
+pub mod InPlace
+pub mod ShorterTexts

@@ -54,14 +54,14 @@ abbrev pub end_of : ℕ → List Piece → ℕ
 end_of p xs = p + length (text_of_all xs)
 
 -- where the tokens of the pieces behind these begin
-abbrev behind : ℕ → List Piece → ℕ
+abbrev pub behind : ℕ → List Piece → ℕ
 behind p [] = p
 behind p (Blank c ∷ xs) = behind (p + 1) xs
 behind p (Line w ∷ xs) = behind (p + length (text_of (Line w))) xs
 behind p (Block w ∷ xs) = behind (p + length (text_of (Block w))) xs
 behind p (Lexeme k w ∷ xs) = behind (p + length w) xs
 
-tokens_append : (xs ys : List Piece) (p : ℕ) → tokens_from p (xs ++ ys) ≡ tokens_from p xs ++ tokens_from (behind p xs) ys
+pub tokens_append : (xs ys : List Piece) (p : ℕ) → tokens_from p (xs ++ ys) ≡ tokens_from p xs ++ tokens_from (behind p xs) ys
 tokens_append [] ys p = refl
 tokens_append (Blank c ∷ xs) ys p = tokens_append xs ys (p + 1)
 tokens_append (Line w ∷ xs) ys p = tokens_append xs ys (p + length (text_of (Line w)))

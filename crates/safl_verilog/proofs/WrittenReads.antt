@@ -9,8 +9,9 @@ use Rattle.safl_net.specs.Making.{name_at as name_of}
 use Rattle.safl_net.specs.Written.{written}
 use Rattle.safl_verilog.specs.declared.token.Sort.{Sort}
 use Rattle.safl_verilog.specs.declared.token.Sort.TheVariants as sorts
-use Rattle.safl_verilog.specs.Tokens.{IsIdentifier, tokens_from}
-use Rattle.safl_verilog.specs.Reads.{Reads}
+use Rattle.safl_verilog.specs.Tokens.{IsIdentifier, text_of_all, StandAll, tokens_from}
+use Rattle.safl_verilog.specs.Files.{Spot, Declaration, Statement, File}
+use Rattle.safl_verilog.specs.Reads.{IsFile, Reads}
 use Rattle.safl_verilog.specs.Laws.{IsInput, Each, IsInOrder}
 use Rattle.safl_net.specs.Whole.{IsWhole}
 use Rattle.safl_verilog.proofs.WholeNets.{all_set, whole_ports, IsUpdated, IsAssigned, HasPorts}
@@ -40,6 +41,17 @@ fine_declaration : (s : Sort) (w : ℕ) (name : Name) → w ≤ 128 → IsIdenti
 fine_declaration s w name b h =
     let big : 128 < 2 ^ 128 = lit< tt in
     record { range = (decimal_numeral (w - 1) (omega arith), zero_numeral); name = h }
+
+-- the pieces of a netlist's text, whose tokens are a file
+pub record Laid (n : Netlist) : Type 0 where
+  pub port : Spot
+  pub ports : List Spot
+  pub declarations : List Declaration
+  pub statements : List Statement
+  pub text : text_of_all (file_pieces port ports declarations statements) ≡ written n
+  pub stand : StandAll (file_pieces port ports declarations statements) []
+  pub file : File
+  pub derived : IsFile (tokens_from 0 (file_pieces port ports declarations statements)) file
 
 module _ (n : Netlist) (net : IsNetlist n) (is rs ws : List Signal) (whole : n.signals ≡ is ++ (rs ++ ws)) (inputs : Each IsInput is) (registers : Each IsUpdated rs) (wires : Each IsAssigned ws) where
   abbrev Member : Signal → Type 0
@@ -92,6 +104,23 @@ module _ (n : Netlist) (net : IsNetlist n) (is rs ws : List Signal) (whole : n.s
       (λ g h m. subst (λ k. FineStatement (updated_by n g k)) (sym h.kind_is) (record { clock = clock_name; reset = reset_name; target = member_name g m; initial = h.literal_is.written; second = member_name g m; source = used_name h.next h.next_used })) rs
       (WrittenRules.registers_held n net is rs ws whole inputs registers wires) members.1)))
 
+  laid : Laid n
+  laid =
+      let x = ports n is in
+      let ds = declarations_of n is rs ws in
+      let ss = statements_of n rs ws in
+      let back = reads_back clock (reset ∷ x) ds ss fine_statements in
+      record {
+        port = clock;
+        ports = reset ∷ x;
+        declarations = ds;
+        statements = ss;
+        text = file_text n is rs ws whole inputs registers wires;
+        stand = file_stands clock (reset ∷ x) ds ss clock_name (reset_name, fine_ports) fine_declarations fine_statements;
+        file = back.file;
+        derived = spelled (tokens_from 0 (file_pieces clock (reset ∷ x) ds ss)) back.file [] back.read;
+      }
+
   reads : HasPorts n → Reads (written n) n
   reads p =
       let x = ports n is in
@@ -113,3 +142,8 @@ pub written_reads : (n : Netlist) → IsNetlist n → IsWhole n → IsInOrder n 
 written_reads n net h order =
     let set = all_set n order.inputs order.registers order.wires h.set order.joined order.are_registers order.are_wires in
     reads n net order.inputs order.registers order.wires order.joined order.are_inputs set.0 set.1 (whole_ports n h)
+
+pub written_laid : (n : Netlist) → IsNetlist n → IsWhole n → IsInOrder n → Laid n
+written_laid n net h order =
+    let set = all_set n order.inputs order.registers order.wires h.set order.joined order.are_registers order.are_wires in
+    laid n net order.inputs order.registers order.wires order.joined order.are_inputs set.0 set.1

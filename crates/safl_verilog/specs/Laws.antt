@@ -1,5 +1,5 @@
 -- What is claimed of files.
-use Rattle.std.specs.Prelude.{◌≡◌, ℕ, List, [], ◌∷◌, ◌++◌, ◌⊎◌, Option}
+use Rattle.std.specs.Prelude.{◌≡◌, ℕ, List, [], ◌∷◌, ◌++◌, ◌⊎◌, Option, codes}
 use Rattle.safl_net.specs.Netlist.{Netlist, Signal, Cell, Input, Reg, Wire}
 use Rattle.safl_net.specs.Rules.{IsNetlist}
 use Rattle.safl_net.specs.Whole.{IsWhole}
@@ -52,3 +52,7 @@ pub record IsInOrder (n : Netlist) : Type 0 where
 -- the text that is written of a whole net reads as that net, where its signals stand in this order
 abbrev pub WrittenReads : Type 0
 WrittenReads = (n : Netlist) → IsNetlist n → IsWhole n → IsInOrder n → Reads (written n) n
+
+-- a front of that text reads as no netlist, but for the whole text, and the text without its last line feed
+abbrev pub NoShorterText : Type 0
+NoShorterText = (n m : Netlist) (front rest : List ℕ) → IsNetlist n → IsWhole n → IsInOrder n → written n ≡ front ++ rest → Reads front m → (rest ≡ []) ⊎ (rest ≡ codes "\n")

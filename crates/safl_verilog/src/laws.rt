@@ -1,6 +1,6 @@
 //! Laws of files.
 
-ghost use Rattle.safl_verilog.specs.Laws.{OneNetlist, OneFault, NetlistOrFault, NotBoth, NoShorterFile, WrittenReads};
+ghost use Rattle.safl_verilog.specs.Laws.{OneNetlist, OneFault, NetlistOrFault, NotBoth, NoShorterFile, NoShorterText, WrittenReads};
 
 /// A text reads as at most one netlist.
 pub fn one_netlist_law()
@@ -31,4 +31,10 @@ pub fn no_shorter_file_law()
 /// wires.
 pub fn written_reads_law()
     ensures { WrittenReads }
+{}
+
+/// A front of the text that is written of such a net reads as no netlist, but for the whole text and the text without
+/// its last line feed.
+pub fn no_shorter_text_law()
+    ensures { NoShorterText }
 {}

@@ -1,3 +1,4 @@
 pub mod Signals
 pub mod Texts
 pub mod Lengths
+pub mod Tearing

@@ -7,6 +7,7 @@ ghost use Rattle.safl_io.specs.Shelf.{Leaves, LeavesOldOrPart};
 ghost use Rattle.safl_net.specs.Whole.{IsWhole};
 ghost use Rattle.safl_net.specs.Written.{written};
 ghost use Rattle.safl_verilog.specs.Laws.{IsInOrder};
+ghost use Rattle.safl_vwrite.specs.Torn.{LeavesOldOrTorn};
 
 use crate::text::text_of;
 use safl_io::{OutErr, Shelf, write_file};
@@ -37,8 +38,10 @@ pub fn write_net<S: Shelf>(
     ensures written { OnOk result (TellsOn (Leaves name.now (written net.now)) (S.holds shelf.old) (S.holds shelf.new)) }
     ensures failed { IsErrOf result WriteErr.Failed → Rose (S.write_faults shelf.old) (S.write_faults shelf.new) }
 
-    // After an error the old file or a front of the text stands there.
+    // After an error the old file or a front of the text stands there, and no front but the whole text, with or without
+    // its last line feed, reads as a netlist.
     ensures not_written { OnErr result (TellsOn (LeavesOldOrPart name.now (written net.now)) (S.holds shelf.old) (S.holds shelf.new)) }
+    ensures torn { OnErr result (TellsOn (LeavesOldOrTorn name.now net.now) (S.holds shelf.old) (S.holds shelf.new)) }
 
     ensures same_reads { S.read_faults shelf.new ≡ S.read_faults shelf.old }
     ensures writes_later { S.write_faults shelf.old ≤ S.write_faults shelf.new }

@@ -1,17 +1,18 @@
 //! The whole text.
 
-ghost use Rattle.std.specs.Prelude.{◌≡◌, ◌≤◌, length, IfOk};
+ghost use Rattle.std.specs.Prelude.{◌≡◌, ◌≤◌, ℕ, List, ◌++◌, length, IfOk};
 ghost use Rattle.safl_net.specs.Whole.{IsWhole};
 ghost use Rattle.safl_net.specs.Written.{written};
 ghost use Rattle.safl_verilog.specs.Laws.{IsInOrder};
 ghost use Rattle.safl_verilog.specs.Reads.{Reads};
 ghost use Rattle.safl_vwrite.specs.Sizes.{text_max};
+ghost use Rattle.safl_vwrite.specs.Torn.{IsTornOrWhole};
 
 use crate::declarations::{push_declarations, push_header};
 use crate::pieces::push;
 use crate::statements::push_statements;
 use safl_net::Net;
-use safl_verilog::laws::written_reads_law;
+use safl_verilog::laws::{no_shorter_text_law, written_reads_law};
 use safl_word::NoMemory;
 use std::alloc::Global;
 
@@ -23,6 +24,10 @@ pub fn text_of(alloc: Global, net: &Net) -> Result<Vec<u8>, NoMemory>
 
     // Read back, it is the net, where the signals stand as inputs, then registers, then wires.
     ensures reads_back { IfOk result (λ text. IsWhole net.now → IsInOrder net.now → Reads text.items net.now) }
+
+    // A front of it reads as no netlist, or is the whole text, with or without its last line feed.
+    ensures torn { IfOk result (λ text. IsWhole net.now → IsInOrder net.now →
+        (front rest : List ℕ) → text.items ≡ front ++ rest → IsTornOrWhole net.now front) }
 {
     let signals = net.signals() as usize;
     let mut out = Vec::with_capacity(alloc, signals)?;
@@ -31,5 +36,6 @@ pub fn text_of(alloc: Global, net: &Net) -> Result<Vec<u8>, NoMemory>
     push_statements(&mut out, net)?;
     push(&mut out, b"endmodule\n")?;
     written_reads_law();
+    no_shorter_text_law();
     Ok(out)
 }

@@ -1,0 +1,15 @@
+use Rattle.std.proofs.Common.{◌∙◌, List, ℕ, sym, subst}
+use Rattle.safl_io.specs.Told.{TellsOn}
+use Rattle.safl_io.specs.Shelf.{LeavesOldOrPart}
+use Rattle.safl_vwrite.proofs.Tearing.{tells_torn}
+use Rattle.safl_vwrite.proofs.file.write_net.Goals as goal
+
+pub returns-in-Err-Failed-clause-torn : goal.returns-in-Err-Failed-clause-torn
+returns-in-Err-Failed-clause-torn g c =
+    tells_torn c.args.net.now c.args.name.now c.deref.result.now (λ front rest e. c.in-Ok.ensures.torn c.requires.whole c.requires.in_order front rest (sym c.deref.ensures.value ∙ e))
+    (g.S.Shelf.holds c.args.shelf.now) (g.S.Shelf.holds c.write_file.new.shelf) c.in-Err-Failed.ensures.not_written
+
+pub returns-clause-torn : goal.returns-clause-torn
+returns-clause-torn g c =
+    tells_torn c.args.net.now c.args.name.now c.deref.result.now (λ front rest e. c.in-Ok.ensures.torn c.requires.whole c.requires.in_order front rest (sym c.deref.ensures.value ∙ e))
+    (g.S.Shelf.holds c.args.shelf.now) (g.S.Shelf.holds c.write_file.new.shelf) c.in-Err-NoMemory.ensures.not_written
