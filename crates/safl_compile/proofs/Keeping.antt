@@ -1,5 +1,5 @@
 -- What is known of a net is known of what is built on it.
-use Rattle.std.proofs.Common.{◌≡◌, ℕ, ◌<◌, ◌≤◌, List, Option, Some, None, Bool, slice_get}
+use Rattle.std.proofs.Common.{ℕ, List, Option, Some, None, Bool, slice_get}
 use Rattle.safl_check.specs.Program.{Program}
 use Rattle.safl_net.specs.declared.cell.Sig.{Sig}
 use Rattle.safl_net.specs.Netlist.{Netlist}
@@ -7,6 +7,9 @@ use Rattle.safl_net.specs.Growth.{Val}
 use Rattle.safl_net.proofs.Growth.{wired_before}
 use Rattle.safl_lower.specs.declared.parts.SitePorts.{SitePorts}
 use Rattle.safl_unit.specs.Equations.{Registers, Inputs, Choice}
+use Rattle.safl_compile.specs.declared.parts.UnitPins.{UnitPins}
+use Rattle.safl_compile.specs.declared.parts.MemberPins.{MemberPins}
+use Rattle.safl_compile.specs.declared.parts.SitePins.{SitePins}
 use Rattle.safl_compile.specs.declared.parts.Bank.{Bank}
 use Rattle.safl_compile.specs.declared.parts.Pins.{Pins}
 use Rattle.safl_compile.specs.declared.parts.Load.{Load}
@@ -15,8 +18,8 @@ use Rattle.safl_compile.specs.declared.parts.Outcomes.{Outcomes}
 use Rattle.safl_compile.specs.declared.parts.Controls.{Controls}
 use Rattle.safl_compile.specs.Sources.{Builds}
 use Rattle.safl_compile.specs.Tables.{load_in, sig_in, LoadFits, FitsIn, LoadsFit, SomeFit, IsBitIn, BitsFit}
-use Rattle.safl_compile.specs.Cycles.{BankFits, PinsFit, Cycle, InEachCycle}
-use Rattle.safl_compile.specs.Stages.{PortFits, ReturnsFit, HasReturns, OutcomesFit, HasOutcomes, HasGoes, HasEnds, HasLoads, HasBits, HasNext}
+use Rattle.safl_compile.specs.Cycles.{UnitFits, MemberFits, SiteFits, BankFits, PinsFit, Cycle, InEachCycle}
+use Rattle.safl_compile.specs.Stages.{PortFits, HasReturns, HasOutcomes, HasGoes, HasEnds, HasLoads, HasBits, HasNext}
 use Rattle.safl_compile.specs.Finished.{ControlsFit, HasControls}
 use Rattle.safl_compile.proofs.Building.{source_kept, sources_kept}
 
@@ -46,24 +49,23 @@ module _ {a b : Netlist} {most : ℕ} (h : Builds a b most) where
   pub port_kept : {p : SitePorts} {w : ℕ} → PortFits a p w → PortFits b p w
   port_kept q = record { sent = source_kept h q.sent; returned = source_kept h q.returned; value = source_kept h q.value }
 
+  pub unit_kept : {u : UnitPins} {w : ℕ} → UnitFits a u w → UnitFits b u w
+  unit_kept q = record { run = source_kept h q.run; fin = source_kept h q.fin; res = source_kept h q.res }
+
+  pub member_kept : {m : MemberPins} {ws : List ℕ} → MemberFits a m ws → MemberFits b m ws
+  member_kept q = record { at = source_kept h q.at; args = sources_kept h q.args }
+
+  pub site_kept : {s : SitePins} {w : ℕ} → SiteFits a s w → SiteFits b s w
+  site_kept q = record { sent = source_kept h q.sent; got = source_kept h q.got; keep = source_kept h q.keep }
+
   pub bank_kept : {C : Program} {r : Bank} → BankFits C a r → BankFits C b r
   bank_kept q = record {
-    run_length = q.run_length;
-    fin_length = q.fin_length;
-    res_length = q.res_length;
-    at_length = q.at_length;
-    args_length = q.args_length;
-    sent_length = q.sent_length;
-    got_length = q.got_length;
-    keep_length = q.keep_length;
-    run = λ f l. source_kept h (q.run f l);
-    fin = λ f l. source_kept h (q.fin f l);
-    res = λ f l. source_kept h (q.res f l);
-    at = λ f l. source_kept h (q.at f l);
-    args = λ f l. sources_kept h (q.args f l);
-    sent = λ k l m. source_kept h (q.sent k l m);
-    got = λ k l m. source_kept h (q.got k l m);
-    keep = λ k l m. source_kept h (q.keep k l m);
+    units_length = q.units_length;
+    members_length = q.members_length;
+    sites_length = q.sites_length;
+    units = λ f u e. unit_kept (q.units f u e);
+    members = λ f m e. member_kept (q.members f m e);
+    sites = λ k s e l. site_kept (q.sites k s e l);
   }
 
   pub pins_kept : {C : Program} {p : Pins} → PinsFit C a p → PinsFit C b p

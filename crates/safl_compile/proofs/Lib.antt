@@ -1,2 +1,5 @@
 pub mod Building
 pub mod Keeping
+pub mod Tables
+pub mod Groups
+pub mod Declaring

@@ -1,49 +1,65 @@
 -- What the ports and registers of a circuit show in a cycle.
-use Rattle.std.specs.Prelude.{◌≡◌, ℕ, suc, ◌<◌, ◌≤◌, length, true}
+use Rattle.std.specs.Prelude.{◌≡◌, ℕ, suc, ◌<◌, List, length, true}
 use Rattle.safl_check.specs.Program.{Program}
 use Rattle.safl_net.specs.Netlist.{Netlist}
 use Rattle.safl_net.specs.Growth.{Val, words, Wired}
 use Rattle.safl_lower.specs.Bits.{on}
 use Rattle.safl_sites.specs.Planned.{PlannedProgram, arbiter_of, kept_of}
 use Rattle.safl_unit.specs.Equations.{Registers, Inputs, Choice, many}
+use Rattle.safl_compile.specs.declared.parts.UnitPins.{UnitPins}
+use Rattle.safl_compile.specs.declared.parts.MemberPins.{MemberPins}
+use Rattle.safl_compile.specs.declared.parts.SitePins.{SitePins}
 use Rattle.safl_compile.specs.declared.parts.Bank.{Bank}
 use Rattle.safl_compile.specs.declared.parts.Pins.{Pins}
 use Rattle.safl_compile.specs.Sources.{IsSource, AreSources}
-use Rattle.safl_compile.specs.Tables.{pin, row}
+use Rattle.safl_compile.specs.Tables.{EachAt}
 
 -- the arbiters and the kept words of a plan
 abbrev pub choice_of : PlannedProgram → Choice
 choice_of p = record { arbiter = arbiter_of p; kept = kept_of p }
 
--- the bank has signals of the registers' widths
-pub record BankFits (C : Program) (n : Netlist) (b : Bank) : Type 0 where
-  pub run_length : length b.run.items ≡ C.functions
-  pub fin_length : length b.fin.items ≡ C.functions
-  pub res_length : length b.res.items ≡ C.functions
-  pub at_length : length b.at.items ≡ C.functions
-  pub args_length : length b.args.items ≡ C.functions
-  pub sent_length : length b.sent.items ≡ suc C.sites
-  pub got_length : length b.got.items ≡ suc C.sites
-  pub keep_length : length b.keep.items ≡ suc C.sites
-  pub run : (f : ℕ) → f < C.functions → IsSource n (pin b.run.items f) 1
-  pub fin : (f : ℕ) → f < C.functions → IsSource n (pin b.fin.items f) 1
-  pub res : (f : ℕ) → f < C.functions → IsSource n (pin b.res.items f) (C.result f)
-  pub at : (f : ℕ) → f < C.functions → IsSource n (pin b.at.items f) 1
-  pub args : (f : ℕ) → f < C.functions → AreSources n (row b.args.items f) (C.params f)
-  pub sent : (k : ℕ) → 0 < k → k ≤ C.sites → IsSource n (pin b.sent.items k) 1
-  pub got : (k : ℕ) → 0 < k → k ≤ C.sites → IsSource n (pin b.got.items k) 1
-  pub keep : (k : ℕ) → 0 < k → k ≤ C.sites → IsSource n (pin b.keep.items k) (C.result (C.callee k))
+-- signals of the registers' widths
+pub record UnitFits (n : Netlist) (u : UnitPins) (w : ℕ) : Type 0 where
+  pub run : IsSource n u.run 1
+  pub fin : IsSource n u.fin 1
+  pub res : IsSource n u.res w
 
--- the bank's signals have the registers' words
+pub record MemberFits (n : Netlist) (m : MemberPins) (ws : List ℕ) : Type 0 where
+  pub at : IsSource n m.at 1
+  pub args : AreSources n m.args.items ws
+
+pub record SiteFits (n : Netlist) (s : SitePins) (w : ℕ) : Type 0 where
+  pub sent : IsSource n s.sent 1
+  pub got : IsSource n s.got 1
+  pub keep : IsSource n s.keep w
+
+pub record BankFits (C : Program) (n : Netlist) (b : Bank) : Type 0 where
+  pub units_length : length b.units.items ≡ C.functions
+  pub members_length : length b.members.items ≡ C.functions
+  pub sites_length : length b.sites.items ≡ suc C.sites
+  pub units : EachAt b.units.items (λ f u. UnitFits n u (C.result f))
+  pub members : EachAt b.members.items (λ f m. MemberFits n m (C.params f))
+  pub sites : EachAt b.sites.items (λ k s. 0 < k → SiteFits n s (C.result (C.callee k)))
+
+-- these signals have the words of registers: of a unit, of a function, and of a site
+pub record UnitShows (v : Val) (u : UnitPins) (r : Registers) (unit : ℕ) : Type 0 where
+  pub run : on v u.run ≡ r.run unit
+  pub fin : on v u.fin ≡ r.fin unit
+  pub res : v u.res.0 ≡ r.res unit
+
+pub record MemberShows (C : Program) (v : Val) (m : MemberPins) (r : Registers) (f : ℕ) : Type 0 where
+  pub at : many C f ≡ true → on v m.at ≡ r.at f
+  pub arg : words v m.args.items ≡ r.arg f
+
+pub record SiteShows (P : Choice) (v : Val) (s : SitePins) (r : Registers) (k : ℕ) : Type 0 where
+  pub sent : on v s.sent ≡ r.sent k
+  pub got : on v s.got ≡ r.got k
+  pub keep : P.kept k ≡ true → v s.keep.0 ≡ r.keep k
+
 pub record BankShows (C : Program) (P : Choice) (b : Bank) (v : Val) (r : Registers) : Type 0 where
-  pub run : (f : ℕ) → f < C.functions → on v (pin b.run.items f) ≡ r.run (C.unit f)
-  pub fin : (f : ℕ) → f < C.functions → on v (pin b.fin.items f) ≡ r.fin (C.unit f)
-  pub res : (f : ℕ) → f < C.functions → v (pin b.res.items f).0 ≡ r.res (C.unit f)
-  pub at : (f : ℕ) → f < C.functions → many C f ≡ true → on v (pin b.at.items f) ≡ r.at f
-  pub arg : (f : ℕ) → f < C.functions → words v (row b.args.items f) ≡ r.arg f
-  pub sent : (k : ℕ) → 0 < k → k ≤ C.sites → on v (pin b.sent.items k) ≡ r.sent k
-  pub got : (k : ℕ) → 0 < k → k ≤ C.sites → on v (pin b.got.items k) ≡ r.got k
-  pub keep : (k : ℕ) → 0 < k → k ≤ C.sites → P.kept k ≡ true → v (pin b.keep.items k).0 ≡ r.keep k
+  pub units : EachAt b.units.items (λ f u. UnitShows v u r (C.unit f))
+  pub members : EachAt b.members.items (λ f m. MemberShows C v m r f)
+  pub sites : EachAt b.sites.items (λ k s. 0 < k → SiteShows P v s r k)
 
 -- the ports and registers have their widths
 pub record PinsFit (C : Program) (n : Netlist) (p : Pins) : Type 0 where

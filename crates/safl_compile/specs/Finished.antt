@@ -1,18 +1,19 @@
 -- The circuit before its temporaries are made, and when all is set.
-use Rattle.std.specs.Prelude.{◌≡◌, ℕ, suc, ◌+◌, ◌<◌, ◌≤◌, List, [], ◌∷◌, ◌++◌, map, length, Some, None, codes, is_some}
+use Rattle.std.specs.Prelude.{◌≡◌, ℕ, suc, ◌+◌, ◌<◌, ◌≤◌, List, [], ◌∷◌, ◌++◌, map, length, Some, None, codes, is_some, slice_get, false}
 use Rattle.safl_check.specs.Program.{Program}
 use Rattle.safl_net.specs.declared.cell.Op.TheVariants.{Copy}
 use Rattle.safl_net.specs.Netlist.{Netlist, Signal, Input, Reg, Wire}
 use Rattle.safl_net.specs.Valuations.{IsAcyclic}
 use Rattle.safl_lower.specs.Bits.{on}
-use Rattle.safl_unit.specs.Equations.{Choice, end_word, loop_words, want, ret, go}
+use Rattle.safl_unit.specs.Equations.{Choice, many, end_word, loop_words, want, ret, go}
 use Rattle.safl_unit.specs.Names.{Names}
 use Rattle.safl_unit.specs.Layout.{Line, layout_inputs, layout_registers, layout_wires}
+use Rattle.safl_compile.specs.declared.parts.UnitPins.{UnitPins}
 use Rattle.safl_compile.specs.declared.parts.Bank.{Bank}
 use Rattle.safl_compile.specs.declared.parts.Pins.{Pins}
 use Rattle.safl_compile.specs.declared.parts.Controls.{Controls}
 use Rattle.safl_compile.specs.Sources.{IsSource}
-use Rattle.safl_compile.specs.Tables.{pin}
+use Rattle.safl_compile.specs.Tables.{pin, EachAt}
 use Rattle.safl_compile.specs.Cycles.{InEachCycle}
 use Rattle.safl_compile.specs.Ties.{Tie, sig_of, numbered, register_ties, wire_ties}
 
@@ -33,16 +34,22 @@ declared_signals C D P = map input_line (layout_inputs C D) ++ (map open_registe
 abbrev pub declared_net : Program → Names → Choice → Netlist
 declared_net C D P = record { signals = declared_signals C D P; outputs = [] }
 
--- the pins are the ports and registers of the layout, and the tables by unit have its registers for each member
+-- the pins are the ports and registers of the layout, in its order. A function has its unit's registers; one without
+-- other members in its unit has no register `at`, and a site that isn't kept no register `keep`: others of their widths
+-- stand for them
 pub record ArePins (C : Program) (D : Names) (P : Choice) (p : Pins) : Type 0 where
   pub start : p.start ≡ record { 0 = 0 }
   pub words : p.words.items ≡ numbered 1 (length (C.params C.main))
   pub first_register : p.first_register ≡ length (layout_inputs C D)
   pub first_wire : p.first_wire ≡ p.first_register + length (layout_registers C D P)
   pub registers : map sig_of (register_ties C D P p.bank) ≡ numbered p.first_register (length (layout_registers C D P))
-  pub run : (f : ℕ) → f < C.functions → pin p.bank.run.items f ≡ pin p.bank.run.items (C.unit f)
-  pub fin : (f : ℕ) → f < C.functions → pin p.bank.fin.items f ≡ pin p.bank.fin.items (C.unit f)
-  pub res : (f : ℕ) → f < C.functions → pin p.bank.res.items f ≡ pin p.bank.res.items (C.unit f)
+  pub units_length : length p.bank.units.items ≡ C.functions
+  pub members_length : length p.bank.members.items ≡ C.functions
+  pub sites_length : length p.bank.sites.items ≡ suc C.sites
+  pub unit : (f : ℕ) → f < C.functions → slice_get p.bank.units.items f ≡ slice_get p.bank.units.items (C.unit f)
+  pub args : EachAt p.bank.members.items (λ f m. length m.args.items ≡ length (C.params f))
+  pub lone : EachAt p.bank.members.items (λ f m. many C f ≡ false → (u : UnitPins) → slice_get p.bank.units.items f ≡ Some u → m.at ≡ u.run)
+  pub spare : EachAt p.bank.sites.items (λ k s. 0 < k → P.kept k ≡ false → (u : UnitPins) → slice_get p.bank.units.items (C.callee k) ≡ Some u → s.keep ≡ u.res)
 
 -- ---- the named wires
 
@@ -75,10 +82,12 @@ abbrev pub set_wire : Tie → Signal
 set_wire t = record { name = t.0.0; width = t.0.1; kind = Wire (Some (record { op = Copy; operands = t.1.0 ∷ [] })) }
 
 -- the old net had the declared signals and some more. Now each register has its next signal, each named wire copies
--- its signal, and the outputs are there
+-- its signal, and the outputs are there, of main's unit
 pub record Finishes (C : Program) (D : Names) (P : Choice) (p : Pins) (next : Bank) (T : Controls) (old new : Netlist) : Type 0 where
   pub more : List Signal
   pub before : old.signals ≡ declared_signals C D P ++ more
   pub signals : new.signals ≡ (map input_line (layout_inputs C D) ++ (map set_register (register_ties C D P next) ++ map set_wire (wire_ties C D P p.first_wire T))) ++ more
-  pub outputs : new.outputs ≡ (codes "done", (pin p.bank.fin.items C.main).0) ∷ (codes "result", (pin p.bank.res.items C.main).0) ∷ []
+  pub main : UnitPins
+  pub is_main : slice_get p.bank.units.items C.main ≡ Some main
+  pub outputs : new.outputs ≡ (codes "done", main.fin.0) ∷ (codes "result", main.res.0) ∷ []
   pub acyclic : IsAcyclic new

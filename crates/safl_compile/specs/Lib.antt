@@ -4,3 +4,4 @@ pub mod Cycles
 pub mod Stages
 pub mod Ties
 pub mod Finished
+pub mod Declaring

@@ -1,6 +1,5 @@
 -- Tables of signals by number, and what they show under a valuation.
-use Rattle.std.specs.Prelude.{Vec, ◌≡◌, ℕ, List, [], ◌∷◌, Option, Some, None, Bool, false, slice_get, slice_index_or}
-use Rattle.std.specs.Global.{Global}
+use Rattle.std.specs.Prelude.{◌≡◌, ℕ, List, [], ◌∷◌, Option, Some, None, Bool, false, slice_get, slice_index_or}
 use Rattle.safl_word.specs.Words.{Word}
 use Rattle.safl_net.specs.declared.cell.Sig.{Sig}
 use Rattle.safl_net.specs.Netlist.{Netlist}
@@ -14,13 +13,9 @@ use Rattle.safl_compile.specs.Sources.{IsSource, AreSources}
 abbrev pub pin : List Sig → ℕ → Sig
 pin xs i = slice_index_or xs i (record { 0 = 0 })
 
--- the signals of a number
-abbrev pub items_in : Option (Vec Sig Global) → List Sig
-items_in None = []
-items_in (Some v) = v.items
-
-abbrev pub row : List (Vec Sig Global) → ℕ → List Sig
-row xs i = items_in (slice_get xs i)
+-- it holds of each entry of a table, by its number
+abbrev pub EachAt : {A : Type 0} → List A → (ℕ → A → Type 0) → Type 0
+EachAt {A} xs P = (i : ℕ) (x : A) → slice_get xs i ≡ Some x → P i x
 
 -- the words that are taken, where the bit is 1
 abbrev pub taken : Val → Load → Option (List Word)
@@ -70,7 +65,7 @@ FitsIn n (Some l) ws = LoadFits n l ws
 
 -- the loads of these tables have these widths
 abbrev pub LoadsFit : Netlist → List Load → (ℕ → List ℕ) → Type 0
-LoadsFit n xs ws = (i : ℕ) (l : Load) → slice_get xs i ≡ Some l → LoadFits n l (ws i)
+LoadsFit n xs ws = EachAt xs (λ i l. LoadFits n l (ws i))
 
 abbrev pub SomeFit : Netlist → List (Option Load) → (ℕ → List ℕ) → Type 0
 SomeFit n xs ws = (i : ℕ) → FitsIn n (load_in (slice_get xs i)) (ws i)

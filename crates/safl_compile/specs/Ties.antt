@@ -1,13 +1,16 @@
 -- The lines of a circuit's layout, each with a signal.
-use Rattle.std.specs.Prelude.{ℕ, zero, suc, ◌+◌, ◌*◌, List, [], ◌∷◌, ◌++◌, map, length, cond, ◌==◌, nat_lt, codes}
+use Rattle.std.specs.Prelude.{ℕ, zero, suc, ◌+◌, ◌*◌, List, [], ◌∷◌, ◌++◌, map, length, Option, Some, None, cond, ◌==◌, nat_lt, slice_get, codes}
 use Rattle.safl_check.specs.Program.{Program, unit_for}
 use Rattle.safl_net.specs.declared.cell.Sig.{Sig}
 use Rattle.safl_unit.specs.Equations.{Choice, many}
 use Rattle.safl_unit.specs.Names.{Names, of_function, of_site, of_param}
 use Rattle.safl_unit.specs.Layout.{Line, lines, named, site_wires}
+use Rattle.safl_compile.specs.declared.parts.UnitPins.{UnitPins}
+use Rattle.safl_compile.specs.declared.parts.MemberPins.{MemberPins}
+use Rattle.safl_compile.specs.declared.parts.SitePins.{SitePins}
 use Rattle.safl_compile.specs.declared.parts.Bank.{Bank}
 use Rattle.safl_compile.specs.declared.parts.Controls.{Controls}
-use Rattle.safl_compile.specs.Tables.{pin, row}
+use Rattle.safl_compile.specs.Tables.{pin}
 
 -- a line and the signal that is tied to it
 abbrev pub Tie : Type 0
@@ -35,36 +38,43 @@ abbrev pub numbered : ℕ → ℕ → List Sig
 numbered s zero = []
 numbered s (suc n) = record { 0 = s } ∷ numbered (suc s) n
 
--- the registers of a function, after those of its unit where it is the first member
-abbrev pub unit_ties : Program → Names → Bank → ℕ → List Tie
-unit_ties C D b f =
+-- the registers of a unit, at its first member
+abbrev pub unit_ties : Program → Names → ℕ → Option UnitPins → List Tie
+unit_ties C D f None = []
+unit_ties C D f (Some u) =
     cond (C.unit f == f)
-    (((of_function D (codes "run$") f, 1), pin b.run.items f)
-    ∷ ((of_function D (codes "fin$") f, 1), pin b.fin.items f)
-    ∷ ((of_function D (codes "res$") f, C.result f), pin b.res.items f)
+    (((of_function D (codes "run$") f, 1), u.run)
+    ∷ ((of_function D (codes "fin$") f, 1), u.fin)
+    ∷ ((of_function D (codes "res$") f, C.result f), u.res)
     ∷ [])
     []
 
-abbrev pub member_ties : Program → Names → Bank → ℕ → List Tie
-member_ties C D b f =
-    cond (many C f) (((of_function D (codes "at$") f, 1), pin b.at.items f) ∷ []) []
-    ++ tied (named (map (of_param D f) (D.params f)) (C.params f)) (row b.args.items f)
+-- of a function
+abbrev pub member_ties : Program → Names → ℕ → Option MemberPins → List Tie
+member_ties C D f None = []
+member_ties C D f (Some m) =
+    cond (many C f) (((of_function D (codes "at$") f, 1), m.at) ∷ []) []
+    ++ tied (named (map (of_param D f) (D.params f)) (C.params f)) m.args.items
 
-abbrev pub function_ties : Program → Names → Bank → ℕ → List Tie
-function_ties C D b f = unit_ties C D b f ++ member_ties C D b f
+abbrev pub function_ties : Program → Names → List UnitPins → List MemberPins → ℕ → List Tie
+function_ties C D us ms f = unit_ties C D f (slice_get us f) ++ member_ties C D f (slice_get ms f)
 
 -- of a site
-abbrev pub site_ties : Program → Choice → Bank → ℕ → List Tie
-site_ties C P b k =
+abbrev pub call_registers : Program → Choice → ℕ → Option SitePins → List Tie
+call_registers C P k None = []
+call_registers C P k (Some s) =
     cond (nat_lt 0 k)
-    (((of_site (codes "sent$") k, 1), pin b.sent.items k)
-    ∷ ((of_site (codes "got$") k, 1), pin b.got.items k)
-    ∷ cond (P.kept k) (((of_site (codes "keep$") k, C.result (C.callee k)), pin b.keep.items k) ∷ []) [])
+    (((of_site (codes "sent$") k, 1), s.sent)
+    ∷ ((of_site (codes "got$") k, 1), s.got)
+    ∷ cond (P.kept k) (((of_site (codes "keep$") k, C.result (C.callee k)), s.keep) ∷ []) [])
     []
+
+abbrev pub site_ties : Program → Choice → List SitePins → ℕ → List Tie
+site_ties C P ss k = call_registers C P k (slice_get ss k)
 
 -- the registers in order
 abbrev pub register_ties : Program → Names → Choice → Bank → List Tie
-register_ties C D P b = ties (function_ties C D b) C.functions ++ ties (site_ties C P b) (suc C.sites)
+register_ties C D P b = ties (function_ties C D b.units.items b.members.items) C.functions ++ ties (site_ties C P b.sites.items) (suc C.sites)
 
 -- the number of want$k, where the named wires begin with this number
 abbrev pub want_wire : Program → Choice → ℕ → ℕ → ℕ

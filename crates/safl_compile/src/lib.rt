@@ -1,4 +1,5 @@
 //! The circuit of a checked program.
 #![tactic(auto)]
 
+mod names;
 pub mod parts;

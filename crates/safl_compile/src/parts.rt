@@ -3,21 +3,36 @@
 use safl_lower::SitePorts;
 use safl_net::Sig;
 
-/// The signals of the registers, or those of their next words.
-///
-/// By function: `run`, `fin` and `res` of its unit, its own `at`, which counts where its unit has another member,
-/// and its `args`. By site, where the first entry counts for nothing: `sent`, `got`, and `keep`, which counts where
-/// the site keeps its word.
+/// The registers of a unit.
+#[derive(Clone, Copy)]
+pub struct UnitPins {
+    pub run: Sig,
+    pub fin: Sig,
+    pub res: Sig,
+}
+
+/// The registers of a function: `at`, which counts where its unit has another member, and its arguments.
+#[derive(Drop)]
+pub struct MemberPins {
+    pub at: Sig,
+    pub args: Vec<Sig>,
+}
+
+/// The registers of a site: `keep` counts where the site keeps its word.
+#[derive(Clone, Copy)]
+pub struct SitePins {
+    pub sent: Sig,
+    pub got: Sig,
+    pub keep: Sig,
+}
+
+/// The signals of the registers, or those of their next words. By function, those of its unit and its own; by site,
+/// where the first entry counts for nothing.
 #[derive(Drop)]
 pub struct Bank {
-    pub run: Vec<Sig>,
-    pub fin: Vec<Sig>,
-    pub res: Vec<Sig>,
-    pub at: Vec<Sig>,
-    pub args: Vec<Vec<Sig>>,
-    pub sent: Vec<Sig>,
-    pub got: Vec<Sig>,
-    pub keep: Vec<Sig>,
+    pub units: Vec<UnitPins>,
+    pub members: Vec<MemberPins>,
+    pub sites: Vec<SitePins>,
 }
 
 /// The ports and the registers of a circuit. The registers are numbered from `first_register` on, and the named wires

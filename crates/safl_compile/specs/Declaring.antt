@@ -1,0 +1,40 @@
+-- The lines of a circuit in the order in which they are declared.
+use Rattle.std.specs.Prelude.{◌≡◌, ℕ, List, [], ◌∷◌, ◌++◌, map, length, Some, false, cond, ◌==◌, codes, slice_get}
+use Rattle.safl_check.specs.Program.{Program}
+use Rattle.safl_net.specs.Netlist.{Netlist, Signal}
+use Rattle.safl_unit.specs.Equations.{many}
+use Rattle.safl_unit.specs.Names.{Names, of_function, of_param}
+use Rattle.safl_unit.specs.Layout.{Line, named}
+use Rattle.safl_compile.specs.declared.parts.UnitPins.{UnitPins}
+use Rattle.safl_compile.specs.declared.parts.MemberPins.{MemberPins}
+use Rattle.safl_compile.specs.Ties.{sig_of, numbered, unit_ties, member_ties}
+
+-- a net with more signals
+abbrev pub with_signals : Netlist → List Signal → Netlist
+with_signals n gs = record { signals = n.signals ++ gs; outputs = n.outputs }
+
+-- the registers that stand with a function: those of its unit, where it is the first member, and its own
+abbrev pub unit_head : Program → Names → ℕ → List Line
+unit_head C D f =
+    cond (C.unit f == f)
+    ((of_function D (codes "run$") f, 1)
+    ∷ (of_function D (codes "fin$") f, 1)
+    ∷ (of_function D (codes "res$") f, C.result f)
+    ∷ [])
+    []
+
+abbrev pub at_line : Program → Names → ℕ → List Line
+at_line C D f = cond (many C f) ((of_function D (codes "at$") f, 1) ∷ []) []
+
+abbrev pub argument_lines : Program → Names → ℕ → List Line
+argument_lines C D f = named (map (of_param D f) (D.params f)) (C.params f)
+
+abbrev pub function_lines : Program → Names → ℕ → List Line
+function_lines C D f = unit_head C D f ++ (at_line C D f ++ argument_lines C D f)
+
+-- the registers of a function, where the next signal has this number
+pub record Pinned (C : Program) (D : Names) (f next : ℕ) (before : List UnitPins) (u : UnitPins) (m : MemberPins) : Type 0 where
+  pub order : map sig_of (unit_ties C D f (Some u) ++ member_ties C D f (Some m)) ≡ numbered next (length (function_lines C D f))
+  pub unit : (C.unit f ≡ f → ⊥) → slice_get before (C.unit f) ≡ Some u
+  pub args : length m.args.items ≡ length (C.params f)
+  pub lone : many C f ≡ false → m.at ≡ u.run
