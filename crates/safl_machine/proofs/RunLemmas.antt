@@ -59,6 +59,7 @@ module _ {S : List Stage} {n : ℕ} {E : List Word} where
         width = 1;
         spans = s.2;
         fits = h.fits.0;
+        first = h.first;
         within = omega (arith, h.within, fits_le h.program h.caller h.tail s.0 s.1 a s.3, fits_le h.program h.caller h.tail s.1 h.high b s.4);
         all_sites = h.all_sites;
         few = h.few;
@@ -77,6 +78,7 @@ module _ {S : List Stage} {n : ℕ} {E : List Word} where
         width = h.width;
         spans = s.3;
         fits = h.fits.1;
+        first = omega (arith, h.first, fits_le h.program h.caller false h.low s.0 c s.2);
         within = omega (arith, h.within, fits_le h.program h.caller h.tail s.1 h.high b s.4);
         all_sites = h.all_sites;
         few = h.few;
@@ -95,6 +97,7 @@ module _ {S : List Stage} {n : ℕ} {E : List Word} where
         width = h.width;
         spans = s.4;
         fits = h.fits.2;
+        first = omega (arith, h.first, fits_le h.program h.caller false h.low s.0 c s.2, fits_le h.program h.caller h.tail s.0 s.1 a s.3);
         within = h.within;
         all_sites = h.all_sites;
         few = h.few;
@@ -112,6 +115,7 @@ module _ {S : List Stage} {n : ℕ} {E : List Word} where
         ws = h.fits.0;
         spans = s.1;
         fits = h.fits.1;
+        first = h.first;
         within = omega (arith, h.within, fits_le h.program h.caller h.tail s.0 h.high b s.2);
         all_sites = h.all_sites;
         few = h.few;
@@ -128,6 +132,7 @@ module _ {S : List Stage} {n : ℕ} {E : List Word} where
         ws = h.fits.0;
         spans = h.spans;
         fits = h.fits.1;
+        first = h.first;
         within = h.within;
         all_sites = h.all_sites;
         few = h.few;
@@ -144,6 +149,7 @@ module _ {S : List Stage} {n : ℕ} {E : List Word} where
         ws = h.program.params f;
         spans = h.spans.4;
         fits = h.fits.0;
+        first = omega (arith, h.first);
         within = h.within;
         all_sites = h.all_sites;
         few = h.few;
@@ -160,6 +166,7 @@ module _ {S : List Stage} {n : ℕ} {E : List Word} where
         ws = h.program.params m;
         spans = h.spans.2;
         fits = h.fits.0;
+        first = h.first;
         within = h.within;
         all_sites = h.all_sites;
         few = h.few;
@@ -179,6 +186,7 @@ module _ {S : List Stage} {n : ℕ} {E : List Word} where
         width = w.0;
         spans = s.1;
         fits = w.2;
+        first = h.first;
         within = omega (arith, h.within, fits_all_le h.program h.caller s.0 h.high ts s.2);
         all_sites = h.all_sites;
         few = h.few;
@@ -197,6 +205,7 @@ module _ {S : List Stage} {n : ℕ} {E : List Word} where
         ws = w.1;
         spans = s.2;
         fits = w.3;
+        first = omega (arith, h.first, fits_le h.program h.caller false h.low s.0 t s.1);
         within = h.within;
         all_sites = h.all_sites;
         few = h.few;
@@ -216,6 +225,7 @@ module _ {S : List Stage} {n : ℕ} {E : List Word} where
         width = h.width;
         spans = s.2;
         fits = subst (λ l. HasWidth h.program l b h.width) (sym (widths_append E vs ∙ ap (λ l. widths E ++ l) all)) h.fits.2;
+        first = omega (arith, h.first, fits_all_le h.program h.caller h.low s.0 ts s.1);
         within = h.within;
         all_sites = h.all_sites;
         few = h.few;
@@ -231,6 +241,12 @@ module _ {S : List Stage} {n : ℕ} {E : List Word} where
 
   pub call_few : (f k : ℕ) (ts : Terms) → CanRun S n E (Call f k ts) → count ts ≤ 16
   call_few f k ts h = omega (arith, have_count h.program (widths E) ts (h.program.params f) h.fits.0, h.few f)
+
+  pub loop_few : (m : ℕ) (ts : Terms) → CanRun S n E (Loop m ts) → count ts ≤ 16
+  loop_few m ts h = omega (arith, have_count h.program (widths E) ts (h.program.params m) h.fits.0, h.few m)
+
+  pub call_first : (f k : ℕ) (ts : Terms) → CanRun S n E (Call f k ts) → 1 ≤ k
+  call_first f k ts h = omega (arith, h.spans.0, h.first)
 
   pub call_place : (f k : ℕ) (ts : Terms) → CanRun S n E (Call f k ts) → k < n
   call_place f k ts h = omega (arith, h.spans.0, h.within, fits_all_le h.program h.caller (suc h.low) h.high ts h.spans.4)

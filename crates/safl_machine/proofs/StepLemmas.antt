@@ -13,7 +13,8 @@ use Rattle.safl_check.specs.Terms.{Term, Const, Var, If, Let, Op, Call, Loop, Te
 use Rattle.safl_check.specs.declared.term.Term as declared
 use Rattle.safl_check.specs.Tree.{tree, forest}
 use Rattle.safl_check.proofs.Once.{count}
-use Rattle.safl_machine.specs.Evaluating.{Notes}
+use Rattle.safl_machine.specs.Evaluating.{Notes, IsPlaced}
+use Rattle.safl_machine.specs.declared.evaluate.Outcome.{Outcome}
 
 or_none : {A : Type 0} (o : Option A) → or_else o None ≡ o
 or_none None = refl
@@ -244,3 +245,7 @@ slots_kept F G n m e = sym (fewer F n m) ∙ (ap (take n) e ∙ fewer G n m)
 
 pub part_few : (n : ℕ) (F : List Word) → length (take n F) ≤ n
 part_few n F = omega (arith, length-take n F)
+
+pub placed_is : {n m : ℕ} (r : Outcome) → n ≡ m → IsPlaced n r → IsPlaced m r
+placed_is {n} {m} r e h = subst (λ k. IsPlaced k r) e h
+

@@ -1,5 +1,5 @@
 -- What partial evaluation finds and keeps.
-use Rattle.std.specs.Prelude.{◌≡◌, ℕ, ◌≤◌, List, length, take, drop, Option, Some, None, Bool, get_or, map}
+use Rattle.std.specs.Prelude.{◌+◌, ◌≡◌, ℕ, ◌≤◌, List, length, take, drop, Option, Some, None, Bool, get_or, map}
 use Rattle.safl_word.specs.Words.{Word}
 use Rattle.safl_check.specs.Program.{Program, arity}
 use Rattle.safl_check.specs.Readiness as plain
@@ -21,6 +21,12 @@ shown env NotYet = plain.NotYet
 abbrev pub widths : List Word → List ℕ
 widths vs = map (λ v. v.width) vs
 
+-- the arguments of a tail call stand in so many words, and are few
+abbrev pub IsPlaced : ℕ → Outcome → Type 0
+IsPlaced room (Ready v) = Unit {0}
+IsPlaced room (Loop h at n) = (at + n ≤ room) × (n ≤ 16)
+IsPlaced room NotYet = Unit {0}
+
 -- A part of a body of a well-formed program: its sites are those of the program, its slots hold these words, and each
 -- word that has come back has its callee's width
 pub record CanRun (sites : List Stage) (places : ℕ) (env : List Word) (t : Term) : Type 0 where
@@ -32,6 +38,7 @@ pub record CanRun (sites : List Stage) (places : ℕ) (env : List Word) (t : Ter
   pub width : ℕ
   pub spans : Spans program caller tail low high t
   pub fits : HasWidth program (widths env) t width
+  pub first : 1 ≤ low
   pub within : high ≤ places
   pub all_sites : places ≤ length sites
   pub few : (f : ℕ) → arity program f ≤ 16
@@ -45,6 +52,7 @@ pub record CanRunAll (sites : List Stage) (places : ℕ) (env : List Word) (ts :
   pub ws : List ℕ
   pub spans : SpansAll program caller low high ts
   pub fits : HaveWidths program (widths env) ts ws
+  pub first : 1 ≤ low
   pub within : high ≤ places
   pub all_sites : places ≤ length sites
   pub few : (f : ℕ) → arity program f ≤ 16

@@ -1,2 +1,4 @@
 pub mod Stages
 pub mod Evaluating
+pub mod Modes
+pub mod Knowing

@@ -1,5 +1,6 @@
 -- The stages that the code keeps, as those of the definitions.
 use Rattle.std.specs.Prelude.{ℕ, List, Option, get_or}
+use Rattle.safl_core.specs.Machine as machine
 use Rattle.safl_word.specs.Words.{Word}
 use Rattle.safl_check.specs.Readiness as plain
 use Rattle.safl_machine.specs.declared.stage.Stage.{Stage}
@@ -16,4 +17,4 @@ stage_at sites k = stage_of (get_or sites k Unsent)
 
 -- the words that the sites have got back
 abbrev pub back_at : List Stage → ℕ → Option Word
-back_at sites k = plain.back_word (stage_at sites k)
+back_at sites = machine.back (record { unit = λ u. machine.Idle; site = stage_at sites })

@@ -1,12 +1,12 @@
 //! Partial evaluation: what a running body comes to, and which calls it wants.
 
-ghost use Rattle.std.specs.Prelude.{◌≡◌, ◌+◌, ◌≤◌, ◌<◌, List, length, take, drop, cond, Some, None};
+ghost use Rattle.std.specs.Prelude.{ℕ, ◌≡◌, ◌+◌, ◌≤◌, ◌<◌, List, length, take, drop, cond, Some, None};
 ghost use Rattle.safl_check.specs.Readiness.{answer, answers, wanted, wanted_in, ready_from};
 ghost use Rattle.safl_check.specs.Sizes.{nodes, nodes_in};
 ghost use Rattle.safl_check.specs.Tree.{tree, forest};
 ghost use Rattle.safl_word.specs.Words.{Word as a_word};
 ghost use Rattle.safl_machine.specs.Stages.{back_at};
-ghost use Rattle.safl_machine.specs.Evaluating.{shown, CanRun, CanRunAll, Unasked, UnaskedIn, Notes};
+ghost use Rattle.safl_machine.specs.Evaluating.{shown, IsPlaced, CanRun, CanRunAll, Unasked, UnaskedIn, Notes};
 
 use crate::args::Args;
 use crate::stage::Stage;
@@ -36,6 +36,7 @@ pub fn evaluate(
     requires room { slots + nodes (tree t.now) ≤ length env.old }
     requires unasked { Unasked asks.old (tree t.now) }
     ensures outcome { shown env.new result ≡ answer (back_at stages.now) (take slots env.old) (tree t.now) }
+    ensures placed { IsPlaced (length env.old) result }
     ensures notes { Notes asks.old asks.new (wanted (back_at stages.now) (take slots env.old) (tree t.now)) }
     ensures kept { take slots env.new ≡ take slots env.old }
 {
@@ -124,8 +125,8 @@ fn evaluate_all(
     }
 }
 
-// So many words from a place on.
-fn part(env: &[Word], at: usize, count: usize) -> &[Word]
+/// So many words from a place on.
+pub fn part(env: &[Word], at: usize, count: usize) -> &[Word]
     requires { at + count ≤ length env.now }
     ensures { result.now ≡ take count (drop at env.now) }
 {
@@ -134,8 +135,10 @@ fn part(env: &[Word], at: usize, count: usize) -> &[Word]
 
 // The word of a site, where it has returned.
 fn returned(stages: &[Stage], k: u32) -> Outcome
-    requires { k < length stages.now }
-    ensures { (env : List Word) → shown env result ≡ ready_from (back_at stages.now k) }
+    requires least { 1 ≤ k }
+    requires within { k < length stages.now }
+    ensures shows { (env : List Word) → shown env result ≡ ready_from (back_at stages.now k) }
+    ensures placed { (room : ℕ) → IsPlaced room result }
 {
     match stages[k as usize] {
         Stage::Unsent => Outcome::NotYet,

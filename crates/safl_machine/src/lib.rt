@@ -3,4 +3,6 @@
 
 pub mod args;
 pub mod evaluate;
+pub mod mode;
+pub mod refresh;
 pub mod stage;

@@ -245,14 +245,15 @@ evaluate-bounds-asks-k t c =
 pub evaluate-returned-requires : goal.evaluate-returned-requires
 evaluate-returned-requires t c =
     let shape = call_by c.in-Call.field-0 c.in-Call.k (ap tree c.in-Call.is ∙ tree-Call c.in-Call.field-0 c.in-Call.k c.in-Call.ts) (ap forest c.as_slice-args.ensures.value) in
-    omega (arith, may.call_place _ _ _ (can_is refl refl shape c.requires.can), c.requires.can.all_sites)
+    let can = can_is refl refl shape c.requires.can in
+    record { least = may.call_first _ _ _ can; within = omega (arith, may.call_place _ _ _ can, c.requires.can.all_sites) }
 
 pub evaluate-returns-after-evaluate_all-3-clause-outcome : goal.evaluate-returns-after-evaluate_all-3-clause-outcome
 evaluate-returns-after-evaluate_all-3-clause-outcome t c =
     let B = back_at c.args.stages.now in
     let E = take c.args.slots c.args.env.now in
     let shape = call_by c.in-Call.field-0 c.in-Call.k (ap tree c.in-Call.is ∙ tree-Call c.in-Call.field-0 c.in-Call.k c.in-Call.ts) (ap forest c.as_slice-args.ensures.value) in
-    c.returned.ensures c.evaluate_all-in-Call.new.env ∙ (step.answer_call B E _ c.in-Call.field-0 c.in-Call.k ∙ ap (answer B E) (sym shape))
+    c.returned.ensures.shows c.evaluate_all-in-Call.new.env ∙ (step.answer_call B E _ c.in-Call.field-0 c.in-Call.k ∙ ap (answer B E) (sym shape))
 
 pub evaluate-returns-after-evaluate_all-3-clause-notes : goal.evaluate-returns-after-evaluate_all-3-clause-notes
 evaluate-returns-after-evaluate_all-3-clause-notes t c =
@@ -405,3 +406,23 @@ pub evaluate_all-returns-in-NotYet-clause-notes : goal.evaluate_all-returns-in-N
 evaluate_all-returns-in-NotYet-clause-notes t c =
     let e : c.args.ts.now ≡ c.in-Some.first.now ∷ c.in-Some.rest.now = c.in-Some.ensures.cases.0 in
     notes_in_as _ _ (ap forest e) (step.notes_more _ _ _ _ c.in-NotYet.ensures.notes (notes_in_is _ c.in-NotYet.ensures.kept refl c.evaluate_all-ready.ensures.notes))
+
+-- ---- where the arguments of a tail call stand
+
+pub evaluate-returns-then-bits-eq1-clause-placed : goal.evaluate-returns-then-bits-eq1-clause-placed
+evaluate-returns-then-bits-eq1-clause-placed t c = step.placed_is _ (omega (arith, c.evaluate.auto.env)) c.evaluate-then-bits-eq1.ensures.placed
+
+pub evaluate-returns-else-bits-eq1-clause-placed : goal.evaluate-returns-else-bits-eq1-clause-placed
+evaluate-returns-else-bits-eq1-clause-placed t c = step.placed_is _ (omega (arith, c.evaluate.auto.env)) c.evaluate-else-bits-eq1.ensures.placed
+
+pub evaluate-returns-then-evaluate_all-clause-placed : goal.evaluate-returns-then-evaluate_all-clause-placed
+evaluate-returns-then-evaluate_all-clause-placed t c = step.placed_is _ (omega (arith, c.evaluate_all.auto.env)) c.evaluate-then-evaluate_all.ensures.placed
+
+pub evaluate-returns-after-evaluate_all-3-clause-placed : goal.evaluate-returns-after-evaluate_all-3-clause-placed
+evaluate-returns-after-evaluate_all-3-clause-placed t c = c.returned.ensures.placed (length c.args.env.now)
+
+pub evaluate-returns-then-evaluate_all-4-clause-placed : goal.evaluate-returns-then-evaluate_all-4-clause-placed
+evaluate-returns-then-evaluate_all-4-clause-placed t c =
+    let shape = loop_by c.in-Loop.h (ap tree c.in-Loop.is ∙ tree-Loop c.in-Loop.h c.in-Loop.ts) (ap forest c.as_slice-passed.ensures.value) in
+    let count = step.count_forest c.as_slice-passed.result.now in
+    (omega (arith, ap nodes shape, forest_nodes c.as_slice-passed.result.now, c.requires.room), omega (arith, count, may.loop_few _ _ (can_is refl refl shape c.requires.can)))
