@@ -1,0 +1,5 @@
+pub mod Names
+pub mod Pushing
+pub mod Giving
+pub mod Going
+pub mod Outcome

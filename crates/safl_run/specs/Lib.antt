@@ -1,0 +1,4 @@
+pub mod Arguments
+pub mod Outcomes
+pub mod Words
+pub mod Ticks

@@ -1,0 +1,7 @@
+//! Simulation of a net until it is done.
+#![tactic(auto)]
+
+pub mod done;
+mod inputs;
+
+pub use crate::done::{Done, run_until_done};
