@@ -51,7 +51,7 @@ called_length g (Member i h) tail lo m ws us w t q = omega (arith, ap (λ (z : T
 called_length g (Above i h) tail lo m ws us w t q = omega (arith, ap (λ (z : Term). length (sites_of g z)) q.3, q.0)
 called_length g Unknown tail lo m ws us w t q = absurd q
 
-append_length : {A : Type 0} (xs ys : List A) → length (xs ++ ys) ≡ length xs + length ys
+pub append_length : {A : Type 0} (xs ys : List A) → length (xs ++ ys) ≡ length xs + length ys
 append_length xs ys = length-append xs ys
 
 mutual
