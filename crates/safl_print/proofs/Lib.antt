@@ -4,3 +4,7 @@ pub mod Operators
 pub mod Expressions
 pub mod Tokens
 pub mod Programs
+pub mod Rows
+pub mod Descent
+pub mod Depths
+pub mod Lists

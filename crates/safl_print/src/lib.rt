@@ -2,3 +2,7 @@
 #![tactic(auto)]
 
 pub mod laws;
+mod levels;
+mod places;
+
+pub use crate::levels::levels_ok;
