@@ -2,3 +2,4 @@ pub mod Signals
 pub mod Texts
 pub mod Lengths
 pub mod Tearing
+pub mod InputNets

@@ -9,7 +9,6 @@ use Rattle.safl_net.specs.Netlist.{Netlist}
 use Rattle.safl_net.specs.Rules.{IsNetlist}
 use Rattle.safl_net.specs.Whole.{IsWhole}
 use Rattle.safl_net.specs.Written.{written}
-use Rattle.safl_verilog.specs.Reads.{Reads}
 use Rattle.safl_verilog.specs.Laws.{IsInOrder, NoShorterText}
 use Rattle.safl_vwrite.specs.Torn.{IsTornOrWhole, LeavesOldOrTorn}
 

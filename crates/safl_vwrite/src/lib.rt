@@ -6,6 +6,8 @@ mod declarations;
 mod file;
 mod pieces;
 mod statements;
+#[cfg(test)]
+mod tests;
 mod text;
 
 pub use crate::file::{WriteErr, write_net};

@@ -1,6 +1,4 @@
-use Rattle.std.proofs.Common.{◌∙◌, List, ℕ, sym, subst}
-use Rattle.safl_io.specs.Told.{TellsOn}
-use Rattle.safl_io.specs.Shelf.{LeavesOldOrPart}
+use Rattle.std.proofs.Common.{◌∙◌, sym}
 use Rattle.safl_vwrite.proofs.Tearing.{tells_torn}
 use Rattle.safl_vwrite.proofs.file.write_net.Goals as goal
 
