@@ -3,3 +3,4 @@ pub mod Keeping
 pub mod Tables
 pub mod Groups
 pub mod Declaring
+pub mod Cells

@@ -2,4 +2,5 @@
 #![tactic(auto)]
 
 mod names;
+mod gates;
 pub mod parts;

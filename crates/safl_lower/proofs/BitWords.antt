@@ -1,8 +1,8 @@
 -- What gates say of bits.
-use Rattle.std.proofs.Common.{◌≡◌, ℕ, zero, suc, ◌<◌, [], ◌∷◌, Some, None, Bool, true, false, not, ◌&&◌, cond, ◌==◌, Result, Ok, Err, IfOk, refl, ap, ◌∙◌, arith}
+use Rattle.std.proofs.Common.{◌≡◌, ℕ, zero, suc, ◌<◌, [], ◌∷◌, Some, None, Bool, true, false, not, ◌&&◌, ◌||◌, cond, ◌==◌, Result, Ok, Err, IfOk, refl, ap, ◌∙◌, arith}
 use Rattle.safl_word.specs.Words.{Word, choose}
 use Rattle.safl_word.specs.Primitives.{apply_prim, bit_of}
-use Rattle.safl_word.specs.declared.primitive.Primitive.TheVariants.{And, Not}
+use Rattle.safl_word.specs.declared.primitive.Primitive.TheVariants.{And, Not, Or}
 use Rattle.safl_net.specs.declared.cell.Sig.{Sig}
 use Rattle.safl_net.specs.declared.cell.Op.TheVariants.{Mux}
 use Rattle.safl_net.specs.Netlist.{Netlist}
@@ -56,6 +56,20 @@ not_on n m (Ok s) a p g h = λ v w.
     let u = wired_before g w in
     ap (λ (x : Word). x.bits == 1) (h v w ∙ ap (λ (x : Word). apply_prim Not (x ∷ [])) (bit_word n v a u p)) ∙ not_words (on v a)
 not_on n m (Err e) a p g h = tt
+
+or_words : (a b : Bool) → ((apply_prim Or (a_bit a ∷ a_bit b ∷ [])).bits == 1) ≡ (a || b)
+unfolding a_bit
+or_words true true = refl
+or_words true false = refl
+or_words false true = refl
+or_words false false = refl
+
+pub or_on : {E : Type 0} (n m : Netlist) (r : Result Sig E) (a b : Sig) → BitAt n a → BitAt n b → Grows n m → IfOk r (λ s. (v : Val) → Wired m v → v s.0 ≡ apply_prim Or (words v (a ∷ b ∷ []))) → IfOk r (λ s. (v : Val) → Wired m v → on v s ≡ (on v a || on v b))
+or_on n m (Ok s) a b p q g h = λ v w.
+    let u = wired_before g w in
+    ap (λ (x : Word). x.bits == 1) (h v w ∙ ap (λ (x : Word). apply_prim Or (x ∷ v b.0 ∷ [])) (bit_word n v a u p) ∙ ap (λ (y : Word). apply_prim Or (a_bit (on v a) ∷ y ∷ [])) (bit_word n v b u q))
+    ∙ or_words (on v a) (on v b)
+or_on n m (Err e) a b p q g h = tt
 
 pub mux_width : (w : ℕ) → op_width Mux (1 ∷ w ∷ w ∷ []) ≡ Some w
 mux_width w = ap (λ (b : Bool). cond b (Some w) None) (same w)

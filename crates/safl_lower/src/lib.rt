@@ -2,7 +2,7 @@
 #![tactic(auto)]
 
 mod body;
-mod gates;
+pub mod gates;
 mod joins;
 mod merge;
 pub mod parts;
