@@ -4,3 +4,5 @@ pub mod Tables
 pub mod Groups
 pub mod Declaring
 pub mod Cells
+pub mod Pinning
+pub mod Ordering

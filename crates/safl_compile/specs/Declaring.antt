@@ -1,13 +1,15 @@
 -- The lines of a circuit in the order in which they are declared.
-use Rattle.std.specs.Prelude.{◌≡◌, ℕ, List, [], ◌∷◌, ◌++◌, map, length, Some, false, cond, ◌==◌, codes, slice_get}
+use Rattle.std.specs.Prelude.{◌≡◌, ℕ, ◌<◌, List, [], ◌∷◌, ◌++◌, map, length, Some, false, cond, ◌==◌, codes, slice_get}
 use Rattle.safl_check.specs.Program.{Program}
 use Rattle.safl_net.specs.Netlist.{Netlist, Signal}
-use Rattle.safl_unit.specs.Equations.{many}
+use Rattle.safl_unit.specs.Equations.{Choice, many}
 use Rattle.safl_unit.specs.Names.{Names, of_function, of_param}
-use Rattle.safl_unit.specs.Layout.{Line, named}
+use Rattle.safl_unit.specs.Layout.{Line, lines, named, site_lines}
 use Rattle.safl_compile.specs.declared.parts.UnitPins.{UnitPins}
 use Rattle.safl_compile.specs.declared.parts.MemberPins.{MemberPins}
-use Rattle.safl_compile.specs.Ties.{sig_of, numbered, unit_ties, member_ties}
+use Rattle.safl_compile.specs.declared.parts.SitePins.{SitePins}
+use Rattle.safl_compile.specs.Tables.{EachAt}
+use Rattle.safl_compile.specs.Ties.{sig_of, numbered, unit_ties, member_ties, function_ties, site_ties, call_registers, ties}
 
 -- a net with more signals
 abbrev pub with_signals : Netlist → List Signal → Netlist
@@ -38,3 +40,23 @@ pub record Pinned (C : Program) (D : Names) (f next : ℕ) (before : List UnitPi
   pub unit : (C.unit f ≡ f → ⊥) → slice_get before (C.unit f) ≡ Some u
   pub args : length m.args.items ≡ length (C.params f)
   pub lone : many C f ≡ false → m.at ≡ u.run
+
+-- the registers of all functions below f
+pub record FunctionsPinned (C : Program) (D : Names) (first f : ℕ) (us : List UnitPins) (ms : List MemberPins) : Type 0 where
+  pub units_length : length us ≡ f
+  pub members_length : length ms ≡ f
+  pub order : map sig_of (ties (function_ties C D us ms) f) ≡ numbered first (length (lines (function_lines C D) f))
+  pub unit : (g : ℕ) → g < f → slice_get us g ≡ slice_get us (C.unit g)
+  pub args : EachAt ms (λ g m. length m.args.items ≡ length (C.params g))
+  pub lone : EachAt ms (λ g m. many C g ≡ false → (u : UnitPins) → slice_get us g ≡ Some u → m.at ≡ u.run)
+
+-- the registers of a site, where the next signal has this number
+pub record SitePinned (C : Program) (P : Choice) (k next : ℕ) (us : List UnitPins) (s : SitePins) : Type 0 where
+  pub order : map sig_of (call_registers C P k (Some s)) ≡ numbered next (length (site_lines C P k))
+  pub spare : P.kept k ≡ false → (u : UnitPins) → slice_get us (C.callee k) ≡ Some u → s.keep ≡ u.res
+
+-- the registers of all sites below k
+pub record SitesPinned (C : Program) (P : Choice) (first k : ℕ) (us : List UnitPins) (ss : List SitePins) : Type 0 where
+  pub sites_length : length ss ≡ k
+  pub order : map sig_of (ties (site_ties C P ss) k) ≡ numbered first (length (lines (site_lines C P) k))
+  pub spare : EachAt ss (λ j s. 0 < j → P.kept j ≡ false → (u : UnitPins) → slice_get us (C.callee j) ≡ Some u → s.keep ≡ u.res)
