@@ -4,3 +4,4 @@ pub mod Typing
 pub mod Forms
 pub mod Walk
 pub mod Laws
+pub mod Plain

@@ -1,4 +1,6 @@
 //! The rules by which a program is checked: widths, names, groups and limits, and the first fault of a program.
 #![tactic(auto)]
 
+mod expression;
 pub mod laws;
+mod rewrite;

@@ -1,0 +1,124 @@
+-- Rewriting lists of expressions, one by one.
+use Rattle.std.proofs.lemmas.Option.{slice_get_read}
+use Rattle.std.proofs.Common.{◌≡◌, ℕ, zero, suc, ◌+◌, ◌-◌, ◌<◌, ◌≤◌, arith, drop, get_or, drop-cons, List, [], ◌∷◌, ◌++◌, length, map, take, Some, None, slice_get, Vec, Box, Global, refl, sym, ap, ◌∙◌, add-one}
+use Rattle.safl_word.specs.declared.primitive.Primitive.{Primitive}
+use Rattle.safl_tree.specs.declared.tree.Expr.{Expr}
+use Rattle.safl_tree.specs.declared.tree.Bind.{Bind}
+use Rattle.safl_tree.specs.declared.tree.Arm.{Arm}
+use Rattle.safl_tree.specs.declared.tree.Node.{Node}
+use Rattle.safl_tree.specs.declared.tree.Node.TheVariants.{Op, Call, Let, Case}
+use Rattle.safl_tree.specs.Tree.{Tree, trees_of, binds_of, arms_of, place_of, Bound}
+use Rattle.safl_tree.specs.Shown.{shows, shows_node, shows_all, shows_bind, shows_bounds, shows_labelled}
+use Rattle.safl_typing.specs.declared.expression.Binder.{Binder}
+use Rattle.safl_typing.specs.declared.expression.Expression as code
+use Rattle.safl_typing.specs.declared.expression.Expression.TheVariants as codes
+use Rattle.safl_typing.specs.Rewriting.{Expression, Choice, Binding, Applied, Called, Expressions, no_expression, an_expression, Bindings, no_binding, a_binding, rewritten, rewritten_all, rewritten_binds, rewritten_arms, scrutinee, test_at}
+use Rattle.safl_typing.specs.Plain.{plain, plain_all, plain_bindings, binders, rewritten_values}
+use Rattle.safl_typing.proofs.PlainLemmas.{plain-Applied, plain-Called}
+use Rattle.safl_typing.proofs.SourceLemmas.{shows-Op, shows-Call, shows-Let, shows-Case, shown_place}
+
+-- one more at the end
+abbrev pub more : Expressions → Expression → Expressions
+more no_expression x = an_expression x no_expression
+more (an_expression y ys) x = an_expression y (more ys x)
+
+pub plain_end : (xs : List code.Expression) (x : code.Expression) → plain_all (xs ++ x ∷ []) ≡ more (plain_all xs) (plain x)
+plain_end [] x = refl
+plain_end (y ∷ ys) x = ap (an_expression (plain y)) (plain_end ys x)
+
+all_next : (es : List Expr) (i : ℕ) (e : Expr) → slice_get es i ≡ Some e → rewritten_all (trees_of (shows_all (take (suc i) es))) ≡ more (rewritten_all (trees_of (shows_all (take i es)))) (rewritten (shows e))
+all_next [] i e h = absurd (cc)
+all_next (y ∷ ys) zero e h = let g : y ≡ e = cc in ap (λ (z : Expr). an_expression (rewritten (shows z)) no_expression) g
+all_next (y ∷ ys) (suc i) e h = ap (an_expression (rewritten (shows y))) (all_next ys i e h)
+
+pub all_more : (es : List Expr) (i : ℕ) (e : Expr) → slice_get es i ≡ Some e → rewritten_all (trees_of (shows_all (take (i + 1) es))) ≡ more (rewritten_all (trees_of (shows_all (take i es)))) (rewritten (shows e))
+all_more es i e h = ap (λ (k : ℕ). rewritten_all (trees_of (shows_all (take k es)))) (add-one i) ∙ all_next es i e h
+
+values_next : (bs : List Bind) (i : ℕ) (b : Bind) → slice_get bs i ≡ Some b → rewritten_values (shows_bounds (take (suc i) bs)) ≡ more (rewritten_values (shows_bounds (take i bs))) (rewritten (shows b.value))
+values_next [] i b h = absurd (cc)
+values_next (y ∷ ys) zero b h = let g : y ≡ b = cc in ap (λ (z : Bind). an_expression (rewritten (shows z.value)) no_expression) g
+values_next (y ∷ ys) (suc i) b h = ap (an_expression (rewritten (shows y.value))) (values_next ys i b h)
+
+pub values_more : (bs : List Bind) (i : ℕ) (b : Bind) → slice_get bs i ≡ Some b → rewritten_values (shows_bounds (take (i + 1) bs)) ≡ more (rewritten_values (shows_bounds (take i bs))) (rewritten (shows b.value))
+values_more bs i b h = ap (λ (k : ℕ). rewritten_values (shows_bounds (take k bs))) (add-one i) ∙ values_next bs i b h
+
+-- what is bound, with the values
+pub joined : (bs : List Bound) (es : List code.Expression) → plain_all es ≡ rewritten_values bs → plain_bindings (binders bs) es ≡ rewritten_binds (binds_of bs)
+joined [] [] h = refl
+joined [] (e ∷ es) h = absurd (cc)
+joined (b ∷ bs) [] h = absurd (cc)
+joined (b ∷ bs) (e ∷ es) h =
+    let x : plain e ≡ rewritten b.value = cc in
+    let xs : plain_all es ≡ rewritten_values bs = cc in
+    ap (λ (y : Expression). a_binding b.place b.name b.width y (plain_bindings (binders bs) es)) x ∙ ap (a_binding b.place b.name b.width (rewritten b.value)) (joined bs es xs)
+
+-- ---- the kinds of expressions that have lists
+
+pub let_rewrites : (n : Node) (p : ℕ) (binds : Vec Bind Global) (body : Box Expr Global) (bs : List Binder) (es : List code.Expression) (b : code.Expression) (xs ys : List Bind) (e : Expr)
+    → n ≡ Let binds body → xs ≡ binds.items → ys ≡ binds.items → e ≡ body.value → bs ≡ binders (shows_bounds xs) → plain_all es ≡ rewritten_values (shows_bounds ys) → plain b ≡ rewritten (shows e)
+    → Binding p (plain_bindings bs es) (plain b) ≡ rewritten (shows_node n p)
+let_rewrites n p binds body bs es b xs ys e is x y v hb hs h =
+    let k = joined (shows_bounds binds.items) es (hs ∙ ap (λ (l : List Bind). rewritten_values (shows_bounds l)) y) in
+    let g : bs ≡ binders (shows_bounds binds.items) = hb ∙ ap (λ (l : List Bind). binders (shows_bounds l)) x in
+    let w : plain b ≡ rewritten (shows body.value) = h ∙ ap (λ (z : Expr). rewritten (shows z)) v in
+    ap (λ (l : List Binder). Binding p (plain_bindings l es) (plain b)) g ∙ ap (λ (z : Bindings). Binding p z (plain b)) k ∙ ap (λ (z : Expression). Binding p (rewritten_binds (binds_of (shows_bounds binds.items))) z) w
+    ∙ sym (ap (λ (z : Node). rewritten (shows_node z p)) is ∙ ap rewritten (shows-Let binds body p))
+
+pub case_rewrites : (n : Node) (p : ℕ) (looked_at : Box Expr Global) (arms : Vec Arm Global) (other : Box Expr Global) (v b : code.Expression) (xs : List Arm) (e : Expr)
+    → n ≡ Case looked_at arms other → xs ≡ arms.items → e ≡ looked_at.value → plain v ≡ rewritten (shows e) → plain b ≡ rewritten_arms p (arms_of (shows_labelled xs) (shows other.value))
+    → Binding p (a_binding p scrutinee None (plain v) no_binding) (plain b) ≡ rewritten (shows_node n p)
+case_rewrites n p looked_at arms other v b xs e is x y h k =
+    let w : plain v ≡ rewritten (shows looked_at.value) = h ∙ ap (λ (z : Expr). rewritten (shows z)) y in
+    let g : plain b ≡ rewritten_arms p (arms_of (shows_labelled arms.items) (shows other.value)) = k ∙ ap (λ (l : List Arm). rewritten_arms p (arms_of (shows_labelled l) (shows other.value))) x in
+    ap (λ (z : Expression). Binding p (a_binding p scrutinee None z no_binding) (plain b)) w ∙ ap (λ (z : Expression). Binding p (a_binding p scrutinee None (rewritten (shows looked_at.value)) no_binding) z) g
+    ∙ sym (ap (λ (z : Node). rewritten (shows_node z p)) is ∙ ap rewritten (shows-Case looked_at arms other p))
+
+pub op_rewrites : (n : Node) (p : ℕ) (o : Primitive) (es : Vec Expr Global) (all : Vec code.Expression Global) (xs : List Expr)
+    → n ≡ Op o es → xs ≡ es.items → plain_all all.items ≡ rewritten_all (trees_of (shows_all xs)) → plain (codes.Applied p o all) ≡ rewritten (shows_node n p)
+op_rewrites n p o es all xs is x h =
+    plain-Applied p o all ∙ ap (Applied p o) (h ∙ ap (λ (l : List Expr). rewritten_all (trees_of (shows_all l))) x)
+    ∙ sym (ap (λ (z : Node). rewritten (shows_node z p)) is ∙ ap rewritten (shows-Op o es p))
+
+pub call_rewrites : (n : Node) (p : ℕ) (f g : List ℕ) (es : Vec Expr Global) (all : Vec code.Expression Global) (xs : List Expr)
+    → n ≡ Call f es → g ≡ f → xs ≡ es.items → plain_all all.items ≡ rewritten_all (trees_of (shows_all xs)) → plain (codes.Called p g all) ≡ rewritten (shows_node n p)
+call_rewrites n p f g es all xs is i x h =
+    plain-Called p g all ∙ ap (λ (z : List ℕ). Called p z (plain_all all.items)) i ∙ ap (Called p f) (h ∙ ap (λ (l : List Expr). rewritten_all (trees_of (shows_all l))) x)
+    ∙ sym (ap (λ (z : Node). rewritten (shows_node z p)) is ∙ ap rewritten (shows-Call f es p))
+
+pub arm_rewrites : (p : ℕ) (a : Arm) (label value rest : code.Expression) (arms : List Arm) (t : Tree)
+    → plain label ≡ rewritten (shows a.label) → plain value ≡ rewritten (shows a.value) → plain rest ≡ rewritten_arms p (arms_of (shows_labelled arms) t)
+    → Choice p (test_at a.label.place (plain label)) (plain value) (plain rest) ≡ rewritten_arms p (arms_of (shows_labelled (a ∷ arms)) t)
+arm_rewrites p a label value rest arms t l v r =
+    ap (λ (z : Expression). Choice p (test_at a.label.place z) (plain value) (plain rest)) l
+    ∙ ap (λ (k : ℕ). Choice p (test_at k (rewritten (shows a.label))) (plain value) (plain rest)) (sym (shown_place a.label.node a.label.place))
+    ∙ ap (λ (z : Expression). Choice p (test_at (place_of (shows a.label)) (rewritten (shows a.label))) z (plain rest)) v
+    ∙ ap (λ (z : Expression). Choice p (test_at (place_of (shows a.label)) (rewritten (shows a.label))) (rewritten (shows a.value)) z) r
+
+-- ---- loops
+
+pub all_push : (es : List Expr) (i : ℕ) (e : Expr) (xs ys : List code.Expression) (x : code.Expression) → i < length es → e ≡ get_or es i e → ys ≡ xs ++ x ∷ []
+    → plain_all xs ≡ rewritten_all (trees_of (shows_all (take i es))) → plain x ≡ rewritten (shows e) → plain_all ys ≡ rewritten_all (trees_of (shows_all (take (i + 1) es)))
+all_push es i e xs ys x lt is q h r =
+    ap plain_all q ∙ plain_end xs x ∙ ap (λ (z : Expressions). more z (plain x)) h ∙ ap (more (rewritten_all (trees_of (shows_all (take i es))))) r ∙ sym (all_more es i e (slice_get_read es (length es) i e refl lt is))
+
+pub values_push : (bs : List Bind) (i : ℕ) (b : Bind) (xs ys : List code.Expression) (x : code.Expression) → i < length bs → b ≡ get_or bs i b → ys ≡ xs ++ x ∷ []
+    → plain_all xs ≡ rewritten_values (shows_bounds (take i bs)) → plain x ≡ rewritten (shows b.value) → plain_all ys ≡ rewritten_values (shows_bounds (take (i + 1) bs))
+values_push bs i b xs ys x lt is q h r =
+    ap plain_all q ∙ plain_end xs x ∙ ap (λ (z : Expressions). more z (plain x)) h ∙ ap (more (rewritten_values (shows_bounds (take i bs)))) r ∙ sym (values_more bs i b (slice_get_read bs (length bs) i b refl lt is))
+
+pub arms_front : (p : ℕ) (arms : List Arm) (done : ℕ) (a : Arm) (label value rest : code.Expression) (condition body : Expression) (t : Tree) → done < length arms → a ≡ get_or arms (length arms - 1 - done) a
+    → condition ≡ test_at a.label.place (plain label) → plain label ≡ rewritten (shows a.label) → plain value ≡ rewritten (shows a.value)
+    → plain rest ≡ rewritten_arms p (arms_of (shows_labelled (drop (length arms - done) arms)) t) → body ≡ Choice p condition (plain value) (plain rest)
+    → body ≡ rewritten_arms p (arms_of (shows_labelled (drop (length arms - (done + 1)) arms)) t)
+arms_front p arms done a label value rest condition body t lt is k l v r b =
+    let i : ℕ = length arms - 1 - done in
+    let e : length arms - (done + 1) ≡ i = omega arith in
+    let s : suc i ≡ length arms - done = omega (arith, lt) in
+    let d : drop i arms ≡ get_or arms i a ∷ drop (suc i) arms = drop-cons arms i a (omega (arith, lt)) in
+    let f : drop (length arms - (done + 1)) arms ≡ a ∷ drop (length arms - done) arms =
+        ap (λ (j : ℕ). drop j arms) e ∙ d ∙ ap (λ (z : Arm). z ∷ drop (suc i) arms) (sym is) ∙ ap (λ (j : ℕ). a ∷ drop j arms) s in
+    b ∙ ap (λ (z : Expression). Choice p z (plain value) (plain rest)) k ∙ arm_rewrites p a label value rest (drop (length arms - done) arms) t l v r
+    ∙ sym (ap (λ (z : List Arm). rewritten_arms p (arms_of (shows_labelled z) t)) f)
+
+pub arms_whole : (p : ℕ) (arms : List Arm) (done : ℕ) (t : Tree) → length arms ≤ done → rewritten_arms p (arms_of (shows_labelled (drop (length arms - done) arms)) t) ≡ rewritten_arms p (arms_of (shows_labelled arms) t)
+arms_whole p arms done t le = let e : length arms - done ≡ 0 = omega (arith, le) in ap (λ (j : ℕ). rewritten_arms p (arms_of (shows_labelled (drop j arms)) t)) e
