@@ -1,3 +1,6 @@
 pub mod RunLemmas
 pub mod StepLemmas
 pub mod RefreshLemmas
+pub mod StateLemmas
+pub mod FitsLemmas
+pub mod KeptLemmas

@@ -27,7 +27,12 @@ body_can c S n E f checked lt fits back sites places =
     let C = program_of c in
     let b = checked.formed.numbered.bodies f in
     record {
-      program = C; caller = f; tail = true; low = b.0; high = b.1; width = C.result f;
+      program = C;
+      caller = f;
+      tail = true;
+      low = b.0;
+      high = b.1;
+      width = C.result f;
       spans = b.3;
       fits = subst (λ l. HasWidth C l (C.body f) (C.result f)) (sym fits) (checked.formed.widths f lt);
       first = b.2;

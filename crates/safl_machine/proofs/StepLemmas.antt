@@ -248,4 +248,3 @@ part_few n F = omega (arith, length-take n F)
 
 pub placed_is : {n m : ℕ} (r : Outcome) → n ≡ m → IsPlaced n r → IsPlaced m r
 placed_is {n} {m} r e h = subst (λ k. IsPlaced k r) e h
-

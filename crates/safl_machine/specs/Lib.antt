@@ -2,3 +2,4 @@ pub mod Stages
 pub mod Evaluating
 pub mod Modes
 pub mod Knowing
+pub mod Shown

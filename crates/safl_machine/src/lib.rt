@@ -3,6 +3,9 @@
 
 pub mod args;
 pub mod evaluate;
+pub mod event;
+pub mod fire;
 pub mod mode;
 pub mod refresh;
 pub mod stage;
+pub mod step;

@@ -5,8 +5,6 @@ use Rattle.safl_check.specs.Checked.{program_of}
 use Rattle.safl_check.specs.Readiness.{wanted}
 use Rattle.safl_core.specs.Machine as machine
 use Rattle.safl_core.proofs.FromWellFormed.{numbered}
-
-
 use Rattle.safl_machine.specs.Evaluating.{Notes}
 use Rattle.safl_machine.specs.Modes.{answer_of, state_of}
 use Rattle.safl_machine.specs.Stages.{back_at}

@@ -1,0 +1,37 @@
+use Rattle.std.proofs.Common.{◌≡◌, ◌≢◌, ℕ, ◌<◌, ◌≤◌, Some, None, get_or, refl, sym, ap, ◌∙◌, subst, arith}
+use Rattle.safl_check.specs.Checked.{program_of}
+use Rattle.safl_core.specs.Machine as core
+use Rattle.safl_core.specs.Machine.{Accept, Finish, Return, LoopInto}
+use Rattle.safl_machine.specs.Knowing.{IsKnown}
+use Rattle.safl_machine.specs.Modes.{state_of}
+use Rattle.safl_machine.proofs.KeptLemmas.{inv, good, next_member, next_back, after_accept, after_end, after_return, accept_words, finish_in, finish_is, return_in, return_is, return_next, looping, loop_is}
+use Rattle.safl_machine.proofs.fire.loop_into.Goals as goal
+
+pub unit-unit-requires : goal.unit-unit-requires
+unit-unit-requires c = (looping c.requires.kept.1 c.args.h c.requires.can.0 c.requires.can.1).within
+
+pub refresh-requires-clause-member : goal.refresh-requires-clause-member
+refresh-requires-clause-member c =
+    let C = program_of c.args.c.now in
+    let s = state_of c.args.modes.now c.args.stages.now in
+    let h = c.requires.kept.1 in
+    let can = c.requires.can in
+    let is = c.end.ensures ∙ loop_is h c.args.h can.0 can.1 c.unit-unit.result c.served-serves.result _ c.unit-unit.ensures c.served-serves.ensures c.in-Some.ensures in
+    next_member h (LoopInto c.args.h) can c.end.new.modes c.end.new.stages is c.unit-unit.result
+
+pub refresh-requires-clause-back : goal.refresh-requires-clause-back
+refresh-requires-clause-back c =
+    let C = program_of c.args.c.now in
+    let s = state_of c.args.modes.now c.args.stages.now in
+    let h = c.requires.kept.1 in
+    let can = c.requires.can in
+    let is = c.end.ensures ∙ loop_is h c.args.h can.0 can.1 c.unit-unit.result c.served-serves.result _ c.unit-unit.ensures c.served-serves.ensures c.in-Some.ensures in
+    next_back h (LoopInto c.args.h) can c.end.new.modes c.end.new.stages is
+
+pub returns-clause-known : goal.returns-clause-known
+returns-clause-known c =
+    let C = program_of c.args.c.now in
+    let s = state_of c.args.modes.now c.args.stages.now in
+    let h = c.requires.kept.1 in
+    λ v. c.refresh.ensures v (λ ne. subst (λ t. IsKnown C t c.args.answers.now c.args.wants.now v) (sym c.end.ensures)
+    (after_end C c.args.opening.now (good h) s (inv h) c.args.answers.now c.args.wants.now h.known c.unit-unit.result _ v ne))
