@@ -6,3 +6,4 @@ pub mod Declaring
 pub mod Cells
 pub mod Pinning
 pub mod Ordering
+pub mod Joining

@@ -2,6 +2,8 @@
 #![tactic(auto)]
 
 mod declare;
+mod gates;
+mod loads;
 mod names;
 mod gates;
 pub mod parts;
