@@ -1,6 +1,7 @@
 -- What a machine keeps, from one event to the next.
-use Rattle.std.proofs.Common.{◌≡◌, ◌≢◌, ℕ, zero, suc, ◌+◌, ◌<◌, ◌≤◌, List, [], ◌∷◌, ◌++◌, length, cond, eqb, Option, Some, None, Bool, true, false, get_or, refl, sym, ap, ◌∙◌, subst, ⊎_elim, arith}
+use Rattle.std.proofs.Common.{◌≡◌, ◌≢◌, ℕ, zero, suc, ◌+◌, ◌<◌, ◌≤◌, List, [], ◌∷◌, ◌++◌, length, cond, eqb, take, drop, Option, Some, None, Bool, true, false, get_or, refl, sym, ap, ◌∙◌, subst, ⊎_elim, arith}
 use Rattle.std.proofs.lemmas.Bool.{cases_eq, eq-eqb, ne_eqb}
+use Rattle.std.proofs.lemmas.List.{take_at}
 use Rattle.safl_word.specs.Words.{Word}
 use Rattle.safl_check.specs.Checked.{CheckedProgram, IsChecked, program_of}
 use Rattle.safl_check.specs.Program.{Program, unit_for}
@@ -21,7 +22,7 @@ use Rattle.safl_machine.specs.declared.stage.Stage as stages_declared
 use Rattle.safl_machine.specs.Evaluating.{widths}
 use Rattle.safl_machine.specs.Knowing.{IsKnown, BackFits, RunsMember, HasRoom}
 use Rattle.safl_machine.specs.Modes.{unit_at, state_of, answer_of}
-use Rattle.safl_machine.specs.Shown.{Shown, state, IsReached, CanFire, IsKept, serves_of, word_given, args_given}
+use Rattle.safl_machine.specs.Shown.{Shown, shown_of, state, IsReached, CanFire, IsKept, serves_of, word_given, args_given}
 use Rattle.safl_machine.specs.Stages.{back_at}
 use Rattle.safl_machine.proofs.StateLemmas.{core_state}
 use Rattle.safl_machine.proofs.FitsLemmas.{Fits, fits_after, fits_fire}
@@ -222,3 +223,35 @@ module _ {m : Shown} {answers : List Answer} {wants : List (Option (List Word))}
       ∙ (ap (λ i. core_state (put s.unit (C.unit n) (Runs n i words)) (ended C (C.unit n) s.site)) same_site
       ∙ (ap (λ w. core_state (put s.unit (C.unit n) (Runs n l.site w)) (ended C (C.unit n) s.site)) same_words
       ∙ sym (ap (λ x. loop_into C s (C.unit n) x (says C s (C.unit n))) l.runs ∙ ap (λ a. loop_into C s (C.unit n) (Runs l.member l.site l.args) a) is)))
+
+-- ---- after an event
+
+pub kept_as : (c : CheckedProgram) (args : List Word) {us vs : List modes_declared.Mode} {ss ts : List stages_declared.Stage} (n : ℕ) {ys zs : List Answer} {ws xs : List (Option (List Word))} {r q : ℕ}
+    → us ≡ vs → ss ≡ ts → ys ≡ zs → ws ≡ xs → r ≡ q → IsKept (shown_of c args us ss n) ys ws r → IsKept (shown_of c args vs ts n) zs xs q
+kept_as c args {us} {vs} {ss} {ts} n {ys} {zs} {ws} {xs} {r} {q} e1 e2 e3 e4 e5 h =
+    subst (λ z. IsKept (shown_of c args z ts n) zs xs q) e1
+    (subst (λ z. IsKept (shown_of c args us z n) zs xs q) e2
+    (subst (λ z. IsKept (shown_of c args us ss n) z xs q) e3
+    (subst (λ z. IsKept (shown_of c args us ss n) ys z q) e4
+    (subst (λ z. IsKept (shown_of c args us ss n) ys ws z) e5 h))))
+
+pub kept_next : {m : Shown} {answers : List Answer} {wants : List (Option (List Word))} {room : ℕ} (h : IsKept m answers wants room) (e : Event) (can : CanFire m e)
+    (modes : List modes_declared.Mode) (stages : List stages_declared.Stage) (later : List Answer) (asks : List (Option (List Word)))
+    → state_of modes stages ≡ fire (program_of m.program) m.args (state m) e → ((u : ℕ) → IsKnown (program_of m.program) (state_of modes stages) later asks u)
+    → length modes ≡ length m.units → length stages ≡ length m.sites → length later ≡ length answers → length asks ≡ length wants
+    → IsKept (shown_of m.program m.args modes stages (m.events + 1)) later asks room
+kept_next {m} {answers} {wants} {room} h e can modes stages later asks is known l1 l2 l3 l4 = record {
+  checked = h.checked;
+  units = l1 ∙ h.units;
+  sites = l2 ∙ h.sites;
+  answers_all = l3 ∙ h.answers_all;
+  wants_all = l4 ∙ h.wants_all;
+  given = h.given;
+  room_all = h.room_all;
+  reached = next_reached h e can modes stages is (shown_of m.program m.args modes stages (m.events + 1)) refl refl refl refl;
+  known = known;
+}
+
+-- a whole list that was written over another one
+pub written : {X : Type 0} (xs old : List X) (n : ℕ) → length xs ≡ n → xs ≡ take n (xs ++ drop (length xs) old)
+written xs old n e = sym (take_at xs (drop (length xs) old) n e)

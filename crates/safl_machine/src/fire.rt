@@ -17,7 +17,32 @@ use crate::step;
 use safl_check::Checked;
 use safl_word::Word;
 
-/// A site's call is accepted.
+/// Fires an event that is enabled: the modes and stages are those of the next state, and what is kept of partial
+/// evaluation is that of this state.
+pub fn fire(
+    c: &Checked,
+    opening: &Args,
+    modes: &mut [Mode],
+    stages: &mut [Stage],
+    answers: &mut [Answer],
+    wants: &mut [Option<Args>],
+    env: &mut [Word],
+    e: Event,
+)
+    requires kept { (n : ℕ) × IsKept (shown_of c.now opening.now modes.old stages.old n) answers.old wants.old (length env.old) }
+    requires can { core.Enabled (program_of c.now) opening.now (state_of modes.old stages.old) (event_of e) }
+    ensures next { state_of modes.new stages.new ≡ core.fire (program_of c.now) opening.now (state_of modes.old stages.old) (event_of e) }
+    ensures known { (u : ℕ) → IsKnown (program_of c.now) (state_of modes.new stages.new) answers.new wants.new u }
+{
+    match e {
+        Event::Accept(k) => accept(c, opening, modes, stages, answers, wants, env, k),
+        Event::Finish(f) => finish(c, opening, modes, stages, answers, wants, env, f),
+        Event::Return(k) => give_back(c, opening, modes, stages, answers, wants, env, k),
+        Event::Loop(h) => loop_into(c, opening, modes, stages, answers, wants, env, h),
+    }
+}
+
+// A site's call is accepted.
 fn accept(
     c: &Checked,
     opening: &Args,
@@ -43,7 +68,7 @@ fn accept(
     refresh(c, modes, stages, answers, wants, env, unit);
 }
 
-/// A function finishes.
+// A function finishes.
 fn finish(
     c: &Checked,
     opening: &Args,
@@ -69,7 +94,7 @@ fn finish(
     refresh(c, modes, stages, answers, wants, env, unit);
 }
 
-/// A site gets its word.
+// A site gets its word.
 fn give_back(
     c: &Checked,
     opening: &Args,
@@ -95,7 +120,7 @@ fn give_back(
     refresh(c, modes, stages, answers, wants, env, waiting);
 }
 
-/// A unit loops to a member.
+// A unit loops to a member.
 fn loop_into(
     c: &Checked,
     opening: &Args,

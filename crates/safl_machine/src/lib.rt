@@ -5,6 +5,7 @@ pub mod args;
 pub mod evaluate;
 pub mod event;
 pub mod fire;
+pub mod machine;
 pub mod mode;
 pub mod refresh;
 pub mod stage;

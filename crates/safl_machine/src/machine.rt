@@ -1,0 +1,83 @@
+//! The call machine.
+
+use crate::args::Args;
+use crate::event::Event;
+use crate::fire;
+use crate::mode::{Answer, Mode};
+use crate::stage::Stage;
+use safl_check::Checked;
+use safl_word::Word;
+use std::marker::Model;
+
+/// Units that serve the calls of a program, one event at a time. Once made it takes no memory.
+#[derive(Drop)]
+pub struct Machine<'a> {
+    checked: &'a Checked,
+    opening: Args,
+    modes: Vec<Mode>,
+    stages: Vec<Stage>,
+    answers: Vec<Answer>,
+    wants: Vec<Option<Args>>,
+    env: Vec<Word>,
+    events: u64,
+}
+
+impl<'a> Model for Machine<'a> {
+    ghost use Rattle.std.specs.Prelude.{length};
+    ghost use Rattle.std.specs.Coded.{codes};
+    ghost use Rattle.safl_check.specs.contracts.checked.Checked as inner;
+    ghost use Rattle.safl_machine.specs.Shown.{Shown, IsKept, shown_of};
+
+    ghost Value = { Shown };
+
+    ghost coded = { Prim.hlevel (codes, inner.the_row.coded) };
+
+    ghost view = { λ m. shown_of m.checked.now m.opening m.modes.items m.stages.items m.events };
+
+    ghost invariant = { λ m. IsKept (shown_of m.checked.now m.opening m.modes.items m.stages.items m.events) m.answers.items m.wants.items (length m.env.items) };
+}
+
+impl<'a> Machine<'a> {
+    ghost use Rattle.std.specs.Prelude.{◌≡◌, ◌+◌, ◌-◌, ◌^◌, ◌<◌, IfSome};
+    ghost use Rattle.safl_core.specs.Machine as core;
+    ghost use Rattle.safl_check.specs.Readiness.{back_word};
+    ghost use Rattle.safl_machine.specs.Shown.{state, event_of, IsReached, CanFire, Fires};
+
+    /// The number of events that were fired.
+    pub fn events(&self) -> u64
+        ensures count { result ≡ self.now.events }
+        ensures reached { IsReached self.now }
+    {
+        self.events
+    }
+
+    /// What main has returned.
+    pub fn result(&self) -> Option<Word>
+        ensures value { result ≡ back_word ((state self.now).site 0) }
+    {
+        match self.stages[0] {
+            Stage::Unsent => None,
+            Stage::Sent => None,
+            Stage::Returned(word) => Some(word),
+        }
+    }
+
+    /// Fires an event that is enabled.
+    pub fn fire(&mut self, e: Event)
+        requires can { CanFire self.old (event_of e) }
+        requires few { self.old.events < 2 ^ 64 - 1 }
+        ensures { Fires self.old (event_of e) self.new }
+    {
+        fire::fire(
+            self.checked,
+            &self.opening,
+            &mut self.modes,
+            &mut self.stages,
+            &mut self.answers,
+            &mut self.wants,
+            &mut self.env,
+            e,
+        );
+        self.events += 1;
+    }
+}
