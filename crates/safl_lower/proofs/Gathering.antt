@@ -1,5 +1,5 @@
 -- Tail calls merged one after another, from the last.
-use Rattle.std.proofs.Common.{Vec, Global, T, ◌⊎◌, inl, inr, ◌≡◌, ℕ, zero, suc, ◌+◌, ◌-◌, ◌<◌, ◌≤◌, List, [], ◌∷◌, ◌++◌, map, length, Option, Some, Bool, true, false, ◌&&◌, ◌==◌, slice_get, refl, sym, ap, subst, ◌∙◌, arith}
+use Rattle.std.proofs.Common.{Vec, Global, T, ◌⊎◌, inl, inr, ◌≡◌, ℕ, zero, suc, ◌+◌, ◌-◌, ◌<◌, ◌≤◌, List, [], ◌∷◌, ◌++◌, map, length, Option, Some, Bool, true, false, ◌&&◌, ◌==◌, cond, slice_get, slice_set, refl, sym, ap, subst, ◌∙◌, arith}
 use Rattle.std.proofs.Math.Facts.{eqb_yes}
 use Rattle.safl_word.specs.Words.{Word}
 use Rattle.safl_check.specs.Readiness.{or_else}
@@ -13,10 +13,11 @@ use Rattle.safl_lower.specs.declared.parts.Rows.{Rows}
 use Rattle.safl_lower.specs.Bits.{on}
 use Rattle.safl_lower.specs.Typing.{Owner}
 use Rattle.safl_lower.specs.Entries.{gate, member_of, Between, LoopFits, LoopsFit, cost}
-use Rattle.safl_lower.specs.Rows.{Listed, given, taken_to, RowFits, Untaken, Row, RowAt, Adds, RowsFit, Merged}
+use Rattle.safl_lower.specs.Rows.{Listed, tail_cost, given, taken_to, RowFits, Untaken, Row, RowAt, Adds, RowsFit, Merged}
 use Rattle.safl_lower.specs.Steady.{LoopsSteady, RowsSteady}
 use Rattle.safl_lower.proofs.Steadying.{loops_steady_front, loops_grown}
 use Rattle.safl_lower.proofs.Arms.{or_none, or_assoc}
+use Rattle.safl_lower.proofs.Kept.{same}
 use Rattle.safl_lower.proofs.Gathered.{map_end, loops_kept, cost_end}
 use Rattle.safl_lower.proofs.Laid.{AllZero, AllEmpty, rows_start, given_zero, between_front, set_here, set_other, set_length, no_equal, some_sig, some_row}
 
@@ -33,6 +34,27 @@ empty_only (x ∷ xs) (suc k) a h e = empty_only xs k a h.1 e
 taken_end : (v : Val) (es : List TailCall) (e : TailCall) (h : ℕ) → taken_to v (es ++ e ∷ []) h ≡ or_else (taken_to v es h) (gate ((e.member == h) && on v e.taken) (Some (words v e.args.items)))
 taken_end v [] e h = or_none (gate ((e.member == h) && on v e.taken) (Some (words v e.args.items)))
 taken_end v (d ∷ es) e h = ap (or_else (gate ((d.member == h) && on v d.taken) (Some (words v d.args.items)))) (taken_end v es e h) ∙ sym (or_assoc (gate ((d.member == h) && on v d.taken) (Some (words v d.args.items))) (taken_to v es h) (gate ((e.member == h) && on v e.taken) (Some (words v e.args.items))))
+
+zeros_cost : (z : Sig) (ls : List Sig) (rows : List (Vec Sig Global)) → AllZero z ls → tail_cost z ls rows ≡ 0
+zeros_cost z [] rows h = refl
+zeros_cost z (l ∷ ls) [] h = refl
+zeros_cost z (l ∷ ls) (a ∷ rows) h =
+    let s = ap (λ (y : Sig). y.0 == z.0) h.0 ∙ same z.0 in
+    let none = ap (λ (b : Bool). cond b 0 (1 + length a.items)) s in
+    let rest = zeros_cost z ls rows h.1 in
+    omega (arith, none, rest)
+
+at_most : (b : Bool) (k : ℕ) → cond b 0 k ≤ k
+at_most true k = omega arith
+at_most false k = omega arith
+
+-- another row costs its signals at most
+set_cost : (z : Sig) (ls : List Sig) (rows : List (Vec Sig Global)) (i : ℕ) (l : Sig) (a : Vec Sig Global) → tail_cost z (slice_set ls i l) (slice_set rows i a) ≤ tail_cost z ls rows + (1 + length a.items)
+set_cost z [] rows i l a = omega arith
+set_cost z (x ∷ ls) [] zero l a = omega arith
+set_cost z (x ∷ ls) [] (suc i) l a = omega arith
+set_cost z (x ∷ ls) (y ∷ rows) zero l a = let h = at_most (l.0 == z.0) (1 + length a.items) in omega (arith, h)
+set_cost z (x ∷ ls) (y ∷ rows) (suc i) l a = let h = set_cost z ls rows i l a in omega (arith, h)
 
 listed_more : (k : ℕ) (js : List ℕ) (j : ℕ) → Listed k js → Listed k (js ++ j ∷ [])
 listed_more k [] j h = absurd h
@@ -57,12 +79,14 @@ pub record Merging (z : Sig) (first count : ℕ) (old new : Netlist) (all rest :
   pub left : (F : Owner) → LoopsFit F old all → LoopsFit F new rest
   pub fits : (F : Owner) → LoopsFit F old all → RowsFit F new z first bits args
   pub told : (v : Val) → Wired new v → on v z ≡ false → (i : ℕ) → or_else (taken_to v rest (first + i)) (given v (slice_get bits i) (slice_get args i)) ≡ taken_to v all (first + i)
+  pub paid : tail_cost z bits args + cost rest ≤ cost all
   pub part : (k : ℕ) → Listed k (map member_of rest) → Listed k (map member_of all)
   pub idle : (i : ℕ) (l : Sig) (a : Vec Sig Global) → slice_get bits i ≡ Some l → slice_get args i ≡ Some a → ¬ Listed (first + i) (map member_of all) → Untaken z l a.items
   pub settled : SettledOn old (z ∷ []) → LoopsSteady old all → IsSettled new × RowsSteady new bits args × LoopsSteady new rest
 
 pub merging_start : (z : Sig) (first count : ℕ) (n : Netlist) (all : List TailCall) (bits : List Sig) (args : List (Vec Sig Global)) → AllZero z bits → AllEmpty args → length bits ≡ count → length args ≡ count → Between first (first + count) (map member_of all) → Merging z first count n n all all bits args
 merging_start z first count n all bits args h a e f b = record {
+  paid = let k = zeros_cost z bits args h in omega (arith, k);
   part = λ k x. x;
   idle = λ i l r p q no. (zero_only z bits i l h p, empty_only args i r a q);
   settled = λ s l. (s.net, rows_start n z bits args h a s.signals.0, l);
@@ -183,6 +207,13 @@ module _ {z : Sig} {first count : ℕ} {old cur : Netlist} {all all_rest : List 
           bits_length = ap length d.bits_is ∙ set_length bits (e.member - first) d.bit ∙ ll;
           args_length = ap length d.args_is ∙ set_length args (e.member - first) d.row ∙ al;
           within = (between_front first (first + count) (map member_of rest) e.member (subst (Between first (first + count)) split h.within)).0;
+          paid =
+              let k = h.paid in
+              let m = ap cost q ∙ cost_end rest e in
+              let b = ap (λ (l : List Sig). tail_cost z l args') d.bits_is ∙ ap (tail_cost z (slice_set bits (e.member - first) d.bit)) d.args_is in
+              let t = set_cost z bits args (e.member - first) d.bit d.row in
+              let r = d.long in
+              omega (arith, k, m, b, t, r);
           part = λ k x. h.part k (subst (Listed k) (sym split) (listed_more k (map member_of rest) e.member x));
           idle = λ i l a p r no.
               let here = h.part e.member (subst (Listed e.member) (sym split) (listed_last (map member_of rest) e.member)) in
@@ -208,6 +239,7 @@ module _ {z : Sig} {first count : ℕ} {old cur : Netlist} {all all_rest : List 
 
 pub merging_end : {z : Sig} {first count : ℕ} {old cur : Netlist} {all rest : List TailCall} (m : Rows) → rest ≡ [] → Merging z first count old cur all rest m.bits.items m.args.items → Merged z first count old cur all m
 merging_end {first = first} m q h = record {
+  paid = let k = h.paid in omega (arith, k);
   idle = h.idle;
   settled = λ s l. let k = h.settled s l in (k.0, k.1);
   bits_length = h.bits_length;

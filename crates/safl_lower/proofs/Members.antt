@@ -125,6 +125,7 @@ pub first_added : (n : Netlist) (z l : Sig) (place : ℕ) (bits : List Sig) (arg
     → Adds n n z place bits (slice_set bits place e.taken) args (slice_set args place e.args) e
 first_added n z l place bits args e at q = record {
   settled = λ s r. (s.net, rows_set n bits args place e.taken e.args r s.signals.0 s.signals.1);
+  long = refl;
   bit = e.taken;
   row = e.args;
   bits_is = refl;
@@ -137,9 +138,10 @@ first_added n z l place bits args e at q = record {
 pub next_added : (n m k : Netlist) (z l both : Sig) (place : ℕ) (a row : Vec Sig Global) (bits : List Sig) (args : List (Vec Sig Global)) (e : TailCall) → slice_get bits place ≡ Some l → slice_get args place ≡ Some a → nat_eq l.0 z.0 ≡ false
     → Grows n m → Grows m k → width_at m both.0 ≡ Some 1 → ((v : Val) → Wired m v → v both.0 ≡ cond (on v e.taken) (v e.taken.0) (v l.0))
     → ((ws : List ℕ) → Sized n e.args.items ws → Sized n a.items ws → Sized k row.items ws) → ((v : Val) → Wired k v → words v row.items ≡ cond (on v e.taken) (words v e.args.items) (words v a.items))
-    → (SettledOn n (e.taken ∷ e.taken ∷ l ∷ []) → SettledOn m (both ∷ [])) → (SettledOn m (e.taken ∷ e.args.items) → AreSteady m a.items → SettledOn k row.items)
+    → (SettledOn n (e.taken ∷ e.taken ∷ l ∷ []) → SettledOn m (both ∷ [])) → (SettledOn m (e.taken ∷ e.args.items) → AreSteady m a.items → SettledOn k row.items) → length row.items ≡ length e.args.items
     → Adds n k z place bits (slice_set bits place both) args (slice_set args place row) e
-next_added n m k z l both place a row bits args e at rt q g h b val siz told muxed filled = record {
+next_added n m k z l both place a row bits args e at rt q g h b val siz told muxed filled long = record {
+  long = long;
   settled = λ s r.
       let x = muxed (record { net = s.net; signals = (s.signals.0, (s.signals.0, (steady_at n bits place l r.bits at, tt))) }) in
       let y = filled (record { net = x.net; signals = are_steady_grown g (e.taken ∷ e.args.items) s.signals }) (are_steady_grown g a.items (args_at n args place a r.args rt)) in

@@ -1,5 +1,5 @@
 -- The circuit of a body from that of its term.
-use Rattle.std.proofs.Common.{◌⊎◌, inl, inr, ◌≡◌, ℕ, zero, suc, ◌+◌, ◌<◌, ◌≤◌, List, [], ◌∷◌, ◌++◌, map, length, Option, Some, Bool, true, false, ◌&&◌, slice_get, refl, sym, ap, subst, ◌∙◌, arith}
+use Rattle.std.proofs.Common.{◌≡◌, ℕ, zero, suc, ◌+◌, ◌<◌, ◌≤◌, List, [], ◌∷◌, ◌++◌, map, length, Option, Some, Bool, true, false, ◌&&◌, slice_get, refl, sym, ap, subst, ◌∙◌, arith}
 use Rattle.safl_word.specs.Words.{Word}
 use Rattle.safl_check.specs.Terms.{Term}
 use Rattle.safl_check.specs.Readiness.{answer, wanted, or_else}
@@ -19,8 +19,8 @@ use Rattle.safl_lower.specs.Bits.{on, is_ready, BitAt, ReadyAt, IsConstant}
 use Rattle.safl_lower.specs.Typing.{Owner, nodes, sites_of, tails_of}
 use Rattle.safl_lower.specs.Entries.{gate, asked, went, Told, site_of, member_of, Between, OutFits, WantsFit, LoopsFit, cost}
 use Rattle.safl_lower.specs.Lowering.{back_of, open_at, goes_of, Lowerable, Lowers}
-use Rattle.safl_lower.specs.Rows.{Apart, Listed, to_member, RowFits, Untaken, Spreads, Merged}
-use Rattle.safl_lower.specs.Bodies.{IsBody, CanLower, NeverTaken, Bodies}
+use Rattle.safl_lower.specs.Rows.{Apart, Listed, to_member, Spreads, Merged}
+use Rattle.safl_lower.specs.Bodies.{IsBody, CanLower, Bodies}
 use Rattle.safl_lower.specs.Steady.{listed, WantsSteady, LoopsSteady}
 use Rattle.safl_lower.proofs.Steadying.{wants_grown, loops_grown}
 use Rattle.safl_lower.proofs.Arms.{gate_gate}
@@ -81,10 +81,6 @@ all_listed F P env w t es e first last b i l =
     let high : b.typed.high ≡ P.first_site + length P.sites.items = b.upto ∙ sym last in
     subst (Listed (P.first_site + i)) (sym e) ((places F.program F.function true b.typed.low b.typed.high t b.typed.spans).listed (P.first_site + i) (omega (arith, low)) (omega (arith, high, l)))
 
-never_or : (n m : Netlist) (z l : Sig) (a : List Sig) (ws : List ℕ) → BitAt m z → ((v : Val) → Wired m v → on v z ≡ false) → Untaken z l a ⊎ RowFits m l a ws → NeverTaken m l a ⊎ RowFits m l a ws
-never_or n m z l a ws b off (inl u) = inl (record { bit = subst (BitAt m) (sym u.0) b; off = λ v w. ap (on v) u.0 ∙ off v w; none = u.1 })
-never_or n m z l a ws b off (inr f) = inr f
-
 pub bodies : {P : Ports} {args : List Sig} {run : Sig} {n0 n1 n2 n3 n4 : Netlist} {o p : Out} {r : Lowered} {t : Term} (ends off : Sig) (s m : Rows)
     → o.wants.items ≡ [] → o.loops.items ≡ [] → CanLower n0 P args run t
     → Lowers P args run n0 n1 o p r t
@@ -92,9 +88,11 @@ pub bodies : {P : Ports} {args : List Sig} {run : Sig} {n0 n1 n2 n3 n4 : Netlist
     → Grows n2 n3 → length n3.signals ≤ length n2.signals + 1 → BitAt n3 off → ((v : Val) → Wired n3 v → on v off ≡ false) → (IsSettled n2 → SettledOn n3 (off ∷ [])) → IsConstant n3 off (record { width = 1; bits = 0 })
     → Spreads off P.first_site (length P.sites.items) p.wants.items s
     → Grows n3 n4 → length n4.signals ≤ length n3.signals + cost p.loops.items → Merged off P.first_member P.members n3 n4 p.loops.items m
-    → Bodies P args run n0 n4 (record { ends = ends; value = r.value; wants = s.bits; site_args = s.args; loops = m.bits; loop_args = m.args }) t
+    → Bodies P args run n0 n4 (record { ends = ends; value = r.value; wants = s.bits; site_args = s.args; loops = m.bits; loop_args = m.args; zero = off }) t
 bodies {P} {args} {run} {n0} {n1} {n2} {n3} {n4} {o} {p} {r} {t} ends off s m ew el c h g2 c2 b2 is s2 g3 c3 bz z s3 k3 sp g4 c4 me = record {
-  zero = off;
+  zero_bit = width_kept g4 off.0 1 bz;
+  zero_off = λ v w4. z v (wired_before g4 w4);
+  tails = λ F env w b. let i = h.cheap F true env w b.typed in let j = ap cost el in let k = me.paid in omega (arith, i, j, k);
   constant = constant_kept g4 off (record { width = 1; bits = 0 }) k3;
   idle = λ F env w b i l a x y no.
       let to = h.tails F true env w b.typed ∙ ap (λ (q : List TailCall). map member_of q ++ tails_of t) el in
@@ -126,8 +124,7 @@ bodies {P} {args} {run} {n0} {n1} {n2} {n3} {n4} {o} {p} {r} {t} ends off s m ew
             let n = in_range s.bits.items i l x in
             let k = sp.bits_length in
             sp.fits F n4 (wants_kept F p.wants.items g out.wants) i l a (all_listed F P env w t p.wants.items (sites_first ew h) st.first st.last b i (omega (arith, n, k))) x y;
-        loops = λ i l a x y.
-            never_or n0 n4 off l a.items (F.program.params (P.first_member + i)) (width_kept g4 off.0 1 bz) (λ v w4. z v (wired_before g4 w4)) (me.fits F (loops_kept F p.loops.items (grows_on g2 g3) out.loops) i l a x y);
+        loops = λ i l a x y. me.fits F (loops_kept F p.loops.items (grows_on g2 g3) out.loops) i l a x y;
       };
   ends = λ v w4.
       let w2 = wired_before g3 (wired_before g4 w4) in

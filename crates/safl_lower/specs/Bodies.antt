@@ -14,7 +14,7 @@ use Rattle.safl_lower.specs.Typing.{Owner, Typed, nodes, tails_of}
 use Rattle.safl_lower.specs.Steady.{SitesSteady, RowsSteady}
 use Rattle.safl_lower.specs.Entries.{gate}
 use Rattle.safl_lower.specs.Lowering.{back_of, sent_of, goes_of, Setting}
-use Rattle.safl_lower.specs.Rows.{given, to_member, RowFits, Listed, Untaken}
+use Rattle.safl_lower.specs.Rows.{given, to_member, RowFits, Listed, Untaken, tail_cost}
 
 -- the term is the whole body of its owner, at the tail position, with the sites of the owner's interval
 pub record IsBody (F : Owner) (env : List ℕ) (t : Term) (w : ℕ) : Type 0 where
@@ -31,20 +31,14 @@ pub record CanLower (n : Netlist) (P : Ports) (args : List Sig) (run : Sig) (t :
   pub body : IsBody owner env t width
   pub room : length n.signals + 32 * nodes t + 32 < 4294967295
 
--- no tail call goes to a member: its bit is 0, and it has no arguments
-pub record NeverTaken (n : Netlist) (l : Sig) (a : List Sig) : Type 0 where
-  pub bit : BitAt n l
-  pub off : (v : Val) → Wired n v → on v l ≡ false
-  pub none : a ≡ []
-
 -- what the ports and the widths of a body give
 pub record BodyFits (P : Ports) (old new : Netlist) (b : Body) (F : Owner) (w : ℕ) : Type 0 where
   pub ends : BitAt new b.ends
   pub value : width_at new b.value.0 ≡ Some w
   -- each own site has a bit, and arguments of its callee's widths
   pub wants : (i : ℕ) (l : Sig) (a : Vec Sig Global) → slice_get b.wants.items i ≡ Some l → slice_get b.site_args.items i ≡ Some a → RowFits new l a.items (F.program.params (F.program.callee (P.first_site + i)))
-  -- each member has a bit, and arguments of its widths or no tail call
-  pub loops : (i : ℕ) (l : Sig) (a : Vec Sig Global) → slice_get b.loops.items i ≡ Some l → slice_get b.loop_args.items i ≡ Some a → NeverTaken new l a.items ⊎ RowFits new l a.items (F.program.params (P.first_member + i))
+  -- each member has a bit, and arguments of its widths, or else zero and no arguments
+  pub loops : (i : ℕ) (l : Sig) (a : Vec Sig Global) → slice_get b.loops.items i ≡ Some l → slice_get b.loop_args.items i ≡ Some a → Untaken b.zero l a.items ⊎ RowFits new l a.items (F.program.params (P.first_member + i))
 
 -- the net is settled, and all that the body gives is steady
 pub record BodySteady (n : Netlist) (b : Body) : Type 0 where
@@ -61,10 +55,13 @@ pub record Bodies (P : Ports) (args : List Sig) (run : Sig) (old new : Netlist) 
   pub loops_length : length b.loops.items ≡ P.members
   pub loop_args_length : length b.loop_args.items ≡ P.members
   pub fits : (F : Owner) (env : List ℕ) (w : ℕ) → Setting old F P args env run → IsBody F env t w → BodyFits P old new b F w
-  -- the members to which no tail call of the body goes share one constant 0, and have no arguments
-  pub zero : Sig
-  pub constant : IsConstant new zero (record { width = 1; bits = 0 })
-  pub idle : (F : Owner) (env : List ℕ) (w : ℕ) → IsBody F env t w → (i : ℕ) (l : Sig) (a : Vec Sig Global) → slice_get b.loops.items i ≡ Some l → slice_get b.loop_args.items i ≡ Some a → ¬ Listed (P.first_member + i) (tails_of t) → Untaken zero l a.items
+  -- zero is a constant, and the members to which no tail call of the body goes have it, and no arguments
+  pub constant : IsConstant new b.zero (record { width = 1; bits = 0 })
+  pub zero_bit : BitAt new b.zero
+  pub zero_off : (v : Val) → Wired new v → on v b.zero ≡ false
+  pub idle : (F : Owner) (env : List ℕ) (w : ℕ) → IsBody F env t w → (i : ℕ) (l : Sig) (a : Vec Sig Global) → slice_get b.loops.items i ≡ Some l → slice_get b.loop_args.items i ≡ Some a → ¬ Listed (P.first_member + i) (tails_of t) → Untaken b.zero l a.items
+  -- the other members have no more bits and arguments than the body has terms
+  pub tails : (F : Owner) (env : List ℕ) (w : ℕ) → IsBody F env t w → tail_cost b.zero b.loops.items b.loop_args.items ≤ nodes t
   -- where the net was settled, and its run, arguments and ports steady
   pub settled : SitesSteady old P → SettledOn old (run ∷ args) → BodySteady new b
   -- `ends` is 1 where the body runs and is ready, and `value` is its word then

@@ -1,5 +1,5 @@
 -- The calls of a body by own site, and its tail calls by member.
-use Rattle.std.specs.Prelude.{Vec, ◌≡◌, ℕ, ◌+◌, List, [], ◌∷◌, map, length, Option, Some, None, false, ◌&&◌, ◌⊎◌, cond, ◌==◌, slice_get, slice_set}
+use Rattle.std.specs.Prelude.{Vec, ◌≡◌, ℕ, ◌+◌, ◌≤◌, List, [], ◌∷◌, map, length, Option, Some, None, false, ◌&&◌, ◌⊎◌, cond, ◌==◌, slice_get, slice_set}
 use Rattle.std.specs.Global.{Global}
 use Rattle.safl_word.specs.Words.{Word}
 use Rattle.safl_check.specs.Readiness.{or_else}
@@ -13,7 +13,7 @@ use Rattle.safl_lower.specs.declared.parts.Rows.{Rows}
 use Rattle.safl_lower.specs.Bits.{on, BitAt}
 use Rattle.safl_lower.specs.Typing.{Owner}
 use Rattle.safl_lower.specs.Steady.{WantsSteady, LoopsSteady, RowsSteady}
-use Rattle.safl_lower.specs.Entries.{gate, asked, site_of, member_of, WantsFit, LoopsFit}
+use Rattle.safl_lower.specs.Entries.{gate, asked, site_of, member_of, WantsFit, LoopsFit, cost}
 
 abbrev pub Differs : ℕ → List ℕ → Type 0
 Differs k [] = Unit {0}
@@ -70,10 +70,17 @@ RowAt n z None a own = ⊥
 RowAt n z (Some l) None own = ⊥
 RowAt n z (Some l) (Some a) own = Row n z l a.items own
 
+-- the signals of the rows that aren't zero: a bit, and the arguments
+abbrev pub tail_cost : Sig → List Sig → List (Vec Sig Global) → ℕ
+tail_cost z [] rows = 0
+tail_cost z (l ∷ ls) [] = 0
+tail_cost z (l ∷ ls) (a ∷ rows) = cond (l.0 == z.0) 0 (1 + length a.items) + tail_cost z ls rows
+
 -- the member's row, at this place, after one more tail call, which goes before the others
 pub record Adds (old new : Netlist) (z : Sig) (place : ℕ) (bits bits' : List Sig) (args args' : List (Vec Sig Global)) (e : TailCall) : Type 0 where
   pub bit : Sig
   pub row : Vec Sig Global
+  pub long : length row.items ≡ length e.args.items
   pub bits_is : bits' ≡ slice_set bits place bit
   pub args_is : args' ≡ slice_set args place row
   pub fits : (ws : List ℕ) → RowFits old e.taken e.args.items ws → (slice_get bits place ≡ Some z) ⊎ ((a : Vec Sig Global) × (slice_get args place ≡ Some a) × Sized old a.items ws) → RowFits new bit row.items ws
@@ -89,6 +96,7 @@ pub record Merged (z : Sig) (first count : ℕ) (old new : Netlist) (all : List 
   pub bits_length : length m.bits.items ≡ count
   pub args_length : length m.args.items ≡ count
   pub fits : (F : Owner) → LoopsFit F old all → RowsFit F new z first m.bits.items m.args.items
+  pub paid : tail_cost z m.bits.items m.args.items ≤ cost all
   pub idle : (i : ℕ) (l : Sig) (a : Vec Sig Global) → slice_get m.bits.items i ≡ Some l → slice_get m.args.items i ≡ Some a → ¬ Listed (first + i) (map member_of all) → Untaken z l a.items
   pub told : (v : Val) → Wired new v → on v z ≡ false → (i : ℕ) → given v (slice_get m.bits.items i) (slice_get m.args.items i) ≡ taken_to v all (first + i)
   pub settled : SettledOn old (z ∷ []) → LoopsSteady old all → IsSettled new × RowsSteady new m.bits.items m.args.items

@@ -52,5 +52,6 @@ pub fn lower(
         site_args: sites.args,
         loops: tails.bits,
         loop_args: tails.args,
+        zero,
     })
 }

@@ -27,7 +27,7 @@ pub struct Ports {
 /// `ends` is the bit that the body runs and is ready, and `value` its word then. By own site, `wants` has the
 /// bit that the site is wanted, and `site_args` the arguments then. By member of the group, `loops` has the bit
 /// that the body goes on to it, and `loop_args` the arguments then; a member to which the body has no tail
-/// call has a constant 0 there, and no arguments.
+/// call has `zero` there, the constant 0, and no arguments.
 #[derive(Drop)]
 pub struct Body {
     pub ends: Sig,
@@ -36,6 +36,7 @@ pub struct Body {
     pub site_args: Vec<Vec<Sig>>,
     pub loops: Vec<Sig>,
     pub loop_args: Vec<Vec<Sig>>,
+    pub zero: Sig,
 }
 
 /// A term's readiness, where none is always, and its value.

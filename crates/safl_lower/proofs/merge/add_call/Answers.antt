@@ -5,7 +5,7 @@ use Rattle.safl_net.specs.Growth.{Sized, words}
 use Rattle.safl_net.specs.Settled.{AreSteady}
 use Rattle.safl_lower.specs.Bits.{on}
 use Rattle.safl_net.proofs.Growth.{grows_on, width_kept, sized_kept}
-use Rattle.safl_lower.proofs.Members.{not_first, row_here, first_added, next_added}
+use Rattle.safl_lower.proofs.Members.{as_long, not_first, row_here, first_added, next_added}
 use Rattle.safl_lower.proofs.merge.add_call.Goals as goal
 
 pub returns-then-eq-clause-added : goal.returns-then-eq-clause-added
@@ -62,6 +62,8 @@ returns-clause-added c =
     (λ v h. w.value v h ∙ ap (λ (x : List Sig). cond (on v c.args.call.taken) (words v x) (words v c.deref-2.result.now)) c.deref.ensures.value ∙ ap (λ (x : List Sig). cond (on v c.args.call.taken) (words v c.args.call.args.items) (words v x)) c.deref-2.ensures.value)
     b.settled
     (λ h t. w.settled (record { net = h.net; signals = (h.signals.0, subst (AreSteady c.mux.new.net) (sym c.deref.ensures.value) h.signals.1) }) (subst (AreSteady c.mux.new.net) (sym c.deref-2.ensures.value) t))
+    (as_long c.mux_all.new.net c.in_ok-row.row.items r.widths (w.width r.widths (subst (λ (x : List Sig). Sized c.mux.new.net x r.widths) (sym c.deref.ensures.value) (sized_kept b.grows c.args.call.args.items r.widths r.own_sized)) (subst (λ (x : List Sig). Sized c.mux.new.net x r.widths) (sym c.deref-2.ensures.value) (sized_kept b.grows a.items r.widths r.row.sized)))
+    ∙ sym (as_long c.args.net.now c.args.call.args.items r.widths r.own_sized))
 
 pub returns-clause-grows : goal.returns-clause-grows
 returns-clause-grows c = grows_on c.mux.ensures.grows c.mux_all.ensures.grows
