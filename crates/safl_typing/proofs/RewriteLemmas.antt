@@ -7,13 +7,13 @@ use Rattle.safl_tree.specs.declared.tree.Bind.{Bind}
 use Rattle.safl_tree.specs.declared.tree.Arm.{Arm}
 use Rattle.safl_tree.specs.declared.tree.Node.{Node}
 use Rattle.safl_tree.specs.declared.tree.Node.TheVariants.{Op, Call, Let, Case}
-use Rattle.safl_tree.specs.Tree.{Tree, trees_of, binds_of, arms_of, place_of, Bound}
+use Rattle.safl_tree.specs.Tree.{Tree, trees_of, binds_of, arms_of, place_of}
 use Rattle.safl_tree.specs.Shown.{shows, shows_node, shows_all, shows_bind, shows_bounds, shows_labelled}
-use Rattle.safl_typing.specs.declared.expression.Binder.{Binder}
+use Rattle.safl_typing.specs.declared.expression.Bound.{Bound}
 use Rattle.safl_typing.specs.declared.expression.Expression as code
 use Rattle.safl_typing.specs.declared.expression.Expression.TheVariants as codes
 use Rattle.safl_typing.specs.Rewriting.{Expression, Choice, Binding, Applied, Called, Expressions, no_expression, an_expression, Bindings, no_binding, a_binding, rewritten, rewritten_all, rewritten_binds, rewritten_arms, scrutinee, test_at}
-use Rattle.safl_typing.specs.Plain.{plain, plain_all, plain_bindings, binders, rewritten_values}
+use Rattle.safl_typing.specs.Plain.{plain, plain_all, plain_bindings}
 use Rattle.safl_typing.proofs.PlainLemmas.{plain-Applied, plain-Called}
 use Rattle.safl_typing.proofs.SourceLemmas.{shows-Op, shows-Call, shows-Let, shows-Case, shown_place}
 
@@ -34,34 +34,38 @@ all_next (y ∷ ys) (suc i) e h = ap (an_expression (rewritten (shows y))) (all_
 pub all_more : (es : List Expr) (i : ℕ) (e : Expr) → slice_get es i ≡ Some e → rewritten_all (trees_of (shows_all (take (i + 1) es))) ≡ more (rewritten_all (trees_of (shows_all (take i es)))) (rewritten (shows e))
 all_more es i e h = ap (λ (k : ℕ). rewritten_all (trees_of (shows_all (take k es)))) (add-one i) ∙ all_next es i e h
 
-values_next : (bs : List Bind) (i : ℕ) (b : Bind) → slice_get bs i ≡ Some b → rewritten_values (shows_bounds (take (suc i) bs)) ≡ more (rewritten_values (shows_bounds (take i bs))) (rewritten (shows b.value))
-values_next [] i b h = absurd (cc)
-values_next (y ∷ ys) zero b h = let g : y ≡ b = cc in ap (λ (z : Bind). an_expression (rewritten (shows z.value)) no_expression) g
-values_next (y ∷ ys) (suc i) b h = ap (an_expression (rewritten (shows y.value))) (values_next ys i b h)
+-- one more binding at the end
+abbrev pub more_bound : Bindings → Bindings → Bindings
+more_bound no_binding x = x
+more_bound (a_binding p n w e bs) x = a_binding p n w e (more_bound bs x)
 
-pub values_more : (bs : List Bind) (i : ℕ) (b : Bind) → slice_get bs i ≡ Some b → rewritten_values (shows_bounds (take (i + 1) bs)) ≡ more (rewritten_values (shows_bounds (take i bs))) (rewritten (shows b.value))
-values_more bs i b h = ap (λ (k : ℕ). rewritten_values (shows_bounds (take k bs))) (add-one i) ∙ values_next bs i b h
+abbrev pub plain_bind : Bound → Bindings
+plain_bind b = a_binding b.place b.name b.width (plain b.value) no_binding
 
--- what is bound, with the values
-pub joined : (bs : List Bound) (es : List code.Expression) → plain_all es ≡ rewritten_values bs → plain_bindings (binders bs) es ≡ rewritten_binds (binds_of bs)
-joined [] [] h = refl
-joined [] (e ∷ es) h = absurd (cc)
-joined (b ∷ bs) [] h = absurd (cc)
-joined (b ∷ bs) (e ∷ es) h =
-    let x : plain e ≡ rewritten b.value = cc in
-    let xs : plain_all es ≡ rewritten_values bs = cc in
-    ap (λ (y : Expression). a_binding b.place b.name b.width y (plain_bindings (binders bs) es)) x ∙ ap (a_binding b.place b.name b.width (rewritten b.value)) (joined bs es xs)
+abbrev pub shown_bind : Bind → Bindings
+shown_bind b = a_binding b.place b.name b.width (rewritten (shows b.value)) no_binding
+
+bound_end : (xs : List Bound) (x : Bound) → plain_bindings (xs ++ x ∷ []) ≡ more_bound (plain_bindings xs) (plain_bind x)
+bound_end [] x = refl
+bound_end (y ∷ ys) x = ap (a_binding y.place y.name y.width (plain y.value)) (bound_end ys x)
+
+binds_next : (bs : List Bind) (i : ℕ) (b : Bind) → slice_get bs i ≡ Some b → rewritten_binds (binds_of (shows_bounds (take (suc i) bs))) ≡ more_bound (rewritten_binds (binds_of (shows_bounds (take i bs)))) (shown_bind b)
+binds_next [] i b h = absurd (cc)
+binds_next (y ∷ ys) zero b h = let g : y ≡ b = cc in ap shown_bind g
+binds_next (y ∷ ys) (suc i) b h = ap (a_binding y.place y.name y.width (rewritten (shows y.value))) (binds_next ys i b h)
+
+binds_more : (bs : List Bind) (i : ℕ) (b : Bind) → slice_get bs i ≡ Some b → rewritten_binds (binds_of (shows_bounds (take (i + 1) bs))) ≡ more_bound (rewritten_binds (binds_of (shows_bounds (take i bs)))) (shown_bind b)
+binds_more bs i b h = ap (λ (k : ℕ). rewritten_binds (binds_of (shows_bounds (take k bs)))) (add-one i) ∙ binds_next bs i b h
 
 -- ---- the kinds of expressions that have lists
 
-pub let_rewrites : (n : Node) (p : ℕ) (binds : Vec Bind Global) (body : Box Expr Global) (bs : List Binder) (es : List code.Expression) (b : code.Expression) (xs ys : List Bind) (e : Expr)
-    → n ≡ Let binds body → xs ≡ binds.items → ys ≡ binds.items → e ≡ body.value → bs ≡ binders (shows_bounds xs) → plain_all es ≡ rewritten_values (shows_bounds ys) → plain b ≡ rewritten (shows e)
-    → Binding p (plain_bindings bs es) (plain b) ≡ rewritten (shows_node n p)
-let_rewrites n p binds body bs es b xs ys e is x y v hb hs h =
-    let k = joined (shows_bounds binds.items) es (hs ∙ ap (λ (l : List Bind). rewritten_values (shows_bounds l)) y) in
-    let g : bs ≡ binders (shows_bounds binds.items) = hb ∙ ap (λ (l : List Bind). binders (shows_bounds l)) x in
+pub let_rewrites : (n : Node) (p : ℕ) (binds : Vec Bind Global) (body : Box Expr Global) (bs : List Bound) (b : code.Expression) (xs : List Bind) (e : Expr)
+    → n ≡ Let binds body → xs ≡ binds.items → e ≡ body.value → plain_bindings bs ≡ rewritten_binds (binds_of (shows_bounds xs)) → plain b ≡ rewritten (shows e)
+    → Binding p (plain_bindings bs) (plain b) ≡ rewritten (shows_node n p)
+let_rewrites n p binds body bs b xs e is x v hs h =
+    let k : plain_bindings bs ≡ rewritten_binds (binds_of (shows_bounds binds.items)) = hs ∙ ap (λ (l : List Bind). rewritten_binds (binds_of (shows_bounds l))) x in
     let w : plain b ≡ rewritten (shows body.value) = h ∙ ap (λ (z : Expr). rewritten (shows z)) v in
-    ap (λ (l : List Binder). Binding p (plain_bindings l es) (plain b)) g ∙ ap (λ (z : Bindings). Binding p z (plain b)) k ∙ ap (λ (z : Expression). Binding p (rewritten_binds (binds_of (shows_bounds binds.items))) z) w
+    ap (λ (z : Bindings). Binding p z (plain b)) k ∙ ap (λ (z : Expression). Binding p (rewritten_binds (binds_of (shows_bounds binds.items))) z) w
     ∙ sym (ap (λ (z : Node). rewritten (shows_node z p)) is ∙ ap rewritten (shows-Let binds body p))
 
 pub case_rewrites : (n : Node) (p : ℕ) (looked_at : Box Expr Global) (arms : Vec Arm Global) (other : Box Expr Global) (v b : code.Expression) (xs : List Arm) (e : Expr)
@@ -101,10 +105,12 @@ pub all_push : (es : List Expr) (i : ℕ) (e : Expr) (xs ys : List code.Expressi
 all_push es i e xs ys x lt is q h r =
     ap plain_all q ∙ plain_end xs x ∙ ap (λ (z : Expressions). more z (plain x)) h ∙ ap (more (rewritten_all (trees_of (shows_all (take i es))))) r ∙ sym (all_more es i e (slice_get_read es (length es) i e refl lt is))
 
-pub values_push : (bs : List Bind) (i : ℕ) (b : Bind) (xs ys : List code.Expression) (x : code.Expression) → i < length bs → b ≡ get_or bs i b → ys ≡ xs ++ x ∷ []
-    → plain_all xs ≡ rewritten_values (shows_bounds (take i bs)) → plain x ≡ rewritten (shows b.value) → plain_all ys ≡ rewritten_values (shows_bounds (take (i + 1) bs))
-values_push bs i b xs ys x lt is q h r =
-    ap plain_all q ∙ plain_end xs x ∙ ap (λ (z : Expressions). more z (plain x)) h ∙ ap (more (rewritten_values (shows_bounds (take i bs)))) r ∙ sym (values_more bs i b (slice_get_read bs (length bs) i b refl lt is))
+pub binds_push : (bs : List Bind) (i : ℕ) (b : Bind) (xs ys : List Bound) (x : Bound) (name : List ℕ) → i < length bs → b ≡ get_or bs i b → ys ≡ xs ++ x ∷ []
+    → plain_bindings xs ≡ rewritten_binds (binds_of (shows_bounds (take i bs))) → x.place ≡ b.place → x.name ≡ b.name → x.width ≡ b.width → plain x.value ≡ rewritten (shows b.value)
+    → plain_bindings ys ≡ rewritten_binds (binds_of (shows_bounds (take (i + 1) bs)))
+binds_push bs i b xs ys x name lt is q h ep en ew r =
+    let s : plain_bind x ≡ shown_bind b = cc in
+    ap plain_bindings q ∙ bound_end xs x ∙ ap (λ (z : Bindings). more_bound z (plain_bind x)) h ∙ ap (more_bound (rewritten_binds (binds_of (shows_bounds (take i bs))))) s ∙ sym (binds_more bs i b (slice_get_read bs (length bs) i b refl lt is))
 
 pub arms_front : (p : ℕ) (arms : List Arm) (done : ℕ) (a : Arm) (label value rest : code.Expression) (condition body : Expression) (t : Tree) → done < length arms → a ≡ get_or arms (length arms - 1 - done) a
     → condition ≡ test_at a.label.place (plain label) → plain label ≡ rewritten (shows a.label) → plain value ≡ rewritten (shows a.value)

@@ -2,5 +2,6 @@
 #![tactic(auto)]
 
 mod expression;
+mod measure;
 pub mod laws;
 mod rewrite;

@@ -5,9 +5,9 @@ ghost use Rattle.safl_word.specs.declared.primitive.Primitive.TheVariants as pri
 ghost use Rattle.safl_tree.specs.Tree.{Tree, trees_of, binds_of, arms_of};
 ghost use Rattle.safl_tree.specs.Shown.{shows, shows_all, shows_bounds, shows_labelled};
 ghost use Rattle.safl_typing.specs.Rewriting.{Choice, Binding, Applied, an_expression, no_expression, a_binding, no_binding, rewritten, rewritten_all, rewritten_binds, rewritten_arms, scrutinee, test_at};
-ghost use Rattle.safl_typing.specs.Plain.{plain, plain_all, plain_bindings, binders, rewritten_values};
+ghost use Rattle.safl_typing.specs.Plain.{plain, plain_all, plain_bindings};
 
-use crate::expression::{Binder, Expression};
+use crate::expression::{Bound, Expression};
 use safl_tree::{Arm, Bind, Expr, Name, Node};
 use safl_word::{NoMemory, Primitive};
 use std::alloc::Global;
@@ -32,10 +32,9 @@ pub fn rewrite(alloc: Global, e: &Expr) -> Result<Expression, NoMemory>
             choice(alloc, place, condition, first, second)
         }
         Node::Let(binds, body) => {
-            let binders = binders_of(alloc, binds)?;
-            let values = rewrite_values(alloc, binds)?;
+            let bound = rewrite_binds(alloc, binds)?;
             let body = rewrite(alloc, body)?;
-            bind(alloc, place, binders, values, body)
+            bind(alloc, place, bound, body)
         }
         Node::Case(looked_at, arms, other) => {
             let value = rewrite(alloc, looked_at)?;
@@ -67,15 +66,21 @@ fn rewrite_all(alloc: Global, es: &[Expr]) -> Result<Vec<Expression>, NoMemory>
     Ok(all)
 }
 
-// The values of bindings.
+// Bindings, with their values rewritten.
 #[cycle(rewriting)]
-fn rewrite_values(alloc: Global, binds: &[Bind]) -> Result<Vec<Expression>, NoMemory>
-    ensures { IfOk result (λ xs. plain_all xs.items ≡ rewritten_values (shows_bounds binds.now)) }
+fn rewrite_binds(alloc: Global, binds: &[Bind]) -> Result<Vec<Bound>, NoMemory>
+    ensures { IfOk result (λ bs. plain_bindings bs.items ≡ rewritten_binds (binds_of (shows_bounds binds.now))) }
 {
     let mut all = Vec::new(alloc);
     for b in binds {
-        let next = rewrite(alloc, &b.value)?;
-        all.push(next)?;
+        let name = copied(alloc, &b.name)?;
+        let value = rewrite(alloc, &b.value)?;
+        all.push(Bound {
+            place: b.place,
+            name,
+            width: b.width,
+            value,
+        })?;
     }
     Ok(all)
 }
@@ -126,14 +131,13 @@ fn choice(
 fn bind(
     alloc: Global,
     place: u32,
-    binders: Vec<Binder>,
-    values: Vec<Expression>,
+    bound: Vec<Bound>,
     body: Expression,
 ) -> Result<Expression, NoMemory>
-    ensures { IfOk result (λ x. plain x ≡ Binding place (plain_bindings binders.items values.items) (plain body)) }
+    ensures { IfOk result (λ x. plain x ≡ Binding place (plain_bindings bound.items) (plain body)) }
 {
     let body = Box::new(alloc, body)?;
-    Ok(Expression::Binding(place, binders, values, body))
+    Ok(Expression::Binding(place, bound, body))
 }
 
 // A let of the scrutinee.
@@ -146,14 +150,14 @@ fn scrutinise(
     ensures { IfOk result (λ x. plain x ≡ Binding place (a_binding place scrutinee None (plain value) no_binding) (plain body)) }
 {
     let name = Name::new(alloc, SCRUTINEE)?;
-    let binder = Binder {
+    let scrutinee = Bound {
         place,
         name,
         width: None,
+        value,
     };
-    let binders = vec![in alloc; binder]?;
-    let values = vec![in alloc; value]?;
-    bind(alloc, place, binders, values, body)
+    let bound = vec![in alloc; scrutinee]?;
+    bind(alloc, place, bound, body)
 }
 
 // Whether the scrutinee is the label.
@@ -164,19 +168,4 @@ fn test(alloc: Global, place: u32, label: Expression) -> Result<Expression, NoMe
     let variable = Expression::Variable(place, name);
     let operands = vec![in alloc; variable, label]?;
     Ok(Expression::Applied(place, Primitive::Eq, operands))
-}
-
-fn binders_of(alloc: Global, binds: &[Bind]) -> Result<Vec<Binder>, NoMemory>
-    ensures { IfOk result (λ bs. bs.items ≡ binders (shows_bounds binds.now)) }
-{
-    let mut all = Vec::new(alloc);
-    for b in binds {
-        let name = copied(alloc, &b.name)?;
-        all.push(Binder {
-            place: b.place,
-            name,
-            width: b.width,
-        })?;
-    }
-    Ok(all)
 }

@@ -1,4 +1,4 @@
-use Rattle.std.proofs.Common.{◌≡◌, ℕ, ◌+◌, ◌<◌, List, [], ◌∷◌, sym, ap, ◌∙◌, arith, rules, subst}
+use Rattle.std.proofs.Common.{◌≡◌, ℕ, ◌+◌, ◌<◌, List, [], ◌∷◌, sym, ap, ◌∙◌, arith, rules, refl, subst}
 use Rattle.safl_tree.specs.Tree.{Tree, arms_of}
 use Rattle.safl_tree.specs.Shown.{shows, shows_node, shows_labelled}
 use Rattle.safl_tree.specs.declared.tree.Expr.{Expr}
@@ -6,12 +6,12 @@ use Rattle.safl_typing.specs.Rewriting.{Binding, a_binding, no_binding, scrutine
 use Rattle.safl_typing.specs.Plain.{plain, plain_bindings}
 use Rattle.safl_tree.specs.declared.tree.Arm.{Arm}
 use Rattle.safl_typing.proofs.PlainLemmas.{ok_plain}
-use Rattle.safl_typing.proofs.RewriteLemmas.{let_rewrites, case_rewrites, op_rewrites, call_rewrites, all_push, values_push, arms_front, arms_whole}
+use Rattle.safl_typing.proofs.RewriteLemmas.{let_rewrites, case_rewrites, op_rewrites, call_rewrites, all_push, binds_push, arms_front, arms_whole}
 use Rattle.safl_typing.proofs.rewrite.+rewriting.Goals as goal
 
 pub rewrite-returns-in_ok-body-in-Let : goal.rewrite-returns-in_ok-body-in-Let
 rewrite-returns-in_ok-body-in-Let t c =
-    let e = let_rewrites c.args.e.now.node c.args.e.now.place c.in-Let.binds c.in-Let.body _ _ _ _ _ _ c.in-Let.is c.deref-in-Let.ensures.value c.deref-in-Let-2.ensures.value c.deref-in-Let-3.ensures c.in_ok-binders-in-Let.ensures c.in_ok-values-in-Let.ensures c.in_ok-body-in-Let.ensures in
+    let e = let_rewrites c.args.e.now.node c.args.e.now.place c.in-Let.binds c.in-Let.body _ _ _ _ c.in-Let.is c.deref-in-Let.ensures.value c.deref-in-Let-2.ensures c.in_ok-bound-in-Let.ensures c.in_ok-body-in-Let.ensures in
     ok_plain c.bind.result _ _ c.bind.ensures e
 
 pub rewrite-returns-in_ok-body-in-Case : goal.rewrite-returns-in_ok-body-in-Case
@@ -30,8 +30,8 @@ rewrite-returns-in_ok-copied-in-Call t c = call_rewrites c.args.e.now.node c.arg
 pub rewrite_all-loop-e-preserved : goal.rewrite_all-loop-e-preserved
 rewrite_all-loop-e-preserved t c = all_push c.args.es.now c.loop-e.e-index c.e-item.result c.loop-e.all.items c.push.new.self.items c.in_ok-next.next c.loop-e-test.true c.e-item.is c.in_ok-push.ensures.items c.loop-e.invariant c.in_ok-next.ensures
 
-pub rewrite_values-loop-b-preserved : goal.rewrite_values-loop-b-preserved
-rewrite_values-loop-b-preserved t c = values_push c.args.binds.now c.loop-b.b-index c.b-item.result c.loop-b.all.items c.push.new.self.items c.in_ok-next.next c.loop-b-test.true c.b-item.is c.in_ok-push.ensures.items c.loop-b.invariant c.in_ok-next.ensures
+pub rewrite_binds-loop-b-preserved : goal.rewrite_binds-loop-b-preserved
+rewrite_binds-loop-b-preserved t c = binds_push c.args.binds.now c.loop-b.b-index c.b-item.result c.loop-b.all.items c.push.new.self.items _ c.in_ok-name.name c.loop-b-test.true c.b-item.is c.in_ok-push.ensures.items c.loop-b.invariant refl c.in_ok-name.ensures refl c.in_ok-value.ensures
 
 pub rewrite_arms-loop-done-preserved : goal.rewrite_arms-loop-done-preserved
 rewrite_arms-loop-done-preserved t c = λ d e. arms_front c.args.place c.args.arms.now c.loop-done.done c.index-arms-count.result c.in_ok-label.label c.in_ok-value.value c.loop-done.body _ _ d c.loop-done-test.true c.index-arms-count.is c.in_ok-condition.ensures c.in_ok-label.ensures c.in_ok-value.ensures (c.loop-done.invariant d e) c.in_ok-body.ensures

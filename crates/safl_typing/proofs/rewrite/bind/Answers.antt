@@ -6,5 +6,5 @@ use Rattle.safl_typing.proofs.PlainLemmas.{plain-Binding}
 use Rattle.safl_typing.proofs.rewrite.bind.Goals as goal
 
 pub returns : goal.returns
-returns c = plain-Binding c.args.place c.args.binders c.args.values c.in_ok-body.body
-    ∙ ap (λ (z : code.Expression). Binding c.args.place (plain_bindings c.args.binders.items c.args.values.items) (plain z)) c.in_ok-body.ensures.ok
+returns c = plain-Binding c.args.place c.args.bound c.in_ok-body.body
+    ∙ ap (λ (z : code.Expression). Binding c.args.place (plain_bindings c.args.bound.items) (plain z)) c.in_ok-body.ensures.ok
