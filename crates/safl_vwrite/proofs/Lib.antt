@@ -2,4 +2,3 @@ pub mod Signals
 pub mod Texts
 pub mod Lengths
 pub mod Tearing
-pub mod InputNets

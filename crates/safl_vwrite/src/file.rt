@@ -25,23 +25,22 @@ pub enum WriteErr {
 }
 
 /// Writes the Verilog text of a net to a file, in place of an old one of that name: it creates the file and appends
-/// pieces of 1,024 bytes, the last of them shorter. The net is whole, and its signals stand as inputs, then registers,
-/// then wires.
+/// pieces of 1,024 bytes, the last of them shorter.
 pub fn write_net<S: Shelf>(
     alloc: Global,
     net: &Net,
     shelf: &mut S,
     name: &str,
 ) -> Result<(), WriteErr>
-    requires whole { IsWhole net.now }
-    requires in_order { IsInOrder net.now }
     ensures written { OnOk result (TellsOn (Leaves name.now (written net.now)) (S.holds shelf.old) (S.holds shelf.new)) }
     ensures failed { IsErrOf result WriteErr.Failed → Rose (S.write_faults shelf.old) (S.write_faults shelf.new) }
 
-    // After an error the old file or a front of the text stands there, and no front but the whole text, with or without
-    // its last line feed, reads as a netlist.
+    // After an error the old file or a front of the text stands there. Such a front reads as no netlist, or is the whole
+    // text, with or without its last line feed, where the net is whole and its signals stand as inputs, then registers,
+    // then wires.
     ensures not_written { OnErr result (TellsOn (LeavesOldOrPart name.now (written net.now)) (S.holds shelf.old) (S.holds shelf.new)) }
-    ensures torn { OnErr result (TellsOn (LeavesOldOrTorn name.now net.now) (S.holds shelf.old) (S.holds shelf.new)) }
+    ensures torn { OnErr result (IsWhole net.now → IsInOrder net.now →
+        TellsOn (LeavesOldOrTorn name.now net.now) (S.holds shelf.old) (S.holds shelf.new)) }
 
     ensures same_reads { S.read_faults shelf.new ≡ S.read_faults shelf.old }
     ensures writes_later { S.write_faults shelf.old ≤ S.write_faults shelf.new }
