@@ -8,3 +8,4 @@ pub mod Rows
 pub mod Descent
 pub mod Depths
 pub mod Lists
+pub mod Writing

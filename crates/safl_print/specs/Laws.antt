@@ -1,5 +1,5 @@
 -- What is claimed of printed texts.
-use Rattle.std.specs.Prelude.{◌≡◌, List}
+use Rattle.std.specs.Prelude.{◌≡◌, ℕ, List}
 use Rattle.safl_tree.specs.Tree.{Definition}
 use Rattle.safl_tree.specs.Source.{SpellsProgram}
 use Rattle.safl_tree.specs.Printable.{IsPrintable}
@@ -7,9 +7,9 @@ use Rattle.safl_print.specs.Printed.{printed}
 use Rattle.safl_print.specs.Places.{unplaced_program}
 
 -- the text spells a program that is this one, places aside
-abbrev pub PrintsAs : List Definition → Type 0
-PrintsAs p = (q : List Definition) × SpellsProgram (printed p) q × (unplaced_program q ≡ unplaced_program p)
+abbrev pub SpelledBy : List ℕ → List Definition → Type 0
+SpelledBy text p = (q : List Definition) × SpellsProgram text q × (unplaced_program q ≡ unplaced_program p)
 
 -- the text of a printable program spells it, places aside
 abbrev pub PrintedSpells : Type 0
-PrintedSpells = (p : List Definition) → IsPrintable p → PrintsAs p
+PrintedSpells = (p : List Definition) → IsPrintable p → SpelledBy (printed p) p

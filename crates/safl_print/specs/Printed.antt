@@ -1,5 +1,5 @@
 -- The text of a program, with least parentheses.
-use Rattle.std.specs.Prelude.{ℕ, List, [], ◌∷◌, ◌++◌, Option, Some, None, Bool, true, false, nat_le, codes, decimal}
+use Rattle.std.specs.Prelude.{◌≡◌, ℕ, List, [], ◌∷◌, ◌++◌, Option, Some, None, Bool, true, false, nat_le, codes, decimal}
 use Rattle.safl_word.specs.declared.token.Key.{Key}
 use Rattle.safl_word.specs.declared.token.Key.TheVariants as keys
 use Rattle.safl_word.specs.declared.token.Sym.{Sym}
@@ -9,7 +9,7 @@ use Rattle.safl_word.specs.declared.token.TokenKind.TheVariants as kinds
 use Rattle.safl_word.specs.declared.primitive.Primitive.{Primitive}
 use Rattle.safl_word.specs.declared.primitive.Primitive.TheVariants as prims
 use Rattle.safl_word.specs.Tokens.{key_text, sym_text}
-use Rattle.safl_tree.specs.Tree.{Tree, Number, Sized, Variable, Choice, Binding, Cases, Applied, Called, Trees, no_tree, a_tree, Binds, no_bind, a_bind, Arms, default_arm, an_arm, Parameter, Definition}
+use Rattle.safl_tree.specs.Tree.{Tree, Number, Sized, Variable, Choice, Binding, Cases, Applied, Called, Trees, no_tree, a_tree, Binds, no_bind, a_bind, Arms, default_arm, an_arm, Labelled, Parameter, Definition}
 use Rattle.safl_tree.specs.Printable.{left_place, right_place, own}
 
 -- ---- tokens
@@ -79,6 +79,10 @@ abbrev pub written : Option ℕ → List Word
 written None = []
 written (Some w) = sym syms.Colon ∷ (number w ∷ [])
 
+-- a binding of a value that is written so
+abbrev pub bound_words : List ℕ → Option ℕ → List Word → List Word
+bound_words x w value = name x ∷ (written w ++ (sym syms.Assign ∷ value))
+
 -- an expression without parentheses around it
 abbrev mutual
   pub words : Tree → List Word
@@ -98,11 +102,16 @@ abbrev mutual
 
   pub bind_words : Binds → List (List Word)
   bind_words no_bind = []
-  bind_words (a_bind p x w t bs) = (name x ∷ (written w ++ (sym syms.Assign ∷ words t))) ∷ bind_words bs
+  bind_words (a_bind p x w t bs) = bound_words x w (words t) ∷ bind_words bs
 
   pub arm_words : Arms → List Word
   arm_words (default_arm t) = key keys.Default ∷ (sym syms.Arrow ∷ words t)
   arm_words (an_arm l t arms) = words l ++ (sym syms.Arrow ∷ (words t ++ (sym syms.Comma ∷ arm_words arms)))
+
+-- labelled arms alone
+abbrev pub labelled_words : List Labelled → List Word
+labelled_words [] = []
+labelled_words (a ∷ arms) = words a.label ++ (sym syms.Arrow ∷ (words a.value ++ (sym syms.Comma ∷ labelled_words arms)))
 
 -- ---- programs
 
@@ -133,3 +142,7 @@ line d = (opening d.joined).text ++ (spaced (one_words d) ++ (10 ∷ []))
 abbrev pub printed : List Definition → List ℕ
 printed [] = []
 printed (d ∷ ds) = line d ++ printed ds
+
+-- these words are written behind what stood there
+abbrev pub Writes : List ℕ → List ℕ → List Word → Type 0
+Writes old new ws = new ≡ old ++ spaced ws
