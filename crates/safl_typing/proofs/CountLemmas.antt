@@ -5,6 +5,7 @@ use Rattle.std.proofs.Math.Seq.{take-suc}
 use Rattle.safl_typing.specs.declared.expression.Expression as code
 use Rattle.safl_typing.specs.Rewriting.{Expression, Expressions, no_expression, an_expression, shape, takes_width, flexible, all_flexible, nodes, nodes_in, nodes_bound}
 use Rattle.safl_word.specs.declared.primitive.Primitive.{Primitive}
+use Rattle.safl_typing.specs.Heads.{Known, sites, sites_in, sites_bound}
 use Rattle.safl_typing.specs.declared.expression.Bound.{Bound}
 use Rattle.safl_typing.specs.Plain.{plain, plain_all, plain_bindings}
 
@@ -61,3 +62,23 @@ and_true false b e = absurd cc
 
 pub applied_flexible : (o : Primitive) (es : Expressions) → takes_width (shape o) ≡ true → (takes_width (shape o) && all_flexible es) ≡ all_flexible es
 applied_flexible o es e = and_true (takes_width (shape o)) (all_flexible es) e
+
+-- ---- sites
+
+sites_end : (k : Known) (xs : List code.Expression) (x : code.Expression) → sites_in k (plain_all (xs ++ x ∷ [])) ≡ sites_in k (plain_all xs) + sites k (plain x)
+sites_end k [] x = omega arith
+sites_end k (y ∷ ys) x = omega (arith, sites_end k ys x)
+
+pub sites_next : (k : Known) (es : List code.Expression) (i : ℕ) (e : code.Expression) (counted total next : ℕ) → i < length es → e ≡ get_or es i e → total ≡ min 4001 (counted + sites_in k (plain_all (take i es))) → next ≡ min 4001 (total + sites k (plain e)) → next ≡ min 4001 (counted + sites_in k (plain_all (take (i + 1) es)))
+sites_next k es i e counted total next lt is h q =
+    let s : sites_in k (plain_all (take (i + 1) es)) ≡ sites_in k (plain_all (take i es)) + sites k (plain e) = ap (λ (l : List code.Expression). sites_in k (plain_all l)) (upto es i e lt is) ∙ sites_end k (take i es) e in
+    omega (arith, h, q, s)
+
+bound_sites_end : (k : Known) (xs : List Bound) (x : Bound) → sites_bound k (plain_bindings (xs ++ x ∷ [])) ≡ sites_bound k (plain_bindings xs) + sites k (plain x.value)
+bound_sites_end k [] x = omega arith
+bound_sites_end k (y ∷ ys) x = omega (arith, bound_sites_end k ys x)
+
+pub bound_sites_next : (k : Known) (es : List Bound) (i : ℕ) (e : Bound) (counted total next : ℕ) → i < length es → e ≡ get_or es i e → total ≡ min 4001 (counted + sites_bound k (plain_bindings (take i es))) → next ≡ min 4001 (total + sites k (plain e.value)) → next ≡ min 4001 (counted + sites_bound k (plain_bindings (take (i + 1) es)))
+bound_sites_next k es i e counted total next lt is h q =
+    let s : sites_bound k (plain_bindings (take (i + 1) es)) ≡ sites_bound k (plain_bindings (take i es)) + sites k (plain e.value) = ap (λ (l : List Bound). sites_bound k (plain_bindings l)) (bound_upto es i e lt is) ∙ bound_sites_end k (take i es) e in
+    omega (arith, h, q, s)

@@ -5,3 +5,4 @@ pub mod Forms
 pub mod Walk
 pub mod Laws
 pub mod Plain
+pub mod PlainHeads

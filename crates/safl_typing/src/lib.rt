@@ -2,6 +2,8 @@
 #![tactic(auto)]
 
 mod expression;
-mod measure;
+mod heads;
 pub mod laws;
+mod measure;
 mod rewrite;
+mod sites;
