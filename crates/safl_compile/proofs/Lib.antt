@@ -7,3 +7,4 @@ pub mod Cells
 pub mod Pinning
 pub mod Ordering
 pub mod Joining
+pub mod Declared

@@ -1,22 +1,22 @@
 -- The registers of functions, in the order of their lines.
-use Rattle.std.proofs.Common.{◌≡◌, ℕ, zero, suc, ◌+◌, ◌*◌, ◌<◌, ◌≤◌, List, [], ◌∷◌, ◌++◌, map, length, length-append, Some, Bool, true, false, cond, slice_get, ◌==◌, nat_lt, inl, inr, refl, sym, ap, subst, ◌∙◌, arith}
-use Rattle.std.proofs.lemmas.Bool.{eqb-true, eqb-false}
+use Rattle.std.proofs.Common.{◌≡◌, ℕ, zero, suc, ◌+◌, ◌-◌, ◌*◌, ◌<◌, ◌≤◌, List, [], ◌∷◌, ◌++◌, map, length, length-append, Some, Bool, true, false, cond, slice_get, ◌==◌, nat_lt, inl, inr, refl, sym, ap, subst, ◌∙◌, arith}
+use Rattle.std.proofs.lemmas.Bool.{eqb-true, eqb-false, lt-ltb}
 use Rattle.std.proofs.lemmas.Option.{slice_get_within}
 use Rattle.safl_net.proofs.Naming.{pushed}
-use Rattle.safl_check.specs.Program.{Program, arity}
+use Rattle.safl_check.specs.Program.{Program, arity, unit_for}
 use Rattle.safl_check.specs.Checked.{CheckedProgram, IsChecked, program_of}
 use Rattle.safl_net.specs.declared.cell.Sig.{Sig}
 use Rattle.safl_net.specs.Netlist.{Netlist, Signal}
 use Rattle.safl_unit.specs.Equations.{Choice, many}
 use Rattle.safl_unit.specs.Names.{Names, names_of, of_function, of_param, of_site}
 use Rattle.std.specs.Prelude.{codes}
-use Rattle.safl_unit.specs.Layout.{Line, lines, site_lines}
+use Rattle.safl_unit.specs.Layout.{Line, lines, site_lines, function_wires, site_wires}
 use Rattle.safl_compile.specs.declared.parts.UnitPins.{UnitPins}
 use Rattle.safl_compile.specs.declared.parts.MemberPins.{MemberPins}
 use Rattle.safl_compile.specs.declared.parts.SitePins.{SitePins}
-use Rattle.safl_compile.specs.Finished.{open_register}
+use Rattle.safl_compile.specs.Finished.{open_register, open_wire}
 use Rattle.safl_compile.specs.Ties.{Tie, sig_of, ties, tied, numbered, unit_ties, member_ties, function_ties, site_ties, call_registers}
-use Rattle.safl_compile.specs.Declaring.{with_signals, unit_head, at_line, argument_lines, function_lines, Pinned, FunctionsPinned, SitePinned, SitesPinned}
+use Rattle.safl_compile.specs.Declaring.{with_signals, unit_head, at_line, argument_lines, function_lines, arbiter_line, Pinned, FunctionsPinned, SitePinned, SitesPinned}
 use Rattle.safl_compile.proofs.Tables.{each_push, get_same, get_end}
 use Rattle.safl_compile.proofs.Declaring.{map_more, lines_count, lines_on, lines_none, numbered_more, param_lines_long}
 
@@ -275,3 +275,40 @@ more_sited_at C P first k next us slice ss ss' s all one e p n =
 
 pub none_sited_at : (C : Program) (P : Choice) (first : ℕ) (us : List UnitPins) (ss : List SitePins) (s : SitePins) → ss ≡ s ∷ [] → SitesPinned C P first 1 us ss
 none_sited_at C P first us ss s e = subst (λ x. SitesPinned C P first 1 us x) (sym e) (none_sited C P first us s)
+
+-- ---- the named wires
+
+pub body_wires_count : (D : Names) (f : ℕ) → length (lines (function_wires D) f) ≡ 2 * f
+unfolding lines
+body_wires_count D zero = omega arith
+body_wires_count D (suc f) =
+    let a = body_wires_count D f in
+    let p = length-append (lines (function_wires D) f) (function_wires D f) in
+    omega (arith, a, p)
+
+few_call : (a b : Bool) (x y z w : Line) → length (cond a (x ∷ y ∷ (cond b (z ∷ []) [] ++ w ∷ [])) []) ≤ 4
+few_call true true x y z w = omega arith
+few_call true false x y z w = omega arith
+few_call false b x y z w = omega arith
+
+pub few_calls : (C : Program) (P : Choice) (k : ℕ) → length (lines (site_wires C P) k) ≤ 4 * k
+unfolding lines
+few_calls C P zero = omega arith
+few_calls C P (suc k) =
+    let a = few_calls C P k in
+    let b = few_call (nat_lt 0 k) (P.arbiter (unit_for C k)) (of_site (codes "want$") k, 1) (of_site (codes "ret$") k, 1) (of_site (codes "arb$") k, 1) (of_site (codes "go$") k, 1) in
+    let p = length-append (lines (site_wires C P) k) (site_wires C P k) in
+    omega (arith, a, b, p)
+
+pub call_wires_added : (C : Program) (P : Choice) (k : ℕ) → 1 ≤ k → (n a b d e : Netlist) → a ≡ with_signals n (open_wire (of_site (codes "want$") k, 1) ∷ []) → b ≡ with_signals a (open_wire (of_site (codes "ret$") k, 1) ∷ [])
+    → d ≡ with_signals b (map open_wire (arbiter_line C P k)) → e ≡ with_signals d (open_wire (of_site (codes "go$") k, 1) ∷ []) → e ≡ with_signals n (map open_wire (site_wires C P k))
+call_wires_added C P k pos n a b d e ea eb ed ee =
+    lines_on n a e open_wire ((of_site (codes "want$") k, 1) ∷ []) ((of_site (codes "ret$") k, 1) ∷ (arbiter_line C P k ++ (of_site (codes "go$") k, 1) ∷ [])) ea
+    (lines_on a b e open_wire ((of_site (codes "ret$") k, 1) ∷ []) (arbiter_line C P k ++ (of_site (codes "go$") k, 1) ∷ []) eb
+    (lines_on b d e open_wire (arbiter_line C P k) ((of_site (codes "go$") k, 1) ∷ []) ed ee))
+    ∙ ap (λ t. with_signals n (map open_wire (cond t ((of_site (codes "want$") k, 1) ∷ (of_site (codes "ret$") k, 1) ∷ (arbiter_line C P k ++ (of_site (codes "go$") k, 1) ∷ [])) []))) (sym (lt-ltb 0 k (omega (arith, pos))))
+
+-- main is the last function
+pub main_is : (c : CheckedProgram) (n : ℕ) → n ≡ (program_of c).functions → n - 1 ≡ (program_of c).main
+unfolding program_of
+main_is c n e = ap (λ x. x - 1) e

@@ -1,9 +1,9 @@
 -- The lines of a circuit in the order in which they are declared.
 use Rattle.std.specs.Prelude.{◌≡◌, ℕ, ◌<◌, List, [], ◌∷◌, ◌++◌, map, length, Some, false, cond, ◌==◌, codes, slice_get}
-use Rattle.safl_check.specs.Program.{Program}
+use Rattle.safl_check.specs.Program.{Program, unit_for}
 use Rattle.safl_net.specs.Netlist.{Netlist, Signal}
 use Rattle.safl_unit.specs.Equations.{Choice, many}
-use Rattle.safl_unit.specs.Names.{Names, of_function, of_param}
+use Rattle.safl_unit.specs.Names.{Names, of_function, of_param, of_site}
 use Rattle.safl_unit.specs.Layout.{Line, lines, named, site_lines}
 use Rattle.safl_compile.specs.declared.parts.UnitPins.{UnitPins}
 use Rattle.safl_compile.specs.declared.parts.MemberPins.{MemberPins}
@@ -60,3 +60,11 @@ pub record SitesPinned (C : Program) (P : Choice) (first k : ℕ) (us : List Uni
   pub sites_length : length ss ≡ k
   pub order : map sig_of (ties (site_ties C P ss) k) ≡ numbered first (length (lines (site_lines C P) k))
   pub spare : EachAt ss (λ j s. 0 < j → P.kept j ≡ false → (u : UnitPins) → slice_get us (C.callee j) ≡ Some u → s.keep ≡ u.res)
+
+-- the ports of a function's arguments
+abbrev pub port_lines : Program → Names → ℕ → List Line
+port_lines C D f = named (map (λ x. codes "in$" ++ x) (D.params f)) (C.params f)
+
+-- the wire of a site for the arbiter of its callee's unit
+abbrev pub arbiter_line : Program → Choice → ℕ → List Line
+arbiter_line C P k = cond (P.arbiter (unit_for C k)) ((of_site (codes "arb$") k, 1) ∷ []) []

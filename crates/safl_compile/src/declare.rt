@@ -1,20 +1,22 @@
 //! The ports, registers and named wires of a circuit.
 
-ghost use Rattle.std.specs.Prelude.{◌≡◌, ◌+◌, ◌*◌, ◌<◌, ◌≤◌, ◌++◌, [], ◌∷◌, map, length, Some, false, cond, slice_get, codes, IfOk, OnOk};
+ghost use Rattle.std.specs.Prelude.{◌≡◌, ◌+◌, ◌*◌, ◌<◌, ◌≤◌, ◌++◌, [], ◌∷◌, suc, map, length, Some, false, cond, slice_get, codes, IfOk, OnOk};
 ghost use Rattle.safl_check.specs.Program.{arity};
 ghost use Rattle.safl_check.specs.Checked.{program_of, param_names};
 ghost use Rattle.safl_unit.specs.Equations.{many};
 ghost use Rattle.safl_unit.specs.Names.{names_of, of_function};
-ghost use Rattle.safl_unit.specs.Layout.{lines, named};
+ghost use Rattle.safl_unit.specs.Layout.{lines, named, site_lines, function_wires, site_wires, layout_wires};
+ghost use Rattle.safl_compile.specs.Cycles.{choice_of};
 ghost use Rattle.safl_compile.specs.Sources.{HasRoom};
 ghost use Rattle.safl_compile.specs.Ties.{sig_of, numbered, unit_ties};
-ghost use Rattle.safl_compile.specs.Finished.{input_line, open_register, open_wire};
-ghost use Rattle.safl_compile.specs.Declaring.{with_signals, unit_head, at_line, argument_lines, function_lines, Pinned, FunctionsPinned};
+ghost use Rattle.safl_compile.specs.Finished.{input_line, open_register, open_wire, declared_net, ArePins};
+ghost use Rattle.safl_compile.specs.Declaring.{with_signals, unit_head, at_line, argument_lines, function_lines, port_lines, arbiter_line, Pinned, FunctionsPinned, SitePinned, SitesPinned};
 
-use crate::names::{argument_name, has_peers, headed};
-use crate::parts::{MemberPins, UnitPins};
+use crate::names::{argument_name, has_peers, headed, main_function, numbered};
+use crate::parts::{Bank, MemberPins, Pins, SitePins, UnitPins};
 use safl_check::Checked;
 use safl_net::{Net, Sig};
+use safl_sites::Planned;
 use safl_word::{NoMemory, Word};
 use std::alloc::Global;
 
@@ -167,4 +169,199 @@ fn add_functions(alloc: Global, net: &mut Net, c: &Checked) -> Result<Functions,
         members.push(pins.member)?;
     }
     Ok(Functions { units, members })
+}
+
+// The registers of a site.
+fn add_site(
+    alloc: Global,
+    net: &mut Net,
+    p: &Planned,
+    k: u32,
+    units: &[UnitPins],
+) -> Result<SitePins, NoMemory>
+    requires least { 1 ≤ k }
+    requires most { k ≤ (program_of p.now.program).sites }
+    requires units { length units.now ≡ (program_of p.now.program).functions }
+    requires room { HasRoom net.old 3 }
+    ensures added { OnOk result (net.new ≡ with_signals net.old (map open_register (site_lines (program_of p.now.program) (choice_of p.now) k))) }
+    ensures pinned { IfOk result (λ s. SitePinned (program_of p.now.program) (choice_of p.now) k (length net.old.signals) units.now s) }
+{
+    let c = p.checked();
+    let _functions = c.functions();
+    let callee = c.callee(k);
+    let sent = add_register(net, numbered(alloc, "sent$", k)?.as_str(), 1)?;
+    let got = add_register(net, numbered(alloc, "got$", k)?.as_str(), 1)?;
+    if !p.kept(k) {
+        let keep = units[callee as usize].res;
+        return Ok(SitePins { sent, got, keep });
+    }
+    let keep = add_register(net, numbered(alloc, "keep$", k)?.as_str(), c.width(callee))?;
+    Ok(SitePins { sent, got, keep })
+}
+
+// The registers of all sites, by number.
+fn add_sites(
+    alloc: Global,
+    net: &mut Net,
+    p: &Planned,
+    units: &[UnitPins],
+) -> Result<Vec<SitePins>, NoMemory>
+    requires units { length units.now ≡ (program_of p.now.program).functions }
+    requires room { HasRoom net.old (3 * (program_of p.now.program).sites + 3) }
+    ensures added { OnOk result (net.new ≡ with_signals net.old (map open_register (lines (site_lines (program_of p.now.program) (choice_of p.now)) (suc (program_of p.now.program).sites)))) }
+    ensures pinned { IfOk result (λ s. SitesPinned (program_of p.now.program) (choice_of p.now) (length net.old.signals) (suc (program_of p.now.program).sites) units.now s.items) }
+{
+    let c = p.checked();
+    let _functions = c.functions();
+    let mut sites = Vec::new(alloc);
+    sites.push(SitePins {
+        sent: Sig(0),
+        got: Sig(0),
+        keep: Sig(0),
+    })?;
+    for k in 1..c.sites() + 1 {
+        let pins = add_site(alloc, net, p, k, units)?;
+        sites.push(pins)?;
+    }
+    Ok(sites)
+}
+
+// The named wires of a function.
+fn add_body_wires(alloc: Global, net: &mut Net, c: &Checked, f: u32) -> Result<(), NoMemory>
+    requires function { f < (program_of c.now).functions }
+    requires room { HasRoom net.old 2 }
+    ensures { OnOk result (net.new ≡ with_signals net.old (map open_wire (function_wires (names_of c.now) f))) }
+{
+    let name = c.name(f);
+    add_wire(net, headed(alloc, "end$", name)?.as_str())?;
+    add_wire(net, headed(alloc, "loop$", name)?.as_str())?;
+    Ok(())
+}
+
+// The named wires of all functions.
+fn add_all_body_wires(alloc: Global, net: &mut Net, c: &Checked) -> Result<(), NoMemory>
+    requires { HasRoom net.old (2 * (program_of c.now).functions) }
+    ensures { OnOk result (net.new ≡ with_signals net.old (map open_wire (lines (function_wires (names_of c.now)) (program_of c.now).functions))) }
+{
+    for f in 0..c.functions() {
+        add_body_wires(alloc, net, c, f)?;
+    }
+    Ok(())
+}
+
+// The wire that says that the arbiter of the callee's unit grants a site, where there is one.
+fn add_arbiter_wire(
+    alloc: Global,
+    net: &mut Net,
+    p: &Planned,
+    k: u32,
+    callee: u32,
+) -> Result<(), NoMemory>
+    requires callee { callee ≡ (program_of p.now.program).callee k }
+    requires function { callee < (program_of p.now.program).functions }
+    requires room { HasRoom net.old 1 }
+    ensures { OnOk result (net.new ≡ with_signals net.old (map open_wire (arbiter_line (program_of p.now.program) (choice_of p.now) k))) }
+{
+    if !p.arbiter(callee) {
+        return Ok(());
+    }
+    add_wire(net, numbered(alloc, "arb$", k)?.as_str())?;
+    Ok(())
+}
+
+// The named wires of a site.
+fn add_call_wires(alloc: Global, net: &mut Net, p: &Planned, k: u32) -> Result<(), NoMemory>
+    requires least { 1 ≤ k }
+    requires most { k ≤ (program_of p.now.program).sites }
+    requires room { HasRoom net.old 4 }
+    ensures { OnOk result (net.new ≡ with_signals net.old (map open_wire (site_wires (program_of p.now.program) (choice_of p.now) k))) }
+{
+    let c = p.checked();
+    let _functions = c.functions();
+    let callee = c.callee(k);
+    add_wire(net, numbered(alloc, "want$", k)?.as_str())?;
+    add_wire(net, numbered(alloc, "ret$", k)?.as_str())?;
+    add_arbiter_wire(alloc, net, p, k, callee)?;
+    add_wire(net, numbered(alloc, "go$", k)?.as_str())?;
+    Ok(())
+}
+
+// The named wires of all sites.
+fn add_all_call_wires(alloc: Global, net: &mut Net, p: &Planned) -> Result<(), NoMemory>
+    requires { HasRoom net.old (4 * (program_of p.now.program).sites + 4) }
+    ensures { OnOk result (net.new ≡ with_signals net.old (map open_wire (lines (site_wires (program_of p.now.program) (choice_of p.now)) (suc (program_of p.now.program).sites)))) }
+{
+    let c = p.checked();
+    let _functions = c.functions();
+    for k in 1..c.sites() + 1 {
+        add_call_wires(alloc, net, p, k)?;
+    }
+    Ok(())
+}
+
+// The ports of a function's arguments.
+fn add_ports(alloc: Global, net: &mut Net, c: &Checked, f: u32) -> Result<Vec<Sig>, NoMemory>
+    requires function { f < (program_of c.now).functions }
+    requires room { HasRoom net.old (arity (program_of c.now) f) }
+    ensures added { OnOk result (net.new ≡ with_signals net.old (map input_line (port_lines (program_of c.now) (names_of c.now) f))) }
+    ensures order { IfOk result (λ v. v.items ≡ numbered (length net.old.signals) (arity (program_of c.now) f)) }
+{
+    let _functions = c.functions();
+    let mut words = Vec::new(alloc);
+    for i in 0..c.params(f) {
+        let name = headed(alloc, "in$", c.param_name(f, i))?;
+        let s = add_input(net, name.as_str(), c.param_width(f, i))?;
+        words.push(s)?;
+    }
+    Ok(words)
+}
+
+// All named wires.
+fn add_wires(alloc: Global, net: &mut Net, p: &Planned) -> Result<(), NoMemory>
+    requires { HasRoom net.old (2 * (program_of p.now.program).functions + 4 * (program_of p.now.program).sites + 5) }
+    ensures { OnOk result (net.new ≡ with_signals net.old (map open_wire (layout_wires (program_of p.now.program) (names_of p.now.program) (choice_of p.now)))) }
+{
+    add_all_body_wires(alloc, net, p.checked())?;
+    add_all_call_wires(alloc, net, p)?;
+    add_wire(net, "go$main")?;
+    Ok(())
+}
+
+/// A net with the ports, registers and named wires of a circuit, and their signals.
+#[derive(Drop)]
+pub struct Declared {
+    pub net: Net,
+    pub pins: Pins,
+}
+
+/// The ports, registers and named wires of a program's circuit in their order, the registers without next signals and
+/// the wires without cells.
+pub fn declare(alloc: Global, p: &Planned) -> Result<Declared, NoMemory>
+    ensures net { IfOk result (λ d. d.net ≡ declared_net (program_of p.now.program) (names_of p.now.program) (choice_of p.now)) }
+    ensures pins { IfOk result (λ d. ArePins (program_of p.now.program) (names_of p.now.program) (choice_of p.now) d.pins) }
+{
+    let c = p.checked();
+    let _functions = c.functions();
+    let main = main_function(c);
+    let mut net = Net::new(alloc);
+    let start = add_input(&mut net, "start", 1)?;
+    let words = add_ports(alloc, &mut net, c, main)?;
+    let first_register = net.signals();
+    let functions = add_functions(alloc, &mut net, c)?;
+    let sites = add_sites(alloc, &mut net, p, functions.units.as_slice())?;
+    let first_wire = net.signals();
+    add_wires(alloc, &mut net, p)?;
+    let bank = Bank {
+        units: functions.units,
+        members: functions.members,
+        sites,
+    };
+    let pins = Pins {
+        start,
+        words,
+        bank,
+        first_register,
+        first_wire,
+    };
+    Ok(Declared { net, pins })
 }

@@ -51,3 +51,11 @@ pub fn has_peers(c: &Checked, f: u32) -> bool
     }
     f + 1 < functions && c.unit(f + 1) == f
 }
+
+/// The number of main.
+pub fn main_function(c: &Checked) -> u32
+    ensures number { result ≡ (program_of c.now).main }
+    ensures within { result < (program_of c.now).functions }
+{
+    c.functions() - 1
+}

@@ -1,0 +1,22 @@
+use Rattle.std.proofs.Common.{arith}
+use Rattle.safl_unit.specs.Names.{names_of}
+use Rattle.safl_unit.specs.Layout.{lines, function_wires}
+use Rattle.safl_compile.specs.Finished.{open_wire}
+use Rattle.safl_compile.proofs.Declaring.{lines_count}
+use Rattle.safl_compile.proofs.Pinning.{lines_start, lines_next, body_wires_count}
+use Rattle.safl_compile.proofs.declare.add_all_body_wires.Goals as goal
+
+pub loop-f-init : goal.loop-f-init
+loop-f-init c = lines_start c.args.net.now open_wire (function_wires (names_of c.args.c.now))
+
+pub add_body_wires-requires-clause-room : goal.add_body_wires-requires-clause-room
+add_body_wires-requires-clause-room c =
+    let a = lines_count c.args.net.now c.loop-f.net open_wire (lines (function_wires (names_of c.args.c.now)) c.loop-f.f) c.loop-f.invariant in
+    let b = body_wires_count (names_of c.args.c.now) c.loop-f.f in
+    let l = c.loop-f-test.true in
+    let e = c.functions-f-end.ensures.count in
+    let r = c.requires in
+    omega (arith, a, b, l, e, r)
+
+pub loop-f-preserved : goal.loop-f-preserved
+loop-f-preserved c = lines_next c.args.net.now c.loop-f.net c.add_body_wires.new.net open_wire (function_wires (names_of c.args.c.now)) c.loop-f.f c.loop-f.invariant c.in_ok-add_body_wires.ensures
