@@ -7,7 +7,7 @@ use Rattle.safl_net.specs.declared.cell.Sig.{Sig}
 use Rattle.safl_net.specs.Netlist.{Netlist}
 use Rattle.safl_net.specs.Growth.{Val, words, Wired, Grows}
 use Rattle.safl_net.proofs.Growth.{grows_on, wired_before, width_kept, sized_kept}
-use Rattle.safl_net.specs.Settled.{AreSteady, SettledOn}
+use Rattle.safl_net.specs.Settled.{AreSteady, SettlesOn}
 use Rattle.safl_net.proofs.Settling.{steady_grown, are_steady_grown, are_steady_more}
 use Rattle.safl_lower.specs.declared.parts.Ports.{Ports}
 use Rattle.safl_lower.specs.declared.parts.Lowered.{Lowered}
@@ -58,7 +58,7 @@ pub record Branches (path : Sig) (n m : Netlist) (test : Lowered) (yes no : Sig)
   pub no_bit : BitAt m no
   pub yes_on : (v : Val) → Wired m v → on v yes ≡ ((on v path && is_ready v test.ready) && on v test.value)
   pub no_on : (v : Val) → Wired m v → on v no ≡ ((on v path && is_ready v test.ready) && not (on v test.value))
-  pub settled : SettledOn n (path ∷ results test) → SettledOn m (yes ∷ no ∷ [])
+  pub settled : AreSteady n (path ∷ results test) → SettlesOn n m (yes ∷ no ∷ [])
 
 pub record Chosen (n m : Netlist) (test yes no r : Lowered) : Type 0 where
   pub grows : Grows n m
@@ -66,7 +66,7 @@ pub record Chosen (n m : Netlist) (test yes no r : Lowered) : Type 0 where
   pub shape : (w : ℕ) → Shaped n yes w → Shaped n no w → Shaped m r w
   pub value : (v : Val) → Wired m v → v r.value.0 ≡ cond (on v test.value) (v yes.value.0) (v no.value.0)
   pub ready : (v : Val) → Wired m v → is_ready v r.ready ≡ (is_ready v test.ready && cond (on v test.value) (is_ready v yes.ready) (is_ready v no.ready))
-  pub settled : SettledOn n (results test) → AreSteady n (results yes) → AreSteady n (results no) → SettledOn m (results r)
+  pub settled : AreSteady n (results test) → AreSteady n (results yes) → AreSteady n (results no) → SettlesOn n m (results r)
 
 pub lowers_if : {P : Ports} {slots : List Sig} {path py pn : Sig} {n0 n1 n2 n3 n4 n5 : Netlist} {o0 o1 o2 o3 : Out} {test yes no r : Lowered} {c a b : Term}
     → Lowers P slots path n0 n1 o0 o1 test c → Branches path n1 n2 test py pn → Lowers P slots py n2 n3 o1 o2 yes a → Lowers P slots pn n3 n4 o2 o3 no b → Chosen n4 n5 test yes no r
@@ -78,11 +78,12 @@ lowers_if {P} {slots} {path} {py} {pn} {n0} {n1} {n2} {n3} {n4} {n5} {o0} {o1} {
       let g2 = grows_on hc.grows hp.grows in
       let g3 = grows_on g2 ha.grows in
       let at1 = hc.settled p h k in
-      let at2 = hp.settled (record { net = at1.0.net; signals = (steady_grown hc.grows path.0 h.signals.0, at1.0.signals) }) in
-      let at3 = ha.settled (sites_grown P g2 p) (record { net = at2.net; signals = (at2.signals.0, are_steady_grown g2 slots h.signals.1) }) (out_grown hp.grows at1.1) in
-      let at4 = hb.settled (sites_grown P g3 p) (record { net = at3.0.net; signals = (steady_grown ha.grows pn.0 at2.signals.1.0, are_steady_grown g3 slots h.signals.1) }) at3.1 in
+      let at2 = hp.settled (steady_grown hc.grows path.0 h.0, at1.0.signals) in
+      let at3 = ha.settled (sites_grown P g2 p) (at2.signals.0, are_steady_grown g2 slots h.1) (out_grown hp.grows at1.1) in
+      let at4 = hb.settled (sites_grown P g3 p) (steady_grown ha.grows pn.0 at2.signals.1.0, are_steady_grown g3 slots h.1) at3.1 in
       let tested = are_steady_grown (grows_on hp.grows (grows_on ha.grows hb.grows)) (results test) at1.0.signals in
-      (hr.settled (record { net = at4.0.net; signals = tested }) (are_steady_grown hb.grows (results yes) at3.0.signals) at4.0.signals, out_grown hr.grows at4.1);
+      let at5 = hr.settled tested (are_steady_grown hb.grows (results yes) at3.0.signals) at4.0.signals in
+      (record { net = λ x. at5.net (at4.0.net (at3.0.net (at2.net (at1.0.net x)))); signals = at5.signals }, out_grown hr.grows at4.1);
   quiet = λ F env w t. hb.quiet F env w (no_typed t) ∙ ha.quiet F env w (yes_typed t) ∙ hc.quiet F env 1 (test_typed t);
   cheap = λ F tail env w t. let i = ap cost (hc.quiet F env 1 (test_typed t)) in let j = ha.cheap F tail env w (yes_typed t) in let k = hb.cheap F tail env w (no_typed t) in omega (arith, i, j, k);
   within = λ F tail env w s t x.
@@ -174,14 +175,14 @@ pub record Inner (path : Sig) (n m : Netlist) (ready : Option Sig) (inner : Sig)
   pub count : length m.signals ≤ length n.signals + 1
   pub bit : BitAt m inner
   pub is : (v : Val) → Wired m v → on v inner ≡ (on v path && is_ready v ready)
-  pub settled : SettledOn n (path ∷ listed ready) → SettledOn m (inner ∷ [])
+  pub settled : AreSteady n (path ∷ listed ready) → SettlesOn n m (inner ∷ [])
 
 pub record Both (n m : Netlist) (q r s : Option Sig) : Type 0 where
   pub grows : Grows n m
   pub count : length m.signals ≤ length n.signals + 1
   pub bit : ReadyAt m s
   pub is : (v : Val) → Wired m v → is_ready v s ≡ (is_ready v q && is_ready v r)
-  pub settled : SettledOn n (listed q) → AreSteady n (listed r) → SettledOn m (listed s)
+  pub settled : AreSteady n (listed q) → AreSteady n (listed r) → SettlesOn n m (listed s)
 
 pub lowers_let : {P : Ports} {slots : List Sig} {path inner : Sig} {n0 n1 n2 n3 n4 : Netlist} {o0 o1 o2 : Out} {bound : LoweredAll} {body : Lowered} {ready : Option Sig} {bs : Terms} {b : Term}
     → LowersAll P slots path n0 n1 o0 o1 bound bs → Inner path n1 n2 bound.ready inner → Lowers P (slots ++ bound.values.items) inner n2 n3 o1 o2 body b → Both n3 n4 bound.ready body.ready ready
@@ -192,11 +193,11 @@ lowers_let {P} {slots} {path} {inner} {n0} {n1} {n2} {n3} {n4} {o0} {o1} {o2} {b
   settled = λ p h k.
       let g2 = grows_on hs.grows hi.grows in
       let at1 = hs.settled p h k in
-      let at2 = hi.settled (record { net = at1.0.net; signals = (steady_grown hs.grows path.0 h.signals.0, at1.0.signals) }) in
-      let scope = are_steady_more n2 slots bound.values.items (are_steady_grown g2 slots h.signals.1) (are_steady_grown hi.grows bound.values.items at1.1) in
-      let at3 = hb.settled (sites_grown P g2 p) (record { net = at2.net; signals = (at2.signals.0, scope) }) (out_grown hi.grows at1.2) in
-      let at4 = hr.settled (record { net = at3.0.net; signals = are_steady_grown (grows_on hi.grows hb.grows) (listed bound.ready) at1.0.signals }) at3.0.signals.1 in
-      (record { net = at4.net; signals = (steady_grown hr.grows body.value.0 at3.0.signals.0, at4.signals) }, out_grown hr.grows at3.1);
+      let at2 = hi.settled (steady_grown hs.grows path.0 h.0, at1.0.signals) in
+      let scope = are_steady_more n2 slots bound.values.items (are_steady_grown g2 slots h.1) (are_steady_grown hi.grows bound.values.items at1.1) in
+      let at3 = hb.settled (sites_grown P g2 p) (at2.signals.0, scope) (out_grown hi.grows at1.2) in
+      let at4 = hr.settled (are_steady_grown (grows_on hi.grows hb.grows) (listed bound.ready) at1.0.signals) at3.0.signals.1 in
+      (record { net = λ x. at4.net (at3.0.net (at2.net (at1.0.net x))); signals = (steady_grown hr.grows body.value.0 at3.0.signals.0, at4.signals) }, out_grown hr.grows at3.1);
   quiet = λ F env w t. hb.quiet F (env ++ t.width.0) w (body_typed t) ∙ hs.quiet F env t.width.0 (bound_typed t);
   cheap = λ F tail env w t. let i = ap cost (hs.quiet F env t.width.0 (bound_typed t)) in let j = hb.cheap F tail (env ++ t.width.0) w (body_typed t) in omega (arith, i, j);
   within = λ F tail env w s t x.

@@ -12,7 +12,7 @@ use Rattle.safl_net.specs.declared.cell.Sig.{Sig}
 use Rattle.safl_net.specs.Netlist.{Netlist}
 use Rattle.safl_net.specs.Growth.{Val, words, Wired, Sized, Grows}
 use Rattle.safl_net.proofs.Growth.{grows_on, wired_before}
-use Rattle.safl_net.specs.Settled.{AreSteady, SettledOn}
+use Rattle.safl_net.specs.Settled.{AreSteady, SettlesOn}
 use Rattle.safl_net.proofs.Settling.{steady_grown}
 use Rattle.safl_lower.specs.declared.parts.Ports.{Ports}
 use Rattle.safl_lower.specs.declared.parts.Lowered.{Lowered}
@@ -94,7 +94,7 @@ pub record Asked (P : Ports) (path : Sig) (n m : Netlist) (o p : Out) (k : ℕ) 
   pub entry : Enters m o.wants.items p.wants.items k all
   pub loops : p.loops.items ≡ o.loops.items
   pub wants : (v : Val) → Wired m v → (j : ℕ) → asked v p.wants.items j ≡ or_else (asked v o.wants.items j) (gate (k == j) (gate (open_at v P path k) (gathered v all)))
-  pub settled : SitesSteady n P → SettledOn n (path ∷ listed all.ready) → AreSteady n all.values.items → OutSteady n o → SettledOn m (results r) × OutSteady m p
+  pub settled : SitesSteady n P → AreSteady n (path ∷ listed all.ready) → AreSteady n all.values.items → OutSteady n o → SettlesOn n m (results r) × OutSteady m p
 
 pub lowers_call : {P : Ports} {slots : List Sig} {path : Sig} {n0 n1 n2 : Netlist} {o0 o1 o2 : Out} {all : LoweredAll} {f k : ℕ} {ts : Terms} {r : Lowered}
     → LowersAll P slots path n0 n1 o0 o1 all ts → Asked P path n1 n2 o1 o2 k all r
@@ -105,7 +105,8 @@ lowers_call {P} {slots} {path} {n0} {n1} {n2} {o0} {o1} {o2} {all} {f} {k} {ts} 
   tails = λ F tail env w t. ap (map member_of) (ha.loops ∙ hs.quiet F env (F.program.params f) (args_typed t)) ∙ no_more (map member_of o0.loops.items);
   settled = λ p h y.
       let a = hs.settled p h y in
-      ha.settled (sites_grown P hs.grows p) (record { net = a.0.net; signals = (steady_grown hs.grows path.0 h.signals.0, a.0.signals) }) a.1 a.2;
+      let b = ha.settled (sites_grown P hs.grows p) (steady_grown hs.grows path.0 h.0, a.0.signals) a.1 a.2 in
+      (record { net = λ q. b.0.net (a.0.net q); signals = b.0.signals }, b.1);
   quiet = λ F env w t. ha.loops ∙ hs.quiet F env (F.program.params f) (args_typed t);
   cheap = λ F tail env w t. let i = ap cost (ha.loops ∙ hs.quiet F env (F.program.params f) (args_typed t)) in omega (arith, i);
   within = λ F tail env w s t x. between_same P.first_member (P.first_member + P.members) o0.loops.items o2.loops.items (ha.loops ∙ hs.quiet F env (F.program.params f) (args_typed t)) x;
@@ -163,7 +164,7 @@ pub record Gone (P : Ports) (path : Sig) (n m : Netlist) (o p : Out) (h : ℕ) (
   pub never : (v : Val) → Wired m v → is_ready v r.ready ≡ false
   pub wants : p.wants.items ≡ o.wants.items
   pub loops : (v : Val) → Wired m v → went v p.loops.items ≡ or_else (went v o.loops.items) (gate (on v path) (goes_with h (gathered v all)))
-  pub settled : SettledOn n (path ∷ listed all.ready) → AreSteady n all.values.items → OutSteady n o → SettledOn m (results r) × OutSteady m p
+  pub settled : AreSteady n (path ∷ listed all.ready) → AreSteady n all.values.items → OutSteady n o → SettlesOn n m (results r) × OutSteady m p
 
 pub lowers_loop : {P : Ports} {slots : List Sig} {path : Sig} {n0 n1 n2 : Netlist} {o0 o1 o2 : Out} {all : LoweredAll} {h : ℕ} {ts : Terms} {r : Lowered}
     → LowersAll P slots path n0 n1 o0 o1 all ts → Gone P path n1 n2 o1 o2 h all r
@@ -173,7 +174,8 @@ lowers_loop {P} {slots} {path} {n0} {n1} {n2} {o0} {o1} {o2} {all} {h} {ts} {r} 
   tails = λ F tail env w t. ap (map member_of) hg.entry.is ∙ map_end member_of o1.loops.items _ ∙ ap (λ (l : List TailCall). map member_of l ++ h ∷ []) (hs.quiet F env (F.program.params h) (next_typed t));
   settled = λ p k y.
       let a = hs.settled p k y in
-      hg.settled (record { net = a.0.net; signals = (steady_grown hs.grows path.0 k.signals.0, a.0.signals) }) a.1 a.2;
+      let b = hg.settled (steady_grown hs.grows path.0 k.0, a.0.signals) a.1 a.2 in
+      (record { net = λ q. b.0.net (a.0.net q); signals = b.0.signals }, b.1);
   quiet = λ F env w t. false_true t.spans.0;
   cheap = λ F tail env w t. let i = ap cost (hs.quiet F env (F.program.params h) (next_typed t)) in let j = ap cost hg.entry.is ∙ cost_end o1.loops.items (record { member = h; taken = hg.entry.taken; args = all.values }) in let k = hs.long in omega (arith, i, j, k);
   within = λ F tail env w s t x.

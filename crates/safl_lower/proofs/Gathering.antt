@@ -7,7 +7,7 @@ use Rattle.safl_net.specs.declared.cell.Sig.{Sig}
 use Rattle.safl_net.specs.Netlist.{Netlist}
 use Rattle.safl_net.specs.Growth.{Val, words, Wired, Grows, Sized}
 use Rattle.safl_net.proofs.Growth.{grows_on, grows_none, width_kept, wired_before, sized_kept}
-use Rattle.safl_net.specs.Settled.{IsSettled, SettledOn}
+use Rattle.safl_net.specs.Settled.{IsSteady, IsSettled}
 use Rattle.safl_lower.specs.declared.parts.TailCall.{TailCall}
 use Rattle.safl_lower.specs.declared.parts.Rows.{Rows}
 use Rattle.safl_lower.specs.Bits.{on}
@@ -82,14 +82,14 @@ pub record Merging (z : Sig) (first count : ℕ) (old new : Netlist) (all rest :
   pub paid : tail_cost z bits args + cost rest ≤ cost all
   pub part : (k : ℕ) → Listed k (map member_of rest) → Listed k (map member_of all)
   pub idle : (i : ℕ) (l : Sig) (a : Vec Sig Global) → slice_get bits i ≡ Some l → slice_get args i ≡ Some a → ¬ Listed (first + i) (map member_of all) → Untaken z l a.items
-  pub settled : SettledOn old (z ∷ []) → LoopsSteady old all → IsSettled new × RowsSteady new bits args × LoopsSteady new rest
+  pub settled : IsSteady old z.0 → LoopsSteady old all → (IsSettled old → IsSettled new) × RowsSteady new bits args × LoopsSteady new rest
 
 pub merging_start : (z : Sig) (first count : ℕ) (n : Netlist) (all : List TailCall) (bits : List Sig) (args : List (Vec Sig Global)) → AllZero z bits → AllEmpty args → length bits ≡ count → length args ≡ count → Between first (first + count) (map member_of all) → Merging z first count n n all all bits args
 merging_start z first count n all bits args h a e f b = record {
   paid = let k = zeros_cost z bits args h in omega (arith, k);
   part = λ k x. x;
   idle = λ i l r p q no. (zero_only z bits i l h p, empty_only args i r a q);
-  settled = λ s l. (s.net, rows_start n z bits args h a s.signals.0, l);
+  settled = λ s l. (λ x. x, rows_start n z bits args h a s, l);
   grows = grows_none n;
   room = omega arith;
   bits_length = e;
@@ -224,8 +224,8 @@ module _ {z : Sig} {first count : ℕ} {old cur : Netlist} {all all_rest : List 
           settled = λ s l.
               let k = h.settled s l in
               let t = loops_steady_front cur rest e (subst (LoopsSteady cur) q k.2) in
-              let r = d.settled (record { net = k.0; signals = (t.1, t.2) }) k.1 in
-              (r.0, r.1, loops_grown g rest t.0);
+              let r = d.settled (t.1, t.2) k.1 in
+              (λ x. r.0 (k.0 x), r.1, loops_grown g rest t.0);
           left = λ F x. loops_kept F rest g (loops_front F cur rest e (subst (LoopsFit F cur) q (h.left F x))).0;
           fits = λ F x i l a p r.
               let lo = there bits (e.member - first) lb in

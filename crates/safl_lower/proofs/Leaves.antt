@@ -9,7 +9,7 @@ use Rattle.safl_net.specs.declared.cell.Sig.{Sig}
 use Rattle.safl_net.specs.Netlist.{Netlist}
 use Rattle.safl_net.specs.Growth.{Val, words, Wired, width_at, Sized, Grows}
 use Rattle.safl_net.proofs.Growth.{grows_on, grows_none, wired_before}
-use Rattle.safl_net.specs.Settled.{IsSettled, SettledOn}
+use Rattle.safl_net.specs.Settled.{AreSteady, SettlesOn}
 use Rattle.safl_net.proofs.Settling.{are_steady_grown, steady_at}
 use Rattle.safl_lower.specs.declared.parts.Ports.{Ports}
 use Rattle.safl_lower.specs.declared.parts.LoweredAll.{LoweredAll}
@@ -26,12 +26,12 @@ use Rattle.safl_lower.proofs.Gathered.{stays, stays_by, no_more, out_kept, told_
 -- ---- leaves
 
 pub lowers_const : {P : Ports} {slots : List Sig} {path s : Sig} {n0 n1 : Netlist} {o : Out} {w : Word}
-    → Grows n0 n1 → length n1.signals ≤ length n0.signals + 1 → width_at n1 s.0 ≡ Some w.width → ((v : Val) → Wired n1 v → v s.0 ≡ w) → (IsSettled n0 → SettledOn n1 (s ∷ []))
+    → Grows n0 n1 → length n1.signals ≤ length n0.signals + 1 → width_at n1 s.0 ≡ Some w.width → ((v : Val) → Wired n1 v → v s.0 ≡ w) → SettlesOn n0 n1 (s ∷ [])
     → Lowers P slots path n0 n1 o o (record { ready = None; value = s }) (Const w)
 unfolding answer wanted
 lowers_const {P} {slots} {path} {s} {n0} {n1} {o} {w} g c x y st = record {
   tails = λ F tail env n t. no_more (map member_of o.loops.items);
-  settled = λ p h k. (st h.net, out_grown g k);
+  settled = λ p h k. (st, out_grown g k);
   quiet = λ F env n t. refl;
   cheap = λ F tail env n t. omega arith;
   within = λ F tail env n s t x. x;
@@ -74,7 +74,7 @@ pub lowers_var : {P : Ports} {slots : List Sig} {path s : Sig} {n : Netlist} {o 
 unfolding answer wanted
 lowers_var {P} {slots} {path} {s} {n} {o} {i} e = record {
   tails = λ F tail env n t. no_more (map member_of o.loops.items);
-  settled = λ p h k. (record { net = h.net; signals = (steady_at n slots i s h.signals.1 e, tt) }, k);
+  settled = λ p h k. (record { net = λ q. q; signals = (steady_at n slots i s h.1 e, tt) }, k);
   quiet = λ F env n t. refl;
   cheap = λ F tail env n t. omega arith;
   within = λ F tail env n s t x. x;
@@ -106,15 +106,15 @@ applied p false ws (Some vs) e = absurd (cc)
 pub lowers_op : {P : Ports} {slots : List Sig} {path s : Sig} {n0 n1 n2 : Netlist} {o0 o1 : Out} {all : LoweredAll} {p : Primitive} {ts : Terms}
     → LowersAll P slots path n0 n1 o0 o1 all ts → Grows n1 n2 → length n2.signals ≤ length n1.signals + 2
     → ((ws : List ℕ) (w : ℕ) → Sized n1 all.values.items ws → result_width p ws ≡ Some w → width_at n2 s.0 ≡ Some w)
-    → ((v : Val) → Wired n2 v → v s.0 ≡ apply_prim p (words v all.values.items)) → (SettledOn n1 all.values.items → SettledOn n2 (s ∷ []))
+    → ((v : Val) → Wired n2 v → v s.0 ≡ apply_prim p (words v all.values.items)) → (AreSteady n1 all.values.items → SettlesOn n1 n2 (s ∷ []))
     → Lowers P slots path n0 n2 o0 o1 (record { ready = all.ready; value = s }) (Op p ts)
 unfolding answer wanted
 lowers_op {P} {slots} {path} {s} {n0} {n1} {n2} {o0} {o1} {all} {p} {ts} hs g c x y st = record {
   tails = λ F tail env w t. ap (map member_of) (hs.quiet F env t.width.0 (parts_typed t)) ∙ no_more (map member_of o0.loops.items);
   settled = λ q h k.
       let a = hs.settled q h k in
-      let b = st (record { net = a.0.net; signals = a.1 }) in
-      (record { net = b.net; signals = (b.signals.0, are_steady_grown g (listed all.ready) a.0.signals) }, out_grown g a.2);
+      let b = st a.1 in
+      (record { net = λ x. b.net (a.0.net x); signals = (b.signals.0, are_steady_grown g (listed all.ready) a.0.signals) }, out_grown g a.2);
   quiet = λ F env w t. hs.quiet F env t.width.0 (parts_typed t);
   cheap = λ F tail env w t. let i = ap cost (hs.quiet F env t.width.0 (parts_typed t)) in omega (arith, i);
   within = λ F tail env w s t x. between_same P.first_member (P.first_member + P.members) o0.loops.items o1.loops.items (hs.quiet F env t.width.0 (parts_typed t)) x;

@@ -108,7 +108,7 @@ none_shape F env (w ∷ ws) n r e f t = absurd t
 pub lowers_none : {P : Ports} {slots : List Sig} {path : Sig} {n : Netlist} {o : Out} {r : LoweredAll} → r.ready ≡ None → r.values.items ≡ [] → LowersAll P slots path n n o o r Nil
 unfolding answer wanted
 lowers_none {P} {slots} {path} {n} {o} {r} e f = record {
-  settled = λ p h k. (record { net = h.net; signals = subst (λ (q : Option Sig). AreSteady n (listed q)) (sym e) tt }, subst (AreSteady n) (sym f) tt, k);
+  settled = λ p h k. (record { net = λ q. q; signals = subst (λ (q : Option Sig). AreSteady n (listed q)) (sym e) tt }, subst (AreSteady n) (sym f) tt, k);
   quiet = λ F env ws t. refl;
   long = let k = ap length f in omega (arith, k);
   more = [];
@@ -130,10 +130,10 @@ pub lowers_more : {P : Ports} {slots : List Sig} {path : Sig} {n0 n1 n2 n3 : Net
 lowers_more {P} {slots} {path} {n0} {n1} {n2} {n3} {o0} {o1} {o2} {r} {s} {one} {ts} {t} hs ht hb e = record {
   settled = λ p h k.
       let at1 = hs.settled p h k in
-      let at2 = ht.settled (sites_grown P hs.grows p) (record { net = at1.0.net; signals = are_steady_grown hs.grows (path ∷ slots) h.signals }) at1.2 in
-      let at3 = hb.settled (record { net = at2.0.net; signals = are_steady_grown ht.grows (listed r.ready) at1.0.signals }) at2.0.signals.1 in
+      let at2 = ht.settled (sites_grown P hs.grows p) (are_steady_grown hs.grows (path ∷ slots) h) at1.2 in
+      let at3 = hb.settled (are_steady_grown ht.grows (listed r.ready) at1.0.signals) at2.0.signals.1 in
       let front = are_steady_grown (grows_on ht.grows hb.grows) r.values.items at1.1 in
-      (at3, subst (AreSteady n3) (sym e) (are_steady_more n3 r.values.items (one.value ∷ []) front (steady_grown hb.grows one.value.0 at2.0.signals.0, tt)), out_grown hb.grows at2.1);
+      (record { net = λ x. at3.net (at2.0.net (at1.0.net x)); signals = at3.signals }, subst (AreSteady n3) (sym e) (are_steady_more n3 r.values.items (one.value ∷ []) front (steady_grown hb.grows one.value.0 at2.0.signals.0, tt)), out_grown hb.grows at2.1);
   quiet = λ F env ws ty. let l = last_typed F env ts t ws ty in ht.quiet F env l.width l.last ∙ hs.quiet F env l.front l.typed;
   long = let k = ap length e ∙ length-append r.values.items (one.value ∷ []) in let i = hs.long in let j = some_nodes t in omega (arith, k, i, j, nodes_end ts t);
   more = hs.more ++ ht.more;

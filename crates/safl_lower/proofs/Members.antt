@@ -7,7 +7,7 @@ use Rattle.safl_net.specs.declared.cell.Sig.{Sig}
 use Rattle.safl_net.specs.Netlist.{Netlist}
 use Rattle.safl_net.specs.Growth.{Val, words, Wired, Grows, Sized, width_at}
 use Rattle.safl_net.proofs.Growth.{grows_on, sized_more, width_kept, wired_before}
-use Rattle.safl_net.specs.Settled.{AreSteady, SettledOn}
+use Rattle.safl_net.specs.Settled.{AreSteady, SettlesOn}
 use Rattle.safl_net.proofs.Settling.{steady_grown, are_steady_grown, steady_at}
 use Rattle.safl_lower.specs.declared.parts.TailCall.{TailCall}
 use Rattle.safl_lower.specs.Bits.{on}
@@ -124,7 +124,7 @@ row_here n z l a own o p e f h = subst (λ (x : Option (Vec Sig Global)). RowAt 
 pub first_added : (n : Netlist) (z l : Sig) (place : ℕ) (bits : List Sig) (args : List (Vec Sig Global)) (e : TailCall) → slice_get bits place ≡ Some l → nat_eq l.0 z.0 ≡ true
     → Adds n n z place bits (slice_set bits place e.taken) args (slice_set args place e.args) e
 first_added n z l place bits args e at q = record {
-  settled = λ s r. (s.net, rows_set n bits args place e.taken e.args r s.signals.0 s.signals.1);
+  settled = λ s r. (λ x. x, rows_set n bits args place e.taken e.args r s.0 s.1);
   long = refl;
   bit = e.taken;
   row = e.args;
@@ -138,14 +138,14 @@ first_added n z l place bits args e at q = record {
 pub next_added : (n m k : Netlist) (z l both : Sig) (place : ℕ) (a row : Vec Sig Global) (bits : List Sig) (args : List (Vec Sig Global)) (e : TailCall) → slice_get bits place ≡ Some l → slice_get args place ≡ Some a → nat_eq l.0 z.0 ≡ false
     → Grows n m → Grows m k → width_at m both.0 ≡ Some 1 → ((v : Val) → Wired m v → v both.0 ≡ cond (on v e.taken) (v e.taken.0) (v l.0))
     → ((ws : List ℕ) → Sized n e.args.items ws → Sized n a.items ws → Sized k row.items ws) → ((v : Val) → Wired k v → words v row.items ≡ cond (on v e.taken) (words v e.args.items) (words v a.items))
-    → (SettledOn n (e.taken ∷ e.taken ∷ l ∷ []) → SettledOn m (both ∷ [])) → (SettledOn m (e.taken ∷ e.args.items) → AreSteady m a.items → SettledOn k row.items) → length row.items ≡ length e.args.items
+    → (AreSteady n (e.taken ∷ e.taken ∷ l ∷ []) → SettlesOn n m (both ∷ [])) → (AreSteady m (e.taken ∷ e.args.items) → AreSteady m a.items → SettlesOn m k row.items) → length row.items ≡ length e.args.items
     → Adds n k z place bits (slice_set bits place both) args (slice_set args place row) e
 next_added n m k z l both place a row bits args e at rt q g h b val siz told muxed filled long = record {
   long = long;
   settled = λ s r.
-      let x = muxed (record { net = s.net; signals = (s.signals.0, (s.signals.0, (steady_at n bits place l r.bits at, tt))) }) in
-      let y = filled (record { net = x.net; signals = are_steady_grown g (e.taken ∷ e.args.items) s.signals }) (are_steady_grown g a.items (args_at n args place a r.args rt)) in
-      (y.net, rows_set k bits args place both row (rows_grown (grows_on g h) bits args r) (steady_grown h both.0 x.signals.0) y.signals);
+      let x = muxed (s.0, (s.0, (steady_at n bits place l r.bits at, tt))) in
+      let y = filled (are_steady_grown g (e.taken ∷ e.args.items) s) (are_steady_grown g a.items (args_at n args place a r.args rt)) in
+      (λ q. y.net (x.net q), rows_set k bits args place both row (rows_grown (grows_on g h) bits args r) (steady_grown h both.0 x.signals.0) y.signals);
   bit = both;
   row = row;
   bits_is = refl;

@@ -3,7 +3,7 @@ use Rattle.std.proofs.Common.{Vec, Global, ◌≡◌, ℕ, zero, suc, List, [], 
 use Rattle.safl_net.specs.declared.cell.Sig.{Sig}
 use Rattle.safl_net.specs.Netlist.{Netlist}
 use Rattle.safl_net.specs.Growth.{Grows}
-use Rattle.safl_net.specs.Settled.{IsSteady, AreSteady, IsSettled, SettledOn}
+use Rattle.safl_net.specs.Settled.{IsSteady, AreSteady, SettlesOn}
 use Rattle.safl_net.proofs.Settling.{steady_grown, are_steady_grown}
 use Rattle.safl_lower.specs.declared.parts.Ports.{Ports}
 use Rattle.safl_lower.specs.declared.parts.Want.{Want}
@@ -74,12 +74,12 @@ args_at n (y ∷ xs) (suc i) x h e = args_at n xs i x h.1 e
 
 -- ---- a gate that reads nothing
 
-pub reads_none : {E : Type 0} (n m : Netlist) (r : Result Sig E) → IfOk r (λ s. SettledOn n [] → SettledOn m (s ∷ [])) → IfOk r (λ s. IsSettled n → SettledOn m (s ∷ []))
-reads_none n m (Ok s) h = λ k. h (record { net = k; signals = tt })
+pub reads_none : {E : Type 0} (n m : Netlist) (r : Result Sig E) → IfOk r (λ s. AreSteady n [] → SettlesOn n m (s ∷ [])) → IfOk r (λ s. SettlesOn n m (s ∷ []))
+reads_none n m (Ok s) h = h tt
 reads_none n m (Err e) h = tt
 
 -- ---- a gate of a constant and another signal
 
-pub prefixed : {E : Type 0} (n k m : Netlist) (r : Result Sig E) (z a : Sig) → Grows n k → (IsSettled n → SettledOn k (z ∷ [])) → IfOk r (λ s. SettledOn k (z ∷ a ∷ []) → SettledOn m (s ∷ [])) → IfOk r (λ s. SettledOn n (a ∷ []) → SettledOn m (s ∷ []))
-prefixed n k m (Ok s) z a g c h = λ x. let y = c x.net in h (record { net = y.net; signals = (y.signals.0, are_steady_grown g (a ∷ []) x.signals) })
+pub prefixed : {E : Type 0} (n k m : Netlist) (r : Result Sig E) (z a : Sig) → Grows n k → SettlesOn n k (z ∷ []) → IfOk r (λ s. AreSteady k (z ∷ a ∷ []) → SettlesOn k m (s ∷ [])) → IfOk r (λ s. AreSteady n (a ∷ []) → SettlesOn n m (s ∷ []))
+prefixed n k m (Ok s) z a g c h = λ x. let y = h (c.signals.0, are_steady_grown g (a ∷ []) x) in record { net = λ q. y.net (c.net q); signals = y.signals }
 prefixed n k m (Err e) z a g c h = tt

@@ -8,7 +8,7 @@ use Rattle.safl_net.specs.declared.cell.Sig.{Sig}
 use Rattle.safl_net.specs.Netlist.{Netlist}
 use Rattle.safl_net.specs.Growth.{Val, Wired, Grows}
 use Rattle.safl_net.proofs.Growth.{grows_on}
-use Rattle.safl_net.specs.Settled.{AreSteady, SettledOn}
+use Rattle.safl_net.specs.Settled.{AreSteady, SettlesOn}
 use Rattle.safl_lower.specs.declared.parts.Ports.{Ports}
 use Rattle.safl_lower.specs.declared.parts.Lowered.{Lowered}
 use Rattle.safl_lower.specs.declared.parts.LoweredAll.{LoweredAll}
@@ -36,7 +36,7 @@ pub done_if : {E : Type 0} {P : Ports} {slots : List Sig} {path py pn : Sig} {n0
     → ((w : ℕ) → Shaped n4 yes w → Shaped n4 no w → IfOk res (λ r. Shaped n5 r w))
     → IfOk res (λ r. (v : Val) → Wired n5 v → v r.value.0 ≡ cond (on v test.value) (v yes.value.0) (v no.value.0))
     → IfOk res (λ r. (v : Val) → Wired n5 v → is_ready v r.ready ≡ (is_ready v test.ready && cond (on v test.value) (is_ready v yes.ready) (is_ready v no.ready)))
-    → IfOk res (λ r. SettledOn n4 (results test) → AreSteady n4 (results yes) → AreSteady n4 (results no) → SettledOn n5 (results r))
+    → IfOk res (λ r. AreSteady n4 (results test) → AreSteady n4 (results yes) → AreSteady n4 (results no) → SettlesOn n4 n5 (results r))
     → IfOk res (λ r. Lowers P slots path n0 n5 o0 o3 r t)
 done_if {P = P} {slots = slots} {path = path} {n0 = n0} {n5 = n5} {o0 = o0} {o3 = o3} (Ok r) e hc hp ha hb g c s v q st =
     subst (λ (x : Term). Lowers P slots path n0 n5 o0 o3 r x) (sym e) (lowers_if hc hp ha hb (record { grows = g; count = c; shape = s; value = v; ready = q; settled = st }))
@@ -50,7 +50,7 @@ pub done_call : {E : Type 0} {P : Ports} {slots : List Sig} {path : Sig} {n0 n1 
     → IfOk res (λ _. Enters n2 o1.wants.items o2.wants.items k all)
     → OnOk res (o2.loops.items ≡ o1.loops.items)
     → IfOk res (λ r. (v : Val) → Wired n2 v → (j : ℕ) → asked v o2.wants.items j ≡ or_else (asked v o1.wants.items j) (gate (k == j) (gate (open_at v P path k) (gathered v all))))
-    → IfOk res (λ r. SitesSteady n1 P → SettledOn n1 (path ∷ listed all.ready) → AreSteady n1 all.values.items → OutSteady n1 o1 → SettledOn n2 (results r) × OutSteady n2 o2)
+    → IfOk res (λ r. SitesSteady n1 P → AreSteady n1 (path ∷ listed all.ready) → AreSteady n1 all.values.items → OutSteady n1 o1 → SettlesOn n1 n2 (results r) × OutSteady n2 o2)
     → IfOk res (λ r. Lowers P slots path n0 n2 o0 o2 r t)
 done_call {P = P} {slots = slots} {path = path} {n0 = n0} {n2 = n2} {o0 = o0} o2 f k (Ok r) e hs g c sh en lo wa st =
     subst (λ (x : Term). Lowers P slots path n0 n2 o0 o2 r x) (sym e)
@@ -66,7 +66,7 @@ pub done_loop : {E : Type 0} {P : Ports} {slots : List Sig} {path : Sig} {n0 n1 
     → IfOk res (λ _. Leaves n2 o1.loops.items o2.loops.items path h all)
     → OnOk res (o2.wants.items ≡ o1.wants.items)
     → IfOk res (λ r. (v : Val) → Wired n2 v → went v o2.loops.items ≡ or_else (went v o1.loops.items) (gate (on v path) (goes_with h (gathered v all))))
-    → IfOk res (λ r. SettledOn n1 (path ∷ listed all.ready) → AreSteady n1 all.values.items → OutSteady n1 o1 → SettledOn n2 (results r) × OutSteady n2 o2)
+    → IfOk res (λ r. AreSteady n1 (path ∷ listed all.ready) → AreSteady n1 all.values.items → OutSteady n1 o1 → SettlesOn n1 n2 (results r) × OutSteady n2 o2)
     → IfOk res (λ r. Lowers P slots path n0 n2 o0 o2 r t)
 done_loop {P = P} {slots = slots} {path = path} {n0 = n0} {n2 = n2} {o0 = o0} o2 (Ok r) e hs g c sh ne en wa lo st =
     subst (λ (x : Term). Lowers P slots path n0 n2 o0 o2 r x) (sym e)

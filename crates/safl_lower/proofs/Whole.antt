@@ -7,7 +7,7 @@ use Rattle.safl_net.specs.declared.cell.Sig.{Sig}
 use Rattle.safl_net.specs.Netlist.{Netlist}
 use Rattle.safl_net.specs.Growth.{Val, words, Wired, Grows}
 use Rattle.safl_net.proofs.Growth.{grows_on, wired_before, width_kept}
-use Rattle.safl_net.specs.Settled.{IsSettled, SettledOn}
+use Rattle.safl_net.specs.Settled.{AreSteady, SettlesOn}
 use Rattle.safl_net.proofs.Settling.{steady_grown}
 use Rattle.safl_lower.specs.declared.parts.Ports.{Ports}
 use Rattle.safl_lower.specs.declared.parts.Lowered.{Lowered}
@@ -84,8 +84,8 @@ all_listed F P env w t es e first last b i l =
 pub bodies : {P : Ports} {args : List Sig} {run : Sig} {n0 n1 n2 n3 n4 : Netlist} {o p : Out} {r : Lowered} {t : Term} (ends off : Sig) (s m : Rows)
     → o.wants.items ≡ [] → o.loops.items ≡ [] → CanLower n0 P args run t
     → Lowers P args run n0 n1 o p r t
-    → Grows n1 n2 → length n2.signals ≤ length n1.signals + 1 → BitAt n2 ends → ((v : Val) → Wired n2 v → on v ends ≡ (on v run && is_ready v r.ready)) → (SettledOn n1 (run ∷ listed r.ready) → SettledOn n2 (ends ∷ []))
-    → Grows n2 n3 → length n3.signals ≤ length n2.signals + 1 → BitAt n3 off → ((v : Val) → Wired n3 v → on v off ≡ false) → (IsSettled n2 → SettledOn n3 (off ∷ [])) → IsConstant n3 off (record { width = 1; bits = 0 })
+    → Grows n1 n2 → length n2.signals ≤ length n1.signals + 1 → BitAt n2 ends → ((v : Val) → Wired n2 v → on v ends ≡ (on v run && is_ready v r.ready)) → (AreSteady n1 (run ∷ listed r.ready) → SettlesOn n1 n2 (ends ∷ []))
+    → Grows n2 n3 → length n3.signals ≤ length n2.signals + 1 → BitAt n3 off → ((v : Val) → Wired n3 v → on v off ≡ false) → SettlesOn n2 n3 (off ∷ []) → IsConstant n3 off (record { width = 1; bits = 0 })
     → Spreads off P.first_site (length P.sites.items) p.wants.items s
     → Grows n3 n4 → length n4.signals ≤ length n3.signals + cost p.loops.items → Merged off P.first_member P.members n3 n4 p.loops.items m
     → Bodies P args run n0 n4 (record { ends = ends; value = r.value; wants = s.bits; site_args = s.args; loops = m.bits; loop_args = m.args; zero = off }) t
@@ -99,13 +99,12 @@ bodies {P} {args} {run} {n0} {n1} {n2} {n3} {n4} {o} {p} {r} {t} ends off s m ew
       me.idle i l a x y (λ q. no (subst (Listed (P.first_member + i)) to q));
   settled = λ ports k.
       let at1 = h.settled ports k (record { wants = subst (WantsSteady n0) (sym ew) tt; loops = subst (LoopsSteady n0) (sym el) tt }) in
-      let at2 = s2 (record { net = at1.0.net; signals = (steady_grown h.grows run.0 k.signals.0, at1.0.signals.1) }) in
-      let at3 = s3 at2.net in
-      let at4 = me.settled at3 (loops_grown (grows_on g2 g3) p.loops.items at1.1.loops) in
+      let at2 = s2 (steady_grown h.grows run.0 k.0, at1.0.signals.1) in
+      let at4 = me.settled s3.signals.0 (loops_grown (grows_on g2 g3) p.loops.items at1.1.loops) in
       let g = grows_on g2 (grows_on g3 g4) in
       record {
-        on = record { net = at4.0; signals = (steady_grown (grows_on g3 g4) ends.0 at2.signals.0, (steady_grown g r.value.0 at1.0.signals.0, tt)) };
-        wants = sp.steady n4 (steady_grown g4 off.0 at3.signals.0) (wants_grown g p.wants.items at1.1.wants);
+        on = record { net = λ x. at4.0 (s3.net (at2.net (at1.0.net x))); signals = (steady_grown (grows_on g3 g4) ends.0 at2.signals.0, (steady_grown g r.value.0 at1.0.signals.0, tt)) };
+        wants = sp.steady n4 (steady_grown g4 off.0 s3.signals.0) (wants_grown g p.wants.items at1.1.wants);
         loops = at4.1;
       };
   grows = grows_on h.grows (grows_on g2 (grows_on g3 g4));

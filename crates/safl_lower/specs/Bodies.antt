@@ -6,7 +6,7 @@ use Rattle.safl_check.specs.Readiness.{word_of, answer, wanted}
 use Rattle.safl_net.specs.declared.cell.Sig.{Sig}
 use Rattle.safl_net.specs.Netlist.{Netlist}
 use Rattle.safl_net.specs.Growth.{Val, words, Wired, width_at, Grows}
-use Rattle.safl_net.specs.Settled.{SettledOn}
+use Rattle.safl_net.specs.Settled.{AreSteady, SettlesOn}
 use Rattle.safl_lower.specs.declared.parts.Ports.{Ports}
 use Rattle.safl_lower.specs.declared.parts.Body.{Body}
 use Rattle.safl_lower.specs.Bits.{on, BitAt, IsConstant}
@@ -40,11 +40,11 @@ pub record BodyFits (P : Ports) (old new : Netlist) (b : Body) (F : Owner) (w : 
   -- each member has a bit, and arguments of its widths, or else zero and no arguments
   pub loops : (i : ℕ) (l : Sig) (a : Vec Sig Global) → slice_get b.loops.items i ≡ Some l → slice_get b.loop_args.items i ≡ Some a → Untaken b.zero l a.items ⊎ RowFits new l a.items (F.program.params (P.first_member + i))
 
--- the net is settled, and all that the body gives is steady
-pub record BodySteady (n : Netlist) (b : Body) : Type 0 where
-  pub on : SettledOn n (b.ends ∷ b.value ∷ [])
-  pub wants : RowsSteady n b.wants.items b.site_args.items
-  pub loops : RowsSteady n b.loops.items b.loop_args.items
+-- a settled net stays settled, and all that the body gives is steady
+pub record BodySteady (old new : Netlist) (b : Body) : Type 0 where
+  pub on : SettlesOn old new (b.ends ∷ b.value ∷ [])
+  pub wants : RowsSteady new b.wants.items b.site_args.items
+  pub loops : RowsSteady new b.loops.items b.loop_args.items
 
 pub record Bodies (P : Ports) (args : List Sig) (run : Sig) (old new : Netlist) (b : Body) (t : Term) : Type 0 where
   pub grows : Grows old new
@@ -62,8 +62,8 @@ pub record Bodies (P : Ports) (args : List Sig) (run : Sig) (old new : Netlist) 
   pub idle : (F : Owner) (env : List ℕ) (w : ℕ) → IsBody F env t w → (i : ℕ) (l : Sig) (a : Vec Sig Global) → slice_get b.loops.items i ≡ Some l → slice_get b.loop_args.items i ≡ Some a → ¬ Listed (P.first_member + i) (tails_of t) → Untaken b.zero l a.items
   -- the other members have no more bits and arguments than the body has terms
   pub tails : (F : Owner) (env : List ℕ) (w : ℕ) → IsBody F env t w → tail_cost b.zero b.loops.items b.loop_args.items ≤ nodes t
-  -- where the net was settled, and its run, arguments and ports steady
-  pub settled : SitesSteady old P → SettledOn old (run ∷ args) → BodySteady new b
+  -- where the run, the arguments and the ports were steady
+  pub settled : SitesSteady old P → AreSteady old (run ∷ args) → BodySteady old new b
   -- `ends` is 1 where the body runs and is ready, and `value` is its word then
   pub ends : (v : Val) → Wired new v → gate (on v b.ends) (Some (v b.value.0)) ≡ gate (on v run) (word_of (answer (back_of v P) (words v args) t))
   -- an own site is wanted where the body runs, the site wasn't sent and the body wants it, with the same words

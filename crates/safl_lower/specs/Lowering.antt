@@ -6,7 +6,7 @@ use Rattle.safl_check.specs.Readiness.{Answer, Ready, LoopTo, NotYet, word_of, o
 use Rattle.safl_net.specs.declared.cell.Sig.{Sig}
 use Rattle.safl_net.specs.Netlist.{Netlist}
 use Rattle.safl_net.specs.Growth.{Val, words, Wired, width_at, Sized, Grows}
-use Rattle.safl_net.specs.Settled.{AreSteady, SettledOn}
+use Rattle.safl_net.specs.Settled.{AreSteady, SettlesOn}
 use Rattle.safl_lower.specs.declared.parts.SitePorts.{SitePorts}
 use Rattle.safl_lower.specs.declared.parts.Ports.{Ports}
 use Rattle.safl_lower.specs.declared.parts.Lowered.{Lowered}
@@ -131,8 +131,8 @@ pub record Lowers (P : Ports) (slots : List Sig) (path : Sig) (old new : Netlist
   pub within : (F : Owner) (tail : Bool) (env : List ℕ) (w : ℕ) → Setting old F P slots env path → Typed F tail env t w → Between P.first_member (P.first_member + P.members) (map member_of o.loops.items) → Between P.first_member (P.first_member + P.members) (map member_of p.loops.items)
   pub more : List TailCall
   pub loops_more : p.loops.items ≡ o.loops.items ++ more
-  -- where the net was settled and what the term reads steady, the net is settled, and all that comes out is steady
-  pub settled : SitesSteady old P → SettledOn old (path ∷ slots) → OutSteady old o → SettledOn new (results r) × OutSteady new p
+  -- where what the term reads was steady, a settled net stays settled, and all that comes out is steady
+  pub settled : SitesSteady old P → AreSteady old (path ∷ slots) → OutSteady old o → SettlesOn old new (results r) × OutSteady new p
   -- every tail call that is made is the term's
   pub told : (F : Owner) (tail : Bool) (env : List ℕ) (w : ℕ) → Typed F tail env t w → (v : Val) → Wired new v → Told v more (gate (on v path) (goes_of (answer (back_of v P) (words v slots) t)))
 
@@ -148,7 +148,7 @@ pub record LowersAll (P : Ports) (slots : List Sig) (path : Sig) (old new : Netl
   pub fits : (F : Owner) (env : List ℕ) (ws : List ℕ) → Setting old F P slots env path → TypedAll F env ts ws → OutFits F old o → OutFits F new p
   pub quiet : (F : Owner) (env : List ℕ) (ws : List ℕ) → TypedAll F env ts ws → p.loops.items ≡ o.loops.items
   pub long : length r.values.items ≤ nodes_in ts
-  pub settled : SitesSteady old P → SettledOn old (path ∷ slots) → OutSteady old o → SettledOn new (listed r.ready) × AreSteady new r.values.items × OutSteady new p
+  pub settled : SitesSteady old P → AreSteady old (path ∷ slots) → OutSteady old o → SettlesOn old new (listed r.ready) × AreSteady new r.values.items × OutSteady new p
   pub more : List TailCall
   pub loops_more : p.loops.items ≡ o.loops.items ++ more
   pub told : (F : Owner) (env : List ℕ) (ws : List ℕ) → TypedAll F env ts ws → (v : Val) → Wired new v → Told v more None

@@ -6,7 +6,7 @@ use Rattle.safl_check.specs.Readiness.{or_else}
 use Rattle.safl_net.specs.declared.cell.Sig.{Sig}
 use Rattle.safl_net.specs.Netlist.{Netlist}
 use Rattle.safl_net.specs.Growth.{Val, words, Wired, Sized}
-use Rattle.safl_net.specs.Settled.{IsSteady, IsSettled, SettledOn}
+use Rattle.safl_net.specs.Settled.{IsSteady, AreSteady, IsSettled}
 use Rattle.safl_lower.specs.declared.parts.Want.{Want}
 use Rattle.safl_lower.specs.declared.parts.TailCall.{TailCall}
 use Rattle.safl_lower.specs.declared.parts.Rows.{Rows}
@@ -85,7 +85,7 @@ pub record Adds (old new : Netlist) (z : Sig) (place : ℕ) (bits bits' : List S
   pub args_is : args' ≡ slice_set args place row
   pub fits : (ws : List ℕ) → RowFits old e.taken e.args.items ws → (slice_get bits place ≡ Some z) ⊎ ((a : Vec Sig Global) × (slice_get args place ≡ Some a) × Sized old a.items ws) → RowFits new bit row.items ws
   pub told : (v : Val) → Wired new v → on v z ≡ false → given v (Some bit) (Some row) ≡ or_else (gate (on v e.taken) (Some (words v e.args.items))) (given v (slice_get bits place) (slice_get args place))
-  pub settled : SettledOn old (e.taken ∷ e.args.items) → RowsSteady old bits args → IsSettled new × RowsSteady new bits' args'
+  pub settled : AreSteady old (e.taken ∷ e.args.items) → RowsSteady old bits args → (IsSettled old → IsSettled new) × RowsSteady new bits' args'
 
 -- each member's row has its widths, or no tail call goes to it
 abbrev pub RowsFit : Owner → Netlist → Sig → ℕ → List Sig → List (Vec Sig Global) → Type 0
@@ -99,4 +99,4 @@ pub record Merged (z : Sig) (first count : ℕ) (old new : Netlist) (all : List 
   pub paid : tail_cost z m.bits.items m.args.items ≤ cost all
   pub idle : (i : ℕ) (l : Sig) (a : Vec Sig Global) → slice_get m.bits.items i ≡ Some l → slice_get m.args.items i ≡ Some a → ¬ Listed (first + i) (map member_of all) → Untaken z l a.items
   pub told : (v : Val) → Wired new v → on v z ≡ false → (i : ℕ) → given v (slice_get m.bits.items i) (slice_get m.args.items i) ≡ taken_to v all (first + i)
-  pub settled : SettledOn old (z ∷ []) → LoopsSteady old all → IsSettled new × RowsSteady new m.bits.items m.args.items
+  pub settled : IsSteady old z.0 → LoopsSteady old all → (IsSettled old → IsSettled new) × RowsSteady new m.bits.items m.args.items

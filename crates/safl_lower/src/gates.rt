@@ -5,7 +5,7 @@ ghost use Rattle.safl_word.specs.Primitives.{apply_prim, bit_of, result_width};
 ghost use Rattle.safl_net.specs.Names.{IsTidy};
 ghost use Rattle.safl_net.specs.Widths.{prim_width};
 ghost use Rattle.safl_net.specs.Growth.{Val, words, Wired, width_at, Sized, Grows};
-ghost use Rattle.safl_net.specs.Settled.{AreSteady, IsSettled, SettledOn};
+ghost use Rattle.safl_net.specs.Settled.{AreSteady, SettlesOn};
 ghost use Rattle.safl_lower.specs.Steady.{listed};
 ghost use Rattle.safl_lower.specs.Bits.{on, is_ready, BitAt, ReadyAt, IsConstant};
 
@@ -22,7 +22,7 @@ pub fn constant(net: &mut Net, word: Word) -> Result<Sig, AllocError>
     ensures count { length net.new.signals ≤ length net.old.signals + 1 }
     ensures width { IfOk result (λ s. width_at net.new s.0 ≡ Some word.width) }
     ensures value { IfOk result (λ s. (v : Val) → Wired net.new v → v s.0 ≡ word) }
-    ensures settled { IfOk result (λ s. IsSettled net.old → SettledOn net.new (s ∷ [])) }
+    ensures settled { IfOk result (λ s. SettlesOn net.old net.new (s ∷ [])) }
     ensures cell { IfOk result (λ s. IsConstant net.new s word) }
 {
     net.temp(Op::Const(word), &[])
@@ -38,7 +38,7 @@ pub fn operate(net: &mut Net, primitive: Primitive, operands: &[Sig]) -> Result<
     ensures count { length net.new.signals ≤ length net.old.signals + 1 }
     ensures width { (ws : List ℕ) (w : ℕ) → Sized net.old operands.now ws → prim_width primitive ws ≡ Some w → IfOk result (λ s. width_at net.new s.0 ≡ Some w) }
     ensures value { IfOk result (λ s. (v : Val) → Wired net.new v → v s.0 ≡ apply_prim primitive (words v operands.now)) }
-    ensures settled { IfOk result (λ s. SettledOn net.old operands.now → SettledOn net.new (s ∷ [])) }
+    ensures settled { IfOk result (λ s. AreSteady net.old operands.now → SettlesOn net.old net.new (s ∷ [])) }
 {
     net.temp(Op::Apply(primitive), operands)
 }
@@ -54,7 +54,7 @@ pub fn mux(net: &mut Net, c: Sig, a: Sig, b: Sig) -> Result<Sig, AllocError>
     ensures count { length net.new.signals ≤ length net.old.signals + 1 }
     ensures width { (w : ℕ) → width_at net.old a.0 ≡ Some w → width_at net.old b.0 ≡ Some w → IfOk result (λ s. width_at net.new s.0 ≡ Some w) }
     ensures value { IfOk result (λ s. (v : Val) → Wired net.new v → v s.0 ≡ cond (on v c) (v a.0) (v b.0)) }
-    ensures settled { IfOk result (λ s. SettledOn net.old (c ∷ a ∷ b ∷ []) → SettledOn net.new (s ∷ [])) }
+    ensures settled { IfOk result (λ s. AreSteady net.old (c ∷ a ∷ b ∷ []) → SettlesOn net.old net.new (s ∷ [])) }
 {
     net.temp(Op::Mux, &[c, a, b])
 }
@@ -69,7 +69,7 @@ pub fn not_bit(net: &mut Net, a: Sig) -> Result<Sig, AllocError>
     ensures count { length net.new.signals ≤ length net.old.signals + 1 }
     ensures width { IfOk result (λ s. BitAt net.new s) }
     ensures value { IfOk result (λ s. (v : Val) → Wired net.new v → on v s ≡ not (on v a)) }
-    ensures settled { IfOk result (λ s. SettledOn net.old (a ∷ []) → SettledOn net.new (s ∷ [])) }
+    ensures settled { IfOk result (λ s. AreSteady net.old (a ∷ []) → SettlesOn net.old net.new (s ∷ [])) }
 {
     operate(net, Primitive::Not, &[a])
 }
@@ -85,7 +85,7 @@ pub fn and_bit(net: &mut Net, a: Sig, b: Sig) -> Result<Sig, AllocError>
     ensures count { length net.new.signals ≤ length net.old.signals + 1 }
     ensures width { IfOk result (λ s. BitAt net.new s) }
     ensures value { IfOk result (λ s. (v : Val) → Wired net.new v → on v s ≡ (on v a && on v b)) }
-    ensures settled { IfOk result (λ s. SettledOn net.old (a ∷ b ∷ []) → SettledOn net.new (s ∷ [])) }
+    ensures settled { IfOk result (λ s. AreSteady net.old (a ∷ b ∷ []) → SettlesOn net.old net.new (s ∷ [])) }
 {
     operate(net, Primitive::And, &[a, b])
 }
@@ -99,7 +99,7 @@ pub fn bit(net: &mut Net, one: bool) -> Result<Sig, AllocError>
     ensures count { length net.new.signals ≤ length net.old.signals + 1 }
     ensures width { IfOk result (λ s. BitAt net.new s) }
     ensures value { IfOk result (λ s. (v : Val) → Wired net.new v → on v s ≡ one) }
-    ensures settled { IfOk result (λ s. IsSettled net.old → SettledOn net.new (s ∷ [])) }
+    ensures settled { IfOk result (λ s. SettlesOn net.old net.new (s ∷ [])) }
     ensures cell { IfOk result (λ s. IsConstant net.new s (record { width = 1; bits = bit_of one })) }
 {
     match Word::new(1, u128::from(one)) {
@@ -119,7 +119,7 @@ pub fn and_ready(net: &mut Net, a: Sig, r: Option<Sig>) -> Result<Sig, AllocErro
     ensures count { length net.new.signals ≤ length net.old.signals + 1 }
     ensures width { IfOk result (λ s. BitAt net.new s) }
     ensures value { IfOk result (λ s. (v : Val) → Wired net.new v → on v s ≡ (on v a && is_ready v r)) }
-    ensures settled { IfOk result (λ s. SettledOn net.old (a ∷ listed r) → SettledOn net.new (s ∷ [])) }
+    ensures settled { IfOk result (λ s. AreSteady net.old (a ∷ listed r) → SettlesOn net.old net.new (s ∷ [])) }
 {
     match r {
         None => Ok(a),
@@ -138,7 +138,7 @@ pub fn both_ready(net: &mut Net, q: Option<Sig>, r: Option<Sig>) -> Result<Optio
     ensures count { length net.new.signals ≤ length net.old.signals + 1 }
     ensures width { IfOk result (λ s. ReadyAt net.new s) }
     ensures value { IfOk result (λ s. (v : Val) → Wired net.new v → is_ready v s ≡ (is_ready v q && is_ready v r)) }
-    ensures settled { IfOk result (λ s. SettledOn net.old (listed q) → AreSteady net.old (listed r) → SettledOn net.new (listed s)) }
+    ensures settled { IfOk result (λ s. AreSteady net.old (listed q) → AreSteady net.old (listed r) → SettlesOn net.old net.new (listed s)) }
 {
     match q {
         None => Ok(r),
@@ -156,7 +156,7 @@ pub fn ready_bit(net: &mut Net, r: Option<Sig>) -> Result<Sig, AllocError>
     ensures count { length net.new.signals ≤ length net.old.signals + 1 }
     ensures width { IfOk result (λ s. BitAt net.new s) }
     ensures value { IfOk result (λ s. (v : Val) → Wired net.new v → on v s ≡ is_ready v r) }
-    ensures settled { IfOk result (λ s. SettledOn net.old (listed r) → SettledOn net.new (s ∷ [])) }
+    ensures settled { IfOk result (λ s. AreSteady net.old (listed r) → SettlesOn net.old net.new (s ∷ [])) }
 {
     match r {
         None => bit(net, true),

@@ -5,7 +5,7 @@ ghost use Rattle.safl_word.specs.Words.{max_width};
 ghost use Rattle.safl_check.specs.Readiness.{or_else};
 ghost use Rattle.safl_net.specs.Names.{IsTidy};
 ghost use Rattle.safl_net.specs.Growth.{Val, Wired, width_at, Grows};
-ghost use Rattle.safl_net.specs.Settled.{AreSteady, IsSettled, SettledOn};
+ghost use Rattle.safl_net.specs.Settled.{AreSteady, SettlesOn};
 ghost use Rattle.safl_lower.specs.Steady.{listed, results, SitesSteady, OutSteady};
 ghost use Rattle.safl_lower.specs.Bits.{on, is_ready, BitAt, ReadyAt};
 ghost use Rattle.safl_lower.specs.Entries.{gate, asked, went};
@@ -36,7 +36,7 @@ pub fn branch_paths(net: &mut Net, path: Sig, test: Lowered) -> Result<Paths, Al
     ensures widths { IfOk result (λ p. BitAt net.new p.yes × BitAt net.new p.no) }
     ensures yes { IfOk result (λ p. (v : Val) → Wired net.new v → on v p.yes ≡ ((on v path && is_ready v test.ready) && on v test.value)) }
     ensures no { IfOk result (λ p. (v : Val) → Wired net.new v → on v p.no ≡ ((on v path && is_ready v test.ready) && not (on v test.value))) }
-    ensures settled { IfOk result (λ p. SettledOn net.old (path ∷ results test) → SettledOn net.new (p.yes ∷ p.no ∷ [])) }
+    ensures settled { IfOk result (λ p. AreSteady net.old (path ∷ results test) → SettlesOn net.old net.new (p.yes ∷ p.no ∷ [])) }
 {
     let reached = and_ready(net, path, test.ready)?;
     let yes = and_bit(net, reached, test.value)?;
@@ -62,7 +62,7 @@ pub fn choose(
     ensures shape { (w : ℕ) → Shaped net.old yes w → Shaped net.old no w → IfOk result (λ r. Shaped net.new r w) }
     ensures value { IfOk result (λ r. (v : Val) → Wired net.new v → v r.value.0 ≡ cond (on v test.value) (v yes.value.0) (v no.value.0)) }
     ensures ready { IfOk result (λ r. (v : Val) → Wired net.new v → is_ready v r.ready ≡ (is_ready v test.ready && cond (on v test.value) (is_ready v yes.ready) (is_ready v no.ready))) }
-    ensures settled { IfOk result (λ r. SettledOn net.old (results test) → AreSteady net.old (results yes) → AreSteady net.old (results no) → SettledOn net.new (results r)) }
+    ensures settled { IfOk result (λ r. AreSteady net.old (results test) → AreSteady net.old (results yes) → AreSteady net.old (results no) → SettlesOn net.old net.new (results r)) }
 {
     let value = mux(net, test.value, yes.value, no.value)?;
     let ready = choose_ready(net, test, yes.ready, no.ready)?;
@@ -86,7 +86,7 @@ fn choose_ready(
     ensures count { length net.new.signals ≤ length net.old.signals + 4 }
     ensures shape { IfOk result (λ r. ReadyAt net.new r) }
     ensures ready { IfOk result (λ r. (v : Val) → Wired net.new v → is_ready v r ≡ (is_ready v test.ready && cond (on v test.value) (is_ready v yes) (is_ready v no))) }
-    ensures settled { IfOk result (λ r. SettledOn net.old (results test) → AreSteady net.old (listed yes) → AreSteady net.old (listed no) → SettledOn net.new (listed r)) }
+    ensures settled { IfOk result (λ r. AreSteady net.old (results test) → AreSteady net.old (listed yes) → AreSteady net.old (listed no) → SettlesOn net.old net.new (listed r)) }
 {
     if yes.is_none() && no.is_none() {
         return Ok(test.ready);
@@ -119,7 +119,7 @@ pub fn ask(
     ensures entry { IfOk result (λ _. Enters net.new out.old.wants.items out.new.wants.items site all) }
     ensures loops { OnOk result (out.new.loops.items ≡ out.old.loops.items) }
     ensures wants { IfOk result (λ r. (v : Val) → Wired net.new v → (j : ℕ) → asked v out.new.wants.items j ≡ or_else (asked v out.old.wants.items j) (gate (site == j) (gate (open_at v ports.now path site) (gathered v all)))) }
-    ensures settled { IfOk result (λ r. SitesSteady net.old ports.now → SettledOn net.old (path ∷ listed all.ready) → AreSteady net.old all.values.items → OutSteady net.old out.old → SettledOn net.new (results r) × OutSteady net.new out.new) }
+    ensures settled { IfOk result (λ r. SitesSteady net.old ports.now → AreSteady net.old (path ∷ listed all.ready) → AreSteady net.old all.values.items → OutSteady net.old out.old → SettlesOn net.old net.new (results r) × OutSteady net.new out.new) }
 {
     let port = ports.sites[(site - ports.first_site) as usize];
     let unsent = not_bit(net, port.sent)?;
@@ -159,7 +159,7 @@ pub fn go_on(
     ensures entry { IfOk result (λ _. Leaves net.new out.old.loops.items out.new.loops.items path member all) }
     ensures wants { OnOk result (out.new.wants.items ≡ out.old.wants.items) }
     ensures loops { IfOk result (λ r. (v : Val) → Wired net.new v → went v out.new.loops.items ≡ or_else (went v out.old.loops.items) (gate (on v path) (goes_with member (gathered v all)))) }
-    ensures settled { IfOk result (λ r. SettledOn net.old (path ∷ listed all.ready) → AreSteady net.old all.values.items → OutSteady net.old out.old → SettledOn net.new (results r) × OutSteady net.new out.new) }
+    ensures settled { IfOk result (λ r. AreSteady net.old (path ∷ listed all.ready) → AreSteady net.old all.values.items → OutSteady net.old out.old → SettlesOn net.old net.new (results r) × OutSteady net.new out.new) }
 {
     let taken = and_ready(net, path, all.ready)?;
     let never = bit(net, false)?;
@@ -185,7 +185,7 @@ fn no_value(net: &mut Net, width: u8) -> Result<Sig, AllocError>
     ensures grows { Grows net.old net.new }
     ensures count { length net.new.signals ≤ length net.old.signals + 1 }
     ensures width { IfOk result (λ s. width_at net.new s.0 ≡ Some width) }
-    ensures settled { IfOk result (λ s. IsSettled net.old → SettledOn net.new (s ∷ [])) }
+    ensures settled { IfOk result (λ s. SettlesOn net.old net.new (s ∷ [])) }
 {
     match Word::new(width, 0) {
         Some(word) => constant(net, word),

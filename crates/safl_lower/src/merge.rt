@@ -3,7 +3,7 @@
 ghost use Rattle.std.specs.Prelude.{◌≡◌, ℕ, ◌+◌, ◌-◌, ◌<◌, ◌≤◌, List, ◌∷◌, cond, length, Some, IfOk, OnOk, map, slice_get};
 ghost use Rattle.safl_net.specs.Names.{IsTidy};
 ghost use Rattle.safl_net.specs.Growth.{Val, words, Wired, Sized, Grows};
-ghost use Rattle.safl_net.specs.Settled.{AreSteady, SettledOn};
+ghost use Rattle.safl_net.specs.Settled.{AreSteady, SettlesOn};
 ghost use Rattle.safl_lower.specs.Bits.{on, BitAt};
 ghost use Rattle.safl_lower.specs.Typing.{Owner};
 ghost use Rattle.safl_lower.specs.Entries.{Between, member_of, LoopsFit, cost};
@@ -103,7 +103,7 @@ fn mux_all(
     ensures count { length net.new.signals ≤ length net.old.signals + length first.now }
     ensures width { (ws : List ℕ) → Sized net.old first.now ws → Sized net.old second.now ws → IfOk result (λ row. Sized net.new row.items ws) }
     ensures value { IfOk result (λ row. (v : Val) → Wired net.new v → words v row.items ≡ cond (on v test) (words v first.now) (words v second.now)) }
-    ensures settled { IfOk result (λ row. SettledOn net.old (test ∷ first.now) → AreSteady net.old second.now → SettledOn net.new row.items) }
+    ensures settled { IfOk result (λ row. AreSteady net.old (test ∷ first.now) → AreSteady net.old second.now → SettlesOn net.old net.new row.items) }
 {
     let mut row = Vec::new(alloc);
     for i in 0..first.len() {

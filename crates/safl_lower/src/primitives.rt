@@ -5,7 +5,7 @@ ghost use Rattle.safl_word.specs.Words.{max_width};
 ghost use Rattle.safl_word.specs.Primitives.{apply_prim, result_width};
 ghost use Rattle.safl_net.specs.Names.{IsTidy};
 ghost use Rattle.safl_net.specs.Growth.{Val, words, Wired, width_at, Sized, Grows};
-ghost use Rattle.safl_net.specs.Settled.{SettledOn};
+ghost use Rattle.safl_net.specs.Settled.{AreSteady, SettlesOn};
 
 use crate::gates::{constant, operate};
 use safl_net::{Net, Sig};
@@ -22,7 +22,7 @@ pub fn apply(net: &mut Net, primitive: Primitive, operands: &[Sig]) -> Result<Si
     ensures count { length net.new.signals ≤ length net.old.signals + 2 }
     ensures width { (ws : List ℕ) (w : ℕ) → Sized net.old operands.now ws → result_width primitive ws ≡ Some w → IfOk result (λ s. width_at net.new s.0 ≡ Some w) }
     ensures value { IfOk result (λ s. (v : Val) → Wired net.new v → v s.0 ≡ apply_prim primitive (words v operands.now)) }
-    ensures settled { IfOk result (λ s. SettledOn net.old operands.now → SettledOn net.new (s ∷ [])) }
+    ensures settled { IfOk result (λ s. AreSteady net.old operands.now → SettlesOn net.old net.new (s ∷ [])) }
 {
     match primitive {
         Primitive::Ext(width) => extend(net, operands[0], width),
@@ -41,7 +41,7 @@ fn extend(net: &mut Net, a: Sig, width: u8) -> Result<Sig, AllocError>
     ensures count { length net.new.signals ≤ length net.old.signals + 2 }
     ensures width { IfOk result (λ s. width_at net.new s.0 ≡ Some width) }
     ensures value { IfOk result (λ s. (v : Val) → Wired net.new v → v s.0 ≡ record { width = width; bits = (v a.0).bits }) }
-    ensures settled { IfOk result (λ s. SettledOn net.old (a ∷ []) → SettledOn net.new (s ∷ [])) }
+    ensures settled { IfOk result (λ s. AreSteady net.old (a ∷ []) → SettlesOn net.old net.new (s ∷ [])) }
 {
     let narrow = net.width(a);
     if narrow == width {

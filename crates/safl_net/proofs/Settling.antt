@@ -6,7 +6,7 @@ use Rattle.safl_net.specs.declared.cell.Op.{Op}
 use Rattle.safl_net.specs.Netlist.{Netlist, Signal, Kind, Reg, Wire, Cell}
 use Rattle.safl_net.specs.Making.{with_signal, with_output, with_kind, set_kind, numbers, cell_on, temporary, kind_in, kind_at}
 use Rattle.safl_net.specs.Growth.{HasCell, Grows}
-use Rattle.safl_net.specs.Settled.{IsDriven, IsDrivenIn, IsSteady, AreSteady, IsSettled, SettledOn, Settles}
+use Rattle.safl_net.specs.Settled.{IsDriven, IsDrivenIn, IsSteady, AreSteady, IsSettled, SettlesOn, Settles}
 use Rattle.safl_net.proofs.Naming.{pushed, within}
 use Rattle.safl_net.proofs.Growth.{get_kept, get_new}
 
@@ -158,6 +158,10 @@ settles_same n m e = subst (λ x. Settles n x) (sym e) (record { settled = λ h.
 pub settles_on : {a b c : Netlist} → Settles a b → Settles b c → Settles a c
 settles_on g h = record { settled = λ k. h.settled (g.settled k); steady = λ s k. h.steady s (g.steady s k) }
 
+-- a net that grows settles, where it stays settled
+pub settles_grown : {a b : Netlist} → Grows a b → (IsSettled a → IsSettled b) → Settles a b
+settles_grown g h = record { settled = h; steady = steady_grown g }
+
 pub are_steady_on : {a b : Netlist} → Settles a b → (xs : List Sig) → AreSteady a xs → AreSteady b xs
 are_steady_on {a} {b} g xs h = are_steady a b g.steady xs h
 
@@ -207,8 +211,8 @@ steady_new n m g s h e f = steady_by m s g (get_new n m g s e f) h
 
 -- what a caller of `temp` has
 pub made_settled : {E : Type 0} (n m : Netlist) (r : Result Sig E) (op : Op) (xs : List Sig) → OnOk r (m ≡ with_signal n (temporary n op xs)) → IfOk r (λ s. s.0 ≡ length n.signals)
-    → IfOk r (λ s. SettledOn n xs → SettledOn m (s ∷ []))
-made_settled n m (Ok s) op xs a b = λ h. record { net = (settles_temp n m op xs h.signals a).settled h.net; signals = (steady_new n m (temporary n op xs) s.0 tt a b, tt) }
+    → IfOk r (λ s. AreSteady n xs → SettlesOn n m (s ∷ []))
+made_settled n m (Ok s) op xs a b = λ h. record { net = (settles_temp n m op xs h a).settled; signals = (steady_new n m (temporary n op xs) s.0 tt a b, tt) }
 made_settled n m (Err e) op xs a b = tt
 
 -- ---- another kind

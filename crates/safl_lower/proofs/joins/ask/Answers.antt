@@ -78,11 +78,11 @@ returns-clause-settled c = λ sites h values out.
     let at = slice_get_read c.args.ports.now.sites.items (length c.args.ports.now.sites.items) place c.index-port.result.now refl (in_range c.args.ports.now.sites.items place s.port s.at) c.index-port.ensures in
     let port = sites place c.index-port.result.now at in
     let e : Want = record { site = c.args.site; want = c.in_ok-want.want; args = c.args.all.values } in
-    let a = c.in_ok-unsent.ensures.settled (record { net = h.net; signals = (port.0, tt) }) in
-    let b = c.in_ok-free.ensures.settled (record { net = a.net; signals = (steady_grown c.not_bit.ensures.grows c.args.path.0 h.signals.0, a.signals) }) in
-    let d = c.in_ok-want.ensures.settled (record { net = b.net; signals = (b.signals.0, are_steady_grown (grows_on c.not_bit.ensures.grows c.and_bit.ensures.grows) (listed c.args.all.ready) h.signals.1) }) in
+    let a = c.in_ok-unsent.ensures.settled (port.0, tt) in
+    let b = c.in_ok-free.ensures.settled (steady_grown c.not_bit.ensures.grows c.args.path.0 h.0, a.signals) in
+    let d = c.in_ok-want.ensures.settled (b.signals.0, are_steady_grown (grows_on c.not_bit.ensures.grows c.and_bit.ensures.grows) (listed c.args.all.ready) h.1) in
     let g = grows_on c.not_bit.ensures.grows (grows_on c.and_bit.ensures.grows c.and_ready.ensures.grows) in
     let more = out_grown g out in (
-      record { net = d.net; signals = (steady_grown g c.index-port.result.now.value.0 port.1.1.0, (steady_grown g c.index-port.result.now.returned.0 port.1.0, tt)) },
+      record { net = λ x. d.net (b.net (a.net x)); signals = (steady_grown g c.index-port.result.now.value.0 port.1.1.0, (steady_grown g c.index-port.result.now.returned.0 port.1.0, tt)) },
       record { wants = subst (WantsSteady c.and_ready.new.net) (sym c.in_ok-push.ensures.items) (wants_steady_end c.and_ready.new.net c.args.out.now.wants.items e more.wants d.signals.0 (are_steady_grown g c.args.all.values.items values)); loops = more.loops },
     )

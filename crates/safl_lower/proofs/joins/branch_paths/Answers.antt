@@ -41,11 +41,10 @@ returns-clause-widths c = (width_kept (grows_on c.not_bit.ensures.grows c.and_bi
 
 pub returns-clause-settled : goal.returns-clause-settled
 returns-clause-settled c = λ h.
-    let a = c.in_ok-reached.ensures.settled (record { net = h.net; signals = (h.signals.0, h.signals.1.1) }) in
-    let g = c.and_ready.ensures.grows in
-    let test = steady_grown g c.args.test.value.0 h.signals.1.0 in
-    let b = c.in_ok-yes.ensures.settled (record { net = a.net; signals = (a.signals.0, (test, tt)) }) in
-    let d = c.in_ok-otherwise.ensures.settled (record { net = b.net; signals = (steady_grown c.and_bit.ensures.grows c.args.test.value.0 test, tt) }) in
+    let a = c.in_ok-reached.ensures.settled (h.0, h.1.1) in
+    let test = steady_grown c.and_ready.ensures.grows c.args.test.value.0 h.1.0 in
+    let b = c.in_ok-yes.ensures.settled (a.signals.0, (test, tt)) in
+    let d = c.in_ok-otherwise.ensures.settled (steady_grown c.and_bit.ensures.grows c.args.test.value.0 test, tt) in
     let reached = steady_grown (grows_on c.and_bit.ensures.grows c.not_bit.ensures.grows) c.in_ok-reached.reached.0 a.signals.0 in
-    let e = c.in_ok-no.ensures.settled (record { net = d.net; signals = (reached, d.signals) }) in
-    record { net = e.net; signals = (steady_grown (grows_on c.not_bit.ensures.grows c.and_bit-2.ensures.grows) c.in_ok-yes.yes.0 b.signals.0, e.signals) }
+    let e = c.in_ok-no.ensures.settled (reached, d.signals) in
+    record { net = λ x. e.net (d.net (b.net (a.net x))); signals = (steady_grown (grows_on c.not_bit.ensures.grows c.and_bit-2.ensures.grows) c.in_ok-yes.yes.0 b.signals.0, e.signals) }

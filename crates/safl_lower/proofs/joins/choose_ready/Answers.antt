@@ -45,8 +45,9 @@ pub returns-clause-settled : goal.returns-clause-settled
 returns-clause-settled c = λ h y n.
     let g1 = c.ready_bit.ensures.grows in
     let g2 = c.ready_bit-2.ensures.grows in
-    let a = c.in_ok-yes.ensures.settled (record { net = h.net; signals = y }) in
-    let b = c.in_ok-no.ensures.settled (record { net = a.net; signals = are_steady_grown g1 (listed c.args.no) n }) in
-    let test = steady_grown (grows_on g1 g2) c.args.test.value.0 h.signals.0 in
-    let d = c.in_ok-chosen.ensures.settled (record { net = b.net; signals = (test, (steady_grown g2 c.in_ok-yes.yes.0 a.signals.0, b.signals)) }) in
-    c.in_ok-and_ready.ensures.settled (record { net = d.net; signals = (d.signals.0, are_steady_grown (grows_on g1 (grows_on g2 c.mux.ensures.grows)) (listed c.args.test.ready) h.signals.1) })
+    let a = c.in_ok-yes.ensures.settled y in
+    let b = c.in_ok-no.ensures.settled (are_steady_grown g1 (listed c.args.no) n) in
+    let test = steady_grown (grows_on g1 g2) c.args.test.value.0 h.0 in
+    let d = c.in_ok-chosen.ensures.settled (test, (steady_grown g2 c.in_ok-yes.yes.0 a.signals.0, b.signals)) in
+    let e = c.in_ok-and_ready.ensures.settled (d.signals.0, are_steady_grown (grows_on g1 (grows_on g2 c.mux.ensures.grows)) (listed c.args.test.ready) h.1) in
+    record { net = λ x. e.net (d.net (b.net (a.net x))); signals = e.signals }

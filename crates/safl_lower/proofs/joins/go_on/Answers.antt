@@ -43,11 +43,11 @@ pub returns-clause-settled : goal.returns-clause-settled
 returns-clause-settled c = λ h values out.
     let e : TailCall = record { member = c.args.member; taken = c.in_ok-taken.taken; args = c.args.all.values } in
     let a = c.in_ok-taken.ensures.settled h in
-    let b = c.in_ok-never.ensures.settled a.net in
-    let d = c.in_ok-value.ensures.settled b.net in
+    let b = c.in_ok-never.ensures.settled in
+    let d = c.in_ok-value.ensures.settled in
     let g1 = grows_on c.bit.ensures.grows c.no_value.ensures.grows in
     let g = grows_on c.and_ready.ensures.grows g1 in
     let more = out_grown g out in (
-      record { net = d.net; signals = (d.signals.0, (steady_grown c.no_value.ensures.grows c.in_ok-never.never.0 b.signals.0, tt)) },
+      record { net = λ x. d.net (b.net (a.net x)); signals = (d.signals.0, (steady_grown c.no_value.ensures.grows c.in_ok-never.never.0 b.signals.0, tt)) },
       record { wants = more.wants; loops = subst (LoopsSteady c.no_value.new.net) (sym c.in_ok-push.ensures.items) (loops_steady_end c.no_value.new.net c.args.out.now.loops.items e more.loops (steady_grown g1 c.in_ok-taken.taken.0 a.signals.0) (are_steady_grown g c.args.all.values.items values)) },
     )

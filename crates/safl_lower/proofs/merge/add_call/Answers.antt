@@ -61,7 +61,7 @@ returns-clause-added c =
     (λ ws s t. w.width ws (subst (λ (x : List Sig). Sized c.mux.new.net x ws) (sym c.deref.ensures.value) (sized_kept b.grows c.args.call.args.items ws s)) (subst (λ (x : List Sig). Sized c.mux.new.net x ws) (sym c.deref-2.ensures.value) (sized_kept b.grows a.items ws t)))
     (λ v h. w.value v h ∙ ap (λ (x : List Sig). cond (on v c.args.call.taken) (words v x) (words v c.deref-2.result.now)) c.deref.ensures.value ∙ ap (λ (x : List Sig). cond (on v c.args.call.taken) (words v c.args.call.args.items) (words v x)) c.deref-2.ensures.value)
     b.settled
-    (λ h t. w.settled (record { net = h.net; signals = (h.signals.0, subst (AreSteady c.mux.new.net) (sym c.deref.ensures.value) h.signals.1) }) (subst (AreSteady c.mux.new.net) (sym c.deref-2.ensures.value) t))
+    (λ h t. w.settled (h.0, subst (AreSteady c.mux.new.net) (sym c.deref.ensures.value) h.1) (subst (AreSteady c.mux.new.net) (sym c.deref-2.ensures.value) t))
     (as_long c.mux_all.new.net c.in_ok-row.row.items r.widths (w.width r.widths (subst (λ (x : List Sig). Sized c.mux.new.net x r.widths) (sym c.deref.ensures.value) (sized_kept b.grows c.args.call.args.items r.widths r.own_sized)) (subst (λ (x : List Sig). Sized c.mux.new.net x r.widths) (sym c.deref-2.ensures.value) (sized_kept b.grows a.items r.widths r.row.sized)))
     ∙ sym (as_long c.args.net.now c.args.call.args.items r.widths r.own_sized))
 

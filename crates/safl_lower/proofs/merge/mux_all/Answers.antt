@@ -54,11 +54,11 @@ loop-i-preserved c =
           (c.in_ok-s.ensures.width p.width p.sized (same_at c.loop-i.net ws i (get_or c.args.first.now i d) (get_or c.args.second.now i d) p q)));
       settled = λ h t.
           let k = n.settled h t in
-          let one = steady_grown n.grows c.args.test.0 h.signals.0 in
-          let fst = steady_grown n.grows (get_or c.args.first.now i d).0 (steady_at c.args.net.now c.args.first.now i (get_or c.args.first.now i d) h.signals.1 a1) in
+          let one = steady_grown n.grows c.args.test.0 h.0 in
+          let fst = steady_grown n.grows (get_or c.args.first.now i d).0 (steady_at c.args.net.now c.args.first.now i (get_or c.args.first.now i d) h.1 a1) in
           let snd = steady_grown n.grows (get_or c.args.second.now i d).0 (steady_at c.args.net.now c.args.second.now i (get_or c.args.second.now i d) t a2) in
-          let m = c.in_ok-s.ensures.settled (record { net = k.net; signals = (one, (fst, (snd, tt))) }) in
-          record { net = m.net; signals = subst (AreSteady c.mux.new.net) (sym c.in_ok-push.ensures.items) (are_steady_more c.mux.new.net c.loop-i.row.items (c.in_ok-s.s ∷ []) (are_steady_grown c.in_ok-s.ensures.grows c.loop-i.row.items k.signals) m.signals) };
+          let m = c.in_ok-s.ensures.settled (one, (fst, (snd, tt))) in
+          record { net = λ q. m.net (k.net q); signals = subst (AreSteady c.mux.new.net) (sym c.in_ok-push.ensures.items) (are_steady_more c.mux.new.net c.loop-i.row.items (c.in_ok-s.s ∷ []) (are_steady_grown c.in_ok-s.ensures.grows c.loop-i.row.items k.signals) m.signals) };
       value = λ v h.
           ap (words v) c.in_ok-push.ensures.items
           ∙ row_value v (on v c.args.test) c.loop-i.row.items c.args.first.now c.args.second.now i c.in_ok-s.s (get_or c.args.first.now i d) (get_or c.args.second.now i d) a1 a2

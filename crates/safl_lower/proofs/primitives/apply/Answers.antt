@@ -4,7 +4,7 @@ use Rattle.safl_word.specs.declared.primitive.Primitive.TheVariants.{Ext}
 use Rattle.safl_word.specs.Primitives.{apply_prim, result_width}
 use Rattle.safl_net.specs.declared.cell.Sig.{Sig}
 use Rattle.safl_net.specs.Growth.{Val, Wired, words}
-use Rattle.safl_net.specs.Settled.{SettledOn}
+use Rattle.safl_net.specs.Settled.{AreSteady, SettlesOn}
 use Rattle.safl_lower.proofs.Extending.{cell_width, operand}
 use Rattle.safl_lower.proofs.primitives.apply.Goals as goal
 
@@ -39,4 +39,4 @@ pub returns-in-Ext-clause-settled : goal.returns-in-Ext-clause-settled
 returns-in-Ext-clause-settled c =
     let b = c.requires.sized in
     let o = operand c.args.net.now c.args.operands.now b.0 (record { 0 = 0 }) c.in-Ext.width b.1 b.2 (ap (λ (p : Primitive). result_width p b.0) (sym c.in-Ext.is) ∙ b.3) in
-    subst (λ (xs : List Sig). IfOk c.extend.result (λ s. SettledOn c.args.net.now xs → SettledOn c.extend.new.net (s ∷ []))) (sym o.is) c.extend.ensures.settled
+    subst (λ (xs : List Sig). IfOk c.extend.result (λ s. AreSteady c.args.net.now xs → SettlesOn c.args.net.now c.extend.new.net (s ∷ []))) (sym o.is) c.extend.ensures.settled

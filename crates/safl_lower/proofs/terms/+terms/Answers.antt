@@ -4,7 +4,7 @@ use Rattle.safl_word.specs.Primitives.{apply_prim, result_width}
 use Rattle.safl_net.specs.declared.cell.Sig.{Sig}
 use Rattle.safl_net.specs.Growth.{words, Sized}
 use Rattle.safl_net.proofs.Growth.{grows_on}
-use Rattle.safl_net.specs.Settled.{SettledOn}
+use Rattle.safl_net.specs.Settled.{AreSteady, SettlesOn}
 use Rattle.safl_check.specs.declared.term.Term as declared
 use Rattle.safl_check.specs.Terms.{Term, Terms, Cons}
 use Rattle.safl_check.specs.Tree.{tree, forest}
@@ -126,7 +126,7 @@ lower_term-returns-in_ok-value-in-Op-clause-done t c =
     let d = c.deref-in-Op-2.ensures.value in
     subst (λ (x : Term). Lowers c.args.ports.now c.args.slots.now.items c.args.path c.args.net.now c.apply.new.net c.args.out.now c.lower_all-in-Op.new.out (record { ready = c.in_ok-all-in-Op.all.ready; value = c.in_ok-value-in-Op.value }) x) (sym e)
     (lowers_op hs h.grows h.count (λ ws w p q. h.width ws w (subst (λ (xs : List Sig). Sized c.lower_all-in-Op.new.net xs ws) (sym d) p) q) (λ v w. h.value v w ∙ ap (λ (xs : List Sig). apply_prim c.in-Op.p (words v xs)) d)
-    (subst (λ (xs : List Sig). SettledOn c.lower_all-in-Op.new.net xs → SettledOn c.apply.new.net (c.in_ok-value-in-Op.value ∷ [])) d h.settled))
+    (subst (λ (xs : List Sig). AreSteady c.lower_all-in-Op.new.net xs → SettlesOn c.lower_all-in-Op.new.net c.apply.new.net (c.in_ok-value-in-Op.value ∷ [])) d h.settled))
 
 -- ---- a call
 
