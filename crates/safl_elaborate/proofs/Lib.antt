@@ -2,3 +2,9 @@ pub mod FirstLemmas
 pub mod Zeros
 pub mod NameLemmas
 pub mod ScopeLemmas
+pub mod StatementLemmas
+pub mod StepLemmas
+pub mod StatementLoop
+pub mod MissingLemmas
+pub mod FileLemmas
+pub mod Widths

@@ -1,10 +1,9 @@
 -- Names that are looked up, and names that stand twice.
-use Rattle.std.proofs.Common.{◌≡◌, ℕ, zero, suc, ◌+◌, ◌<◌, ◌≤◌, List, [], ◌∷◌, ◌++◌, length, take, drop, get_or, map, position, Option, None, Some, Bool, true, false, not, cond, ◌||◌, Bor, bytes_eq, refl, sym, ap, subst, ◌∙◌, arith, drop-cons, add-one, nat_lt}
-use Rattle.std.specs.List.{list_any, prefix_len, position_or_len}
+use Rattle.std.proofs.Common.{◌≡◌, ℕ, zero, suc, ◌+◌, ◌<◌, ◌≤◌, List, [], ◌∷◌, ◌++◌, length, take, drop, get_or, map, position, Some, Bool, true, false, not, cond, ◌||◌, Bor, bytes_eq, refl, sym, ap, ◌∙◌, arith, drop-cons, add-one}
+use Rattle.std.specs.List.{list_any, position_or_len}
 use Rattle.std.proofs.lemmas.List.{drop_all, drop-map, length-map}
 use Rattle.std.proofs.lemmas.Slice.Eq.{bytes_eq-Decides}
 use Rattle.safl_verilog.specs.declared.fault.VRule.TheVariants as rules
-use Rattle.safl_verilog.specs.declared.fault.VFault.{VFault}
 use Rattle.safl_verilog.specs.Files.{Spot}
 use Rattle.safl_verilog.specs.Faults.{at, where_not, among, repeat_faults}
 use Rattle.safl_elaborate.specs.Firsts.{first}

@@ -1,14 +1,14 @@
 -- Declarations that are found by their names.
-use Rattle.std.proofs.Common.{◌≡◌, ℕ, zero, suc, ◌+◌, ◌<◌, ◌≤◌, List, [], ◌∷◌, length, get_or, map, position, Option, None, Some, Bool, true, false, not, cond, bytes_eq, refl, sym, ap, subst, ◌∙◌, arith, nat_lt, slice_get}
+use Rattle.std.proofs.Common.{◌≡◌, ℕ, zero, suc, ◌+◌, List, [], ◌∷◌, length, get_or, map, position, Option, None, Some, Bool, true, false, not, cond, bytes_eq, refl, sym, ap, subst, ◌∙◌, arith, nat_lt, slice_get}
 use Rattle.std.specs.Option.{option_map}
 use Rattle.std.specs.List.{position_or_len}
 use Rattle.std.proofs.lemmas.Slice.Eq.{bytes_eq-Decides}
 use Rattle.std.proofs.lemmas.Bool.Decides.{nat_tests}
 use Rattle.safl_verilog.specs.declared.token.Sort.{Sort}
-use Rattle.safl_verilog.specs.Files.{Spot, Declaration}
+use Rattle.safl_verilog.specs.Files.{Declaration}
 use Rattle.safl_verilog.specs.Faults.{find, passes, is_signal, range_width}
 use Rattle.safl_elaborate.specs.declared.scope.Item.{Item}
-use Rattle.safl_elaborate.specs.Lists.{names_of, widths_of}
+use Rattle.safl_elaborate.specs.Lists.{names_of}
 use Rattle.safl_elaborate.specs.Scopes.{Shows, Describes}
 use Rattle.safl_elaborate.proofs.NameLemmas.{bytes_flip}
 
@@ -27,6 +27,7 @@ position_cons p x xs = by (p x)
   where
     k : ℕ
     k = position_or_len p xs
+
     by : (b : Bool) → cond (nat_lt (cond (not b) (1 + position_or_len p xs) 0) (suc (length xs))) (Some (cond (not b) (1 + position_or_len p xs) 0)) None ≡ cond b (Some 0) (option_map suc (position p xs))
     by true = ap (λ c. cond c (Some 0) None) (positive (length xs))
     by false = ap (λ c. cond c (Some (1 + position_or_len p xs)) None) (shifted (position_or_len p xs) (length xs)) ∙ inner (nat_lt (position_or_len p xs) (length xs))

@@ -1,5 +1,5 @@
 -- Digits that count zero.
-use Rattle.std.proofs.Common.{◌≡◌, ℕ, ◌+◌, ◌*◌, ◌<◌, ◌≤◌, List, length, take, get_or, Bool, true, false, ◌==◌, lit≤, sym, ap, ◌∙◌, arith}
+use Rattle.std.proofs.Common.{◌≡◌, ℕ, ◌+◌, ◌<◌, ◌≤◌, List, length, take, get_or, true, false, ◌==◌, lit≤, sym, ap, ◌∙◌, arith}
 use Rattle.std.proofs.lemmas.Bool.Decides.{nat_tests}
 use Rattle.safl_word.specs.Numerals.{digit, value}
 use Rattle.safl_word.proofs.NumeralLemmas.{value_more, value_front, taken}

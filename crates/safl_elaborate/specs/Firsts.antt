@@ -8,8 +8,12 @@ abbrev pub first : List VFault → Option VFault
 first [] = None
 first (f ∷ fs) = Some f
 
--- a refusal names the first fault, and else there is none; want of memory says nothing of them
+-- a refusal names the first fault; want of memory says nothing of them
+abbrev pub Refuses : List VFault → VErr → Type 0
+Refuses faults (errors.Refused f) = Some f ≡ first faults
+Refuses faults errors.NoMemory = Unit {0}
+
+-- there is no fault, or the first one is refused
 abbrev pub Answers : {A : Type 0} → List VFault → Result A VErr → Type 0
 Answers faults (Ok x) = faults ≡ []
-Answers faults (Err (errors.Refused f)) = Some f ≡ first faults
-Answers faults (Err errors.NoMemory) = Unit {0}
+Answers faults (Err e) = Refuses faults e

@@ -1,3 +1,5 @@
 pub mod Firsts
 pub mod Lists
 pub mod Scopes
+pub mod Drivers
+pub mod Parts

@@ -1,6 +1,5 @@
 -- What a name is declared as.
-use Rattle.std.specs.Prelude.{◌≡◌, ℕ, List, [], Option, None, Some, Bool, slice_get}
-use Rattle.safl_verilog.specs.declared.token.Sort.{Sort}
+use Rattle.std.specs.Prelude.{◌≡◌, List, [], Option, None, Some, slice_get}
 use Rattle.safl_verilog.specs.Files.{Spot, Declaration, File}
 use Rattle.safl_verilog.specs.Faults.{is_signal, range_width}
 use Rattle.safl_elaborate.specs.declared.scope.Item.{Item}

@@ -1,8 +1,16 @@
 //! From the text of a Verilog file to the net that it reads as, or to its first fault.
 #![tactic(auto)]
 
+mod cells;
+mod driver;
+mod elaborate;
+mod missing;
 mod names;
 mod numbers;
 mod ports;
 mod scope;
 mod spans;
+mod statements;
+
+pub use crate::elaborate::check;
+pub use safl_vread::{VErr, VFault, VRule};

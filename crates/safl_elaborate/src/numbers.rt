@@ -1,26 +1,30 @@
 //! The rules on numbers in declarations, slices and literals.
 
-ghost use Rattle.std.specs.Prelude.{◌≡◌, ◌==◌};
+ghost use Rattle.std.specs.Prelude.{◌≡◌, ◌==◌, ◌++◌};
 ghost use Rattle.std.specs.List.{flat_map};
 ghost use Rattle.safl_word.specs.Numerals.{value};
-ghost use Rattle.safl_verilog.specs.Faults.{number_faults, literal_faults, range_faults, declared_number_faults, expression_number_faults, stated_number_faults, all_number_faults};
-ghost use Rattle.safl_vread.specs.Shown.{spot_at, range_at, declarations_at, expression_at, statement_at, statements_at, file_at};
+ghost use Rattle.safl_verilog.specs.Faults.{number_faults, literal_faults, range_faults, declared_number_faults, expression_number_faults, stated_number_faults};
+ghost use Rattle.safl_vread.specs.Shown.{spot_at, range_at, declarations_at, expression_at, statement_at, statements_at};
 ghost use Rattle.safl_elaborate.specs.Firsts.{first};
 
 use crate::spans::{bytes_of, fault_at};
 use safl_verilog::{VFault, VRule};
 use safl_vread::numbers::{bounded, digit, literal};
-use safl_vread::{Declaration, Expression, File, Range, Span, Statement};
+use safl_vread::{Declaration, Expression, Range, Span, Statement};
 
-/// The first fault in the numbers of a file.
-pub fn number_fault(text: &[u8], file: &File) -> Option<VFault>
-    ensures { result ≡ first (all_number_faults (file_at text.now file.now)) }
+/// The first fault in the numbers of declarations and statements.
+pub fn number_fault(
+    text: &[u8],
+    declarations: &[Declaration],
+    statements: &[Statement],
+) -> Option<VFault>
+    ensures { result ≡ first (flat_map declared_number_faults (declarations_at text.now declarations.now) ++ flat_map stated_number_faults (statements_at text.now statements.now)) }
 {
-    let declared = declared_fault(text, &file.declarations);
+    let declared = declared_fault(text, declarations);
     if declared.is_some() {
         declared
     } else {
-        stated_fault(text, &file.statements)
+        stated_fault(text, statements)
     }
 }
 

@@ -1,8 +1,8 @@
 //! What a file declares, by name.
 
-ghost use Rattle.std.specs.Prelude.{◌≡◌, [], IfOk, None};
+ghost use Rattle.std.specs.Prelude.{◌≡◌, ◌≤◌, ℕ, [], IfOk, None, slice_index};
 ghost use Rattle.std.specs.List.{flat_map};
-ghost use Rattle.safl_verilog.specs.Faults.{declared_number_faults, range_faults, range_width, is_signal};
+ghost use Rattle.safl_verilog.specs.Faults.{declared_number_faults, range_faults, range_width, is_signal, repeat_faults, declared_names};
 ghost use Rattle.safl_vread.specs.Shown.{declarations_at, range_at};
 ghost use Rattle.safl_elaborate.specs.Lists.{names_of, widths_of};
 
@@ -31,11 +31,13 @@ pub struct Scope<'t> {
     pub names: Names<'t>,
     pub widths: Vec<u8>,
     ghost named: { names ≡ names_of (declarations_at text.now declarations.now) },
+    ghost apart: { repeat_faults [] (declared_names (declarations_at text.now declarations.now)) ≡ [] },
     ghost measured: { widths.items ≡ widths_of (declarations_at text.now declarations.now) },
+    ghost small: { (k : ℕ) → slice_index widths.items k ≤ 128 },
 }
 
 impl<'t> Scope<'t> {
-    ghost use Rattle.std.specs.Prelude.{◌≡◌, ◌<◌, length, IfSome};
+    ghost use Rattle.std.specs.Prelude.{◌≡◌, ◌<◌, length, slice_index};
     ghost use Rattle.safl_verilog.specs.Faults.{find};
     ghost use Rattle.safl_elaborate.specs.Scopes.{Describes};
 
@@ -57,6 +59,14 @@ impl<'t> Scope<'t> {
                 })
             }
         }
+    }
+
+    /// The width of what is declared at a place, in bits.
+    pub fn width_at(&self, place: usize) -> u8
+        requires { place < length self.now.declarations.now }
+        ensures { result ≡ slice_index self.now.widths.items place }
+    {
+        self.widths[place]
     }
 }
 

@@ -1,9 +1,8 @@
 use Rattle.std.proofs.Common.{ap, ◌∙◌, Some}
-use Rattle.safl_verilog.specs.declared.fault.VRule.TheVariants as rules
 use Rattle.safl_verilog.specs.Files.{Declaration}
-use Rattle.safl_verilog.specs.Faults.{at, declared_names}
-use Rattle.safl_vread.specs.Shown.{spot_at, spots_at, declaration_at, declarations_at}
-use Rattle.safl_elaborate.proofs.NameLemmas.{item_at, item_at_both, refused, added}
+use Rattle.safl_verilog.specs.Faults.{declared_names}
+use Rattle.safl_vread.specs.Shown.{declaration_at, declarations_at}
+use Rattle.safl_elaborate.proofs.NameLemmas.{item_at_both, refused, added}
 use Rattle.safl_elaborate.proofs.names.declared_names.Goals as goal
 
 pub returns-then-not-branch-clause-faults : goal.returns-then-not-branch-clause-faults

@@ -1,5 +1,5 @@
 use Rattle.safl_verilog.specs.Faults.{declared_names}
-use Rattle.safl_vread.specs.Shown.{spots_at, declarations_at}
+use Rattle.safl_vread.specs.Shown.{declarations_at}
 use Rattle.safl_elaborate.proofs.NameLemmas.{IsApart}
 use Rattle.safl_elaborate.proofs.names.declared_names.Given as goal
 

@@ -1,5 +1,4 @@
-use Rattle.safl_verilog.specs.Faults.{declared_names}
-use Rattle.safl_vread.specs.Shown.{spots_at, declarations_at}
+use Rattle.safl_vread.specs.Shown.{spots_at}
 use Rattle.safl_elaborate.proofs.NameLemmas.{IsApart}
 use Rattle.safl_elaborate.proofs.names.header_names.Given as goal
 

@@ -1,5 +1,5 @@
 use Rattle.std.proofs.Common.{ap, ◌∙◌}
-use Rattle.safl_verilog.specs.Faults.{is_port, is_output}
+use Rattle.safl_verilog.specs.Faults.{is_output}
 use Rattle.safl_elaborate.proofs.ScopeLemmas.{none_passes, some_passes}
 use Rattle.safl_elaborate.proofs.ports.is_output_name.Goals as goal
 

@@ -1,7 +1,7 @@
 use Rattle.std.proofs.Common.{◌≡◌}
 use Rattle.std.specs.List.{flat_map}
 use Rattle.safl_verilog.specs.Faults.{port_faults}
-use Rattle.safl_vread.specs.Shown.{spot_at, spots_at, declaration_at, declarations_at}
+use Rattle.safl_vread.specs.Shown.{spots_at, declaration_at, declarations_at}
 use Rattle.safl_elaborate.specs.Firsts.{first}
 use Rattle.safl_elaborate.specs.Scopes.{without_statements}
 use Rattle.safl_elaborate.proofs.FirstLemmas.{first_from}

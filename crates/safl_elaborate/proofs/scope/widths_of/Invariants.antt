@@ -2,7 +2,7 @@ use Rattle.std.proofs.Common.{◌≡◌, [], drop}
 use Rattle.std.specs.List.{flat_map}
 use Rattle.std.specs.Prelude.{take, map}
 use Rattle.safl_verilog.specs.Faults.{declared_number_faults}
-use Rattle.safl_vread.specs.Shown.{declaration_at, declarations_at}
+use Rattle.safl_vread.specs.Shown.{declaration_at}
 use Rattle.safl_elaborate.specs.Lists.{widths_of}
 use Rattle.safl_elaborate.proofs.scope.widths_of.Given as goal
 

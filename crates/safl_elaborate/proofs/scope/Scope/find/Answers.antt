@@ -1,9 +1,7 @@
-use Rattle.std.proofs.Common.{ap, sym, subst, ◌≡◌, ◌∙◌, List, ℕ, Option, Some, None, position, bytes_eq, get_or, slice_get}
+use Rattle.std.proofs.Common.{ap, sym, subst, ◌≡◌, ◌∙◌, List, ℕ, Some, position, bytes_eq, get_or, slice_get}
 use Rattle.safl_verilog.specs.Files.{Declaration}
 use Rattle.safl_verilog.specs.Faults.{find, range_width}
-use Rattle.safl_vread.specs.declared.file.Declaration.{Declaration as Parsed}
 use Rattle.safl_vread.specs.Shown.{declaration_at, declarations_at}
-use Rattle.safl_elaborate.specs.Lists.{widths_of}
 use Rattle.safl_elaborate.proofs.ScopeLemmas.{Finds, finds, mapped_at, found_at, describes, undescribed}
 use Rattle.safl_elaborate.proofs.scope.Scope.find.Goals as goal
 

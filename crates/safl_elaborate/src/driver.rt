@@ -1,0 +1,22 @@
+//! What gives a declared name its word.
+
+use safl_net::Op;
+use safl_word::Word;
+
+/// The places of declared names.
+#[derive(Clone, Copy, Debug, PartialEq, Eq)]
+pub enum Operands {
+    None,
+    One(usize),
+    Two(usize, usize),
+    Three(usize, usize, usize),
+}
+
+/// What drives a declared name: nothing yet, an operation on declared names, or a word at reset and the name of a
+/// place.
+#[derive(Clone, Copy, Debug, PartialEq, Eq)]
+pub enum Driver {
+    Open,
+    Cell(Op, Operands),
+    Next(Word, usize),
+}

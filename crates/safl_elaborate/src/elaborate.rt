@@ -1,0 +1,104 @@
+//! Whether a text is a netlist.
+
+ghost use Rattle.std.specs.Prelude.{◌≡◌, ◌<◌, ◌^◌, [], length, OnOk, IfOk, IfErr};
+ghost use Rattle.std.specs.List.{flat_map};
+ghost use Rattle.safl_net.specs.Netlist.{Netlist};
+ghost use Rattle.safl_verilog.specs.Reads.{Reads};
+ghost use Rattle.safl_verilog.specs.Faults.{faults, declared_number_faults, stated_number_faults, repeat_faults, declared_names};
+ghost use Rattle.safl_vread.specs.Shown.{spots_at, declarations_at, statements_at, file_at};
+ghost use Rattle.safl_vread.specs.Parsed.{RefusesText};
+ghost use Rattle.safl_elaborate.specs.Firsts.{Answers};
+ghost use Rattle.safl_elaborate.specs.Lists.{bytes_of_all};
+ghost use Rattle.safl_elaborate.specs.Parts.{parts_at, later_faults};
+
+use crate::missing::missing_fault;
+use crate::names::{Names, declared_names, header_names};
+use crate::numbers::number_fault;
+use crate::ports::port_fault;
+use crate::scope::{Scope, widths_of};
+use crate::statements::drivers_of;
+use safl_vread::{Declaration, File, Span, Statement, VErr, parse};
+use std::alloc::Global;
+
+/// Ok exactly where a text of fewer than 2^32 bytes reads as a netlist; else its first fault.
+pub fn check(alloc: Global, text: &[u8]) -> Result<(), VErr>
+    requires { length text.now < 2 ^ 32 }
+    ensures reads { OnOk result ((n : Netlist) × Reads text.now n) }
+    ensures refused { IfErr result (λ e. RefusesText text.now e) }
+{
+    let file = parse(alloc, text)?;
+    check_file(alloc, text, &file)
+}
+
+// The rules on a file of the grammar.
+fn check_file(alloc: Global, text: &[u8], file: &File) -> Result<(), VErr>
+    ensures { Answers (faults (file_at text.now file.now)) result }
+{
+    check_parts(
+        alloc,
+        text,
+        &file.header,
+        &file.declarations,
+        &file.statements,
+    )
+}
+
+fn check_parts(
+    alloc: Global,
+    text: &[u8],
+    header: &[Span],
+    declarations: &[Declaration],
+    statements: &[Statement],
+) -> Result<(), VErr>
+    ensures { Answers (faults (parts_at text.now header.now declarations.now statements.now)) result }
+{
+    if let Some(fault) = number_fault(text, declarations, statements) {
+        return Err(VErr::Refused(fault));
+    }
+    let listed = header_names(alloc, text, header)?;
+    let scope = scope_of(alloc, text, declarations)?;
+    check_scope(alloc, &scope, header, &listed, statements)
+}
+
+// The rules behind those on numbers and on names that stand twice.
+fn check_scope(
+    alloc: Global,
+    scope: &Scope,
+    header: &[Span],
+    listed: &Names,
+    statements: &[Statement],
+) -> Result<(), VErr>
+    requires numbers { flat_map stated_number_faults (statements_at scope.now.text.now statements.now) ≡ [] }
+    requires listed { listed.now ≡ bytes_of_all (spots_at scope.now.text.now header.now) }
+    ensures { Answers (later_faults (parts_at scope.now.text.now header.now scope.now.declarations.now statements.now)) result }
+{
+    if let Some(fault) = port_fault(scope, header, listed) {
+        return Err(VErr::Refused(fault));
+    }
+    let drivers = drivers_of(alloc, scope, statements)?;
+    match missing_fault(scope, &drivers) {
+        Some(fault) => Err(VErr::Refused(fault)),
+        None => Ok(()),
+    }
+}
+
+// What is declared, or V03 at the first name that stands twice.
+fn scope_of<'t>(
+    alloc: Global,
+    text: &'t [u8],
+    declarations: &'t [Declaration],
+) -> Result<Scope<'t>, VErr>
+    requires { flat_map declared_number_faults (declarations_at text.now declarations.now) ≡ [] }
+    ensures faults { Answers (repeat_faults [] (declared_names (declarations_at text.now declarations.now))) result }
+    ensures text { IfOk result (λ scope. scope.text.now ≡ text.now) }
+    ensures declarations { IfOk result (λ scope. scope.declarations.now ≡ declarations.now) }
+{
+    let names = declared_names(alloc, text, declarations)?;
+    let widths = widths_of(alloc, text, declarations)?;
+    Ok(Scope {
+        text,
+        declarations,
+        names,
+        widths,
+    })
+}
