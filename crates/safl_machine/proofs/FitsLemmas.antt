@@ -4,7 +4,7 @@ use Rattle.std.proofs.lemmas.Bool.{cases_eq, eq-eqb, eqb-true, ne_eqb}
 use Rattle.safl_word.specs.Words.{Word}
 use Rattle.safl_check.specs.Program.{Program, unit_for}
 use Rattle.safl_check.specs.Readiness.{Stage, Unsent, Sent, Returned, Answer, Ready, LoopTo, NotYet, answer, wanted, back_word}
-use Rattle.safl_check.specs.WellFormed.{IsWellFormed, AreWordsOf, HasWidth}
+use Rattle.safl_check.specs.WellFormed.{IsWellFormed, HasWidth}
 use Rattle.safl_check.proofs.Widths.{answer_width, loop_widths, wanted_widths}
 use Rattle.safl_core.specs.Machine.{State, Mode, Idle, Runs, Delivers, Event, Accept, Finish, Return, LoopInto, opening, put, back, says, says_as, asked, asked_as, Enabled, Legal, after, fire, accept, finish, give_back, loop_into, ended}
 use Rattle.safl_core.proofs.Basics.{serves, put_at, put_off, some_none, some_is, cond_some}
@@ -17,12 +17,6 @@ pub record Fits (C : Program) (s : State) : Type 0 where
   pub runs : (u f k : ℕ) (ws : List Word) → s.unit u ≡ Runs f k ws → widths ws ≡ C.params f
   pub gives : (u k : ℕ) (v : Word) → s.unit u ≡ Delivers k v → v.width ≡ C.result (C.callee k)
   pub back : (k : ℕ) (v : Word) → back s k ≡ Some v → v.width ≡ C.result (C.callee k)
-
-pub words_widths : (ws : List Word) (ns : List ℕ) → AreWordsOf ws ns → widths ws ≡ ns
-words_widths [] [] h = refl
-words_widths [] (n ∷ ns) h = absurd h
-words_widths (w ∷ ws) [] h = absurd h
-words_widths (w ∷ ws) (n ∷ ns) h = ap (λ z. z ∷ widths ws) h.1 ∙ ap (λ l. n ∷ l) (words_widths ws ns h.2)
 
 idle_runs : {A : Type 0} (f k : ℕ) (ws : List Word) → Idle ≡ Runs f k ws → A
 idle_runs f k ws e = absurd (grind arith)
@@ -77,9 +71,9 @@ module _ (C : Program) (wf : IsWellFormed C) where
       let b = wf.numbered.bodies f in
       wanted_widths C (back s) f true b.0 b.1 ws (C.body f) (C.result f) k us b.3 (subst (λ l. HasWidth C l (C.body f) (C.result f)) (sym e) (wf.widths f lt)) (λ k w st q. fits.back k w q) is
 
-  module _ (args : List Word) (given : AreWordsOf args (C.params C.main)) (s : State) (inv : Inv C s) (fits : Fits C s) where
+  module _ (args : List Word) (given : widths args ≡ C.params C.main) (s : State) (inv : Inv C s) (fits : Fits C s) where
     asked_fits : (k : ℕ) (ws : List Word) → asked C args s k ≡ Some ws → widths ws ≡ C.params (C.callee k)
-    asked_fits zero ws e = sym (ap widths (some_is args ws (cond_some _ _ ws e).1)) ∙ (words_widths args (C.params C.main) given ∙ ap C.params (sym wf.main))
+    asked_fits zero ws e = sym (ap widths (some_is args ws (cond_some _ _ ws e).1)) ∙ (given ∙ ap C.params (sym wf.main))
     asked_fits (suc k) ws e = by (s.unit (C.unit (C.caller (suc k)))) refl (cond_some _ _ ws e).1
       where
         by : (m : Mode) → s.unit (C.unit (C.caller (suc k))) ≡ m → asked_as C (back s) m (C.caller (suc k)) (suc k) ≡ Some ws → widths ws ≡ C.params (C.callee (suc k))
@@ -172,7 +166,7 @@ module _ (C : Program) (wf : IsWellFormed C) where
             subst (λ x. Fits C (loop_into C s (C.unit m) x (says C s (C.unit m)))) (sym q)
             (subst (λ a. Fits C (loop_into C s (C.unit m) (Runs f k ws) a)) (sym h.1) (fits_loop m f k ws h.0 q h.1))
 
-  pub fits_all : (args : List Word) → AreWordsOf args (C.params C.main) → (s : State) (es : List Event) → Inv C s → Fits C s → Legal C args s es → Fits C (after C args s es)
+  pub fits_all : (args : List Word) → widths args ≡ C.params C.main → (s : State) (es : List Event) → Inv C s → Fits C s → Legal C args s es → Fits C (after C args s es)
   unfolding Legal after
   fits_all args given s [] inv fits legal = fits
   fits_all args given s (e ∷ es) inv fits legal = fits_all args given (fire C args s e) es (inv_fire C args (numbered C wf) s e inv legal.0) (fits_fire args given s inv fits e legal.0) legal.1
@@ -188,5 +182,5 @@ module _ (C : Program) (wf : IsWellFormed C) where
       nothing zero v e = some_none v (sym e)
       nothing (suc k) v e = some_none v (sym e)
 
-  pub fits_after : (args : List Word) (es : List Event) → AreWordsOf args (C.params C.main) → Legal C args opening es → Fits C (after C args opening es)
+  pub fits_after : (args : List Word) (es : List Event) → widths args ≡ C.params C.main → Legal C args opening es → Fits C (after C args opening es)
   fits_after args es given legal = fits_all args given opening es (inv_open C args (numbered C wf)) fits_open legal

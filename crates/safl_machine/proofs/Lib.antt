@@ -4,3 +4,4 @@ pub mod RefreshLemmas
 pub mod StateLemmas
 pub mod FitsLemmas
 pub mod KeptLemmas
+pub mod OpenLemmas

@@ -2,7 +2,6 @@
 use Rattle.std.specs.Prelude.{◌≡◌, ℕ, suc, ◌+◌, List, length, Option, Some, None}
 use Rattle.safl_word.specs.Words.{Word}
 use Rattle.safl_check.specs.Checked.{CheckedProgram, IsChecked, program_of}
-use Rattle.safl_check.specs.WellFormed.{AreWordsOf}
 use Rattle.safl_core.specs.Machine as core
 use Rattle.safl_machine.specs.declared.event.Event.{Event}
 use Rattle.safl_machine.specs.declared.event.Event.TheVariants.{Accept, Finish, Return, Loop}
@@ -10,6 +9,7 @@ use Rattle.safl_machine.specs.declared.mode.Answer.{Answer}
 use Rattle.safl_machine.specs.declared.mode.Answer.TheVariants.{Ready, Loop as LoopInto, NotYet}
 use Rattle.safl_machine.specs.declared.mode.Mode.{Mode}
 use Rattle.safl_machine.specs.declared.stage.Stage.{Stage}
+use Rattle.safl_machine.specs.Evaluating.{widths}
 use Rattle.safl_machine.specs.Knowing.{IsKnown, HasRoom}
 use Rattle.safl_machine.specs.Modes.{state_of}
 
@@ -77,7 +77,14 @@ pub record IsKept (m : Shown) (answers : List Answer) (wants : List (Option (Lis
   pub sites : length m.sites ≡ suc (program_of m.program).sites
   pub answers_all : length answers ≡ (program_of m.program).functions
   pub wants_all : length wants ≡ suc (program_of m.program).sites
-  pub given : AreWordsOf m.args ((program_of m.program).params (program_of m.program).main)
+  pub given : widths m.args ≡ (program_of m.program).params (program_of m.program).main
   pub room_all : HasRoom (program_of m.program) room
   pub reached : IsReached m
   pub known : (u : ℕ) → IsKnown (program_of m.program) (state m) answers wants u
+
+-- a machine at first: all units are idle, and main was not accepted
+pub record Opens (c : CheckedProgram) (args : List Word) (m : Shown) : Type 0 where
+  pub program : m.program ≡ c
+  pub given : m.args ≡ args
+  pub first : state m ≡ core.opening
+  pub none : m.events ≡ 0

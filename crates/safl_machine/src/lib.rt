@@ -6,6 +6,7 @@ pub mod evaluate;
 pub mod event;
 pub mod fire;
 pub mod machine;
+pub mod make;
 pub mod mode;
 pub mod refresh;
 pub mod stage;

@@ -2,12 +2,23 @@
 
 use crate::args::Args;
 use crate::event::Event;
-use crate::fire;
 use crate::mode::{Answer, Mode};
 use crate::stage::Stage;
+use crate::{fire, make};
 use safl_check::Checked;
 use safl_word::Word;
+use std::alloc::{AllocError, Global};
 use std::marker::Model;
+
+/// The words of the slots of any body: at most as many as its parameters and nodes.
+const ROOM: usize = 50_016;
+
+/// Why there is no machine: the arguments differ from main's parameters in number or in a width, or no memory is left.
+#[derive(Clone, Copy, Debug, PartialEq, Eq)]
+pub enum MachineErr {
+    BadArgs,
+    NoMemory,
+}
 
 /// Units that serve the calls of a program, one event at a time. Once made it takes no memory.
 #[derive(Drop)]
@@ -38,10 +49,49 @@ impl<'a> Model for Machine<'a> {
 }
 
 impl<'a> Machine<'a> {
-    ghost use Rattle.std.specs.Prelude.{◌≡◌, ◌+◌, ◌-◌, ◌^◌, ◌<◌, IfSome};
+    ghost use Rattle.std.specs.Prelude.{◌≡◌, ◌+◌, ◌-◌, ◌^◌, ◌<◌, ◌↔◌, Err, IfOk};
     ghost use Rattle.safl_core.specs.Machine as core;
+    ghost use Rattle.safl_check.specs.Checked.{program_of};
     ghost use Rattle.safl_check.specs.Readiness.{back_word};
-    ghost use Rattle.safl_machine.specs.Shown.{state, event_of, IsReached, CanFire, Fires};
+    ghost use Rattle.safl_machine.specs.Evaluating.{widths};
+    ghost use Rattle.safl_machine.specs.Shown.{state, event_of, IsReached, CanFire, Fires, Opens};
+
+    /// A machine whose units are idle, and whose main waits to be accepted with these arguments.
+    pub fn new(alloc: Global, c: &'a Checked, args: &[Word]) -> Result<Machine<'a>, MachineErr>
+        ensures bad_args { result ≡ Err MachineErr.BadArgs ↔ (widths args.now ≡ (program_of c.now).params (program_of c.now).main → ⊥) }
+        ensures opens { IfOk result (λ m. Opens c.now args.now m) }
+    {
+        if !make::fits(c, args) {
+            return Err(MachineErr::BadArgs);
+        }
+        match Machine::opened(alloc, c, args) {
+            Ok(machine) => Ok(machine),
+            Err(_) => Err(MachineErr::NoMemory),
+        }
+    }
+
+    fn opened(alloc: Global, c: &'a Checked, args: &[Word]) -> Result<Machine<'a>, AllocError>
+        requires { widths args.now ≡ (program_of c.now).params (program_of c.now).main }
+        ensures { IfOk result (λ m. Opens c.now args.now m) }
+    {
+        let functions = c.functions() as usize;
+        let sites = c.sites() as usize + 1;
+        let modes = make::idle(alloc, functions)?;
+        let stages = make::unsent(alloc, sites)?;
+        let answers = make::unanswered(alloc, functions)?;
+        let wants = make::unwanted(alloc, sites)?;
+        let env = make::room(alloc, ROOM)?;
+        Ok(Machine {
+            checked: c,
+            opening: Args::new(args),
+            modes,
+            stages,
+            answers,
+            wants,
+            env,
+            events: 0,
+        })
+    }
 
     /// The number of events that were fired.
     pub fn events(&self) -> u64

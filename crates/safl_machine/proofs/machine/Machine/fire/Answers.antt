@@ -20,8 +20,8 @@ invariant_of-self c =
     let l4 = c.fire.auto.wants ∙ ap length c.deref_mut-4.ensures.value in
     let l5 = c.fire.auto.env ∙ ap (λ (x : List Word). length x) c.deref_mut-5.ensures.value in
     let next = c.fire.ensures.next
-        ∙ (ap (λ (x : List Mode). core.fire (program_of m.checked.now) m.opening (state_of x c.deref_mut-2.result.now) e) c.deref_mut.ensures.value
-        ∙ ap (λ (y : List Stage). core.fire (program_of m.checked.now) m.opening (state_of m.modes.items y) e) c.deref_mut-2.ensures.value) in
+    ∙ (ap (λ (x : List Mode). core.fire (program_of m.checked.now) m.opening (state_of x c.deref_mut-2.result.now) e) c.deref_mut.ensures.value
+    ∙ ap (λ (y : List Stage). core.fire (program_of m.checked.now) m.opening (state_of m.modes.items y) e) c.deref_mut-2.ensures.value) in
     let can = subst (λ x. CanFire x e) (sym c.self.view_is) c.requires.can in
     kept_as m.checked.now m.opening (m.events + 1)
     (written c.fire.new.modes m.modes.items m.modes.len (l1 ∙ sym m.modes.ok.0))

@@ -1,0 +1,21 @@
+use Rattle.std.proofs.Common.{◌≡◌, ◌≤◌, ◌+◌, ◌∙◌, sym, ap, subst, length, suc, List, arith}
+use Rattle.safl_word.specs.Words.{Word}
+use Rattle.safl_check.specs.Checked.{program_of}
+use Rattle.safl_machine.specs.Evaluating.{widths}
+use Rattle.safl_machine.proofs.OpenLemmas.{kept_open, opens}
+use Rattle.safl_machine.proofs.machine.Machine.opened.Goals as goal
+
+pub invariant_of-result : goal.invariant_of-result
+invariant_of-result c =
+    kept_open c.args.c.now c.new.result c.in_ok-modes.modes.items c.in_ok-stages.stages.items c.in_ok-answers.answers.items c.in_ok-wants.wants.items _
+    c.functions-functions.ensures.checked
+    (ap widths c.new.ensures ∙ c.requires)
+    c.in_ok-modes.ensures.idle
+    c.in_ok-stages.ensures.unsent
+    c.in_ok-answers.ensures.none
+    c.in_ok-wants.ensures.none
+    (c.in_ok-modes.ensures.count ∙ c.functions-functions.ensures.count)
+    (omega (arith, c.in_ok-stages.ensures.count, c.sites.ensures))
+    (c.in_ok-answers.ensures.count ∙ c.functions-functions.ensures.count)
+    (omega (arith, c.in_ok-wants.ensures.count, c.sites.ensures))
+    (omega (arith, c.in_ok-env.ensures))
