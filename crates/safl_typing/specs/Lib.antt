@@ -6,3 +6,4 @@ pub mod Walk
 pub mod Laws
 pub mod Plain
 pub mod PlainHeads
+pub mod PlainTyped

@@ -7,3 +7,4 @@ pub mod laws;
 mod measure;
 mod rewrite;
 mod sites;
+mod typed;

@@ -1,0 +1,130 @@
+//! What the walk gives: a width with a term, or a fault.
+
+ghost use Rattle.std.specs.Prelude.{◌≡◌, ◌<◌, ◌^◌, IfSome, length};
+ghost use Rattle.safl_check.specs.Tree.{tree};
+ghost use Rattle.safl_typing.specs.Typing.{innermost};
+ghost use Rattle.safl_typing.specs.Walk.{fault, settle, number, sized, variable};
+ghost use Rattle.safl_typing.specs.declared.typed.CheckErr.TheVariants as errors;
+ghost use Rattle.safl_typing.specs.PlainHeads.{plain_slots};
+ghost use Rattle.safl_typing.specs.PlainTyped.{plain_wanted, HasWideWanted, HasWidthOfWord, Says, at_slot};
+
+use crate::heads::Slot;
+use safl_check::Term;
+use safl_tree::Name;
+use safl_word::{Fault, Raw, Rule, Word};
+
+/// A fault of the source, or want of memory.
+#[derive(Clone, Copy, Debug, PartialEq, Eq)]
+pub enum CheckErr {
+    Refused(Fault),
+    NoMemory,
+}
+
+/// How an expression is looked at: its width is found, or it is expected at a width.
+#[derive(Clone, Copy)]
+pub enum Wanted {
+    Any,
+    Exactly(u8),
+}
+
+/// A width in bits, and the term that has it.
+#[derive(Drop)]
+pub struct Typed {
+    pub width: u8,
+    pub term: Term,
+}
+
+// A fault without numbers.
+fn refused(rule: Rule, place: u32) -> CheckErr
+    ensures { result ≡ errors.Refused (fault rule place) }
+{
+    CheckErr::Refused(Fault {
+        rule,
+        place,
+        first: 0,
+        second: 0,
+    })
+}
+
+/// An expression whose width was found: E12 where another is expected.
+pub fn settled(place: u32, wanted: Wanted, width: u8, term: Term) -> Result<Typed, CheckErr>
+    ensures { Says result (settle place (plain_wanted wanted) width (tree term)) }
+{
+    match wanted {
+        Wanted::Any => Ok(Typed { width, term }),
+        Wanted::Exactly(expected) => {
+            if expected == width {
+                return Ok(Typed { width, term });
+            }
+            Err(CheckErr::Refused(Fault {
+                rule: Rule::E12,
+                place,
+                first: expected as u32,
+                second: width as u32,
+            }))
+        }
+    }
+}
+
+/// A number: E14 where no width is expected, E13 where it does not fit the expected one.
+pub fn typed_number(place: u32, value: Raw, wanted: Wanted) -> Result<Typed, CheckErr>
+    requires { HasWideWanted wanted }
+    ensures { Says result (number place value (plain_wanted wanted)) }
+{
+    match wanted {
+        Wanted::Any => Err(refused(Rule::E14, place)),
+        Wanted::Exactly(width) => match Word::new(width, value) {
+            Some(word) => Ok(Typed {
+                width,
+                term: Term::Const(word),
+            }),
+            None => Err(refused(Rule::E13, place)),
+        },
+    }
+}
+
+/// A sized number: E13 where the value does not fit the width.
+pub fn typed_sized(
+    place: u32,
+    width: u8,
+    value: Raw,
+    wanted: Wanted,
+) -> Result<Typed, CheckErr>
+    requires { HasWidthOfWord width }
+    ensures { Says result (sized place width value (plain_wanted wanted)) }
+{
+    match Word::new(width, value) {
+        Some(word) => settled(place, wanted, width, Term::Const(word)),
+        None => Err(refused(Rule::E13, place)),
+    }
+}
+
+/// A variable: E08 where no slot has its name.
+pub fn typed_variable(
+    place: u32,
+    slots: &[Slot],
+    name: &Name,
+    wanted: Wanted,
+) -> Result<Typed, CheckErr>
+    requires { length slots.now < 2 ^ 32 }
+    ensures { Says result (variable place (plain_wanted wanted) (innermost name.now 0 (plain_slots slots.now))) }
+{
+    match find_slot(slots, name) {
+        Some(slot) => settled(place, wanted, slots[slot].width, Term::Var(slot as u32)),
+        None => Err(refused(Rule::E08, place)),
+    }
+}
+
+// The innermost slot of this name, the last one.
+fn find_slot(slots: &[Slot], name: &Name) -> Option<usize>
+    ensures within { IfSome result (λ i. i < length slots.now) }
+    ensures found { at_slot slots.now result ≡ innermost name.now 0 (plain_slots slots.now) }
+{
+    let mut found = None;
+    for slot in 0..slots.len() {
+        if slots[slot].name.bytes() == name.bytes() {
+            found = Some(slot);
+        }
+    }
+    found
+}
