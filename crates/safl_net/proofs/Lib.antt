@@ -7,6 +7,7 @@ pub mod Finding
 pub mod Growth
 pub mod Settling
 pub mod CellWords
+pub mod Reading
 pub mod Saying
 pub mod OneValuation
 pub mod Existence
