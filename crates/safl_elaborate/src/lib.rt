@@ -14,3 +14,6 @@ mod statements;
 
 pub use crate::elaborate::check;
 pub use safl_vread::{VErr, VFault, VRule};
+
+#[cfg(test)]
+mod tests;
