@@ -5,3 +5,4 @@ pub mod StateLemmas
 pub mod FitsLemmas
 pub mod KeptLemmas
 pub mod OpenLemmas
+pub mod OutcomeLemmas

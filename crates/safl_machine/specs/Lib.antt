@@ -3,3 +3,5 @@ pub mod Evaluating
 pub mod Modes
 pub mod Knowing
 pub mod Shown
+pub mod Outcomes
+pub mod Testing

@@ -49,11 +49,12 @@ impl<'a> Model for Machine<'a> {
 }
 
 impl<'a> Machine<'a> {
-    ghost use Rattle.std.specs.Prelude.{◌≡◌, ◌+◌, ◌-◌, ◌^◌, ◌<◌, ◌↔◌, Err, IfOk};
+    ghost use Rattle.std.specs.Prelude.{◌≡◌, ◌+◌, ◌-◌, ◌^◌, ◌<◌, ◌↔◌, Err, IfOk, IfSome, IfNone, IsSome};
     ghost use Rattle.safl_core.specs.Machine as core;
     ghost use Rattle.safl_check.specs.Checked.{program_of};
     ghost use Rattle.safl_check.specs.Readiness.{back_word};
     ghost use Rattle.safl_machine.specs.Evaluating.{widths};
+    ghost use Rattle.safl_machine.specs.Outcomes.{IsValue, IsBounded, GoesOn, IsOver};
     ghost use Rattle.safl_machine.specs.Shown.{state, event_of, IsReached, CanFire, Fires, Opens};
 
     /// A machine whose units are idle, and whose main waits to be accepted with these arguments.
@@ -97,13 +98,18 @@ impl<'a> Machine<'a> {
     pub fn events(&self) -> u64
         ensures count { result ≡ self.now.events }
         ensures reached { IsReached self.now }
+        ensures bounded { IsBounded self.now }
     {
         self.events
     }
 
-    /// What main has returned.
+    /// What main has returned: its value, in three events for each call but two less for each tail call. Until
+    /// then some event is enabled, and afterwards none is.
     pub fn result(&self) -> Option<Word>
-        ensures value { result ≡ back_word ((state self.now).site 0) }
+        ensures returned { result ≡ back_word ((state self.now).site 0) }
+        ensures value { IfSome result (λ v. IsValue self.now v) }
+        ensures goes_on { IfNone result (GoesOn self.now) }
+        ensures over { IsSome result → IsOver self.now }
     {
         match self.stages[0] {
             Stage::Unsent => None,

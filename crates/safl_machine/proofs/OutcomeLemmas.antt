@@ -1,0 +1,150 @@
+-- The laws of the machine, of one that is kept.
+use Rattle.std.proofs.Common.{◌≡◌, ◌+◌, ◌*◌, ◌≤◌, ◌<◌, ℕ, get_or, List, length, Option, Some, None, Bool, true, false, is_some, cond, eqb, ◌&&◌, refl, sym, ap, ◌∙◌, subst, arith}
+use Rattle.std.proofs.lemmas.Bool.{eqb-true, eq-eqb, and_parts, and_from, false≢true}
+use Rattle.std.specs.Prelude.{IsTrue}
+use Rattle.std.proofs.lemmas.List.{get_or_read}
+use Rattle.safl_core.proofs.Basics.{some_of}
+use Rattle.safl_machine.specs.declared.stage.Stage as declared
+use Rattle.safl_machine.specs.Stages.{stage_of, stage_at}
+use Rattle.safl_word.specs.Words.{Word}
+use Rattle.safl_check.specs.Checked.{program_of}
+use Rattle.safl_check.specs.Meaning.{Main, main_cost, loops}
+use Rattle.safl_check.specs.Program.{Program, arity, unit_for}
+use Rattle.safl_check.specs.Readiness.{Stage, Unsent, Sent, Returned, Answer, Ready, LoopTo, NotYet, back_word}
+use Rattle.safl_core.specs.Machine.{State, Mode, Idle, Runs, Delivers, Event, Accept, Finish, Return, LoopInto, opening, after, asked, says, Enabled}
+use Rattle.safl_core.proofs.FromWellFormed.{numbered}
+use Rattle.safl_core.proofs.MachineLaws as law
+use Rattle.safl_machine.specs.declared.mode.Answer.{Answer as Kept}
+use Rattle.safl_machine.specs.Evaluating.{widths}
+use Rattle.safl_machine.specs.Outcomes.{IsValue, IsBounded, GoesOn, IsOver}
+use Rattle.safl_machine.specs.Shown.{Shown, state, CanFire, IsKept}
+use Rattle.safl_machine.specs.Testing.{is_idle, runs, delivers_to, is_ready, loops_to, can}
+use Rattle.safl_machine.proofs.OpenLemmas.{widths_long}
+
+some_is : (v w : Word) → Some v ≡ Some w → v ≡ w
+some_is v w e = cc
+
+returned_is : (x : Stage) (v : Word) → back_word x ≡ Some v → x ≡ Returned v
+returned_is Unsent v e = absurd (none v e) where
+  none : (v : Word) → None ≡ Some v → ⊥
+  none v e = cc
+returned_is Sent v e = absurd (none v e) where
+  none : (v : Word) → None ≡ Some v → ⊥
+  none v e = cc
+returned_is (Returned w) v e = ap Returned (some_is w v e)
+
+module _ {m : Shown} {answers : List Kept} {wants : List (Option (List Word))} {room : ℕ} (h : IsKept m answers wants room) where
+  ends : (v : Word) → back_word ((state m).site 0) ≡ Some v → (after (program_of m.program) m.args opening h.reached.list).site 0 ≡ Returned v
+  ends v e = ap (λ s. s.site 0) h.reached.ends ∙ returned_is ((state m).site 0) v e
+
+  pub sized : length m.args ≡ arity (program_of m.program) (program_of m.program).main
+  sized = sym (widths_long m.args) ∙ ap (λ (x : List ℕ). length x) h.given
+
+  pub value_of : (v : Word) → back_word ((state m).site 0) ≡ Some v → IsValue m v
+  value_of v e =
+      let C = program_of m.program in
+      let r = law.right C C.functions (numbered C h.checked.formed) h.checked.formed.numbered m.args h.reached.list h.reached.legal v (ends v e) in
+      (r.0, ap (λ n. n + 2 * loops C r.0) (sym h.reached.count) ∙ r.1)
+
+  pub bounded : IsBounded m
+  bounded v d =
+      let C = program_of m.program in
+      let b = law.bounded C C.functions (numbered C h.checked.formed) h.checked.formed.numbered m.args h.reached.list h.reached.legal v d in
+      omega (arith, b, h.reached.count)
+
+  pub goes_on : back_word ((state m).site 0) ≡ None → GoesOn m
+  goes_on e =
+      let C = program_of m.program in
+      let q = law.goes_on C C.functions (numbered C h.checked.formed) h.checked.formed.numbered m.args h.reached.list h.reached.legal sized
+      (λ v r. never v (sym e ∙ ap back_word (sym (ap (λ s. s.site 0) h.reached.ends) ∙ r))) in
+      (q.0, subst (λ s. Enabled C m.args s q.0) h.reached.ends q.1)
+    where
+      never : (v : Word) → None ≡ Some v → ⊥
+      never v e = cc
+
+  pub over : (v : Word) → back_word ((state m).site 0) ≡ Some v → IsOver m
+  over v e = λ x q.
+      let C = program_of m.program in
+      law.stops C C.functions (numbered C h.checked.formed) h.checked.formed.numbered m.args h.reached.list h.reached.legal v x (ends v e) (subst (λ s. Enabled C m.args s x) (sym h.reached.ends) q)
+
+-- the stage that was read first
+pub read_stage : (stages : List declared.Stage) (x y : declared.Stage) → 0 < length stages → x ≡ get_or stages 0 x → x ≡ y → stage_at stages 0 ≡ stage_of y
+read_stage stages x y lt e is = ap stage_of (sym (get_or_read stages 0 x lt e declared.TheVariants.Unsent) ∙ is)
+
+-- ---- what enables an event
+
+not_delivers : {A : Type 0} (k : ℕ) (v : Word) → Idle ≡ Delivers k v → A
+not_delivers k v e = absurd (grind arith)
+
+runs_not_delivers : {A : Type 0} (f j k : ℕ) (ws : List Word) (v : Word) → Runs f j ws ≡ Delivers k v → A
+runs_not_delivers f j k ws v e = absurd (grind arith)
+
+not_runs : {A : Type 0} (f k : ℕ) (ws : List Word) → Idle ≡ Runs f k ws → A
+not_runs f k ws e = absurd (grind arith)
+
+delivers_not_runs : {A : Type 0} (f j k : ℕ) (ws : List Word) (v : Word) → Delivers j v ≡ Runs f k ws → A
+delivers_not_runs f j k ws v e = absurd (grind arith)
+
+pub idle_is : (m : Mode) → is_idle m ≡ true → m ≡ Idle
+idle_is Idle e = refl
+idle_is (Runs f k ws) e = absurd (false≢true e)
+idle_is (Delivers k v) e = absurd (false≢true e)
+
+abbrev member_of : Mode → ℕ
+member_of Idle = 0
+member_of (Runs f k ws) = f
+member_of (Delivers k v) = 0
+
+abbrev site_of : Mode → ℕ
+site_of Idle = 0
+site_of (Runs f k ws) = 0
+site_of (Delivers k v) = k
+
+pub runs_is : (m : Mode) (f : ℕ) → runs m f ≡ true → (k : ℕ) × (ws : List Word) × (m ≡ Runs f k ws)
+runs_is Idle f e = absurd (false≢true e)
+runs_is (Runs g k ws) f e = (k, ws, ap (λ n. Runs n k ws) (eqb-true g f e))
+runs_is (Delivers k v) f e = absurd (false≢true e)
+
+pub delivers_is : (m : Mode) (k : ℕ) → delivers_to m k ≡ true → (v : Word) × (m ≡ Delivers k v)
+delivers_is Idle k e = absurd (false≢true e)
+delivers_is (Runs g j ws) k e = absurd (false≢true e)
+delivers_is (Delivers j v) k e = (v, ap (λ n. Delivers n v) (eqb-true j k e))
+
+pub ready_is : (a : Answer) → is_ready a ≡ true → (v : Word) × (a ≡ Ready v)
+ready_is (Ready v) e = (v, refl)
+ready_is (LoopTo h vs) e = absurd (false≢true e)
+ready_is NotYet e = absurd (false≢true e)
+
+pub loops_is : (a : Answer) (h : ℕ) → loops_to a h ≡ true → (vs : List Word) × (a ≡ LoopTo h vs)
+loops_is (Ready v) h e = absurd (false≢true e)
+loops_is (LoopTo g vs) h e = (vs, ap (λ n. LoopTo n vs) (eqb-true g h e))
+loops_is NotYet h e = absurd (false≢true e)
+
+-- an event is enabled exactly where its test holds
+module _ (C : Program) (args : List Word) (s : State) where
+  pub enabled_of : (e : Event) → can C args s e ≡ true → Enabled C args s e
+  enabled_of (Accept k) e =
+      let p = and_parts _ _ e in
+      let o = some_of (asked C args s k) p.0 in
+      (o.0, o.1, idle_is (s.unit (unit_for C k)) p.1)
+  enabled_of (Finish f) e =
+      let p = and_parts _ _ e in
+      let r = runs_is (s.unit (C.unit f)) f p.0 in
+      let v = ready_is (says C s (C.unit f)) p.1 in
+      (r.0, r.1, v.0, r.2, v.1)
+  enabled_of (Return k) e = delivers_is (s.unit (unit_for C k)) k e
+  enabled_of (LoopInto h) e = loops_is (says C s (C.unit h)) h e
+
+  pub enabled_can : (e : Event) → Enabled C args s e → can C args s e ≡ true
+  enabled_can (Accept k) h = and_from _ _ (ap is_some h.1) (ap is_idle h.2)
+  enabled_can (Finish f) h = and_from _ _ (ap (λ m. runs m f) h.3 ∙ eq-eqb f f refl) (ap is_ready h.4)
+  enabled_can (Return k) h = ap (λ m. delivers_to m k) h.1 ∙ eq-eqb k k refl
+  enabled_can (LoopInto m) h = ap (λ a. loops_to a m) h.1 ∙ eq-eqb m m refl
+
+  -- what the code answers, where it is the test
+  pub tested : (e : Event) (b : Bool) → b ≡ can C args s e → (IsTrue b → Enabled C args s e) × (Enabled C args s e → IsTrue b)
+  tested e b is = (λ t. enabled_of e (sym is ∙ t), λ h. is ∙ enabled_can e h)
+
+  -- and where it is not enabled
+  pub refused : (e : Event) → (Enabled C args s e → ⊥) → (IsTrue false → Enabled C args s e) × (Enabled C args s e → IsTrue false)
+  refused e never = (λ t. absurd (false≢true t), λ h. absurd (never h))
