@@ -1,11 +1,11 @@
 -- What a new temporary adds to a net.
-use Rattle.std.proofs.Common.{◌≡◌, ℕ, List, [], ◌∷◌, ◌++◌, true, false, subst, Some, None, Bool, ◌&&◌, not, cond, Result, Ok, Err, IfOk, OnOk, OnErr, Option, length, take, slice_get, slice_index_or, suc, zero, ◌+◌, ◌≤◌, ◌<◌, refl, ap, sym, ◌∙◌, add-one, arith}
+use Rattle.std.proofs.Common.{◌≡◌, ℕ, List, [], ◌∷◌, ◌++◌, true, false, subst, Some, Bool, ◌&&◌, not, cond, Result, Ok, Err, IfOk, OnOk, OnErr, Option, length, take, slice_get, slice_index_or, suc, zero, ◌+◌, ◌<◌, refl, ap, sym, ◌∙◌, add-one, arith}
 use Rattle.safl_net.specs.declared.cell.Sig.{Sig}
 use Rattle.safl_net.specs.declared.cell.Op.{Op}
 use Rattle.safl_net.specs.Netlist.{Netlist}
 use Rattle.safl_net.specs.Making.{with_signal, temporary}
 use Rattle.safl_net.specs.Widths.{op_width}
-use Rattle.safl_net.specs.Growth.{Val, words, Wired, width_at, Sized}
+use Rattle.safl_net.specs.Growth.{Val, words, Wired, width_at}
 use Rattle.safl_net.specs.Settled.{AreSteady, Settles}
 use Rattle.safl_net.proofs.Growth.{Made, made, sized_gives}
 use Rattle.safl_net.proofs.Settling.{settles_temp, settles_same, steady_new}

@@ -8,3 +8,6 @@ pub mod Pinning
 pub mod Ordering
 pub mod Joining
 pub mod Declared
+pub mod Members
+pub mod Lining
+pub mod Fitting

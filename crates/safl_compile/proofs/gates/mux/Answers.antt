@@ -1,4 +1,4 @@
-use Rattle.std.proofs.Common.{ℕ, [], ◌∷◌}
+use Rattle.std.proofs.Common.{[], ◌∷◌}
 use Rattle.safl_lower.proofs.BitWords.{mux_width, mux_value}
 use Rattle.safl_compile.proofs.Cells.{three_sources}
 use Rattle.safl_compile.proofs.gates.mux.Goals as goal

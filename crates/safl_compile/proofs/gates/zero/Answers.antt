@@ -1,4 +1,4 @@
-use Rattle.std.proofs.Common.{◌≡◌, ℕ, List, [], ◌∷◌, Some, IfOk, Ok, Err, Result, false, refl, ap, ◌∙◌, ◌==◌}
+use Rattle.std.proofs.Common.{◌≡◌, [], IfOk, Ok, Err, Result, false, ap, ◌∙◌, ◌==◌}
 use Rattle.safl_word.specs.Words.{Word}
 use Rattle.safl_net.specs.declared.cell.Sig.{Sig}
 use Rattle.safl_net.specs.Netlist.{Netlist}

@@ -1,8 +1,6 @@
-use Rattle.std.proofs.Common.{◌≡◌, length, Some, refl}
+use Rattle.std.proofs.Common.{length, refl}
 use Rattle.std.proofs.lemmas.Option.{slice_get_read}
-use Rattle.safl_compile.proofs.Building.{builds_on}
-use Rattle.safl_compile.proofs.Keeping.{bits_kept}
-use Rattle.safl_compile.proofs.Joining.{bits_set, bits_set_fit, length_set}
+use Rattle.safl_compile.proofs.Joining.{bits_set}
 use Rattle.safl_compile.proofs.loads.add_bit.Goals as goal
 
 pub returns-clause-shows : goal.returns-clause-shows

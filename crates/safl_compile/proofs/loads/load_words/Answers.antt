@@ -1,4 +1,4 @@
-use Rattle.std.proofs.Common.{◌≡◌, ℕ, ◌≤◌, List, length, ap, arith}
+use Rattle.std.proofs.Common.{List, length, ap, arith}
 use Rattle.safl_net.specs.declared.cell.Sig.{Sig}
 use Rattle.safl_compile.proofs.Building.{builds_within}
 use Rattle.safl_compile.proofs.Joining.{first_fits, as_many}
