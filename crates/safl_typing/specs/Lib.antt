@@ -7,3 +7,4 @@ pub mod Laws
 pub mod Plain
 pub mod PlainHeads
 pub mod PlainTyped
+pub mod PlainNames

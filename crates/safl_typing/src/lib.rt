@@ -4,7 +4,9 @@
 mod expression;
 mod heads;
 pub mod laws;
+mod lets;
 mod measure;
+mod repeats;
 mod rewrite;
 mod sites;
 mod typed;

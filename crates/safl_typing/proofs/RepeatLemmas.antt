@@ -1,0 +1,40 @@
+-- Names of bindings, one by one.
+use Rattle.std.proofs.Common.{◌≡◌, ℕ, zero, suc, ◌+◌, ◌<◌, ◌≤◌, arith, drop, get_or, drop-cons, List, [], ◌∷◌, length, Option, Some, None, Bool, true, false, cond, refl, sym, ap, ◌∙◌, subst}
+use Rattle.std.specs.Prelude.{slice_get, ◌||◌}
+use Rattle.std.specs.List.{list_any}
+use Rattle.std.specs.Str.{bytes_eq}
+use Rattle.std.proofs.lemmas.Option.{slice_get_read}
+use Rattle.safl_word.specs.declared.fault.Fault.{Fault}
+use Rattle.safl_word.specs.declared.fault.Rule.TheVariants as rules
+use Rattle.safl_typing.specs.declared.expression.Bound.{Bound}
+use Rattle.safl_typing.specs.Walk.{repeated, placed, fault}
+use Rattle.safl_typing.specs.Plain.{plain_bindings}
+use Rattle.safl_typing.specs.PlainNames.{name_of, earlier}
+
+earlier_next : (bs : List Bound) (i : ℕ) (b : Bound) → i < length bs → b ≡ get_or bs i b → earlier bs (i + 1) ≡ b.name ∷ earlier bs i
+earlier_next bs i b lt is =
+    let e : i + 1 ≡ suc i = omega arith in
+    ap (λ (n : ℕ). earlier bs n) e ∙ ap (λ (o : Option Bound). name_of o ∷ earlier bs i) (slice_get_read bs (length bs) i b refl lt is)
+
+front : (bs : List Bound) (i : ℕ) (b : Bound) → i < length bs → b ≡ get_or bs i b → drop i bs ≡ b ∷ drop (i + 1) bs
+front bs i b lt is =
+    let s : suc i ≡ i + 1 = omega arith in
+    drop-cons bs i b lt ∙ ap (λ (z : Bound). z ∷ drop (suc i) bs) (sym is) ∙ ap (λ (j : ℕ). b ∷ drop j bs) s
+
+-- one more name is looked at
+pub among_next : (bs : List Bound) (x : List ℕ) (j : ℕ) (b : Bound) (old : Bool) (c : Bool) → j < length bs → b ≡ get_or bs j b → bytes_eq x b.name ≡ c → old ≡ list_any (bytes_eq x) (earlier bs j) → (c || old) ≡ list_any (bytes_eq x) (earlier bs (j + 1))
+among_next bs x j b old c lt is q h =
+    ap (λ (z : Bool). c || z) h ∙ ap (λ (z : Bool). z || list_any (bytes_eq x) (earlier bs j)) (sym q) ∙ sym (ap (λ (l : List (List ℕ)). list_any (bytes_eq x) l) (earlier_next bs j b lt is))
+
+here : (bs : List Bound) (i : ℕ) (b : Bound) (c : Bool) → i < length bs → b ≡ get_or bs i b → list_any (bytes_eq b.name) (earlier bs i) ≡ c
+    → repeated (earlier bs i) (placed (plain_bindings (drop i bs))) ≡ cond c (Some (fault rules.E07 b.place)) (repeated (earlier bs (i + 1)) (placed (plain_bindings (drop (i + 1) bs))))
+here bs i b c lt is q =
+    ap (λ (l : List Bound). repeated (earlier bs i) (placed (plain_bindings l))) (front bs i b lt is)
+    ∙ ap (λ (z : Bool). cond z (Some (fault rules.E07 b.place)) (repeated (b.name ∷ earlier bs i) (placed (plain_bindings (drop (i + 1) bs))))) q
+    ∙ ap (λ (l : List (List ℕ)). cond c (Some (fault rules.E07 b.place)) (repeated l (placed (plain_bindings (drop (i + 1) bs))))) (sym (earlier_next bs i b lt is))
+
+pub repeated_here : (bs : List Bound) (i : ℕ) (b : Bound) → i < length bs → b ≡ get_or bs i b → list_any (bytes_eq b.name) (earlier bs i) ≡ true → repeated (earlier bs i) (placed (plain_bindings (drop i bs))) ≡ Some (fault rules.E07 b.place)
+repeated_here bs i b lt is q = here bs i b true lt is q
+
+pub repeated_next : (bs : List Bound) (i : ℕ) (b : Bound) → i < length bs → b ≡ get_or bs i b → list_any (bytes_eq b.name) (earlier bs i) ≡ false → repeated (earlier bs i) (placed (plain_bindings (drop i bs))) ≡ repeated (earlier bs (i + 1)) (placed (plain_bindings (drop (i + 1) bs)))
+repeated_next bs i b lt is q = here bs i b false lt is q

@@ -1,0 +1,13 @@
+use Rattle.std.proofs.Common.{◌≡◌, ◌∙◌, ap, sym, false}
+use Rattle.std.specs.List.{list_any}
+use Rattle.std.specs.Str.{bytes_eq}
+use Rattle.safl_typing.specs.declared.expression.Bound.{Bound}
+use Rattle.safl_typing.specs.PlainNames.{earlier}
+use Rattle.safl_typing.proofs.RepeatLemmas.{repeated_next}
+use Rattle.safl_typing.proofs.repeats.find_repeated.Goals as goal
+
+pub loop-i-preserved : goal.loop-i-preserved
+loop-i-preserved c =
+    let q : list_any (bytes_eq c.index-bound-i.result.name) (earlier c.args.bound.now c.loop-i.i) ≡ false =
+        ap (λ (b : Bound). list_any (bytes_eq b.name) (earlier c.args.bound.now c.loop-i.i)) c.index-bound-i.is ∙ (sym c.is_among.ensures ∙ c.if-is_among.false) in
+    c.loop-i.invariant ∙ repeated_next c.args.bound.now c.loop-i.i c.index-bound-i.result c.loop-i-test.true c.index-bound-i.is q
