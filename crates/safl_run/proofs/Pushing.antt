@@ -2,7 +2,7 @@
 use Rattle.std.proofs.Common.{◌≡◌, ℕ, zero, suc, ◌+◌, ◌-◌, ◌<◌, ◌≤◌, List, [], ◌∷◌, ◌++◌, map, length, take, drop, Some, Bool, true, false, cond, slice_get, refl, sym, ap, ◌∙◌, arith, append_assoc}
 use Rattle.std.proofs.lemmas.List.{append-nil, take_all, length-drop}
 use Rattle.safl_word.specs.Words.{Word}
-use Rattle.safl_net.specs.Netlist.{Netlist, Signal, Kind, Input, Reg, Wire}
+use Rattle.safl_net.specs.Netlist.{Netlist, Signal, Kind, Input, Reg, Wire, width_in, width_of}
 use Rattle.safl_net.specs.Making.{kind_at, name_at, kind_in, name_in}
 use Rattle.safl_net.specs.Runs.{is_argument}
 use Rattle.safl_run.specs.Arguments.{argument_widths}
@@ -76,3 +76,32 @@ pushed_all n start args words rest i h p = sym (append-nil words) ∙ ap (λ l. 
     past [] (suc i) h = refl
     past (g ∷ gs) zero h = absurd (omega (arith, h))
     past (g ∷ gs) (suc i) h = past gs i (omega (arith, h))
+
+-- the widths of the arguments, one signal after the other
+cond_append : (b : Bool) (w : ℕ) (ws : List ℕ) → cond b (w ∷ ws) ws ≡ cond b (w ∷ []) [] ++ ws
+cond_append true w ws = refl
+cond_append false w ws = refl
+
+pub widths_more : (n : Netlist) (old new : List ℕ) (i : ℕ) → i < length n.signals → old ++ argument_widths (drop i n.signals) ≡ argument_widths n.signals
+    → new ≡ old ++ cond (is_argument (name_at n i) (kind_at n i)) (width_of n i ∷ []) [] → new ++ argument_widths (drop (i + 1) n.signals) ≡ argument_widths n.signals
+unfolding argument_widths
+widths_more n old new i h e f =
+    let s = get_some n.signals i h in
+    let g : Signal = s.0 in
+    let tail : List ℕ = argument_widths (drop (i + 1) n.signals) in
+    let own : List ℕ = cond (is_argument g.name g.kind) (g.width ∷ []) [] in
+    ap (λ l. l ++ tail) (f ∙ ap (λ o. old ++ cond (is_argument (name_in o) (kind_in o)) (width_in o ∷ []) []) s.1)
+    ∙ append_assoc old own tail
+    ∙ ap (λ l. old ++ l) (sym (cond_append (is_argument g.name g.kind) g.width tail))
+    ∙ ap (λ l. old ++ argument_widths l) (sym (drop_at n.signals i g s.1))
+    ∙ e
+
+past : (gs : List Signal) (i : ℕ) → length gs ≤ i → drop i gs ≡ []
+past [] zero h = refl
+past [] (suc i) h = refl
+past (g ∷ gs) zero h = absurd (omega (arith, h))
+past (g ∷ gs) (suc i) h = past gs i (omega (arith, h))
+
+pub widths_all : (n : Netlist) (all : List ℕ) (i : ℕ) → length n.signals ≤ i → all ++ argument_widths (drop i n.signals) ≡ argument_widths n.signals → all ≡ argument_widths n.signals
+unfolding argument_widths
+widths_all n all i h e = sym (append-nil all) ∙ ap (λ l. all ++ argument_widths l) (sym (past n.signals i h)) ∙ e

@@ -1,11 +1,11 @@
 -- A source is accepted by its tokens, and what it is then compiled to is its program's circuit.
 use Rattle.std.proofs.Common.{◌≡◌, ℕ, ◌-◌, ◌<◌, ◌≤◌, ◌%◌, ◌^◌, List, length, take, drop, min, Option, Some, None, refl, sym, ap, ◌∙◌, arith, subst}
-use Rattle.std.specs.Prelude.{IfNone, IfSome, IsSomeAnd, ◌↔◌}
+use Rattle.std.specs.Prelude.{IfNone, IfSome, IsSomeAnd}
 use Rattle.std.proofs.lemmas.List.{take_min, drop_min, take_all, length-drop}
 use Rattle.std.proofs.Math.Nat.{mod-eq_of_lt}
 use Rattle.safl_word.specs.Words.{Word}
 use Rattle.safl_word.specs.Faults.{fault_text}
-use Rattle.safl_word.specs.Tokens.{HasTokens, HasLexicalFault}
+use Rattle.safl_word.specs.Tokens.{HasTokens}
 use Rattle.safl_word.specs.TokenLaws.{TokensOnce, TokensOrFault}
 use Rattle.safl_word.specs.declared.fault.Fault.{Fault}
 use Rattle.safl_word.specs.declared.token.Token.{Token}
@@ -15,17 +15,23 @@ use Rattle.safl_text.specs.declared.error.LexErr.TheVariants as errors
 use Rattle.safl_net.specs.Netlist.{Netlist}
 use Rattle.safl_net.specs.Written.{written}
 use Rattle.safl_verilog.specs.Reads.{Reads}
+use Rattle.safl_verilog.specs.Laws.{WrittenReads, IsInOrder}
+use Rattle.safl_net.specs.Rules.{IsNetlist}
+use Rattle.safl_net.specs.Whole.{IsWhole}
+use Rattle.safl_run.specs.Arguments.{argument_widths}
+use Rattle.safl_tool.proofs.ReadBack.{whole, in_order}
 use Rattle.safl_io.specs.Shelf.{Files, file_of}
 use Rattle.safl_io.specs.Reading.{HasFile}
 use Rattle.safl_unit.specs.Correct.{Correct}
-use Rattle.safl_unit.specs.Constant.{constant_program, main_names, no_choice}
+use Rattle.safl_unit.specs.Constant.{constant_program, constant_net, main_names, no_choice}
 use Rattle.safl_unit.specs.Theorem.{IsCircuit}
-use Rattle.safl_tool.specs.Answers.{IsCircuitOf, IsRefused, refused_fault}
-use Rattle.safl_tool.specs.Constants.{IsConstantSource, AreConstant, IsSourceOf, byte}
+use Rattle.safl_tool.specs.Answers.{IsCircuitOf}
+use Rattle.safl_tool.specs.Sources.{IsCompiled, IsRefused, refused_fault}
+use Rattle.safl_tool.specs.Constants.{IsConstantSource, AreConstant, byte}
 use Rattle.safl_tool.specs.Lines.{placed_line, source_line, line_at, column_at}
 use Rattle.safl_tool.specs.Limits.{source_max}
 use Rattle.safl_tool.specs.Outside.{ShelfState, OfFile}
-use Rattle.safl_tool.specs.Refusals.{Explains, RefusesSource}
+use Rattle.safl_tool.specs.Refusals.{Explains, RefusesSource, RefusesReading}
 use Rattle.safl_tool.specs.declared.refusal.Refusal.{Refusal}
 use Rattle.safl_tool.specs.declared.refusal.Refusal.TheVariants as refusal
 
@@ -54,16 +60,31 @@ is_refused source answer small is none =
     (small, λ C D s. never s.number s.tokens)
 
 -- the circuit of a constant is that of its source's program
-pub is_circuit : (source : List ℕ) (m k : ℕ) (w : Word) (n : Netlist) (text : List ℕ) → IsConstantSource source m → k ≡ m → w ≡ record { width = 8; bits = k % 2 ^ 8 } → IsCircuit (constant_program w) main_names no_choice n → text ≡ written n → Reads (written n) n → IsCircuitOf source text
-is_circuit source m k w n text p same is circuit spelled reads =
+pub is_compiled : (source : List ℕ) (m k : ℕ) (w : Word) (n : Netlist) → IsConstantSource source m → k ≡ m → w ≡ record { width = 8; bits = k % 2 ^ 8 } → n ≡ constant_net w → IsNetlist n → IsCircuit (constant_program w) main_names no_choice n → IsCompiled source n
+unfolding argument_widths
+is_compiled source m k w n p same is net made circuit =
     let low : k % 2 ^ 8 ≡ m = ap (λ (x : ℕ). x % 2 ^ 8) same ∙ mod-eq_of_lt p.small in
     let word : w ≡ byte m = is ∙ ap (λ (x : ℕ). byte x) low in
-    (constant_program (byte m), main_names, n, record { number = m; tokens = p; program = refl; names = refl }, spelled, subst (λ t. Reads t n) (sym spelled) reads, subst (λ v. Correct (constant_program v) main_names n) word circuit.correct)
+    record {
+      program = constant_program (byte m);
+      names = main_names;
+      source_of = record { number = m; tokens = p; program = refl; names = refl };
+      correct = subst (λ v. Correct (constant_program v) main_names n) word circuit.correct;
+      made = made;
+      whole = subst (λ x. IsWhole x) (sym net) (whole w);
+      in_order = subst (λ x. IsInOrder x) (sym net) (in_order w);
+      params = ap (λ (x : Netlist). argument_widths x.signals) net ∙ refl;
+    }
 
-some_of : (name bytes : List ℕ) (P : List ℕ → Type 0) (o : Option (List ℕ)) → o ≡ Some bytes → P bytes → IsSomeAnd o P
+-- what is compiled is written as a text that reads as it
+pub is_circuit : (source text : List ℕ) (n : Netlist) → IsCompiled source n → text ≡ written n → WrittenReads → IsCircuitOf source text
+is_circuit source text n c spelled law =
+    (c.program, c.names, n, c.source_of, spelled, subst (λ t. Reads t n) (sym spelled) (law n c.made c.whole c.in_order), c.correct)
+
+pub some_of : (name bytes : List ℕ) (P : List ℕ → Type 0) (o : Option (List ℕ)) → o ≡ Some bytes → P bytes → IsSomeAnd o P
 some_of name bytes P o is p = subst (λ x. IsSomeAnd x P) (sym is) p
 
-of_file : (holds : Option Files) (name bytes : List ℕ) (P : List ℕ → Type 0) → IfSome holds (HasFile name bytes) → P bytes → OfFile holds name P
+pub of_file : (holds : Option Files) (name bytes : List ℕ) (P : List ℕ → Type 0) → IfSome holds (HasFile name bytes) → P bytes → OfFile holds name P
 of_file None name bytes P has p = tt
 of_file (Some files) name bytes P has p = some_of name bytes P (file_of files name) has p
 
@@ -81,4 +102,18 @@ source_refused before after input output source (refusal.Source f line column) h
 source_refused before after input output source refusal.Read has never = absurd never
 source_refused before after input output source refusal.TooLong has never = absurd never
 source_refused before after input output source refusal.Write has never = absurd never
+source_refused before after input output source refusal.Output has never = absurd never
+source_refused before after input output source (refusal.Count p g) has never = absurd never
+source_refused before after input output source (refusal.Argument i w) has never = absurd never
 source_refused before after input output source refusal.NoMemory has _ = record { says = tt; line = refl }
+
+-- what was not read explains the call
+pub reading_refused : (old new : ShelfState) (input output : List ℕ) (r : Refusal) → RefusesReading old new input r → Explains old new input output r
+reading_refused old new input output refusal.Read h = record { says = h; line = refl }
+reading_refused old new input output refusal.TooLong h = record { says = h; line = refl }
+reading_refused old new input output refusal.NoMemory h = record { says = tt; line = refl }
+reading_refused old new input output (refusal.Source f line column) never = absurd never
+reading_refused old new input output refusal.Write never = absurd never
+reading_refused old new input output refusal.Output never = absurd never
+reading_refused old new input output (refusal.Count p g) never = absurd never
+reading_refused old new input output (refusal.Argument i w) never = absurd never

@@ -1,3 +1,6 @@
 pub mod Accepting
 pub mod Telling
 pub mod ReadBack
+pub mod Reading
+pub mod Simulated
+pub mod Joining

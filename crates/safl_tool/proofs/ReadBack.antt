@@ -1,19 +1,15 @@
--- The text of a constant's netlist reads as that netlist.
-use Rattle.std.proofs.Common.{◌≡◌, ℕ, List, [], ◌∷◌, Option, Some, refl, sym, subst, take, drop}
-use Rattle.std.specs.Prelude.{IsSome}
+-- The netlist of a constant is whole, and in the order of the text.
+use Rattle.std.proofs.Common.{ℕ, List, [], ◌∷◌, Option, Some, refl, take, drop}
 use Rattle.safl_word.specs.Words.{Word}
 use Rattle.safl_net.specs.declared.cell.Op.{Op}
 use Rattle.safl_net.specs.declared.cell.Op.TheVariants.{Const, Copy, Mux}
-use Rattle.safl_net.specs.Netlist.{Netlist, Cell, place}
-use Rattle.safl_net.specs.Rules.{IsNetlist}
+use Rattle.safl_net.specs.Netlist.{Cell, place}
 use Rattle.safl_net.specs.Whole.{IsWhole}
-use Rattle.safl_net.specs.Written.{written}
-use Rattle.safl_verilog.specs.Laws.{WrittenReads, IsInOrder}
-use Rattle.safl_verilog.specs.Reads.{Reads}
+use Rattle.safl_verilog.specs.Laws.{IsInOrder}
 use Rattle.safl_unit.proofs.ConstantNet.{all_set}
 use Rattle.safl_unit.specs.Constant.{constant_net}
 
-whole : (w : Word) → IsWhole (constant_net w)
+pub whole : (w : Word) → IsWhole (constant_net w)
 unfolding place
 whole w = record {
   set = all_set w;
@@ -25,7 +21,7 @@ whole w = record {
 abbrev cell : Op → List ℕ → Option Cell
 cell op operands = Some (record { op = op; operands = operands })
 
-in_order : (w : Word) → IsInOrder (constant_net w)
+pub in_order : (w : Word) → IsInOrder (constant_net w)
 in_order w = record {
   inputs = take 1 (constant_net w).signals;
   registers = take 3 (drop 1 (constant_net w).signals);
@@ -36,6 +32,3 @@ in_order w = record {
   are_wires =
       ((cell Copy (1 ∷ []), refl), ((cell (Const (record { width = 1; bits = 0 })) [], refl), ((cell Mux (1 ∷ 5 ∷ 0 ∷ []), refl), ((cell (Const w) [], refl), ((cell Mux (4 ∷ 7 ∷ 3 ∷ []), refl), tt)))));
 }
-
-pub reads_back : WrittenReads → (w : Word) (n : Netlist) → n ≡ constant_net w → IsNetlist n → Reads (written n) n
-reads_back law w n is fits = law n fits (subst (λ m. IsWhole m) (sym is) (whole w)) (subst (λ m. IsInOrder m) (sym is) (in_order w))

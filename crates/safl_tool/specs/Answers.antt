@@ -1,7 +1,5 @@
 -- What each status of the program says.
-use Rattle.std.specs.Prelude.{◌≡◌, ℕ, ◌<◌, ◌≤◌, ◌⊎◌, List, [], length, Option, Some, None, IsSomeAnd, OnSome}
-use Rattle.safl_word.specs.declared.fault.Fault.{Fault}
-use Rattle.safl_word.specs.declared.fault.Rule.TheVariants as rule
+use Rattle.std.specs.Prelude.{◌≡◌, ℕ, ◌<◌, ◌≤◌, ◌⊎◌, List, length, Option, Some, None, IsSomeAnd, OnSome}
 use Rattle.safl_io.specs.Counts.{Rose}
 use Rattle.safl_io.specs.Shelf.{Files, file_of}
 use Rattle.safl_io.specs.Told.{TellsOn}
@@ -12,25 +10,15 @@ use Rattle.safl_verilog.specs.Reads.{Reads}
 use Rattle.safl_check.specs.Program.{Program}
 use Rattle.safl_unit.specs.Names.{Names}
 use Rattle.safl_unit.specs.Correct.{Correct}
-use Rattle.safl_tool.specs.Commands.{Command, Build}
+use Rattle.safl_tool.specs.Sources.{IsAccepted, IsRefused, refused_fault}
+use Rattle.safl_tool.specs.Simulating.{SimSays, IsSimLine}
+use Rattle.safl_tool.specs.Commands.{Command, Build, Sim}
 use Rattle.safl_tool.specs.Constants.{IsSourceOf}
 use Rattle.safl_tool.specs.Limits.{source_max}
 use Rattle.safl_tool.specs.Lines.{usage_line, memory_line, read_line, write_line, long_line, source_line}
 use Rattle.safl_tool.specs.Outside.{ShelfState, SinkState, OfFile}
 use Rattle.safl_tool.specs.declared.status.Status.{Status}
 use Rattle.safl_tool.specs.declared.status.Status.TheVariants as status
-
--- the source is within the limit and accepted
-abbrev pub IsAccepted : List ℕ → Type 0
-IsAccepted source = (length source ≤ source_max) × (C : Program) × (D : Names) × IsSourceOf source C D
-
--- it is within the limit, and no program's source
-abbrev pub IsRefused : List ℕ → Type 0
-IsRefused source = (length source ≤ source_max) × ((C : Program) (D : Names) → IsSourceOf source C D → ⊥)
-
--- the fault of a source that is refused
-abbrev pub refused_fault : Fault
-refused_fault = record { rule = rule.E02; place = 0; first = 0; second = 0 }
 
 -- the file is the Verilog text of a netlist that is correct for the source's program, and reads as that netlist
 abbrev pub IsCircuitOf : List ℕ → List ℕ → Type 0
@@ -62,9 +50,11 @@ BuildSays before after input output status.TooLong = OfFile before.holds input (
 abbrev pub UsageSays : Status → Type 0
 UsageSays s = (s ≡ status.Usage) ⊎ (s ≡ status.NoMemory)
 
-abbrev pub Says : Option Command → ShelfState → ShelfState → Status → Type 0
-Says None before after s = UsageSays s
-Says (Some (Build input output)) before after s = BuildSays before after input output s
+-- `build` and words that are no command print nothing
+abbrev pub Says : Option Command → ShelfState → ShelfState → SinkState → SinkState → Status → Type 0
+Says None old new before after s = UsageSays s × (after ≡ before)
+Says (Some (Build input output)) old new before after s = BuildSays old new input output s × (after ≡ before)
+Says (Some (Sim input limit args)) old new before after s = SimSays old new before after input limit args s
 
 -- the line that a status of `build` sends
 abbrev pub IsBuildLine : Option Files → List ℕ → List ℕ → Status → List ℕ → Type 0
@@ -84,6 +74,7 @@ IsBuildLine holds input output status.TooLong line = line ≡ long_line input so
 abbrev pub IsLine : Option Command → Option Files → Status → List ℕ → Type 0
 IsLine None holds s line = (s ≡ status.Usage) × (line ≡ usage_line)
 IsLine (Some (Build input output)) holds s line = IsBuildLine holds input output s line
+IsLine (Some (Sim input limit args)) holds s line = IsSimLine holds input args s line
 
 -- the whole line was sent, or the count rose and a prefix of it was
 abbrev pub Got : List ℕ → SinkState → SinkState → Type 0
@@ -95,9 +86,10 @@ abbrev pub GotPart : Option Command → Option Files → SinkState → SinkState
 GotPart command holds before after =
     (s : Status) × (line : List ℕ) × IsLine command holds s line × TellsOn (SendsPart line) before.sent after.sent
 
--- What was sent to the sink of refusals: nothing at Ok, a prefix of a line where memory ran out, and else the status's line.
+-- What was sent to the sink of refusals: nothing at Ok and where no result came, a prefix of a line where memory ran out, and else the status's line.
 abbrev pub Told : Option Command → Option Files → SinkState → SinkState → Status → Type 0
 Told command holds before after status.Ok = after ≡ before
+Told command holds before after status.NoResult = after ≡ before
 Told command holds before after status.NoMemory = GotPart command holds before after
 Told command holds before after s = (line : List ℕ) × IsLine command holds s line × Got line before after
 
@@ -105,6 +97,7 @@ Told command holds before after s = (line : List ℕ) × IsLine command holds s 
 abbrev pub HoldsInputs : Option Command → Option Files → Type 0
 HoldsInputs None holds = Unit {0}
 HoldsInputs (Some (Build input output)) holds = OfFile holds input (λ source. Unit {0})
+HoldsInputs (Some (Sim input limit args)) holds = OfFile holds input (λ source. Unit {0})
 
 -- it is asked for no name that it tells it doesn't hold
 abbrev pub SameStrays : Option Command → ShelfState → ShelfState → Type 0

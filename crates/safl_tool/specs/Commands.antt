@@ -1,23 +1,45 @@
 -- Which words are a command.
-use Rattle.std.specs.Prelude.{ℕ, List, [], ◌∷◌, Option, Some, None, Bool, true, false, ◌&&◌, bytes_eq, if◌then◌else◌, codes}
+use Rattle.std.specs.Prelude.{ℕ, List, [], ◌∷◌, map, length, Option, Some, None, Bool, true, false, ◌&&◌, nat_le, bytes_eq, if◌then◌else◌, codes, string_bytes}
+use Rattle.std.specs.Option.{option_or}
+use Rattle.std.specs.List.{list_all}
+use Rattle.safl_word.specs.Numerals.{value, is_digit}
+use Rattle.safl_tool.specs.Limits.{cycles_max}
 use Rattle.safl_tool.specs.declared.command.Command as code
 use Rattle.safl_tool.specs.declared.command.Command.TheVariants as code_of
 
 pub data Command : Type 0 where
   -- reads the source of the first name, and writes the file of the second
   Build : (input output : List ℕ) → Command
+  -- reads the source of the name, and runs its circuit for so many cycles with these arguments
+  Sim : (input : List ℕ) (limit : ℕ) (args : List (List ℕ)) → Command
 
 abbrev pub is_filled : List ℕ → Bool
 is_filled [] = false
 is_filled (c ∷ cs) = true
 
 -- `build IN OUT`, where neither name is empty, and nothing else
-abbrev pub command_of : List (List ℕ) → Option Command
-command_of (verb ∷ input ∷ output ∷ []) =
+abbrev pub build_of : List (List ℕ) → Option Command
+build_of (verb ∷ input ∷ output ∷ []) =
     if bytes_eq verb (codes "build") && (is_filled input && is_filled output) then Some (Build input output) else None
-command_of _ = None
+build_of _ = None
+
+-- 1 to 20 digits, whose number is 1 to the most cycles
+abbrev pub is_limit : List ℕ → Bool
+is_limit word =
+    nat_le 1 (length word) && (list_all (is_digit 10) word && (nat_le (length word) 20 && (nat_le 1 (value 10 word) && nat_le (value 10 word) cycles_max)))
+
+-- `sim IN --cycles L` and arguments, where the name is not empty
+abbrev pub sim_of : List (List ℕ) → Option Command
+sim_of (verb ∷ input ∷ option ∷ limit ∷ args) =
+    if bytes_eq verb (codes "sim") && (is_filled input && (bytes_eq option (codes "--cycles") && is_limit limit)) then Some (Sim input (value 10 limit) args) else None
+sim_of _ = None
+
+-- one of these, and nothing else
+abbrev pub command_of : List (List ℕ) → Option Command
+command_of words = option_or (build_of words) (sim_of words)
 
 -- the command that a value of the code is
 abbrev pub shown : Option code.Command → Option Command
 shown None = None
 shown (Some (code_of.Build input output)) = Some (Build input.now output.now)
+shown (Some (code_of.Sim input limit args)) = Some (Sim input.now limit (map string_bytes args.now))

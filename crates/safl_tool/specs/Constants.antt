@@ -1,5 +1,5 @@
 -- The sources that are compiled: one function main without parameters, whose body is a number of 8 bits.
-use Rattle.std.specs.Prelude.{◌≡◌, ℕ, ◌-◌, ◌<◌, List, [], ◌∷◌, map, take, drop, Some, codes, slice_get}
+use Rattle.std.specs.Prelude.{◌≡◌, ℕ, ◌-◌, ◌<◌, List, [], ◌∷◌, map, take, drop, codes}
 use Rattle.safl_word.specs.Words.{Word}
 use Rattle.safl_word.specs.Tokens.{HasTokens}
 use Rattle.safl_check.specs.Program.{Program}

@@ -2,6 +2,9 @@ pub mod Commands
 pub mod Limits
 pub mod Lines
 pub mod Constants
+pub mod Sources
+pub mod Arguments
 pub mod Outside
+pub mod Simulating
 pub mod Answers
 pub mod Refusals

@@ -1,5 +1,5 @@
 -- The lines that a refusal sends, each with its line feed.
-use Rattle.std.specs.Prelude.{ℕ, ◌+◌, List, ◌++◌, length, take, not, ◌==◌, count_by, codes}
+use Rattle.std.specs.Prelude.{ℕ, ◌+◌, List, ◌++◌, take, not, ◌==◌, count_by, codes}
 use Rattle.std.specs.List.{suffix_len}
 use Rattle.std.specs.Fmt.{decimal}
 use Rattle.safl_word.specs.declared.fault.Fault.{Fault}
@@ -19,6 +19,24 @@ write_line name = codes "cannot write " ++ name ++ codes "\n"
 
 abbrev pub long_line : List ℕ → ℕ → List ℕ
 long_line name limit = name ++ codes " is longer than " ++ decimal limit ++ codes " bytes\n"
+
+abbrev pub output_line : List ℕ
+output_line = codes "cannot write output\n"
+
+-- how many parameters main has, and how many arguments there are
+abbrev pub count_line : ℕ → ℕ → List ℕ
+count_line params given = codes "main takes " ++ decimal params ++ codes " arguments, " ++ decimal given ++ codes " given\n"
+
+-- the number of an argument, from 1, and the bits of its parameter
+abbrev pub argument_line : ℕ → ℕ → List ℕ
+argument_line index width = codes "argument " ++ decimal index ++ codes " is no number of " ++ decimal width ++ codes " bits\n"
+
+-- what a run prints: its result and the cycle in which it came, or that none came in so many cycles
+abbrev pub done_lines : ℕ → ℕ → List ℕ
+done_lines result cycle = codes "result " ++ decimal result ++ codes "\ncycle " ++ decimal cycle ++ codes "\n"
+
+abbrev pub late_line : ℕ → List ℕ
+late_line limit = codes "no result in " ++ decimal limit ++ codes " cycles\n"
 
 -- one more than the line feeds before the place
 abbrev pub line_at : List ℕ → ℕ → ℕ

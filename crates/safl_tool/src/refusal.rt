@@ -1,7 +1,7 @@
 //! Why a command ends without its result, and the line that says so.
 
 ghost use Rattle.std.specs.Prelude.{◌≡◌, ◌++◌, ◌≤◌, length, IfOk, OnOk};
-ghost use Rattle.safl_tool.specs.Lines.{line_at, column_at};
+ghost use Rattle.safl_tool.specs.Lines.{line_at, column_at, count_line, argument_line};
 ghost use Rattle.safl_tool.specs.Refusals.{status_of, line_of};
 
 use crate::status::Status;
@@ -22,6 +22,12 @@ pub enum Refusal {
     TooLong,
     /// The output file could not be written.
     Write,
+    /// What the command prints could not be sent.
+    Output,
+    /// So many parameters are not so many arguments.
+    Count(usize, usize),
+    /// The argument of this number, from 1, is no number of so many bits.
+    Argument(usize, u8),
     NoMemory,
 }
 
@@ -35,6 +41,9 @@ impl Refusal {
             Refusal::Read => Status::ReadFault,
             Refusal::TooLong => Status::TooLong,
             Refusal::Write => Status::WriteFault,
+            Refusal::Output => Status::WriteFault,
+            Refusal::Count(_, _) => Status::BadArgs,
+            Refusal::Argument(_, _) => Status::BadArgs,
             Refusal::NoMemory => Status::NoMemory,
         }
     }
@@ -68,11 +77,42 @@ impl Refusal {
                 push(&mut out, b"cannot write ")?;
                 push(&mut out, output.as_bytes())?;
             }
+            Refusal::Output => push(&mut out, b"cannot write output")?,
+            Refusal::Count(params, given) => {
+                push_count(&mut out, params, given)?;
+                return Ok(out);
+            }
+            Refusal::Argument(index, width) => {
+                push_argument(&mut out, index, width)?;
+                return Ok(out);
+            }
             Refusal::NoMemory => push(&mut out, b"out of memory")?,
         }
         push(&mut out, b"\n")?;
         Ok(out)
     }
+}
+
+fn push_count(out: &mut Vec<u8>, params: usize, given: usize) -> Result<(), NoMemory>
+    ensures { OnOk result (out.new.items ≡ out.old.items ++ count_line params given) }
+{
+    push(out, b"main takes ")?;
+    push_decimal(params as Raw, out)?;
+    push(out, b" arguments, ")?;
+    push_decimal(given as Raw, out)?;
+    push(out, b" given\n")?;
+    Ok(())
+}
+
+fn push_argument(out: &mut Vec<u8>, index: usize, width: u8) -> Result<(), NoMemory>
+    ensures { OnOk result (out.new.items ≡ out.old.items ++ argument_line index width) }
+{
+    push(out, b"argument ")?;
+    push_decimal(index as Raw, out)?;
+    push(out, b" is no number of ")?;
+    push_decimal(Raw::from(width), out)?;
+    push(out, b" bits\n")?;
+    Ok(())
 }
 
 /// The line of a place in a source, from 1.
@@ -95,8 +135,8 @@ pub fn column_number(source: &[u8], place: usize) -> usize
     column
 }
 
-// Appends a piece.
-fn push(out: &mut Vec<u8>, piece: &[u8]) -> Result<(), NoMemory>
+/// Appends a piece.
+pub fn push(out: &mut Vec<u8>, piece: &[u8]) -> Result<(), NoMemory>
     ensures { OnOk result (out.new.items ≡ out.old.items ++ piece.now) }
 {
     out.extend_from_slice(piece)?;

@@ -21,10 +21,11 @@ const SEVEN_HEAD: &[u8] = b"module safl (clk, rst, start, done, result);
   wire [0:0] go$main;
 ";
 
-// What a call left: its status, what `err` got, and whether `out` got anything.
+// What a call left: its status, what `out` and `err` got, and whether `out` got anything.
 #[derive(Drop)]
 struct Ended {
     status: Status,
+    out: MemSink,
     err: MemSink,
     printed: bool,
 }
@@ -43,10 +44,12 @@ fn call(alloc: Global, words: &[&str], shelf: &mut MemShelf) -> Result<Ended, Al
     let mut out = MemSink::new(alloc);
     let mut err = MemSink::new(alloc);
     let status = run(alloc, &owned, shelf, &mut out, &mut err);
+    let printed = !out.bytes().is_empty();
     Ok(Ended {
         status,
+        out,
         err,
-        printed: !out.bytes().is_empty(),
+        printed,
     })
 }
 
@@ -129,5 +132,68 @@ fn an_append_that_fails(rt: HostRuntime) -> Result<(), Fail> {
         shelf.file("v").unwrap_or(b"none"),
     );
     assert!(rt; text.starts_with(part) && part.len() == text.len() / 2);
+    Ok(())
+}
+
+// Simulates the source of seven with these words behind `sim p`.
+fn simulated(alloc: Global, words: &[&str]) -> Result<Ended, Fail> {
+    let mut shelf = shelf_with(alloc, b"fun main():8 = 7")?;
+    let mut all = Vec::new(alloc);
+    all.push("sim")?;
+    all.push("p")?;
+    for word in words {
+        all.push(*word)?;
+    }
+    Ok(call(alloc, &all, &mut shelf)?)
+}
+
+#[test]
+fn seven_is_simulated(rt: HostRuntime) -> Result<(), Fail> {
+    let ended = simulated(rt.alloc(), &["--cycles", "10"])?;
+    assert_eq!(rt; ended.status, Status::Ok);
+    assert!(rt;
+        ended.out.bytes() == b"result 7\ncycle 2\n".as_slice() && ended.err.bytes().is_empty()
+    );
+    let late = simulated(rt.alloc(), &["--cycles", "2"])?;
+    assert_eq!(rt; late.status, Status::NoResult);
+    assert!(rt;
+        late.out.bytes() == b"no result in 2 cycles\n".as_slice() && late.err.bytes().is_empty()
+    );
+    Ok(())
+}
+
+#[test]
+fn an_argument_too_many(rt: HostRuntime) -> Result<(), Fail> {
+    let ended = simulated(rt.alloc(), &["--cycles", "10", "5"])?;
+    assert_eq!(rt; ended.status, Status::BadArgs);
+    assert!(rt;
+        ended.err.bytes() == b"main takes 0 arguments, 1 given\n".as_slice() && !ended.printed
+    );
+    Ok(())
+}
+
+#[test]
+fn cycles_are_wanted(rt: HostRuntime) -> Result<(), Fail> {
+    assert_eq!(rt; simulated(rt.alloc(), &[])?.status, Status::Usage);
+    assert_eq!(rt;
+        simulated(rt.alloc(), &["--cycles", "0"])?.status,
+        Status::Usage
+    );
+    Ok(())
+}
+
+#[test]
+fn an_output_that_fails(rt: HostRuntime) -> Result<(), Fail> {
+    let alloc = rt.alloc();
+    let mut shelf = shelf_with(alloc, b"fun main():8 = 7")?;
+    let mut words = Vec::new(alloc);
+    for word in ["sim", "p", "--cycles", "10"] {
+        words.push(String::from_str(alloc, word)?)?;
+    }
+    let (mut out, mut err) = (MemSink::new(alloc), MemSink::new(alloc));
+    out.fail_call(1)?;
+    let status = run(alloc, &words, &mut shelf, &mut out, &mut err);
+    assert_eq!(rt; status, Status::WriteFault);
+    assert!(rt; err.bytes() == b"cannot write output\n".as_slice());
     Ok(())
 }

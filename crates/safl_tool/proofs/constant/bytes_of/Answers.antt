@@ -1,4 +1,4 @@
-use Rattle.std.proofs.Common.{◌≡◌, ℕ, List, take, drop, ap, ◌∙◌}
+use Rattle.std.proofs.Common.{ℕ, take, drop, ap, ◌∙◌}
 use Rattle.safl_tool.proofs.Accepting.{clipped}
 use Rattle.safl_tool.proofs.constant.bytes_of.Goals as goal
 

@@ -1,4 +1,4 @@
-use Rattle.std.proofs.Common.{◌≡◌, List, sym, subst}
+use Rattle.std.proofs.Common.{sym, subst}
 use Rattle.safl_word.specs.Tokens.{HasTokens}
 use Rattle.safl_tool.proofs.Accepting.{no_constant, faulty}
 use Rattle.safl_tool.proofs.constant.constant_of.Goals as goal

@@ -1,4 +1,4 @@
-use Rattle.std.proofs.Common.{◌≡◌, length, take}
+use Rattle.std.proofs.Common.{◌≡◌, take}
 use Rattle.safl_tool.proofs.constant.same_kinds.Given as goal
 
 abbrev pub invariant-loop-i : goal.invariant-loop-i

@@ -1,3 +1,5 @@
+use Rattle.std.proofs.Common.{Some, refl}
+use Rattle.safl_tool.specs.Commands.{Build}
 use Rattle.safl_tool.specs.Outside.{ShelfState, SinkState}
 use Rattle.safl_tool.proofs.Telling.{refusal_told, refusal_says}
 use Rattle.safl_tool.proofs.top.run_build.Goals as goal
@@ -14,4 +16,4 @@ pub returns-in-Err-clause-told : goal.returns-in-Err-clause-told
 returns-in-Err-clause-told g c =
     let before : SinkState = record { sent = g.E.Sink.sent c.args.err.now; faults = g.E.Sink.faults c.args.err.now } in
     let after : SinkState = record { sent = g.E.Sink.sent c.refuse.new.err; faults = g.E.Sink.faults c.refuse.new.err } in
-    refusal_told (g.S.Shelf.holds c.args.shelf.now) c.args.input.now c.args.output.now before after c.in-Err.refusal c.refuse.result c.in-Err.ensures.refused.line c.refuse.ensures
+    refusal_told (Some (Build c.args.input.now c.args.output.now)) (g.S.Shelf.holds c.args.shelf.now) c.args.input.now c.args.output.now before after refl c.in-Err.refusal c.refuse.result c.in-Err.ensures.refused.line c.refuse.ensures

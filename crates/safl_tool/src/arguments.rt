@@ -1,0 +1,43 @@
+//! The arguments of a run.
+
+ghost use Rattle.std.specs.Prelude.{◌≡◌, ◌↔◌, ℕ, IsSome, IsNone, IfOk, IfErr, IfSome, map, length, string_bytes};
+ghost use Rattle.safl_word.specs.Words.{Word};
+ghost use Rattle.safl_tool.specs.Arguments.{IsRead, AreRead};
+ghost use Rattle.safl_tool.specs.Refusals.{RefusesArguments};
+
+use crate::refusal::Refusal;
+use safl_word::{Word, argument};
+use std::alloc::Global;
+
+/// The words of the arguments for parameters of these widths. The count is looked at first.
+pub fn read_arguments(alloc: Global, widths: &[u8], args: &[String]) -> Result<Vec<Word>, Refusal>
+    ensures read { IfOk result (λ words. AreRead widths.now (map string_bytes args.now) words.items) }
+    ensures refused { IfErr result (λ r. RefusesArguments widths.now (map string_bytes args.now) r) }
+{
+    if args.len() != widths.len() {
+        return Err(Refusal::Count(widths.len(), args.len()));
+    }
+    let Ok(mut words) = Vec::with_capacity(alloc, args.len()) else {
+        return Err(Refusal::NoMemory);
+    };
+    'arguments: for i in 0..args.len() {
+        let word = match read_argument(widths[i], args[i].as_bytes()) {
+            Some(word) => word,
+            None => return Err(Refusal::Argument(i + 1, widths[i])),
+        };
+        let Ok(()) = words.push(word) else {
+            return Err(Refusal::NoMemory);
+        };
+    }
+    Ok(words)
+}
+
+fn read_argument(width: u8, text: &[u8]) -> Option<Word>
+    ensures read { IfSome result (IsRead width text.now) }
+    ensures none { IsNone result → (v : Word) → IsRead width text.now v → ⊥ }
+{
+    match argument(text) {
+        Some(number) => Word::new(width, number),
+        None => None,
+    }
+}
