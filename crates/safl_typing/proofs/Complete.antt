@@ -1,16 +1,15 @@
 -- What has a width and a term is given them by the walk.
-use Rattle.std.proofs.Common.{◌≡◌, ℕ, zero, suc, ◌+◌, ◌<◌, ◌^◌, List, [], ◌∷◌, ◌++◌, length, map, Option, Some, None, Bool, true, false, refl, sym, ap, ◌∙◌, subst, inl, inr, ◌⊎◌, arith}
-use Rattle.std.specs.Prelude.{Result, Ok, Err, ◌==◌, nat_lt, ◌&&◌, cond}
+use Rattle.std.proofs.Common.{◌≡◌, ℕ, suc, ◌+◌, ◌<◌, ◌^◌, List, [], ◌∷◌, ◌++◌, length, Option, Some, None, Bool, true, false, refl, sym, ap, ◌∙◌, subst, inl, inr, ◌⊎◌, arith}
+use Rattle.std.specs.Prelude.{Result, Ok, ◌&&◌, cond}
 use Rattle.std.proofs.lemmas.Bool.{eq-eqb, lt-ltb}
 use Rattle.safl_word.specs.declared.fault.Fault.{Fault}
 use Rattle.safl_word.specs.declared.primitive.Primitive.{Primitive}
-use Rattle.safl_word.specs.Primitives.{result_width}
-use Rattle.safl_check.specs.Terms.{Term, Const, Var, If, Let, Op, Call, Loop, Terms, Nil, Cons}
+use Rattle.safl_check.specs.Terms.{Term, Const, Var, If, Op, Call, Loop, Terms, Cons}
 use Rattle.safl_typing.specs.Rewriting.{Expression, Number, Sized, Variable, Choice, Binding, Applied, Called, Expressions, no_expression, an_expression, Bindings, no_binding, a_binding, Shape, Alike, Comparing, Shifting, Resizing, shape, takes_width, flexible, all_flexible, count}
-use Rattle.safl_typing.specs.Heads.{Slot, Head, Known, Callee, Member, Above, Unknown, callee, is_site, sites, sites_in, sites_bound}
-use Rattle.safl_typing.specs.Typing.{At, innermost, word, widths_of, slots, names, Differ, Keeps, AreAll, AllRigid, RigidOr, Shifts, Suits, Calls, Has, HaveAll, HaveBound}
-use Rattle.safl_typing.specs.Walk.{after, unless, needs, fault, fault_with, Typed, TypedAlike, TypedAll, Wanted, Any, Exactly, is_any, is_known, wanted_by, settle, number, sized, variable, branches, alike, resized, operated, arguments, called, all_any, amounts, exactly, placed, repeated, check, check_all, check_alike, check_shift, check_bound}
-use Rattle.safl_typing.proofs.Counts.{has_sites, have_sites, have_sites_bound}
+use Rattle.safl_typing.specs.Heads.{Slot, Head, Known, Callee, Member, Above, Unknown, callee, sites, sites_bound}
+use Rattle.safl_typing.specs.Typing.{At, word, widths_of, slots, Keeps, AreAll, AllRigid, RigidOr, Shifts, Suits, Calls, Has, HaveAll, HaveBound}
+use Rattle.safl_typing.specs.Walk.{after, unless, needs, Typed, TypedAlike, TypedAll, Wanted, Any, Exactly, is_any, is_known, wanted_by, settle, number, sized, variable, branches, alike, operated, arguments, called, all_any, amounts, exactly, check, check_all, check_alike, check_shift, check_bound}
+use Rattle.safl_typing.proofs.Counts.{has_sites, have_sites_bound}
 use Rattle.safl_typing.proofs.Names.{bound_differ}
 
 abbrev pub typed : ℕ → Term → Typed

@@ -1,9 +1,8 @@
 -- Lists of expressions, one by one.
-use Rattle.std.proofs.Common.{◌≡◌, ℕ, zero, suc, ◌+◌, ◌<◌, ◌≤◌, arith, drop, get_or, drop-cons, List, [], ◌∷◌, ◌++◌, length, take, Bool, true, false, Vec, Box, Global, refl, sym, ap, ◌∙◌, subst}
+use Rattle.std.proofs.Common.{◌≡◌, ℕ, zero, suc, ◌+◌, ◌<◌, arith, drop, get_or, drop-cons, List, [], ◌∷◌, ◌++◌, length, take, Bool, true, false, refl, sym, ap, ◌∙◌}
 use Rattle.std.specs.Prelude.{◌&&◌, min}
-use Rattle.std.proofs.Math.Seq.{take-suc}
 use Rattle.safl_typing.specs.declared.expression.Expression as code
-use Rattle.safl_typing.specs.Rewriting.{Expression, Expressions, no_expression, an_expression, shape, takes_width, flexible, all_flexible, nodes, nodes_in, nodes_bound}
+use Rattle.safl_typing.specs.Rewriting.{Expressions, shape, takes_width, flexible, all_flexible, nodes, nodes_in, nodes_bound}
 use Rattle.safl_word.specs.declared.primitive.Primitive.{Primitive}
 use Rattle.safl_typing.specs.Heads.{Known, sites, sites_in, sites_bound}
 use Rattle.safl_typing.specs.declared.expression.Bound.{Bound}

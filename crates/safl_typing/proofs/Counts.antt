@@ -1,9 +1,9 @@
 -- The sites of an expression are as many as it has calls of functions of other groups.
-use Rattle.std.proofs.Common.{◌≡◌, ℕ, zero, suc, ◌+◌, List, [], ◌∷◌, Bool, true, refl, sym, ap, ◌∙◌, subst, arith}
+use Rattle.std.proofs.Common.{◌≡◌, ℕ, ◌+◌, List, [], ◌∷◌, Bool, arith}
 use Rattle.safl_check.specs.Terms.{Term, Terms}
 use Rattle.safl_typing.specs.Rewriting.{Expression, Number, Sized, Variable, Choice, Binding, Applied, Called, Expressions, no_expression, an_expression, Bindings, no_binding, a_binding}
-use Rattle.safl_typing.specs.Heads.{Slot, Head, Known, Callee, Member, Above, Unknown, callee, is_site, sites, sites_in, sites_bound}
-use Rattle.safl_typing.specs.Typing.{slots, Has, HaveAll, HaveBound, Calls}
+use Rattle.safl_typing.specs.Heads.{Slot, Known, Callee, Member, Above, Unknown, callee, is_site, sites, sites_in, sites_bound}
+use Rattle.safl_typing.specs.Typing.{Has, HaveAll, HaveBound, Calls}
 
 called_sites : (c : Callee) (tail : Bool) (lo m : ℕ) (ws : List ℕ) (us : Terms) (w : ℕ) (t : Term) → Calls c tail lo m ws us w t → m ≡ lo + is_site c
 called_sites (Member i h) tail lo m ws us w t q = omega (arith, q.1)

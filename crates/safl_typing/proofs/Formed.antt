@@ -1,14 +1,14 @@
 -- The widths of a program that has the form are in range.
-use Rattle.std.proofs.Common.{◌≡◌, ℕ, zero, suc, ◌≤◌, List, [], ◌∷◌, map, Option, Some, None, Bool, true, false, cond, refl, sym, ap, subst, arith}
+use Rattle.std.proofs.Common.{◌≡◌, ℕ, suc, List, [], ◌∷◌, map, Option, Some, None, Bool, true, false, cond, refl, subst}
 use Rattle.std.specs.Prelude.{nat_le}
 use Rattle.std.proofs.lemmas.Bool.{leb-true}
 use Rattle.safl_word.specs.Words.{max_width}
 use Rattle.safl_tree.specs.Tree as source
 use Rattle.safl_tree.specs.Tree.{Tree, Trees, Binds, Arms, place_of, Parameter, Definition}
 use Rattle.safl_tree.specs.Grammar.{is_width}
-use Rattle.safl_tree.specs.Printable.{IsLabel, FitsWritten, IsFormed, AreFormed, AreFormedBinds, AreFormedArms, AreFormedParameters, IsFormedDefinition, AreFormedDefinitions}
+use Rattle.safl_tree.specs.Printable.{IsLabel, FitsWritten, IsFormed, AreFormed, AreFormedBinds, AreFormedArms, AreFormedParameters, AreFormedDefinitions}
 use Rattle.safl_typing.specs.Rewriting.{rewritten, rewritten_all, rewritten_binds, rewritten_arms}
-use Rattle.safl_typing.specs.Heads.{slot_of, params_of, unit_of, head_of, heads_from}
+use Rattle.safl_typing.specs.Heads.{slot_of, unit_of, heads_from}
 use Rattle.safl_typing.proofs.Names.{some_is}
 use Rattle.safl_typing.proofs.Wide.{IsWide, WideSlots, WideHeads, IsInRange, AreInRange, BoundInRange}
 

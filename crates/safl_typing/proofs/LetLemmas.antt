@@ -1,13 +1,12 @@
 -- The places of bindings, and the first of several places.
-use Rattle.std.proofs.Common.{◌≡◌, ℕ, zero, suc, ◌+◌, ◌<◌, ◌≤◌, arith, drop, get_or, drop-cons, List, [], ◌∷◌, length, map, Option, Some, None, refl, sym, ap, ◌∙◌, subst}
+use Rattle.std.proofs.Common.{◌≡◌, ℕ, zero, suc, ◌<◌, ◌≤◌, get_or, List, [], ◌∷◌, length, map, Option, Some, None, refl, sym, ap, subst}
 use Rattle.std.specs.Prelude.{slice_get}
 use Rattle.std.proofs.lemmas.Option.{slice_get_read, slice_get_past}
 use Rattle.safl_typing.specs.declared.expression.Bound.{Bound}
-use Rattle.safl_typing.specs.declared.expression.Expression as code
 use Rattle.safl_typing.specs.Rewriting.{Expression, Binding}
-use Rattle.safl_typing.specs.Walk.{or_place, excess, placed, long_let, long_let_in, long_let_bound}
+use Rattle.safl_typing.specs.Walk.{or_place, placed, long_let, long_let_bound}
 use Rattle.safl_typing.specs.Forms.{max_bindings}
-use Rattle.safl_typing.specs.Plain.{plain, plain_all, plain_bindings}
+use Rattle.safl_typing.specs.Plain.{plain_bindings}
 
 places_length : (bs : List Bound) → length (map (λ x. x.place) (placed (plain_bindings bs))) ≡ length bs
 places_length [] = refl

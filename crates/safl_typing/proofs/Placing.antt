@@ -1,5 +1,5 @@
 -- What holds of each function of a program that has a form.
-use Rattle.std.proofs.Common.{◌≡◌, ℕ, zero, suc, ◌+◌, ◌<◌, ◌≤◌, List, [], ◌∷◌, ◌++◌, length, map, Option, Some, None, Bool, true, false, cond, refl, sym, ap, ◌∙◌, subst, inl, inr, ◌⊎◌, arith}
+use Rattle.std.proofs.Common.{◌≡◌, ℕ, zero, suc, ◌+◌, ◌<◌, ◌≤◌, List, [], ◌∷◌, ◌++◌, length, map, Some, Bool, true, false, cond, refl, sym, ap, ◌∙◌, subst, inl, inr, ◌⊎◌, arith}
 use Rattle.std.specs.Prelude.{slice_get, sum_by}
 use Rattle.std.specs.Option.{option_map_or}
 use Rattle.std.proofs.lemmas.List.Sums.{sum_by-cons}
@@ -7,7 +7,7 @@ use Rattle.safl_check.specs.declared.checked.Function.{Function}
 use Rattle.safl_check.specs.declared.checked.Site.{Site}
 use Rattle.safl_check.specs.Program.{Program}
 use Rattle.safl_check.specs.Sizes as sizes
-use Rattle.safl_check.specs.Terms.{Term, Const, Var, If, Let, Op, Call, Loop, Terms, Nil, Cons}
+use Rattle.safl_check.specs.Terms.{Term, Terms}
 use Rattle.safl_check.specs.Tree.{tree}
 use Rattle.safl_tree.specs.Tree.{Definition}
 use Rattle.safl_typing.specs.Rewriting.{Expression, rewritten, Number, Sized, Variable, Choice, Binding, Applied, Called, Expressions, no_expression, an_expression, Bindings, no_binding, a_binding}
@@ -53,7 +53,15 @@ place_at C all n u w lo hi (d ∷ ds) (f ∷ fs) zero lt (m, is, j, rest) noted 
     let e : n ≡ n + 0 = omega arith in
     let p = noted_parts C lo m (sites_of n (tree f.body)) (all_sites (suc n) (map shown_function fs)) (has_length n k (params_of d) true lo m (rewritten d.body) d.width (tree f.body) is.body) noted in
     record {
-      def = d; function = f; unit = unit_of n u d; first = lo; end = m; stands = refl; defined = refl; is = is; head = refl;
+      def = d;
+      function = f;
+      unit = unit_of n u d;
+      first = lo;
+      end = m;
+      stands = refl;
+      defined = refl;
+      is = is;
+      head = refl;
       from = omega arith;
       until = functions_rise all (suc n) (unit_of n u d) d.width m hi ds (map shown_function fs) rest;
       next = next_first all (suc n) (unit_of n u d) d.width m hi ds fs rest;
@@ -66,7 +74,15 @@ place_at C all n u w lo hi (d ∷ ds) (f ∷ fs) (suc i) lt (m, is, j, rest) not
     let p = noted_parts C lo m (sites_of n (tree f.body)) (all_sites (suc n) (map shown_function fs)) l noted in
     let a = place_at C all (suc n) (unit_of n u d) d.width m hi ds fs i (omega (arith, lt)) rest p.1 in
     record {
-      def = a.def; function = a.function; unit = a.unit; first = a.first; end = a.end; stands = a.stands; defined = a.defined; is = a.is; head = a.head;
+      def = a.def;
+      function = a.function;
+      unit = a.unit;
+      first = a.first;
+      end = a.end;
+      stands = a.stands;
+      defined = a.defined;
+      is = a.is;
+      head = a.head;
       from = omega (arith, a.from, l);
       until = a.until;
       next = a.next;
@@ -194,6 +210,8 @@ pub noted_from : (C : Program) (n : ℕ) (xs : List Site) → ((i : ℕ) (x : Si
 noted_from C n [] h = tt
 noted_from C n (x ∷ xs) h =
     let e : n + 0 ≡ n = omega arith in
-    let q = h 0 x refl in
-    (subst (λ (k : ℕ). C.caller k ≡ x.caller) e q.0, subst (λ (k : ℕ). C.callee k ≡ x.callee) e q.1,
-    noted_from C (suc n) xs (λ i y q. let r : n + suc i ≡ suc n + i = omega arith in subst (λ (k : ℕ). (C.caller k ≡ y.caller) × (C.callee k ≡ y.callee)) r (h (suc i) y q)))
+    let q = h 0 x refl in (
+      subst (λ (k : ℕ). C.caller k ≡ x.caller) e q.0,
+      subst (λ (k : ℕ). C.callee k ≡ x.callee) e q.1,
+      noted_from C (suc n) xs (λ i y q. let r : n + suc i ≡ suc n + i = omega arith in subst (λ (k : ℕ). (C.caller k ≡ y.caller) × (C.callee k ≡ y.callee)) r (h (suc i) y q)),
+    )

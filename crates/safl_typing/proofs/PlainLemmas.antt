@@ -1,5 +1,5 @@
 -- The plain expression of a value, by its lists.
-use Rattle.std.proofs.Common.{◌≡◌, ℕ, suc, zero, List, [], ◌∷◌, ◌++◌, length, map, Vec, Box, Global, refl, ap, ◌∙◌, sym}
+use Rattle.std.proofs.Common.{◌≡◌, ℕ, List, [], Vec, Box, Global, refl, ap, ◌∙◌}
 use Rattle.std.specs.Prelude.{Result, Ok, Err, IfOk}
 use mathlib.Core.Former.{Count}
 use Rattle.safl_word.specs.declared.primitive.Primitive.{Primitive}
@@ -7,7 +7,7 @@ use Rattle.safl_typing.specs.declared.expression.Bound.{Bound}
 use Rattle.safl_typing.specs.declared.expression.Expression as code
 use Rattle.safl_typing.specs.declared.expression.Expression.{Row_of-Expression, end_of-Expression, more_of-Expression, items-the_row-Expression, items_hidden-the_row-Expression-1, Row_of-Bound, end_of-Bound, more_of-Bound, items-the_row-Bound, items_hidden-the_row-Bound-0}
 use Rattle.safl_typing.specs.declared.expression.Expression.TheVariants as codes
-use Rattle.safl_typing.specs.Rewriting.{Expression, Binding, Applied, Called, Expressions, no_expression, an_expression, Bindings, a_binding}
+use Rattle.safl_typing.specs.Rewriting.{Expression, Binding, Applied, Called, an_expression, Bindings, a_binding}
 use Rattle.safl_typing.specs.Plain.{plain, plain_row, plain_bound, plain_all, plain_bindings}
 
 pub ok_plain : {E : Type 0} (r : Result code.Expression E) (y z : Expression) → IfOk r (λ x. plain x ≡ y) → y ≡ z → IfOk r (λ x. plain x ≡ z)

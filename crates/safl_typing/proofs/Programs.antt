@@ -1,7 +1,7 @@
 -- The program of a form is well formed, within limits, and in the order of the text.
-use Rattle.std.proofs.Common.{◌≡◌, ℕ, zero, suc, ◌+◌, ◌-◌, ◌<◌, ◌≤◌, List, [], ◌∷◌, ◌++◌, length, map, Option, Some, None, Bool, true, false, cond, refl, sym, ap, ◌∙◌, subst, inl, inr, ◌⊎◌, ⊎_elim, arith}
-use Rattle.std.specs.Prelude.{slice_get, sum_by, codes}
-use Rattle.std.specs.Option.{option_map, option_map_or}
+use Rattle.std.proofs.Common.{◌≡◌, ℕ, zero, suc, ◌+◌, ◌-◌, ◌<◌, ◌≤◌, List, [], ◌∷◌, length, map, Option, Some, None, Bool, true, false, cond, refl, sym, ap, ◌∙◌, subst, inl, inr, ◌⊎◌, ⊎_elim, arith}
+use Rattle.std.specs.Prelude.{slice_get, codes}
+use Rattle.std.specs.Option.{option_map}
 use Rattle.std.specs.String.{string_bytes}
 use Rattle.std.proofs.lemmas.Option.{slice_get_cases, slice_get_within, slice_get-map}
 use Rattle.safl_word.specs.Words.{no_word, max_width}
@@ -9,25 +9,25 @@ use Rattle.safl_word.specs.Tokens.{IsName}
 use Rattle.safl_check.specs.declared.checked.Function.{Function}
 use Rattle.safl_check.specs.declared.checked.Parameter as code
 use Rattle.safl_check.specs.declared.checked.Site.{Site}
-use Rattle.safl_check.specs.Program.{Program, arity}
+use Rattle.safl_check.specs.Program.{arity}
 use Rattle.safl_check.specs.Terms as plain
 use Rattle.safl_check.specs.Tree.{tree}
 use Rattle.safl_check.specs.WellFormed.{Spans, HasWidth, IsNumbered, IsWellFormed}
 use Rattle.safl_check.specs.Checked as checked
 use Rattle.safl_check.specs.Checked.{CheckedProgram, of_function, of_site, main_of, program_of, name_of, first_site_of, IsWithinLimits, AreNamed, HasWordWidths, IsChecked}
 use Rattle.safl_tree.specs.Tree.{Definition, Parameter}
-use Rattle.safl_tree.specs.Printable.{IsFormedParameter, AreFormedParameters, IsFormedDefinition, AreFormedDefinitions, IsFormedProgram}
+use Rattle.safl_tree.specs.Printable.{AreFormedParameters, IsFormedDefinition, AreFormedDefinitions, IsFormedProgram}
 use Rattle.safl_typing.specs.Rewriting.{rewritten}
-use Rattle.safl_typing.specs.Heads.{Slot, Head, Known, params_of, head_of, heads}
-use Rattle.safl_typing.specs.Typing.{Differ, widths_of}
-use Rattle.safl_typing.specs.Forms.{shown_param, shown_function, shown, sites_of, all_sites, nodes_of, param_names, IsFunctionOf, IsLast, function_names, IsFormOf}
+use Rattle.safl_typing.specs.Heads.{Slot, Head, params_of, head_of, heads}
+use Rattle.safl_typing.specs.Typing.{widths_of}
+use Rattle.safl_typing.specs.Forms.{shown_param, shown_function, shown, sites_of, all_sites, param_names, IsLast, function_names, IsFormOf}
 use Rattle.safl_typing.proofs.Names.{some_is}
 use Rattle.safl_typing.proofs.Wide.{IsWide}
 use Rattle.safl_typing.proofs.Formed.{width_wide}
-use Rattle.safl_typing.proofs.Widths.{IsOfHead, Agrees, formed_full, has_width}
+use Rattle.safl_typing.proofs.Widths.{Agrees, formed_full, has_width}
 use Rattle.safl_typing.proofs.Spans.{Noted, has_spans}
 use Rattle.safl_typing.proofs.Units.{Steps, unit_below, unit_monotone, unit_first, unit_group}
-use Rattle.safl_typing.proofs.Placing.{AreShown, At, next_first, place_at, step_at, lengths_same, sites_length, nodes_same, heads_length, IsGood, AllGood, good_at, has_good, all_good, noted_from}
+use Rattle.safl_typing.proofs.Placing.{AreShown, At, next_first, place_at, step_at, lengths_same, sites_length, nodes_same, heads_length, AllGood, good_at, has_good, all_good, noted_from}
 
 -- what a function that is there has, and what one has that is not
 field_of : {A : Type 0} (has : Function → A) (default : A) (c : CheckedProgram) (i : ℕ) (f : Function) → slice_get c.functions i ≡ Some f → of_function has default c i ≡ has f
@@ -216,7 +216,7 @@ module _ (c : CheckedProgram) (ds : List Definition) (b : IsBased c ds) where
       let f = fields c ds i h in
       let d : IsFormedDefinition h.def = formed_at ds i h.def b.formed h.defined in
       let w : HasWidth (program_of c) (widths_of (params_of h.def)) (tree h.function.body) h.def.width =
-          has_width (program_of c) (record { heads = heads ds; unit = h.unit }) (params_of h.def) true h.first h.end (rewritten h.def.body) h.def.width (tree h.function.body) (agrees c ds b) (formed_full h.def.body d.3) h.is.body in
+      has_width (program_of c) (record { heads = heads ds; unit = h.unit }) (params_of h.def) true h.first h.end (rewritten h.def.body) h.def.width (tree h.function.body) (agrees c ds b) (formed_full h.def.body d.3) h.is.body in
       subst (λ (l : List ℕ). HasWidth (program_of c) l ((program_of c).body i) ((program_of c).result i)) (sym f.params)
       (subst (λ (t : plain.Term). HasWidth (program_of c) (widths_of (params_of h.def)) t ((program_of c).result i)) (sym f.body)
       (subst (λ (n : ℕ). HasWidth (program_of c) (widths_of (params_of h.def)) (tree h.function.body) n) (sym f.result) w))
@@ -241,19 +241,19 @@ module _ (c : CheckedProgram) (ds : List Definition) (b : IsBased c ds) where
   unfolding program_of
   good_sites = subst (λ (xs : List Site). AllGood (program_of c) xs) (sym b.form.sites)
       (all_good (program_of c) 0 c.functions (λ i f e.
-          let l : i < length c.functions = slice_get_within c.functions i f e in
-          let h = here c ds i b l in
-          let q : h.function ≡ f = some_is h.function f (sym h.stands ∙ e) in
-          let z : i ≡ 0 + i = omega arith in
-          subst (λ (g : ℕ). AllGood (program_of c) (sites_of g (tree f.body))) z (subst (λ (z : Function). AllGood (program_of c) (sites_of i (tree z.body))) q
-          (has_good (program_of c) i (record { heads = heads ds; unit = h.unit }) l (agrees c ds b) (fields c ds i h).unit (params_of h.def) true h.first h.end (rewritten h.def.body) h.def.width (tree h.function.body) h.is.body))))
+      let l : i < length c.functions = slice_get_within c.functions i f e in
+      let h = here c ds i b l in
+      let q : h.function ≡ f = some_is h.function f (sym h.stands ∙ e) in
+      let z : i ≡ 0 + i = omega arith in
+      subst (λ (g : ℕ). AllGood (program_of c) (sites_of g (tree f.body))) z (subst (λ (z : Function). AllGood (program_of c) (sites_of i (tree z.body))) q
+      (has_good (program_of c) i (record { heads = heads ds; unit = h.unit }) l (agrees c ds b) (fields c ds i h).unit (params_of h.def) true h.first h.end (rewritten h.def.body) h.def.width (tree h.function.body) h.is.body))))
 
   site_good : (k : ℕ) → 0 < k → k ≤ length c.sites → ((program_of c).caller k < length c.functions) × ((program_of c).callee k < length c.functions) × ((program_of c).unit ((program_of c).callee k) < (program_of c).unit ((program_of c).caller k))
   unfolding program_of
   site_good zero some most = absurd (omega (arith, some))
   site_good (suc k) some most = ⊎_elim
       (λ q. let g = good_at (program_of c) c.sites k q.0 good_sites q.2 in
-          rw q.2 (g.caller, g.callee, g.earlier))
+      rw q.2 (g.caller, g.callee, g.earlier))
       (λ q. absurd (omega (arith, q.0, most)))
       (slice_get_cases c.sites k).1
 
@@ -288,7 +288,7 @@ module _ (c : CheckedProgram) (ds : List Definition) (b : IsBased c ds) where
   unfolding program_of
   few_params i = ⊎_elim
       (λ q. let h = here c ds i b q.2 in
-          omega (arith, ap (λ (l : List ℕ). length l) (fields c ds i h).params, widths_length h.def, h.is.few_params))
+      omega (arith, ap (λ (l : List ℕ). length l) (fields c ds i h).params, widths_length h.def, h.is.few_params))
       (λ e. omega (arith, ap (λ (l : List ℕ). length l) (field_past (λ (f : Function). map (λ p. p.width) f.params.items) [] c i e)))
       (there c.functions i)
 
@@ -331,15 +331,15 @@ module _ (c : CheckedProgram) (ds : List Definition) (b : IsBased c ds) where
   params_named : (f i : ℕ) (name : List ℕ) → slice_get (checked.param_names c f) i ≡ Some name → IsName name
   params_named f i name e = ⊎_elim
       (λ q. let h = here c ds f b q.2 in
-          param_named h.def.params i name (formed_at ds f h.def b.formed h.defined).1 (subst (λ (l : List (List ℕ)). slice_get l i ≡ Some name) (fields c ds f h).param_names e))
+      param_named h.def.params i name (formed_at ds f h.def b.formed h.defined).1 (subst (λ (l : List (List ℕ)). slice_get l i ≡ Some name) (fields c ds f h).param_names e))
       (λ q. nothing_there (checked.param_names c f) i name (past_names f q) e)
       (there c.functions f)
 
   params_differ : (f i j : ℕ) (name : List ℕ) → slice_get (checked.param_names c f) i ≡ Some name → slice_get (checked.param_names c f) j ≡ Some name → i ≡ j
   params_differ f i j name e g = ⊎_elim
       (λ q. let h = here c ds f b q.2 in
-          let p = (fields c ds f h).param_names in
-          h.is.params_differ i j name (subst (λ (l : List (List ℕ)). slice_get l i ≡ Some name) p e) (subst (λ (l : List (List ℕ)). slice_get l j ≡ Some name) p g))
+      let p = (fields c ds f h).param_names in
+      h.is.params_differ i j name (subst (λ (l : List (List ℕ)). slice_get l i ≡ Some name) p e) (subst (λ (l : List (List ℕ)). slice_get l j ≡ Some name) p g))
       (λ q. nothing_there (checked.param_names c f) i name (past_names f q) e)
       (there c.functions f)
 
@@ -358,8 +358,8 @@ module _ (c : CheckedProgram) (ds : List Definition) (b : IsBased c ds) where
   unfolding program_of
   param_has_width f i w e = ⊎_elim
       (λ q. let h = here c ds f b q.2 in
-          let r = param_wide h.def.params i w (formed_at ds f h.def b.formed h.defined).1 (subst (λ (l : List ℕ). slice_get l i ≡ Some w) (fields c ds f h).params e) in
-          (r.some, r.bounded))
+      let r = param_wide h.def.params i w (formed_at ds f h.def b.formed h.defined).1 (subst (λ (l : List ℕ). slice_get l i ≡ Some w) (fields c ds f h).params e) in
+      (r.some, r.bounded))
       (λ q. nothing_there ((program_of c).params f) i w (field_past (λ (f : Function). map (λ p. p.width) f.params.items) [] c f q) e)
       (there c.functions f)
 

@@ -1,6 +1,6 @@
 -- Rewriting lists of expressions, one by one.
 use Rattle.std.proofs.lemmas.Option.{slice_get_read}
-use Rattle.std.proofs.Common.{◌≡◌, ℕ, zero, suc, ◌+◌, ◌-◌, ◌<◌, ◌≤◌, arith, drop, get_or, drop-cons, List, [], ◌∷◌, ◌++◌, length, map, take, Some, None, slice_get, Vec, Box, Global, refl, sym, ap, ◌∙◌, add-one}
+use Rattle.std.proofs.Common.{◌≡◌, ℕ, zero, suc, ◌+◌, ◌-◌, ◌<◌, ◌≤◌, arith, drop, get_or, drop-cons, List, [], ◌∷◌, ◌++◌, length, take, Some, None, slice_get, Vec, Box, Global, refl, sym, ap, ◌∙◌, add-one}
 use Rattle.safl_word.specs.declared.primitive.Primitive.{Primitive}
 use Rattle.safl_tree.specs.declared.tree.Expr.{Expr}
 use Rattle.safl_tree.specs.declared.tree.Bind.{Bind}
@@ -8,7 +8,7 @@ use Rattle.safl_tree.specs.declared.tree.Arm.{Arm}
 use Rattle.safl_tree.specs.declared.tree.Node.{Node}
 use Rattle.safl_tree.specs.declared.tree.Node.TheVariants.{Op, Call, Let, Case}
 use Rattle.safl_tree.specs.Tree.{Tree, trees_of, binds_of, arms_of, place_of}
-use Rattle.safl_tree.specs.Shown.{shows, shows_node, shows_all, shows_bind, shows_bounds, shows_labelled}
+use Rattle.safl_tree.specs.Shown.{shows, shows_node, shows_all, shows_bounds, shows_labelled}
 use Rattle.safl_typing.specs.declared.expression.Bound.{Bound}
 use Rattle.safl_typing.specs.declared.expression.Expression as code
 use Rattle.safl_typing.specs.declared.expression.Expression.TheVariants as codes
@@ -122,7 +122,7 @@ arms_front p arms done a label value rest condition body t lt is k l v r b =
     let s : suc i ≡ length arms - done = omega (arith, lt) in
     let d : drop i arms ≡ get_or arms i a ∷ drop (suc i) arms = drop-cons arms i a (omega (arith, lt)) in
     let f : drop (length arms - (done + 1)) arms ≡ a ∷ drop (length arms - done) arms =
-        ap (λ (j : ℕ). drop j arms) e ∙ d ∙ ap (λ (z : Arm). z ∷ drop (suc i) arms) (sym is) ∙ ap (λ (j : ℕ). a ∷ drop j arms) s in
+    ap (λ (j : ℕ). drop j arms) e ∙ d ∙ ap (λ (z : Arm). z ∷ drop (suc i) arms) (sym is) ∙ ap (λ (j : ℕ). a ∷ drop j arms) s in
     b ∙ ap (λ (z : Expression). Choice p z (plain value) (plain rest)) k ∙ arm_rewrites p a label value rest (drop (length arms - done) arms) t l v r
     ∙ sym (ap (λ (z : List Arm). rewritten_arms p (arms_of (shows_labelled z) t)) f)
 

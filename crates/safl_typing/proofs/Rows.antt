@@ -1,13 +1,12 @@
 -- The first faults of small sources, and the form of one that has none.
-use Rattle.std.proofs.Common.{◌≡◌, ℕ, List, [], ◌∷◌, Option, Some, None, Bool, true, false, refl}
-use Rattle.std.specs.Prelude.{Result, Ok, Err, codes}
+use Rattle.std.proofs.Common.{◌≡◌, ℕ, List, [], ◌∷◌, Some, Bool, true, false, refl}
+use Rattle.std.specs.Prelude.{Ok, codes}
 use Rattle.safl_word.specs.declared.fault.Rule.TheVariants as rules
 use Rattle.safl_word.specs.declared.primitive.Primitive.TheVariants as prims
 use Rattle.safl_check.specs.Terms.{Term, Const, Var, If, Let, Op, Call, Loop, Terms, Nil, Cons}
 use Rattle.safl_tree.specs.Tree.{Tree, Number, Variable, Choice, Cases, Applied, Called, trees_of, default_arm, an_arm, Parameter, Definition}
 use Rattle.safl_typing.specs.Heads.{Slot}
 use Rattle.safl_typing.specs.Typing.{word}
-use Rattle.safl_typing.specs.Forms.{Form}
 use Rattle.safl_typing.specs.Walk.{outcome, fault, fault_with, first_fault}
 
 abbrev named_f : List ℕ
@@ -121,6 +120,7 @@ their_form : outcome two_groups ≡ Ok (record {
       ∷ record { name = named_g; params = x8; width = 8; unit = 0; first_site = 1; body = Loop 0 (one (Op prims.Sub (two (Var 0) (Const (word 8 1))))) }
       ∷ record { name = named_main; params = x8; width = 8; unit = 2; first_site = 1; body = Op prims.Add (two (Op prims.Add (two (Const (word 8 1)) (Call 0 1 (one (Var 0))))) (Call 0 2 (one (Const (word 8 2))))) }
       ∷ [];
-  sites = record { caller = 2; callee = 0 } ∷ record { caller = 2; callee = 0 } ∷ [] })
+  sites = record { caller = 2; callee = 0 } ∷ record { caller = 2; callee = 0 } ∷ [];
+})
 unfolding outcome
 their_form = refl

@@ -1,19 +1,19 @@
 -- What the walk gives a width and a term has them.
-use Rattle.std.proofs.Common.{◌≡◌, ℕ, zero, suc, ◌+◌, ◌<◌, ◌≤◌, ◌^◌, List, [], ◌∷◌, ◌++◌, length, map, Option, Some, None, Bool, true, false, cond, refl, sym, ap, ◌∙◌, subst, inl, inr, ◌⊎◌, arith}
+use Rattle.std.proofs.Common.{◌≡◌, ℕ, suc, ◌+◌, ◌<◌, ◌^◌, List, [], ◌∷◌, ◌++◌, length, Option, Some, None, Bool, true, false, cond, refl, sym, ◌∙◌, subst, inl, inr, ◌⊎◌, arith}
 use Rattle.std.specs.Prelude.{Result, Ok, Err, ◌==◌, nat_lt, ◌&&◌}
 use Rattle.std.proofs.lemmas.Bool.{eqb-true, ltb-true}
 use Rattle.safl_word.specs.declared.fault.Fault.{Fault}
 use Rattle.safl_word.specs.declared.fault.Rule.TheVariants as rules
 use Rattle.safl_word.specs.declared.primitive.Primitive.{Primitive}
 use Rattle.safl_word.specs.Primitives.{result_width}
-use Rattle.safl_word.specs.Words.{Word, IsWord}
-use Rattle.safl_check.specs.Terms.{Term, Const, Var, If, Let, Op, Call, Loop, Terms, Nil, Cons}
+use Rattle.safl_word.specs.Words.{IsWord}
+use Rattle.safl_check.specs.Terms.{Term, Const, Var, If, Op, Call, Loop, Terms, Nil, Cons}
 use Rattle.safl_typing.specs.Rewriting.{Expression, Number, Sized, Variable, Choice, Binding, Applied, Called, Expressions, no_expression, an_expression, Bindings, no_binding, a_binding, Shape, Alike, Comparing, Shifting, Resizing, shape, takes_width, flexible, all_flexible, count}
-use Rattle.safl_typing.specs.Heads.{Slot, Head, Known, Callee, Member, Above, Unknown, callee, is_site, sites, sites_in, sites_bound}
-use Rattle.safl_typing.specs.Typing.{At, innermost, word, widths_of, slots, names, Differ, Keeps, AreAll, AllRigid, RigidOr, Shifts, Suits, Calls, Has, HaveAll, HaveBound}
-use Rattle.safl_typing.specs.Walk.{after, unless, needs, fault, fault_with, Typed, TypedAlike, TypedAll, Wanted, Any, Exactly, is_any, is_known, wanted_by, settle, number, sized, variable, branches, alike, resized, operated, arguments, called, all_any, amounts, exactly, placed, repeated, check, check_all, check_alike, check_shift, check_bound}
+use Rattle.safl_typing.specs.Heads.{Slot, Known, Callee, Member, Above, Unknown, callee, is_site, sites, sites_in, sites_bound}
+use Rattle.safl_typing.specs.Typing.{At, innermost, word, widths_of, slots, Keeps, AreAll, AllRigid, RigidOr, Shifts, Suits, Calls, Has, HaveAll, HaveBound}
+use Rattle.safl_typing.specs.Walk.{after, unless, needs, fault_with, Typed, TypedAlike, TypedAll, Wanted, Any, Exactly, is_any, wanted_by, settle, number, sized, variable, branches, alike, resized, operated, called, all_any, amounts, exactly, check, check_all, check_alike, check_shift, check_bound}
 use Rattle.safl_typing.proofs.Names.{some_none, differ_bound}
-use Rattle.safl_typing.proofs.Wide.{IsWide, AreWide, WideSlots, IsWideHead, WideHeads, WideCallee, IsInRange, AreInRange, BoundInRange, one_wide, table_wide, wide_widths, wide_append, wide_slots, innermost_wide, callee_wide}
+use Rattle.safl_typing.proofs.Wide.{IsWide, AreWide, WideSlots, WideHeads, WideCallee, IsInRange, AreInRange, BoundInRange, one_wide, table_wide, wide_widths, wide_append, wide_slots, innermost_wide, callee_wide}
 use Rattle.safl_typing.proofs.Complete.{typed, typed_all, typed_alike, Met, MetAll, AsMany, length_widths}
 
 pub ok_is : {A : Type 0} (x y : A) → ◌≡◌ {A = Result A Fault} (Ok x) (Ok y) → x ≡ y
@@ -311,8 +311,8 @@ mutual
       let q = after_ok _ _ x u.1 in
       let sc = checks_has k s false lo (lo + sites k c) (Exactly 1) c q.0 refl wh ws wi.0 one_wide q.1 in
       let r = branches_sound (Has k s tail (lo + sites k c) (lo + sites k c + sites k a) a) (Has k s tail (lo + sites k c + sites k a) hi b) m (flexible a) (flexible b) _ _ q.0.term x q.2 wm
-          (λ v y g h. checks_has k s tail (lo + sites k c) (lo + sites k c + sites k a) v a y refl wh ws wi.1 g h)
-          (λ v y g h. checks_has k s tail (lo + sites k c + sites k a) hi v b y end wh ws wi.2 g h) in
+      (λ v y g h. checks_has k s tail (lo + sites k c) (lo + sites k c + sites k a) v a y refl wh ws wi.1 g h)
+      (λ v y g h. checks_has k s tail (lo + sites k c + sites k a) hi v b y end wh ws wi.2 g h) in
       record { has = (lo + sites k c, lo + sites k c + sites k a, q.0.term, r.first, r.second, subst (λ (n : ℕ). Has k s false lo (lo + sites k c) c n q.0.term) (sym sc.met) sc.has, r.has_first, r.has_second, r.is); met = r.met; wide = r.wide }
   checks_has k s tail lo hi m (Binding p bs b) x at wh ws wi wm e =
       let end : hi ≡ lo + sites_bound k bs + sites k b = omega (arith, at) in
@@ -353,8 +353,8 @@ mutual
       (record { widths = []; have = (omega (arith, at), refl); all = tt; met = refl; wide = wm })
   checks_have_alike k s lo hi p m (an_expression y ys) r at wh ws wi wm e =
       let q = alike_sound (Has k s false lo (lo + sites k y) y) (HaveAll k s (lo + sites k y) hi ys) m (flexible y) (all_flexible ys) _ _ r e wm
-          (λ v x g h. checks_has k s false lo (lo + sites k y) v y x refl wh ws wi.0 g h)
-          (λ v x g h. checks_have_alike k s (lo + sites k y) hi p v ys x (omega (arith, at)) wh ws wi.1 g h) in
+      (λ v x g h. checks_has k s false lo (lo + sites k y) v y x refl wh ws wi.0 g h)
+      (λ v x g h. checks_have_alike k s (lo + sites k y) hi p v ys x (omega (arith, at)) wh ws wi.1 g h) in
       record { widths = r.width ∷ q.widths; have = (lo + sites k y, q.first, q.others, q.has_first, q.have_others, q.is); all = (refl, q.all); met = q.met; wide = q.wide }
 
   pub checks_have_shift : (k : Known) (s : List Slot) (lo hi p : ℕ) (es : Expressions) (r : TypedAlike) → hi ≡ lo + sites_in k es → WideHeads k.heads → WideSlots s → AreInRange es → check_shift k s lo p es ≡ Ok r → IsSoundShift (HaveAll k s lo hi es) es r

@@ -1,15 +1,15 @@
 -- The sites of a term are those of its expression's interval, in order, and as many nodes stand in both.
-use Rattle.std.proofs.Common.{◌≡◌, ℕ, zero, suc, ◌+◌, ◌<◌, ◌≤◌, List, [], ◌∷◌, ◌++◌, length, map, Bool, true, false, refl, sym, ap, ◌∙◌, subst, arith, length-append}
+use Rattle.std.proofs.Common.{◌≡◌, ℕ, suc, ◌+◌, List, [], ◌∷◌, ◌++◌, length, Bool, refl, sym, ap, ◌∙◌, subst, arith, length-append}
 use Rattle.safl_check.specs.declared.checked.Site.{Site}
-use Rattle.safl_check.specs.Terms.{Term, Const, Var, If, Let, Op, Call, Loop, Terms, Nil, Cons}
+use Rattle.safl_check.specs.Terms.{Term, Terms}
 use Rattle.safl_check.specs.Program.{Program}
 use Rattle.safl_check.specs.Sizes as sizes
 use Rattle.safl_check.specs.WellFormed.{Spans, SpansAll}
 use Rattle.safl_typing.specs.Rewriting.{Expression, Number, Sized, Variable, Choice, Binding, Applied, Called, Expressions, no_expression, an_expression, Bindings, no_binding, a_binding, nodes, nodes_in, nodes_bound}
-use Rattle.safl_typing.specs.Heads.{Slot, Head, Known, Callee, Member, Above, Unknown, callee}
+use Rattle.safl_typing.specs.Heads.{Slot, Known, Callee, Member, Above, Unknown, callee}
 use Rattle.safl_typing.specs.Typing.{slots, Calls, Has, HaveAll, HaveBound}
 use Rattle.safl_typing.specs.Forms.{sites_of, sites_of_all}
-use Rattle.safl_typing.proofs.Widths.{IsOfHead, Agrees, CalleeAt, callee_at}
+use Rattle.safl_typing.proofs.Widths.{Agrees, CalleeAt, callee_at}
 
 -- ---- nodes
 

@@ -1,6 +1,6 @@
 -- Words that do not fit, and slots by their names.
-use Rattle.std.proofs.Common.{◌≡◌, ℕ, zero, suc, ◌+◌, ◌<◌, ◌≤◌, ◌^◌, arith, take, get_or, List, [], ◌∷◌, ◌++◌, length, Option, Some, None, Bool, true, false, cond, refl, sym, ap, ◌∙◌, subst}
-use Rattle.std.specs.Prelude.{nat_lt, slice_get, IfSome, Result, Ok, Err}
+use Rattle.std.proofs.Common.{◌≡◌, ℕ, zero, suc, ◌+◌, ◌<◌, ◌^◌, arith, take, get_or, List, [], ◌∷◌, ◌++◌, length, Option, Some, None, Bool, true, false, cond, refl, sym, ap, ◌∙◌, subst}
+use Rattle.std.specs.Prelude.{nat_lt, IfSome, Err}
 use Rattle.std.proofs.lemmas.Option.{slice_get_read}
 use Rattle.safl_word.specs.declared.fault.Rule.TheVariants as rules
 use Rattle.safl_typing.specs.declared.typed.CheckErr.{CheckErr}
@@ -10,7 +10,7 @@ use Rattle.safl_typing.specs.declared.typed.Wanted.TheVariants as wants
 use Rattle.safl_typing.specs.Walk.{fault, number, sized}
 use Rattle.std.specs.Str.{bytes_eq}
 use Rattle.std.proofs.lemmas.Bool.{ltb-true, false_from_ne_true}
-use Rattle.safl_word.specs.Words.{Word, IsWord}
+use Rattle.safl_word.specs.Words.{IsWord}
 use Rattle.safl_typing.specs.declared.heads.Slot as code
 use Rattle.safl_typing.specs.Heads.{Slot}
 use Rattle.safl_typing.specs.Typing.{At, later, innermost, word}

@@ -1,5 +1,5 @@
 -- The groups of functions, from what holds of each function and the one before it.
-use Rattle.std.proofs.Common.{◌≡◌, ℕ, zero, suc, ◌+◌, ◌<◌, ◌≤◌, refl, sym, ap, ◌∙◌, subst, inl, inr, ◌⊎◌, ⊎_elim, arith}
+use Rattle.std.proofs.Common.{◌≡◌, ℕ, zero, suc, ◌+◌, ◌<◌, ◌≤◌, sym, ap, ◌∙◌, subst, ◌⊎◌, ⊎_elim, arith}
 
 -- a function is in the group of the one before it and has its width, or it is the first of its group
 abbrev pub Steps : (ℕ → ℕ) → (ℕ → ℕ) → ℕ → Type 0

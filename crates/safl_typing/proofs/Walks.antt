@@ -1,26 +1,25 @@
 -- The walk over a program gives exactly the form that the program has.
-use Rattle.std.proofs.Common.{◌≡◌, ℕ, zero, suc, ◌+◌, ◌<◌, ◌≤◌, List, [], ◌∷◌, length, map, Option, Some, None, Bool, true, false, cond, refl, sym, ap, ◌∙◌, subst, inl, inr, ◌⊎◌, arith}
-use Rattle.std.specs.Prelude.{Result, Ok, Err, ◌==◌, nat_le, codes, slice_get}
+use Rattle.std.proofs.Common.{◌≡◌, ℕ, zero, suc, ◌+◌, ◌≤◌, List, [], ◌∷◌, length, map, Some, None, Bool, true, false, cond, refl, sym, ap, ◌∙◌, subst, arith}
+use Rattle.std.specs.Prelude.{Ok, ◌==◌, nat_le, codes}
 use Rattle.std.specs.List.{list_any}
 use Rattle.std.specs.Str.{bytes_eq}
 use Rattle.std.proofs.lemmas.Bool.{eq-eqb, eqb-true, le-leb, leb-true}
 use Rattle.std.proofs.lemmas.Slice.Eq.{bytes_eq-Decides}
-use Rattle.std.proofs.lemmas.List.{length-map}
 use Rattle.safl_word.specs.declared.fault.Fault.{Fault}
 use Rattle.safl_word.specs.declared.fault.Rule.TheVariants as rules
 use Rattle.safl_check.specs.Terms.{Term}
 use Rattle.safl_tree.specs.Tree.{Definition, Parameter}
-use Rattle.safl_tree.specs.Printable.{OpensGroup, IsFormedDefinition, AreFormedDefinitions, IsFormedProgram}
+use Rattle.safl_tree.specs.Printable.{OpensGroup, AreFormedDefinitions, IsFormedProgram}
 use Rattle.safl_typing.specs.Rewriting.{Expression, rewritten, nodes}
 use Rattle.safl_typing.specs.Heads.{Slot, Head, Known, sites, unit_of, params_of, heads}
 use Rattle.safl_typing.specs.Typing.{Differ, Has}
 use Rattle.safl_typing.specs.Forms.{FunctionForm, Form, all_sites, max_functions, max_params, max_bindings, max_sites, max_nodes, nodes_of, param_names, IsFunctionOf, AreFunctionsOf, IsLast, function_names, IsFormOf}
-use Rattle.safl_typing.specs.Walk.{after, unless, needs, or_else, fault, fault_with, excess, limit, long_let, limits_from, limits, Placed, placed_params, repeated, head_fault, joined_faults, group_fault, function, functions_from, main_fault, Typed, Exactly, check, outcome}
+use Rattle.safl_typing.specs.Walk.{after, unless, needs, or_else, fault, fault_with, excess, limit, long_let, limits_from, limits, placed_params, head_fault, joined_faults, group_fault, function, functions_from, main_fault, Exactly, outcome}
 use Rattle.safl_typing.proofs.Counts.{has_sites}
 use Rattle.safl_typing.proofs.Names.{some_none, Apart, in_order, differ_repeat, repeat_differ, unseen, not_seen, differ_rest, apart_more, differ_first}
 use Rattle.safl_typing.proofs.Complete.{typed, after_gives, unless_gives, needs_gives, has_checks}
-use Rattle.safl_typing.proofs.Wide.{IsWide, WideSlots, WideHeads}
-use Rattle.safl_typing.proofs.Sound.{ok_is, err_ok, after_ok, unless_ok, needs_ok, checks_has}
+use Rattle.safl_typing.proofs.Wide.{WideHeads}
+use Rattle.safl_typing.proofs.Sound.{ok_is, after_ok, unless_ok, needs_ok, checks_has}
 use Rattle.safl_typing.proofs.Limits.{both_none, none_both, limit_none, none_limit, excess_none, none_excess, short_lets, no_long_let}
 use Rattle.safl_typing.proofs.Formed.{width_wide, formed_range, params_wide, heads_wide}
 
@@ -122,11 +121,11 @@ walked all earlier n u w lo ps pn (d ∷ ds) fs wh form at few_sites few_nodes l
     let r = after_ok _ _ fs q.2 in
     let next : lo + sites known body ≡ suc (ps + sites known body) = omega (arith, at) in
     let rest : IsWalked all (d.name ∷ earlier) (suc n) unit d.width (lo + sites known body) (pn + nodes body) ds r.0 =
-        walked all (d.name ∷ earlier) (suc n) unit d.width (lo + sites known body) (ps + sites known body) (pn + nodes body) ds r.0 wh form.1 next in_sites in_nodes l3.1 o.rest r.1 in
+    walked all (d.name ∷ earlier) (suc n) unit d.width (lo + sites known body) (ps + sites known body) (pn + nodes body) ds r.0 wh form.1 next in_sites in_nodes l3.1 o.rest r.1 in
     let met : d.width ≡ q.0.width = s.met in
     let f : FunctionForm = function unit lo d q.0.term in
     let is : IsFunctionOf all unit lo (lo + sites known body) d f =
-        record { name = refl; params = refl; width = refl; unit = refl; first_site = refl; params_differ = o.head.params; few_params = subst (λ (z : ℕ). z ≤ max_params) (places_length d.params) (none_excess max_params _ (none_limit _ _ _ l0.0)); short_lets = no_long_let body (none_limit _ _ _ l1.0); body = subst (λ (z : ℕ). Has known (params_of d) true lo (lo + sites known body) body z q.0.term) (sym met) s.has } in
+    record { name = refl; params = refl; width = refl; unit = refl; first_site = refl; params_differ = o.head.params; few_params = subst (λ (z : ℕ). z ≤ max_params) (places_length d.params) (none_excess max_params _ (none_limit _ _ _ l0.0)); short_lets = no_long_let body (none_limit _ _ _ l1.0); body = subst (λ (z : ℕ). Has known (params_of d) true lo (lo + sites known body) body z q.0.term) (sym met) s.has } in
     subst (λ (z : List FunctionForm). IsWalked all earlier n u w lo pn (d ∷ ds) z) (ok_is _ fs r.2)
     (record {
       last = rest.last;

@@ -1,5 +1,5 @@
 -- Widths are from 1 to the greatest: of slots, heads and what the table gives.
-use Rattle.std.proofs.Common.{◌≡◌, ℕ, zero, suc, ◌+◌, ◌<◌, ◌≤◌, ◌^◌, List, [], ◌∷◌, ◌++◌, length, map, Option, Some, None, Bool, true, false, cond, refl, sym, ap, ◌∙◌, subst, inl, inr, ◌⊎◌, arith}
+use Rattle.std.proofs.Common.{◌≡◌, ℕ, suc, ◌≤◌, List, [], ◌∷◌, ◌++◌, map, Option, Some, None, Bool, true, false, cond, refl, ap, ◌∙◌, subst, arith}
 use Rattle.std.specs.Str.{bytes_eq}
 use Rattle.std.proofs.lemmas.Nat.{pow_pos}
 use Rattle.safl_word.specs.Words.{Word, IsWord, AreWords, max_width}
@@ -7,7 +7,7 @@ use Rattle.safl_word.specs.declared.primitive.Primitive.{Primitive}
 use Rattle.safl_word.specs.Primitives.{result_width, apply_prim}
 use Rattle.safl_word.proofs.Widths.{widths, apply_width}
 use Rattle.safl_word.proofs.Fits.{apply_fits}
-use Rattle.safl_typing.specs.Rewriting.{Expression, Number, Sized, Variable, Choice, Binding, Applied, Called, Expressions, no_expression, an_expression, Bindings, no_binding, a_binding, count}
+use Rattle.safl_typing.specs.Rewriting.{Expression, Number, Sized, Variable, Choice, Binding, Applied, Called, Expressions, no_expression, an_expression, Bindings, no_binding, a_binding}
 use Rattle.safl_typing.specs.Heads.{Slot, Head, Known, Numbered, first_head, Callee, Member, Above, Unknown, member_or, callee}
 use Rattle.safl_typing.specs.Typing.{At, later, innermost, slots, word, widths_of}
 use Rattle.safl_typing.proofs.Names.{some_is}

@@ -1,24 +1,23 @@
 -- A term has the width that its expression has.
-use Rattle.std.proofs.Common.{◌≡◌, ℕ, zero, suc, ◌+◌, ◌<◌, ◌≤◌, List, [], ◌∷◌, ◌++◌, length, map, Option, Some, None, Bool, true, false, cond, refl, sym, ap, ◌∙◌, subst, inl, inr, ◌⊎◌, arith}
+use Rattle.std.proofs.Common.{◌≡◌, ℕ, suc, ◌+◌, ◌<◌, List, [], ◌∷◌, ◌++◌, length, Option, Some, None, Bool, true, false, cond, refl, sym, ap, ◌∙◌, subst, arith}
 use Rattle.std.specs.Prelude.{slice_get, ◌==◌, nat_lt, ◌&&◌}
 use Rattle.std.specs.Str.{bytes_eq}
-use Rattle.std.proofs.lemmas.Bool.{eq-eqb, eqb-true, ltb-true, and_parts}
-use Rattle.safl_word.specs.Words.{Word, IsWord}
+use Rattle.std.proofs.lemmas.Bool.{eq-eqb, eqb-true, ltb-true}
 use Rattle.safl_word.specs.declared.primitive.Primitive.{Primitive}
 use Rattle.safl_word.specs.declared.primitive.Primitive.TheVariants.{Add, Sub, Mul, And, Or, Xor, Not, Eq, Ne, Lt, Le, Gt, Ge, Shl, Shr, Cat, Bits, Ext}
 use Rattle.safl_word.specs.Primitives.{result_width, equal_widths, compared_widths, one_width, two_widths}
-use Rattle.safl_check.specs.Terms.{Term, Const, Var, If, Let, Op, Call, Loop, Terms, Nil, Cons}
+use Rattle.safl_check.specs.Terms.{Term, Terms}
 use Rattle.safl_check.specs.Program.{Program}
 use Rattle.safl_check.specs.WellFormed.{HasWidth, HaveWidths}
 use Rattle.safl_tree.specs.Tree as source
 use Rattle.safl_tree.specs.Tree.{Tree, Trees, Binds, Arms, place_of}
 use Rattle.safl_tree.specs.Printable as printable
 use Rattle.safl_tree.specs.Printable.{operands, IsLabel, IsFormed, AreFormed, AreFormedBinds, AreFormedArms}
-use Rattle.safl_typing.specs.Rewriting.{Expression, Number, Sized, Variable, Choice, Binding, Applied, Called, Expressions, no_expression, an_expression, Bindings, no_binding, a_binding, Shape, shape, count, rewritten, rewritten_all, rewritten_binds, rewritten_arms}
+use Rattle.safl_typing.specs.Rewriting.{Expression, Number, Sized, Variable, Choice, Binding, Applied, Called, Expressions, no_expression, an_expression, Bindings, no_binding, a_binding, shape, count, rewritten, rewritten_all, rewritten_binds, rewritten_arms}
 use Rattle.safl_typing.specs.Heads.{Slot, Head, Known, Numbered, first_head, Callee, Member, Above, Unknown, member_or, callee}
-use Rattle.safl_typing.specs.Typing.{At, later, innermost, word, widths_of, slots, AreAll, Shifts, Suits, Calls, Has, HaveAll, HaveBound}
+use Rattle.safl_typing.specs.Typing.{At, later, innermost, widths_of, slots, AreAll, Shifts, Suits, Calls, Has, HaveAll, HaveBound}
 use Rattle.safl_typing.proofs.Names.{some_is}
-use Rattle.safl_typing.proofs.Complete.{AsMany, have_many, many_length}
+use Rattle.safl_typing.proofs.Complete.{have_many, many_length}
 
 -- ---- operators have their operands
 
@@ -233,9 +232,11 @@ mutual
       subst (λ (u : Term). HasWidth C (widths_of s) u w) (sym q)
       (has_width C k s _ lo m c 1 x ag full.0 hc, has_width C k s tail m n a w y ag full.1 ha, has_width C k s tail n hi b w z ag full.2 hb)
   has_width C k s tail lo hi (Binding p bs b) w t ag full (m, ws, us, y, d, hs, hb, q) =
-      subst (λ (u : Term). HasWidth C (widths_of s) u w) (sym q)
-      (ws, bound_widths C k s lo m bs ws us ag full.0 hs,
-      subst (λ (l : List ℕ). HasWidth C l y w) (widths_append s (slots bs ws) ∙ ap (λ (l : List ℕ). widths_of s ++ l) (widths_back k s lo m bs ws us hs)) (has_width C k (s ++ slots bs ws) tail m hi b w y ag full.1 hb))
+      subst (λ (u : Term). HasWidth C (widths_of s) u w) (sym q) (
+        ws,
+        bound_widths C k s lo m bs ws us ag full.0 hs,
+        subst (λ (l : List ℕ). HasWidth C l y w) (widths_append s (slots bs ws) ∙ ap (λ (l : List ℕ). widths_of s ++ l) (widths_back k s lo m bs ws us hs)) (has_width C k (s ++ slots bs ws) tail m hi b w y ag full.1 hb),
+      )
   has_width C k s tail lo hi (Applied p o es) w t ag full (ws, us, hs, su, q) =
       subst (λ (u : Term). HasWidth C (widths_of s) u w) (sym q)
       (ws, have_widths C k s lo hi es ws us ag full.1 hs, suits_row o es ws w su (sym (many_length es ws (have_many k s lo hi es ws us hs)) ∙ full.0))

@@ -1,5 +1,5 @@
 -- The numbered form of a program, and which form a program has.
-use Rattle.std.specs.Prelude.{◌≡◌, ℕ, suc, ◌+◌, ◌≤◌, List, [], ◌∷◌, ◌++◌, length, map, sum_by, true, codes}
+use Rattle.std.specs.Prelude.{◌≡◌, ℕ, suc, ◌+◌, ◌≤◌, List, [], ◌∷◌, ◌++◌, length, map, true, codes}
 use Rattle.std.specs.String.{string_bytes}
 use Rattle.safl_check.specs.declared.checked.Site.{Site}
 use Rattle.safl_check.specs.declared.checked.Function.{Function}
@@ -7,9 +7,9 @@ use Rattle.safl_check.specs.declared.checked.Parameter as code
 use Rattle.safl_check.specs.Checked.{CheckedProgram}
 use Rattle.safl_check.specs.Terms.{Term, Const, Var, If, Let, Op, Call, Loop, Terms, Nil, Cons}
 use Rattle.safl_check.specs.Tree.{tree}
-use Rattle.safl_tree.specs.Tree.{Tree, Definition, Parameter}
+use Rattle.safl_tree.specs.Tree.{Definition}
 use Rattle.safl_typing.specs.Rewriting.{Expression, Number, Sized, Variable, Choice, Binding, Applied, Called, Expressions, no_expression, an_expression, Bindings, no_binding, a_binding, rewritten, nodes}
-use Rattle.safl_typing.specs.Heads.{Slot, Head, Known, unit_of, params_of, heads}
+use Rattle.safl_typing.specs.Heads.{Slot, Head, unit_of, params_of, heads}
 use Rattle.safl_typing.specs.Typing.{Differ, names, Has}
 
 pub record FunctionForm : Type 0 where

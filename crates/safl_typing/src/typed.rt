@@ -84,12 +84,7 @@ pub fn typed_number(place: u32, value: Raw, wanted: Wanted) -> Result<Typed, Che
 }
 
 /// A sized number: E13 where the value does not fit the width.
-pub fn typed_sized(
-    place: u32,
-    width: u8,
-    value: Raw,
-    wanted: Wanted,
-) -> Result<Typed, CheckErr>
+pub fn typed_sized(place: u32, width: u8, value: Raw, wanted: Wanted) -> Result<Typed, CheckErr>
     requires { HasWidthOfWord width }
     ensures { Says result (sized place width value (plain_wanted wanted)) }
 {

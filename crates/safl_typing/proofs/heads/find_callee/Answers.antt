@@ -1,6 +1,4 @@
-use Rattle.std.proofs.Common.{◌∙◌, sym, ap}
-use Rattle.safl_typing.specs.PlainHeads.{numbered}
-use Rattle.safl_typing.proofs.HeadLemmas.{found_member, found_above}
+use Rattle.safl_typing.proofs.HeadLemmas.{found_member}
 use Rattle.safl_typing.proofs.heads.find_callee.Goals as goal
 
 pub returns-in-Some-clause-found : goal.returns-in-Some-clause-found

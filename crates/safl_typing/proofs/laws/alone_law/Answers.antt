@@ -1,4 +1,4 @@
-use Rattle.std.proofs.Common.{◌∙◌, arith}
+use Rattle.std.proofs.Common.{arith}
 use Rattle.safl_typing.specs.Heads.{heads}
 use Rattle.safl_typing.proofs.Consequences.{units_alone}
 use Rattle.safl_typing.proofs.laws.alone_law.Goals as goal

@@ -1,8 +1,8 @@
-use Rattle.std.proofs.Common.{◌≡◌, ◌<◌, ◌≤◌, ℕ, ◌∙◌, List, Option, Some, None, length, ap, sym, subst, arith}
+use Rattle.std.proofs.Common.{◌<◌, ◌≤◌, ◌∙◌, List, length, ap, sym, arith}
 use Rattle.safl_typing.specs.declared.expression.Bound.{Bound}
 use Rattle.safl_typing.specs.declared.expression.Expression as code
 use Rattle.safl_typing.specs.Forms.{max_bindings}
-use Rattle.safl_typing.specs.Walk.{or_place, long_let, long_let_in, long_let_bound}
+use Rattle.safl_typing.specs.Walk.{long_let, long_let_in, long_let_bound}
 use Rattle.safl_typing.specs.Plain.{plain, plain_all, plain_bindings}
 use Rattle.safl_typing.proofs.PlainLemmas.{plain-Applied, plain-Called, plain-Binding}
 use Rattle.safl_typing.proofs.LetLemmas.{too_long, short_enough, place_first, place_second}

@@ -1,4 +1,4 @@
-use Rattle.std.proofs.Common.{◌≡◌, ◌∙◌, List, sym, ap}
+use Rattle.std.proofs.Common.{◌∙◌, List, sym, ap}
 use Rattle.safl_typing.specs.declared.expression.Expression as code
 use Rattle.safl_typing.specs.Rewriting.{flexible, all_flexible}
 use Rattle.safl_typing.specs.Plain.{plain, plain_all}

@@ -1,10 +1,8 @@
-use Rattle.std.proofs.Common.{◌≡◌, ℕ, ◌+◌, ◌<◌, List, [], ◌∷◌, sym, ap, ◌∙◌, arith, rules, refl, subst}
-use Rattle.safl_tree.specs.Tree.{Tree, arms_of}
-use Rattle.safl_tree.specs.Shown.{shows, shows_node, shows_labelled}
+use Rattle.std.proofs.Common.{◌≡◌, ap, ◌∙◌, refl}
+use Rattle.safl_tree.specs.Shown.{shows}
 use Rattle.safl_tree.specs.declared.tree.Expr.{Expr}
-use Rattle.safl_typing.specs.Rewriting.{Binding, a_binding, no_binding, scrutinee, rewritten, rewritten_arms}
-use Rattle.safl_typing.specs.Plain.{plain, plain_bindings}
-use Rattle.safl_tree.specs.declared.tree.Arm.{Arm}
+use Rattle.safl_typing.specs.Rewriting.{rewritten}
+use Rattle.safl_typing.specs.Plain.{plain}
 use Rattle.safl_typing.proofs.PlainLemmas.{ok_plain}
 use Rattle.safl_typing.proofs.RewriteLemmas.{let_rewrites, case_rewrites, op_rewrites, call_rewrites, all_push, binds_push, arms_front, arms_whole}
 use Rattle.safl_typing.proofs.rewrite.+rewriting.Goals as goal

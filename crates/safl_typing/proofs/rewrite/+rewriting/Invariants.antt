@@ -1,4 +1,4 @@
-use Rattle.std.proofs.Common.{◌≡◌, ◌-◌, ◌<◌, length, take, drop}
+use Rattle.std.proofs.Common.{◌≡◌, ◌-◌, length, take, drop}
 use Rattle.safl_tree.specs.Tree.{Tree, trees_of, binds_of, arms_of}
 use Rattle.safl_tree.specs.Shown.{shows_all, shows_bounds, shows_labelled}
 use Rattle.safl_typing.specs.Rewriting.{rewritten, rewritten_all, rewritten_binds, rewritten_arms}

@@ -1,9 +1,9 @@
-use Rattle.std.proofs.Common.{◌≡◌, ◌+◌, ◌∙◌, List, ℕ, ap, sym, arith}
+use Rattle.std.proofs.Common.{◌∙◌, List, ap, sym, arith}
 use Rattle.safl_typing.specs.declared.expression.Bound.{Bound}
 use Rattle.safl_typing.specs.declared.expression.Expression as code
-use Rattle.safl_typing.specs.Heads.{Callee, Known, is_site, callee, sites, sites_in, sites_bound}
+use Rattle.safl_typing.specs.Heads.{Known, is_site, sites, sites_in, sites_bound}
 use Rattle.safl_typing.specs.Plain.{plain, plain_all, plain_bindings}
-use Rattle.safl_typing.specs.PlainHeads.{known, site_of}
+use Rattle.safl_typing.specs.PlainHeads.{known}
 use Rattle.safl_typing.proofs.PlainLemmas.{plain-Applied, plain-Called, plain-Binding}
 use Rattle.safl_typing.proofs.CountLemmas.{sites_next, bound_sites_next}
 use Rattle.safl_typing.proofs.HeadLemmas.{site_plain}
