@@ -8,3 +8,4 @@ pub mod StatementLoop
 pub mod MissingLemmas
 pub mod FileLemmas
 pub mod Widths
+pub mod Whole

@@ -12,7 +12,7 @@ use Rattle.safl_verilog.specs.Faults.{at, where_not, number_faults, is_range, ra
 use Rattle.safl_elaborate.specs.Lists.{widths_of}
 use Rattle.safl_elaborate.proofs.FileLemmas.{both_empty}
 
-kept_true : (b : Bool) (f : VFault) → where_not b f ≡ [] → b ≡ true
+pub kept_true : (b : Bool) (f : VFault) → where_not b f ≡ [] → b ≡ true
 kept_true true f h = refl
 kept_true false f h = absurd cc
 

@@ -3,3 +3,4 @@ pub mod Lists
 pub mod Scopes
 pub mod Drivers
 pub mod Parts
+pub mod Laws

@@ -4,6 +4,7 @@
 mod cells;
 mod driver;
 mod elaborate;
+mod laws;
 mod missing;
 mod names;
 mod numbers;
@@ -13,6 +14,7 @@ mod spans;
 mod statements;
 
 pub use crate::elaborate::check;
+pub use crate::laws::reads_whole_law;
 pub use safl_vread::{VErr, VFault, VRule};
 
 #[cfg(test)]
