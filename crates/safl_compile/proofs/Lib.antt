@@ -11,3 +11,5 @@ pub mod Declared
 pub mod Members
 pub mod Lining
 pub mod Fitting
+pub mod Tidying
+pub mod Reading
