@@ -1,9 +1,12 @@
 -- The laws of the machine, of one that is kept.
-use Rattle.std.proofs.Common.{◌≡◌, ◌+◌, ◌*◌, ◌≤◌, ◌<◌, ℕ, get_or, List, length, Option, Some, None, Bool, true, false, is_some, cond, eqb, ◌&&◌, refl, sym, ap, ◌∙◌, subst, arith}
-use Rattle.std.proofs.lemmas.Bool.{eqb-true, eq-eqb, and_parts, and_from, false≢true}
+use Rattle.std.proofs.Common.{◌≡◌, ◌+◌, ◌*◌, ◌≤◌, ◌<◌, ℕ, get_or, List, length, Option, Some, None, Bool, true, false, is_some, cond, eqb, nat_le, zero, suc, ◌&&◌, refl, sym, ap, ◌∙◌, subst, arith}
+use Rattle.std.proofs.lemmas.Bool.{eqb-true, eq-eqb, and_parts, and_from, false≢true, le-leb}
 use Rattle.std.specs.Prelude.{IsTrue}
 use Rattle.std.proofs.lemmas.List.{get_or_read}
 use Rattle.safl_core.proofs.Basics.{some_of}
+use Rattle.safl_core.proofs.Invariant.{found}
+use Rattle.safl_machine.specs.declared.mode.Answer.TheVariants as kept_declared
+use Rattle.safl_machine.specs.Modes.{answer_of}
 use Rattle.safl_machine.specs.declared.stage.Stage as declared
 use Rattle.safl_machine.specs.Stages.{stage_of, stage_at}
 use Rattle.safl_word.specs.Words.{Word}
@@ -11,14 +14,14 @@ use Rattle.safl_check.specs.Checked.{program_of}
 use Rattle.safl_check.specs.Meaning.{Main, main_cost, loops}
 use Rattle.safl_check.specs.Program.{Program, arity, unit_for}
 use Rattle.safl_check.specs.Readiness.{Stage, Unsent, Sent, Returned, Answer, Ready, LoopTo, NotYet, back_word}
-use Rattle.safl_core.specs.Machine.{State, Mode, Idle, Runs, Delivers, Event, Accept, Finish, Return, LoopInto, opening, after, asked, says, Enabled}
+use Rattle.safl_core.specs.Machine.{State, Mode, Idle, Runs, Delivers, Event, Accept, Finish, Return, LoopInto, opening, after, asked, asked_as, back, says, Enabled, is_unsent}
 use Rattle.safl_core.proofs.FromWellFormed.{numbered}
 use Rattle.safl_core.proofs.MachineLaws as law
 use Rattle.safl_machine.specs.declared.mode.Answer.{Answer as Kept}
 use Rattle.safl_machine.specs.Evaluating.{widths}
 use Rattle.safl_machine.specs.Outcomes.{IsValue, IsBounded, GoesOn, IsOver}
 use Rattle.safl_machine.specs.Shown.{Shown, state, CanFire, IsKept}
-use Rattle.safl_machine.specs.Testing.{is_idle, runs, delivers_to, is_ready, loops_to, can}
+use Rattle.safl_machine.specs.Testing.{is_idle, runs, delivers_to, is_ready, loops_to, can, wanted_at}
 use Rattle.safl_machine.proofs.OpenLemmas.{widths_long}
 
 some_is : (v w : Word) → Some v ≡ Some w → v ≡ w
@@ -148,3 +151,50 @@ module _ (C : Program) (args : List Word) (s : State) where
   -- and where it is not enabled
   pub refused : (e : Event) → (Enabled C args s e → ⊥) → (IsTrue false → Enabled C args s e) × (Enabled C args s e → IsTrue false)
   refused e never = (λ t. absurd (false≢true t), λ h. absurd (never h))
+
+-- ---- the tests of the code
+
+module _ {m : Shown} {answers : List Kept} {wants : List (Option (List Word))} {room : ℕ} (h : IsKept m answers wants room) where
+  pub accept_test : (k : ℕ) (u : ℕ) (b : Bool) → k ≤ (program_of m.program).sites
+      → b ≡ ((is_unsent ((state m).site k) && wanted_at wants k) && is_idle ((state m).unit (unit_for (program_of m.program) k)))
+      → b ≡ can (program_of m.program) m.args (state m) (Accept k)
+  accept_test zero u b le e =
+      e ∙ ap (λ x. x && is_idle ((state m).unit (unit_for (program_of m.program) 0)))
+      (first (is_unsent ((state m).site 0)) (eqb (length m.args) (arity (program_of m.program) (program_of m.program).main)) (eq-eqb _ _ (sized h)))
+    where
+      first : (x y : Bool) → y ≡ true → (x && true) ≡ is_some (cond (x && y) (Some m.args) None)
+      first true y q = ap (λ z. is_some (cond z (Some m.args) None)) (sym q)
+      first false y q = refl
+  accept_test (suc k) u b le e =
+      let C = program_of m.program in
+      e ∙ ap (λ x. x && is_idle ((state m).unit (unit_for C (suc k))))
+      (rest (is_unsent ((state m).site (suc k))) (nat_le (suc k) C.sites) (get_or wants (suc k) None) (asked_as C (back (state m)) ((state m).unit (C.unit (C.caller (suc k)))) (C.caller (suc k)) (suc k))
+      (le-leb (suc k) C.sites le) ((h.known (C.unit (C.caller (suc k)))).wants (suc k) (omega arith) le refl))
+    where
+      rest : (x y : Bool) (o p : Option (List Word)) → y ≡ true → o ≡ p → (x && is_some o) ≡ is_some (cond (x && y) p None)
+      rest true y o p q r = ap is_some r ∙ ap (λ z. is_some (cond z p None)) (sym q)
+      rest false y o p q r = refl
+
+  pub finish_test : (f u : ℕ) (b : Bool) → u ≡ (program_of m.program).unit f → b ≡ (runs ((state m).unit u) f && is_ready (answer_of (get_or answers u kept_declared.NotYet))) → b ≡ can (program_of m.program) m.args (state m) (Finish f)
+  finish_test f u b at e =
+      let C = program_of m.program in
+      e ∙ (ap (λ a. runs ((state m).unit u) f && is_ready a) (h.known u).outcome ∙ ap (λ n. runs ((state m).unit n) f && is_ready (says C (state m) n)) at)
+
+  pub loop_test : (n u : ℕ) (b : Bool) → u ≡ (program_of m.program).unit n → b ≡ loops_to (answer_of (get_or answers u kept_declared.NotYet)) n → b ≡ can (program_of m.program) m.args (state m) (LoopInto n)
+  loop_test n u b at e =
+      let C = program_of m.program in
+      e ∙ (ap (λ a. loops_to a n) (h.known u).outcome ∙ ap (λ i. loops_to (says C (state m) i) n) at)
+
+  -- numbers that are too great
+  pub accept_within : (k : ℕ) → CanFire m (Accept k) → k ≤ (program_of m.program).sites
+  accept_within k q = (found (program_of m.program) m.args (state m) k q.0 q.1).within
+
+  pub tested_as : (n : Shown) (e x : Event) (b : Bool) → m ≡ n → x ≡ e → b ≡ can (program_of m.program) m.args (state m) e → (IsTrue b → CanFire n x) × (CanFire n x → IsTrue b)
+  tested_as n e x b is same q =
+      subst (λ y. (IsTrue b → CanFire n y) × (CanFire n y → IsTrue b)) (sym same)
+      (subst (λ z. (IsTrue b → CanFire z e) × (CanFire z e → IsTrue b)) is (tested (program_of m.program) m.args (state m) e b q))
+
+  pub refused_as : (n : Shown) (e x : Event) → m ≡ n → x ≡ e → (CanFire m e → ⊥) → (IsTrue false → CanFire n x) × (CanFire n x → IsTrue false)
+  refused_as n e x is same never =
+      subst (λ y. (IsTrue false → CanFire n y) × (CanFire n y → IsTrue false)) (sym same)
+      (subst (λ z. (IsTrue false → CanFire z e) × (CanFire z e → IsTrue false)) is (refused (program_of m.program) m.args (state m) e never))

@@ -1,5 +1,5 @@
 -- Which events are enabled, by tests.
-use Rattle.std.specs.Prelude.{ℕ, List, Bool, true, false, ◌==◌, ◌&&◌, is_some}
+use Rattle.std.specs.Prelude.{ℕ, zero, suc, List, Option, None, Bool, true, false, ◌==◌, ◌&&◌, is_some, get_or}
 use Rattle.safl_word.specs.Words.{Word}
 use Rattle.safl_check.specs.Program.{Program, unit_for}
 use Rattle.safl_check.specs.Readiness.{Answer, Ready, LoopTo, NotYet}
@@ -36,3 +36,8 @@ can C args s (Accept k) = is_some (asked C args s k) && is_idle (s.unit (unit_fo
 can C args s (Finish f) = runs (s.unit (C.unit f)) f && is_ready (says C s (C.unit f))
 can C args s (Return k) = delivers_to (s.unit (unit_for C k)) k
 can C args s (LoopInto h) = loops_to (says C s (C.unit h)) h
+
+-- whether a site other than main's is wanted by its caller's body
+abbrev pub wanted_at : List (Option (List Word)) → ℕ → Bool
+wanted_at wants zero = true
+wanted_at wants (suc k) = is_some (get_or wants (suc k) None)

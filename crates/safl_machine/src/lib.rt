@@ -2,6 +2,7 @@
 #![tactic(auto)]
 
 pub mod args;
+pub mod check;
 pub mod evaluate;
 pub mod event;
 pub mod fire;

@@ -4,7 +4,8 @@ use crate::args::Args;
 use crate::event::Event;
 use crate::mode::{Answer, Mode};
 use crate::stage::Stage;
-use crate::{fire, make};
+use crate::step::unit_for;
+use crate::{check, fire, make};
 use safl_check::Checked;
 use safl_word::Word;
 use std::alloc::{AllocError, Global};
@@ -49,7 +50,7 @@ impl<'a> Model for Machine<'a> {
 }
 
 impl<'a> Machine<'a> {
-    ghost use Rattle.std.specs.Prelude.{◌≡◌, ◌+◌, ◌-◌, ◌^◌, ◌<◌, ◌↔◌, Err, IfOk, IfSome, IfNone, IsSome};
+    ghost use Rattle.std.specs.Prelude.{◌≡◌, ◌+◌, ◌-◌, ◌^◌, ◌<◌, ◌↔◌, Err, IsTrue, IfOk, IfSome, IfNone, IsSome};
     ghost use Rattle.safl_core.specs.Machine as core;
     ghost use Rattle.safl_check.specs.Checked.{program_of};
     ghost use Rattle.safl_check.specs.Readiness.{back_word};
@@ -115,6 +116,40 @@ impl<'a> Machine<'a> {
             Stage::Unsent => None,
             Stage::Sent => None,
             Stage::Returned(word) => Some(word),
+        }
+    }
+
+    /// Whether an event is enabled now.
+    pub fn enabled(&self, e: Event) -> bool
+        ensures { IsTrue result ↔ CanFire self.now (event_of e) }
+    {
+        let c = self.checked;
+        let functions = c.functions();
+        match e {
+            Event::Accept(k) => {
+                if k > c.sites() {
+                    return false;
+                }
+                check::accepts(c, &self.modes, &self.stages, &self.wants, k)
+            }
+            Event::Finish(f) => {
+                if f >= functions {
+                    return false;
+                }
+                check::finishes(&self.modes, &self.answers, c.unit(f), f)
+            }
+            Event::Return(k) => {
+                if k > c.sites() {
+                    return false;
+                }
+                check::delivers(&self.modes, unit_for(c, k), k)
+            }
+            Event::Loop(h) => {
+                if h >= functions {
+                    return false;
+                }
+                check::loops(&self.answers, c.unit(h), h)
+            }
         }
     }
 

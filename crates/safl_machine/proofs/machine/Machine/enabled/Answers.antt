@@ -1,0 +1,82 @@
+use Rattle.std.proofs.Common.{◌≡◌, ◌<◌, ◌&&◌, List, Option, None, get_or, sym, ap, ◌∙◌, arith}
+use Rattle.safl_word.specs.Words.{Word}
+use Rattle.safl_check.specs.Checked.{program_of}
+use Rattle.safl_check.specs.Program.{unit_for}
+use Rattle.safl_core.specs.Machine.{Accept, Finish, Return, LoopInto, is_unsent}
+use Rattle.safl_machine.specs.declared.mode.Answer.{Answer}
+use Rattle.safl_machine.specs.declared.mode.Answer.TheVariants.{NotYet}
+use Rattle.safl_machine.specs.declared.mode.Mode.{Mode}
+use Rattle.safl_machine.specs.declared.stage.Stage.{Stage}
+use Rattle.safl_machine.specs.Modes.{answer_of, unit_at}
+use Rattle.safl_machine.specs.Shown.{event_of}
+use Rattle.safl_machine.specs.Stages.{stage_at}
+use Rattle.safl_machine.specs.Testing.{wanted_at, is_idle, runs, is_ready, delivers_to, loops_to}
+use Rattle.safl_machine.proofs.KeptLemmas.{finish_in, return_in, looping}
+use Rattle.safl_machine.proofs.OutcomeLemmas.{tested_as, refused_as, accept_test, accept_within, finish_test, loop_test}
+use Rattle.safl_machine.proofs.machine.Machine.enabled.Goals as goal
+
+pub returns-then-k-sites : goal.returns-then-k-sites
+returns-then-k-sites c =
+    let h = c.self.invariant in
+    refused_as h c.args.self.now (Accept c.in-Accept.k) (event_of c.args.e) c.self.view_is (ap event_of c.in-Accept.is)
+    (λ q. absurd (omega (arith, accept_within h c.in-Accept.k q, c.sites.ensures, c.if-k-sites.true)))
+
+pub returns-then-f-functions : goal.returns-then-f-functions
+returns-then-f-functions c =
+    let h = c.self.invariant in
+    refused_as h c.args.self.now (Finish c.in-Finish.f) (event_of c.args.e) c.self.view_is (ap event_of c.in-Finish.is)
+    (λ q. absurd (omega (arith, finish_in h c.in-Finish.f q.0 q.1 q.3, c.functions-functions.ensures.count, c.if-f-functions.true)))
+
+pub returns-then-k-sites-2 : goal.returns-then-k-sites-2
+returns-then-k-sites-2 c =
+    let h = c.self.invariant in
+    refused_as h c.args.self.now (Return c.in-Return.k) (event_of c.args.e) c.self.view_is (ap event_of c.in-Return.is)
+    (λ q. absurd (omega (arith, return_in h c.in-Return.k q.0 q.1, c.sites-in-Return.ensures, c.if-k-sites-2.true)))
+
+pub returns-then-h-functions : goal.returns-then-h-functions
+returns-then-h-functions c =
+    let h = c.self.invariant in
+    refused_as h c.args.self.now (LoopInto c.in-Loop.h) (event_of c.args.e) c.self.view_is (ap event_of c.in-Loop.is)
+    (λ q. absurd (omega (arith, (looping h c.in-Loop.h q.0 q.1).within, c.functions-functions.ensures.count, c.if-h-functions.true)))
+
+pub returns-else-k-sites : goal.returns-else-k-sites
+returns-else-k-sites c =
+    let h = c.self.invariant in
+    let m = c.self.inside in
+    let C = program_of m.checked.now in
+    let k = c.in-Accept.k in
+    let is = c.accepts.ensures
+    ∙ (ap (λ (x : List Mode). (is_unsent (stage_at c.deref-in-Accept.result.now k) && wanted_at c.deref-in-Accept-2.result.now k) && is_idle (unit_at x (unit_for C k))) c.deref.ensures.value
+    ∙ (ap (λ (x : List Stage). (is_unsent (stage_at x k) && wanted_at c.deref-in-Accept-2.result.now k) && is_idle (unit_at m.modes.items (unit_for C k))) c.deref-in-Accept.ensures.value
+    ∙ ap (λ (x : List (Option (List Word))). (is_unsent (stage_at m.stages.items k) && wanted_at x k) && is_idle (unit_at m.modes.items (unit_for C k))) c.deref-in-Accept-2.ensures.value)) in
+    tested_as h c.args.self.now (Accept k) (event_of c.args.e) c.accepts.result c.self.view_is (ap event_of c.in-Accept.is)
+    (accept_test h k 0 c.accepts.result (omega (arith, c.sites.ensures, c.if-k-sites.false)) is)
+
+pub returns-else-f-functions : goal.returns-else-f-functions
+returns-else-f-functions c =
+    let h = c.self.invariant in
+    let m = c.self.inside in
+    let f = c.in-Finish.f in
+    let is = c.finishes.ensures
+    ∙ (ap (λ (x : List Mode). runs (unit_at x c.unit.result) f && is_ready (answer_of (get_or c.deref-in-Finish-2.result.now c.unit.result NotYet))) c.deref-in-Finish.ensures.value
+    ∙ ap (λ (x : List Answer). runs (unit_at m.modes.items c.unit.result) f && is_ready (answer_of (get_or x c.unit.result NotYet))) c.deref-in-Finish-2.ensures.value) in
+    tested_as h c.args.self.now (Finish f) (event_of c.args.e) c.finishes.result c.self.view_is (ap event_of c.in-Finish.is)
+    (finish_test h f c.unit.result c.finishes.result c.unit.ensures is)
+
+pub returns-else-k-sites-2 : goal.returns-else-k-sites-2
+returns-else-k-sites-2 c =
+    let h = c.self.invariant in
+    let m = c.self.inside in
+    let k = c.in-Return.k in
+    let is = c.delivers.ensures
+    ∙ (ap (λ (x : List Mode). delivers_to (unit_at x c.unit_for.result) k) c.deref-in-Return.ensures.value
+    ∙ ap (λ n. delivers_to (unit_at m.modes.items n) k) c.unit_for.ensures.unit) in
+    tested_as h c.args.self.now (Return k) (event_of c.args.e) c.delivers.result c.self.view_is (ap event_of c.in-Return.is) is
+
+pub returns-else-h-functions : goal.returns-else-h-functions
+returns-else-h-functions c =
+    let h = c.self.invariant in
+    let n = c.in-Loop.h in
+    let is = c.loops.ensures ∙ ap (λ (x : List Answer). loops_to (answer_of (get_or x c.unit-in-Loop.result NotYet)) n) c.deref-in-Loop.ensures.value in
+    tested_as h c.args.self.now (LoopInto n) (event_of c.args.e) c.loops.result c.self.view_is (ap event_of c.in-Loop.is)
+    (loop_test h n c.unit-in-Loop.result c.loops.result c.unit-in-Loop.ensures is)
