@@ -6,3 +6,4 @@ pub mod FitsLemmas
 pub mod KeptLemmas
 pub mod OpenLemmas
 pub mod OutcomeLemmas
+pub mod ListingLemmas

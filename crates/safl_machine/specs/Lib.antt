@@ -5,3 +5,4 @@ pub mod Knowing
 pub mod Shown
 pub mod Outcomes
 pub mod Testing
+pub mod Listing

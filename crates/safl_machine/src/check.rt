@@ -4,7 +4,7 @@ ghost use Rattle.std.specs.Prelude.{◌≡◌, ◌<◌, ◌≤◌, ◌&&◌, suc
 ghost use Rattle.safl_check.specs.Checked.{program_of};
 ghost use Rattle.safl_check.specs.Program as program;
 ghost use Rattle.safl_core.specs.Machine as core;
-ghost use Rattle.safl_machine.specs.Modes.{answer_of, unit_at};
+ghost use Rattle.safl_machine.specs.Modes.{answer_of, mode_of, unit_at};
 ghost use Rattle.safl_machine.specs.Stages.{stage_at};
 ghost use Rattle.safl_machine.specs.Testing as test;
 
@@ -64,8 +64,18 @@ pub fn loops(answers: &[Answer], u: u32, h: u32) -> bool
     }
 }
 
-/// Whether a unit is idle.
-pub fn is_idle(modes: &[Mode], u: u32) -> bool
+/// Whether a mode is that of an idle unit.
+pub fn idle(mode: &Mode) -> bool
+    ensures { result ≡ test.is_idle (mode_of mode.now) }
+{
+    match mode {
+        Mode::Idle => true,
+        Mode::Runs(_, _, _) => false,
+        Mode::Delivers(_, _) => false,
+    }
+}
+
+fn is_idle(modes: &[Mode], u: u32) -> bool
     requires { u < length modes.now }
     ensures { result ≡ test.is_idle (unit_at modes.now u) }
 {

@@ -50,11 +50,12 @@ impl<'a> Model for Machine<'a> {
 }
 
 impl<'a> Machine<'a> {
-    ghost use Rattle.std.specs.Prelude.{◌≡◌, ◌+◌, ◌-◌, ◌^◌, ◌<◌, ◌↔◌, Err, IsTrue, IfOk, IfSome, IfNone, IsSome};
+    ghost use Rattle.std.specs.Prelude.{◌≡◌, ◌+◌, ◌-◌, ◌^◌, ◌<◌, ◌↔◌, Err, IsTrue, IfOk, IfSome, IfNone, IsSome, suc};
     ghost use Rattle.safl_core.specs.Machine as core;
     ghost use Rattle.safl_check.specs.Checked.{program_of};
     ghost use Rattle.safl_check.specs.Readiness.{back_word};
     ghost use Rattle.safl_machine.specs.Evaluating.{widths};
+    ghost use Rattle.safl_machine.specs.Listing.{busy, event_at};
     ghost use Rattle.safl_machine.specs.Outcomes.{IsValue, IsBounded, GoesOn, IsOver};
     ghost use Rattle.safl_machine.specs.Shown.{state, event_of, IsReached, CanFire, Fires, Opens};
 
@@ -151,6 +152,47 @@ impl<'a> Machine<'a> {
                 check::loops(&self.answers, c.unit(h), h)
             }
         }
+    }
+
+    /// The number of units that are not idle.
+    pub fn busy(&self) -> u32
+        ensures { result ≡ busy self.now.units }
+    {
+        let _functions = self.checked.functions();
+        let units = self.modes.iter();
+        units.filter(|mode| !check::idle(mode)).count() as u32
+    }
+
+    // The event at a place in the order of all events.
+    fn event_at(&self, place: u32) -> Event
+        requires { place < 2 ^ 31 }
+        ensures { event_of result ≡ event_at (program_of self.now.program) place }
+    {
+        let c = self.checked;
+        let functions = c.functions();
+        let sites = c.sites() + 1;
+        if place < sites {
+            return Event::Accept(place);
+        }
+        let place = place - sites;
+        if place < functions {
+            return Event::Finish(place);
+        }
+        let place = place - functions;
+        if place < sites {
+            return Event::Return(place);
+        }
+        Event::Loop(place - sites)
+    }
+
+    // How many events there are, enabled or not.
+    fn places(&self) -> u32
+        ensures places { result ≡ suc (program_of self.now.program).sites + ((program_of self.now.program).functions + (suc (program_of self.now.program).sites + (program_of self.now.program).functions)) }
+        ensures few { result < 2 ^ 31 }
+    {
+        let functions = self.checked.functions();
+        let sites = self.checked.sites() + 1;
+        sites + functions + sites + functions
     }
 
     /// Fires an event that is enabled.

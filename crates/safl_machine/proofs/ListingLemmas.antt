@@ -1,0 +1,127 @@
+-- The enabled events, by their places.
+use Rattle.std.proofs.Common.{◌≡◌, ℕ, zero, suc, ◌+◌, ◌-◌, ◌<◌, ◌≤◌, List, [], ◌∷◌, ◌++◌, length, cond, Option, Some, None, Bool, true, false, nat_lt, refl, sym, ap, ◌∙◌, subst, ⊎_elim, arith, append_assoc}
+use Rattle.std.specs.Prelude.{slice_get}
+use Rattle.std.proofs.lemmas.Bool.{lt-ltb, le-ltb, cases_eq}
+use Rattle.safl_word.specs.Words.{Word}
+use Rattle.safl_check.specs.Program.{Program}
+use Rattle.safl_core.specs.Machine.{State, Event, Accept, Finish, Return, LoopInto}
+use Rattle.safl_core.specs.Picks.{picks}
+use Rattle.safl_machine.specs.Listing.{listed, event_at}
+use Rattle.safl_machine.specs.Testing.{can}
+
+pub picks_zero : (p : ℕ → Bool) (e : ℕ → Event) → picks p e 0 ≡ []
+unfolding picks
+picks_zero p e = refl
+
+pub picks_more : (p : ℕ → Bool) (e : ℕ → Event) (n : ℕ) → picks p e (suc n) ≡ picks p e n ++ cond (p n) (e n ∷ []) []
+unfolding picks
+picks_more p e n = refl
+
+-- the same picks below a number
+pub picks_same : (p q : ℕ → Bool) (e f : ℕ → Event) (n : ℕ) → ((i : ℕ) → i < n → p i ≡ q i) → ((i : ℕ) → i < n → e i ≡ f i) → picks p e n ≡ picks q f n
+picks_same p q e f zero h k = picks_zero p e ∙ sym (picks_zero q f)
+picks_same p q e f (suc n) h k =
+    picks_more p e n
+    ∙ (ap (λ l. l ++ cond (p n) (e n ∷ []) []) (picks_same p q e f n (λ i lt. h i (omega (arith, lt))) (λ i lt. k i (omega (arith, lt))))
+    ∙ (ap (λ b. picks q f n ++ cond b (e n ∷ []) []) (h n (omega arith))
+    ∙ (ap (λ x. picks q f n ++ cond (q n) (x ∷ []) []) (k n (omega arith)) ∙ sym (picks_more q f n))))
+
+nil_right : (xs : List Event) → xs ≡ xs ++ []
+nil_right [] = refl
+nil_right (x ∷ xs) = ap (λ l. x ∷ l) (nil_right xs)
+
+pub picks_add : (p : ℕ → Bool) (e : ℕ → Event) (a b : ℕ) → picks p e (a + b) ≡ picks p e a ++ picks (λ i. p (a + i)) (λ i. e (a + i)) b
+picks_add p e a zero = ap (picks p e) (plus a) ∙ (nil_right (picks p e a) ∙ ap (λ l. picks p e a ++ l) (sym (picks_zero (λ i. p (a + i)) (λ i. e (a + i)))))
+  where
+    plus : (a : ℕ) → a + 0 ≡ a
+    plus a = omega arith
+picks_add p e a (suc b) =
+    ap (picks p e) (plus a b)
+    ∙ (picks_more p e (a + b)
+    ∙ (ap (λ l. l ++ cond (p (a + b)) (e (a + b) ∷ []) []) (picks_add p e a b)
+    ∙ (append_assoc (picks p e a) (picks (λ i. p (a + i)) (λ i. e (a + i)) b) (cond (p (a + b)) (e (a + b) ∷ []) [])
+    ∙ ap (λ l. picks p e a ++ l) (sym (picks_more (λ i. p (a + i)) (λ i. e (a + i)) b)))))
+  where
+    plus : (a b : ℕ) → a + suc b ≡ suc (a + b)
+    plus a b = omega arith
+
+one_more : (xs : List Event) (x : Event) → length (xs ++ x ∷ []) ≡ suc (length xs)
+one_more [] x = refl
+one_more (y ∷ ys) x = ap suc (one_more ys x)
+
+pub count_more : (p : ℕ → Bool) (e : ℕ → Event) (n : ℕ) → length (picks p e (suc n)) ≡ length (picks p e n) + cond (p n) 1 0
+count_more p e n = ap (λ (l : List Event). length l) (picks_more p e n) ∙ by (p n)
+  where
+    by : (b : Bool) → length (picks p e n ++ cond b (e n ∷ []) []) ≡ length (picks p e n) + cond b 1 0
+    by true = omega (arith, one_more (picks p e n) (e n))
+    by false = omega (arith, ap (λ (l : List Event). length l) (nil_right (picks p e n)))
+
+got_last : (xs : List Event) (x : Event) → slice_get (xs ++ x ∷ []) (length xs) ≡ Some x
+got_last [] x = refl
+got_last (y ∷ ys) x = got_last ys x
+
+got_front : (xs ys : List Event) (i : ℕ) (x : Event) → slice_get xs i ≡ Some x → slice_get (xs ++ ys) i ≡ Some x
+got_front [] ys i x e = absurd (never x e) where
+  never : (x : Event) → None ≡ Some x → ⊥
+  never x e = cc
+got_front (y ∷ xs) ys zero x e = e
+got_front (y ∷ xs) ys (suc i) x e = got_front xs ys i x e
+
+-- the event at the place after those that were picked before it
+pub picked_at : (p : ℕ → Bool) (e : ℕ → Event) (i n : ℕ) → i < n → p i ≡ true → slice_get (picks p e n) (length (picks p e i)) ≡ Some (e i)
+picked_at p e i zero lt is = absurd (omega (arith, lt))
+picked_at p e i (suc n) lt is = ⊎_elim
+    (λ same. subst (λ k. slice_get (picks p e (suc k)) (length (picks p e i)) ≡ Some (e i)) same
+    (ap (λ l. slice_get l (length (picks p e i))) (picks_more p e i ∙ ap (λ b. picks p e i ++ cond b (e i ∷ []) []) is) ∙ got_last (picks p e i) (e i)))
+    (λ other. ap (λ l. slice_get l (length (picks p e i))) (picks_more p e n) ∙ got_front (picks p e n) (cond (p n) (e n ∷ []) []) (length (picks p e i)) (e i) (picked_at p e i n (omega (arith, lt, other)) is))
+    (cases_eq i n)
+
+-- the listed events are the picks of all
+module _ (C : Program) (args : List Word) (s : State) where
+  abbrev pub test_at : ℕ → Bool
+  test_at i = can C args s (event_at C i)
+
+  below : (i : ℕ) → i < suc C.sites → event_at C i ≡ Accept i
+  below i lt = ap (λ b. cond b (Accept i) (cond (nat_lt (i - suc C.sites) C.functions) (Finish (i - suc C.sites)) (cond (nat_lt (i - suc C.sites - C.functions) (suc C.sites)) (Return (i - suc C.sites - C.functions)) (LoopInto (i - suc C.sites - C.functions - suc C.sites))))) (lt-ltb i (suc C.sites) lt)
+
+  abbrev after_accepts : ℕ → Event
+  after_accepts j = cond (nat_lt j C.functions) (Finish j) (cond (nat_lt (j - C.functions) (suc C.sites)) (Return (j - C.functions)) (LoopInto (j - C.functions - suc C.sites)))
+
+  abbrev after_finishes : ℕ → Event
+  after_finishes j = cond (nat_lt j (suc C.sites)) (Return j) (LoopInto (j - suc C.sites))
+
+  first : (j : ℕ) → event_at C (suc C.sites + j) ≡ after_accepts j
+  first j = ap (λ b. cond b (Accept (suc C.sites + j)) (after_accepts (suc C.sites + j - suc C.sites))) (le-ltb (suc C.sites + j) (suc C.sites) (omega arith)) ∙ ap after_accepts (less (suc C.sites) j)
+    where
+      less : (a j : ℕ) → a + j - a ≡ j
+      less a j = omega arith
+
+  second : (j : ℕ) → after_accepts (C.functions + j) ≡ after_finishes j
+  second j = ap (λ b. cond b (Finish (C.functions + j)) (after_finishes (C.functions + j - C.functions))) (le-ltb (C.functions + j) C.functions (omega arith)) ∙ ap after_finishes (less C.functions j)
+    where
+      less : (a j : ℕ) → a + j - a ≡ j
+      less a j = omega arith
+
+  third : (j : ℕ) → after_finishes (suc C.sites + j) ≡ LoopInto j
+  third j = ap (λ b. cond b (Return (suc C.sites + j)) (LoopInto (suc C.sites + j - suc C.sites))) (le-ltb (suc C.sites + j) (suc C.sites) (omega arith)) ∙ ap LoopInto (less (suc C.sites) j)
+    where
+      less : (a j : ℕ) → a + j - a ≡ j
+      less a j = omega arith
+
+  abbrev tests : (ℕ → Event) → ℕ → Bool
+  tests f i = can C args s (f i)
+
+  shift : (f g h : ℕ → Event) (a b : ℕ) → ((i : ℕ) → i < a → f i ≡ g i) → ((j : ℕ) → f (a + j) ≡ h j) → picks (tests f) f (a + b) ≡ picks (tests g) g a ++ picks (tests h) h b
+  shift f g h a b x y =
+      picks_add (tests f) f a b
+      ∙ (ap (λ l. l ++ picks (λ i. tests f (a + i)) (λ i. f (a + i)) b) (picks_same (tests f) (tests g) f g a (λ i lt. ap (can C args s) (x i lt)) x)
+      ∙ ap (λ l. picks (tests g) g a ++ l) (picks_same (λ i. tests f (a + i)) (tests h) (λ i. f (a + i)) h b (λ i lt. ap (can C args s) (y i)) (λ i lt. y i)))
+
+  pub all_listed : (n : ℕ) → n ≡ suc C.sites + (C.functions + (suc C.sites + C.functions)) → picks test_at (event_at C) n ≡ listed C args s
+  all_listed n e =
+      ap (picks test_at (event_at C)) e
+      ∙ (shift (event_at C) Accept after_accepts (suc C.sites) (C.functions + (suc C.sites + C.functions)) below first
+      ∙ ap (λ l. picks (tests Accept) Accept (suc C.sites) ++ l)
+      (shift after_accepts Finish after_finishes C.functions (suc C.sites + C.functions) (λ i lt. ap (λ b. cond b (Finish i) (after_finishes (i - C.functions))) (lt-ltb i C.functions lt)) second
+      ∙ ap (λ l. picks (tests Finish) Finish C.functions ++ l)
+      (shift after_finishes Return LoopInto (suc C.sites) C.functions (λ i lt. ap (λ b. cond b (Return i) (LoopInto (i - suc C.sites))) (lt-ltb i (suc C.sites) lt)) third)))

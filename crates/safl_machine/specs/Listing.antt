@@ -1,0 +1,29 @@
+-- The enabled events in order, and the units that are busy.
+use Rattle.std.specs.Prelude.{ℕ, suc, ◌+◌, ◌-◌, List, ◌++◌, Bool, cond, not, nat_lt, count_by}
+use Rattle.safl_word.specs.Words.{Word}
+use Rattle.safl_check.specs.Program.{Program}
+use Rattle.safl_core.specs.Machine.{State, Event, Accept, Finish, Return, LoopInto}
+use Rattle.safl_core.specs.Picks.{picks}
+use Rattle.safl_machine.specs.declared.mode.Mode.{Mode}
+use Rattle.safl_machine.specs.Modes.{mode_of}
+use Rattle.safl_machine.specs.Testing.{can, is_idle}
+
+-- the accepts that are enabled, the finishes, the returns and the loops, each by rising number
+abbrev pub listed : Program → List Word → State → List Event
+listed C args s =
+    picks (λ k. can C args s (Accept k)) Accept (suc C.sites)
+    ++ (picks (λ f. can C args s (Finish f)) Finish C.functions
+    ++ (picks (λ k. can C args s (Return k)) Return (suc C.sites)
+    ++ picks (λ h. can C args s (LoopInto h)) LoopInto C.functions))
+
+-- all events of a program in that order
+abbrev pub event_at : Program → ℕ → Event
+event_at C i =
+    cond (nat_lt i (suc C.sites)) (Accept i)
+    (cond (nat_lt (i - suc C.sites) C.functions) (Finish (i - suc C.sites))
+    (cond (nat_lt (i - suc C.sites - C.functions) (suc C.sites)) (Return (i - suc C.sites - C.functions))
+    (LoopInto (i - suc C.sites - C.functions - suc C.sites))))
+
+-- how many units are not idle
+abbrev pub busy : List Mode → ℕ
+busy units = count_by (λ m. not (is_idle (mode_of m))) units
