@@ -13,3 +13,4 @@ pub mod Lining
 pub mod Fitting
 pub mod Tidying
 pub mod Reading
+pub mod Viewing

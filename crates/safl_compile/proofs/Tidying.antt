@@ -3,7 +3,8 @@ use Rattle.std.proofs.Common.{◌≡◌, ℕ, zero, suc, List, [], ◌∷◌, �
 use Rattle.std.specs.Prelude.{codes}
 use Rattle.std.proofs.lemmas.Bool.{false≢true}
 use Rattle.safl_check.specs.Program.{Program, unit_for}
-use Rattle.safl_net.specs.Netlist.{Netlist, Signal}
+use Rattle.safl_net.specs.Netlist.{Netlist, Signal, Wire, Cell}
+use Rattle.safl_net.specs.Settled.{IsSettled}
 use Rattle.safl_net.specs.Names.{is_temp, IsTidy}
 use Rattle.safl_unit.specs.Equations.{Choice, many}
 use Rattle.safl_unit.specs.Names.{Names, of_function, of_site, of_param, is_unit}
@@ -89,3 +90,36 @@ declared_tidy C D P n e = record {
 
     by : (i : ℕ) (o : List ℕ × ℕ) → None ≡ Some o → is_temp o.0 ≡ false
     by i o q = absurd (cc)
+
+-- ---- nor a cell
+
+abbrev NoCells : List Signal → Type 0
+NoCells [] = Unit {0}
+NoCells (g ∷ gs) = ((c : Cell) → g.kind ≡ Wire (Some c) → ⊥) × NoCells gs
+
+cells_more : (xs ys : List Signal) → NoCells xs → NoCells ys → NoCells (xs ++ ys)
+cells_more [] ys a b = b
+cells_more (x ∷ xs) ys a b = (a.0, cells_more xs ys a.1 b)
+
+cells_made : (make : Line → Signal) → ((l : Line) (c : Cell) → (make l).kind ≡ Wire (Some c) → ⊥) → (ls : List Line) → NoCells (map make ls)
+cells_made make f [] = tt
+cells_made make f (l ∷ ls) = (f l, cells_made make f ls)
+
+no_cell_at : (gs : List Signal) (s : ℕ) (g : Signal) (c : Cell) → NoCells gs → slice_get gs s ≡ Some g → g.kind ≡ Wire (Some c) → ⊥
+no_cell_at [] s g c a e k = absurd (cc)
+no_cell_at (x ∷ gs) zero g c a e k = let q : x ≡ g = cc in a.0 c (ap (λ (y : Signal). y.kind) q ∙ k)
+no_cell_at (x ∷ gs) (suc s) g c a e k = no_cell_at gs s g c a.1 e k
+
+pub declared_settled : (C : Program) (D : Names) (P : Choice) (n : Netlist) → n ≡ declared_net C D P → IsSettled n
+declared_settled C D P n e = record {
+  acyclic = record { rank = λ s. s; rises = λ s t i g h c d at kind o th dk. absurd (none s g c at kind) };
+  reads = λ s t i g c at kind o. absurd (none s g c at kind);
+}
+  where
+    all : NoCells (declared_signals C D P)
+    all =
+        cells_more (map input_line (layout_inputs C D)) _ (cells_made input_line (λ l c k. absurd (cc)) (layout_inputs C D))
+        (cells_more (map open_register (layout_registers C D P)) _ (cells_made open_register (λ l c k. absurd (cc)) (layout_registers C D P)) (cells_made open_wire (λ l c k. absurd (cc)) (layout_wires C D P)))
+
+    none : (s : ℕ) (g : Signal) (c : Cell) → slice_get n.signals s ≡ Some g → g.kind ≡ Wire (Some c) → ⊥
+    none s g c at kind = no_cell_at (declared_signals C D P) s g c all (ap (λ (m : Netlist). slice_get m.signals s) (sym e) ∙ at) kind

@@ -7,6 +7,7 @@ ghost use Rattle.safl_unit.specs.Equations.{many};
 ghost use Rattle.safl_unit.specs.Names.{names_of, of_function};
 ghost use Rattle.safl_unit.specs.Layout.{lines, named, site_lines, function_wires, site_wires, layout_wires};
 ghost use Rattle.safl_net.specs.Names.{IsTidy};
+ghost use Rattle.safl_net.specs.Settled.{IsSettled};
 ghost use Rattle.safl_compile.specs.Cycles.{choice_of, PinsFit};
 ghost use Rattle.safl_compile.specs.Sources.{HasRoom};
 ghost use Rattle.safl_compile.specs.Ties.{sig_of, numbered, unit_ties};
@@ -342,6 +343,7 @@ pub fn declare(alloc: Global, p: &Planned) -> Result<Declared, NoMemory>
     ensures pins { IfOk result (λ d. ArePins (program_of p.now.program) (names_of p.now.program) (choice_of p.now) d.pins) }
     ensures fits { IfOk result (λ d. PinsFit (program_of p.now.program) d.net d.pins) }
     ensures tidy { IfOk result (λ d. IsTidy d.net) }
+    ensures settled { IfOk result (λ d. IsSettled d.net) }
 {
     let c = p.checked();
     let _functions = c.functions();

@@ -10,7 +10,7 @@ use Rattle.safl_compile.specs.Finished.{input_line, open_register}
 use Rattle.safl_compile.specs.Declaring.{with_signals, function_lines, port_lines, FunctionsPinned, SitesPinned}
 use Rattle.safl_compile.proofs.Declared.{inputs_few, registers_few, sites_few, net_declared, pins_are}
 use Rattle.safl_compile.proofs.Fitting.{pins_fit}
-use Rattle.safl_compile.proofs.Tidying.{declared_tidy}
+use Rattle.safl_compile.proofs.Tidying.{declared_tidy, declared_settled}
 use Rattle.safl_compile.proofs.declare.declare.Goals as goal
 
 pub add_functions-requires : goal.add_functions-requires
@@ -93,3 +93,12 @@ returns-clause-tidy c =
     (c.in_ok-words.ensures.added ∙ ap (λ f. with_signals c.add_input.new.net (map input_line (port_lines (program_of c.checked-c.result.now) (names_of c.checked-c.result.now) f))) c.main_function-main.ensures.number) in
     let functions = subst (λ (x : CheckedProgram). c.add_functions.new.net ≡ with_signals c.add_ports.new.net (map open_register (lines (function_lines (program_of x) (names_of x)) (program_of x).functions))) same c.in_ok-functions.ensures.added in
     declared_tidy (program_of c.args.p.now.program) (names_of c.args.p.now.program) (choice_of c.args.p.now) c.add_wires.new.net (net_declared c.args.p.now.program checked (choice_of c.args.p.now) c.new-net.result c.add_input.new.net c.add_ports.new.net c.add_functions.new.net c.add_sites.new.net c.add_wires.new.net c.new-net.ensures c.in_ok-start.ensures.added ports functions c.in_ok-sites.ensures.added c.in_ok-add_wires.ensures)
+
+pub returns-clause-settled : goal.returns-clause-settled
+returns-clause-settled c =
+    let same = c.checked-c.ensures.same in
+    let checked = subst IsChecked same c.functions-functions.ensures.checked in
+    let ports = subst (λ (x : CheckedProgram). c.add_ports.new.net ≡ with_signals c.add_input.new.net (map input_line (port_lines (program_of x) (names_of x) (program_of x).main))) same
+    (c.in_ok-words.ensures.added ∙ ap (λ f. with_signals c.add_input.new.net (map input_line (port_lines (program_of c.checked-c.result.now) (names_of c.checked-c.result.now) f))) c.main_function-main.ensures.number) in
+    let functions = subst (λ (x : CheckedProgram). c.add_functions.new.net ≡ with_signals c.add_ports.new.net (map open_register (lines (function_lines (program_of x) (names_of x)) (program_of x).functions))) same c.in_ok-functions.ensures.added in
+    declared_settled (program_of c.args.p.now.program) (names_of c.args.p.now.program) (choice_of c.args.p.now) c.add_wires.new.net (net_declared c.args.p.now.program checked (choice_of c.args.p.now) c.new-net.result c.add_input.new.net c.add_ports.new.net c.add_functions.new.net c.add_sites.new.net c.add_wires.new.net c.new-net.ensures c.in_ok-start.ensures.added ports functions c.in_ok-sites.ensures.added c.in_ok-add_wires.ensures)
