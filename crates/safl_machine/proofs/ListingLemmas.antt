@@ -2,6 +2,10 @@
 use Rattle.std.proofs.Common.{◌≡◌, ℕ, zero, suc, ◌+◌, ◌-◌, ◌<◌, ◌≤◌, List, [], ◌∷◌, ◌++◌, length, cond, Option, Some, None, Bool, true, false, nat_lt, refl, sym, ap, ◌∙◌, subst, ⊎_elim, arith, append_assoc}
 use Rattle.std.specs.Prelude.{slice_get}
 use Rattle.std.proofs.lemmas.Bool.{lt-ltb, le-ltb, cases_eq}
+use Rattle.std.specs.Prelude.{IsTrue}
+use Rattle.std.proofs.lemmas.Bool.{false≢true}
+use Rattle.safl_core.specs.Machine.{Enabled}
+use Rattle.safl_machine.proofs.OutcomeLemmas.{enabled_of, enabled_can}
 use Rattle.safl_word.specs.Words.{Word}
 use Rattle.safl_check.specs.Program.{Program}
 use Rattle.safl_core.specs.Machine.{State, Event, Accept, Finish, Return, LoopInto}
@@ -125,3 +129,20 @@ module _ (C : Program) (args : List Word) (s : State) where
       (shift after_accepts Finish after_finishes C.functions (suc C.sites + C.functions) (λ i lt. ap (λ b. cond b (Finish i) (after_finishes (i - C.functions))) (lt-ltb i C.functions lt)) second
       ∙ ap (λ l. picks (tests Finish) Finish C.functions ++ l)
       (shift after_finishes Return LoopInto (suc C.sites) C.functions (λ i lt. ap (λ b. cond b (Return i) (LoopInto (i - suc C.sites))) (lt-ltb i (suc C.sites) lt)) third)))
+
+-- ---- what the code tests
+
+pub test_true : (C : Program) (args : List Word) (s : State) (x y : Event) (b : Bool) → x ≡ y → (IsTrue b → Enabled C args s x) → b ≡ true → can C args s y ≡ true
+test_true C args s x y b same h is = enabled_can C args s y (subst (λ e. Enabled C args s e) same (h is))
+
+pub test_false : (C : Program) (args : List Word) (s : State) (x y : Event) (b : Bool) → x ≡ y → (Enabled C args s x → IsTrue b) → b ≡ false → can C args s y ≡ false
+test_false C args s x y b same h is = by (can C args s y) refl
+  where
+    by : (t : Bool) → can C args s y ≡ t → t ≡ false
+    by false e = refl
+    by true e = absurd (false≢true (sym is ∙ h (subst (λ z. Enabled C args s z) (sym same) (enabled_of C args s y e))))
+
+pub counted : (p : ℕ → Bool) (e : ℕ → Event) (i n : ℕ) (b : Bool) → n ≡ length (picks p e i) → p i ≡ b → n + cond b 1 0 ≡ length (picks p e (i + 1))
+counted p e i n b is h =
+    let one : i + 1 ≡ suc i = omega arith in
+    ap (λ k. k + cond b 1 0) is ∙ (ap (λ t. length (picks p e i) + cond t 1 0) (sym h) ∙ (sym (count_more p e i) ∙ ap (λ k. length (picks p e k)) (sym one)))

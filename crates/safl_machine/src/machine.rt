@@ -50,12 +50,12 @@ impl<'a> Model for Machine<'a> {
 }
 
 impl<'a> Machine<'a> {
-    ghost use Rattle.std.specs.Prelude.{◌≡◌, ◌+◌, ◌-◌, ◌^◌, ◌<◌, ◌↔◌, Err, IsTrue, IfOk, IfSome, IfNone, IsSome, suc};
+    ghost use Rattle.std.specs.Prelude.{◌≡◌, ◌+◌, ◌-◌, ◌^◌, ◌<◌, ◌↔◌, Err, IsTrue, IfOk, IfSome, IfNone, IsSome, Some, suc, length, slice_get, option_map, ◌%◌};
     ghost use Rattle.safl_core.specs.Machine as core;
     ghost use Rattle.safl_check.specs.Checked.{program_of};
     ghost use Rattle.safl_check.specs.Readiness.{back_word};
     ghost use Rattle.safl_machine.specs.Evaluating.{widths};
-    ghost use Rattle.safl_machine.specs.Listing.{busy, event_at};
+    ghost use Rattle.safl_machine.specs.Listing.{busy, event_at, listed};
     ghost use Rattle.safl_machine.specs.Outcomes.{IsValue, IsBounded, GoesOn, IsOver};
     ghost use Rattle.safl_machine.specs.Shown.{state, event_of, IsReached, CanFire, Fires, Opens};
 
@@ -193,6 +193,51 @@ impl<'a> Machine<'a> {
         let functions = self.checked.functions();
         let sites = self.checked.sites() + 1;
         sites + functions + sites + functions
+    }
+
+    /// The event at place `x` modulo their number among the enabled ones, which are listed as accepts, finishes,
+    /// returns and loops, each by rising number: None where none is enabled, which is where main has returned.
+    pub fn pick(&self, x: u64) -> Option<Event>
+        ensures { option_map event_of result ≡ slice_get (listed (program_of self.now.program) self.now.args (state self.now)) (x % length (listed (program_of self.now.program) self.now.args (state self.now))) }
+    {
+        let count = self.enabled_events();
+        if count == 0 {
+            return None;
+        }
+        Some(self.enabled_at(x % count))
+    }
+
+    // How many events are enabled.
+    fn enabled_events(&self) -> u64
+        ensures { result ≡ length (listed (program_of self.now.program) self.now.args (state self.now)) }
+    {
+        let mut count = 0;
+        for i in 0..self.places() {
+            let fires = self.enabled(self.event_at(i));
+            if fires {
+                count += 1;
+            }
+        }
+        count
+    }
+
+    // The enabled event at a place.
+    fn enabled_at(&self, place: u64) -> Event
+        requires { place < length (listed (program_of self.now.program) self.now.args (state self.now)) }
+        ensures { slice_get (listed (program_of self.now.program) self.now.args (state self.now)) place ≡ Some (event_of result) }
+    {
+        let mut seen = 0;
+        for i in 0..self.places() {
+            let e = self.event_at(i);
+            let fires = self.enabled(e);
+            if fires {
+                if seen == place {
+                    return e;
+                }
+                seen += 1;
+            }
+        }
+        unreachable!()
     }
 
     /// Fires an event that is enabled.

@@ -1,0 +1,10 @@
+use Rattle.std.proofs.Common.{◌≡◌, ◌≤◌, length}
+use Rattle.safl_check.specs.Checked.{program_of}
+use Rattle.safl_core.specs.Picks.{picks}
+use Rattle.safl_machine.specs.Listing.{event_at}
+use Rattle.safl_machine.specs.Shown.{state}
+use Rattle.safl_machine.proofs.ListingLemmas.{test_at}
+use Rattle.safl_machine.proofs.machine.Machine.enabled_events.Given as goal
+
+abbrev pub invariant-loop-i : goal.invariant-loop-i
+invariant-loop-i l = (l.count ≡ length (picks (test_at (program_of l.self.program) l.self.args (state l.self)) (event_at (program_of l.self.program)) l.i)) × (l.count ≤ l.i)
