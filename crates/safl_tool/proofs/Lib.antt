@@ -4,3 +4,4 @@ pub mod ReadBack
 pub mod Reading
 pub mod Simulated
 pub mod Joining
+pub mod Complete

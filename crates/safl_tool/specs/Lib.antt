@@ -8,3 +8,4 @@ pub mod Outside
 pub mod Simulating
 pub mod Answers
 pub mod Refusals
+pub mod Completeness

@@ -2,6 +2,7 @@
 
 ghost use Rattle.std.specs.Prelude.{◌≡◌, Some, map, string_bytes};
 ghost use Rattle.safl_tool.specs.Answers.{Says, BuildSays, Told, SameStrays};
+ghost use Rattle.safl_tool.specs.Completeness.{Completes};
 ghost use Rattle.safl_tool.specs.Commands.{Build, Sim, command_of};
 ghost use Rattle.safl_tool.specs.Refusals.{Tells, Refuses};
 ghost use Rattle.safl_tool.specs.Simulating.{SimSays};
@@ -13,6 +14,7 @@ use crate::simulate::sim;
 use crate::status::Status;
 use safl_io::{OutErr, Shelf, Sink};
 use safl_word::NoMemory;
+use safl_word::laws::tokens_law;
 use std::alloc::Global;
 
 // The line that names the commands.
@@ -39,6 +41,34 @@ pub fn run<S: Shelf, O: Sink, E: Sink>(
     ensures told { Told (command_of (map string_bytes words.now)) (S.holds shelf.old)
         (record { sent = E.sent err.old; faults = E.faults err.old }) (record { sent = E.sent err.new; faults = E.faults err.new }) result }
     // No name is used on a shelf that tells that it holds none of it.
+    ensures no_stray { SameStrays (command_of (map string_bytes words.now))
+        (record { holds = S.holds shelf.old; read_faults = S.read_faults shelf.old; write_faults = S.write_faults shelf.old; strays = S.strays shelf.old })
+        (record { holds = S.holds shelf.new; read_faults = S.read_faults shelf.new; write_faults = S.write_faults shelf.new; strays = S.strays shelf.new }) }
+    // Of a source that is accepted, with arguments that fit, and where no fault is counted, the status is Ok or NoMemory; for
+    // `sim` where main gives a value and three times its calls are at most the cycles.
+    ensures complete { Completes (command_of (map string_bytes words.now))
+        (record { holds = S.holds shelf.old; read_faults = S.read_faults shelf.old; write_faults = S.write_faults shelf.old; strays = S.strays shelf.old })
+        (record { holds = S.holds shelf.new; read_faults = S.read_faults shelf.new; write_faults = S.write_faults shelf.new; strays = S.strays shelf.new })
+        (record { sent = O.sent out.old; faults = O.faults out.old }) (record { sent = O.sent out.new; faults = O.faults out.new }) result }
+{
+    tokens_law();
+    dispatch(alloc, words, shelf, out, err)
+}
+
+// Does it, command by command.
+fn dispatch<S: Shelf, O: Sink, E: Sink>(
+    alloc: Global,
+    words: &[String],
+    shelf: &mut S,
+    out: &mut O,
+    err: &mut E,
+) -> Status
+    ensures says { Says (command_of (map string_bytes words.now))
+        (record { holds = S.holds shelf.old; read_faults = S.read_faults shelf.old; write_faults = S.write_faults shelf.old; strays = S.strays shelf.old })
+        (record { holds = S.holds shelf.new; read_faults = S.read_faults shelf.new; write_faults = S.write_faults shelf.new; strays = S.strays shelf.new })
+        (record { sent = O.sent out.old; faults = O.faults out.old }) (record { sent = O.sent out.new; faults = O.faults out.new }) result }
+    ensures told { Told (command_of (map string_bytes words.now)) (S.holds shelf.old)
+        (record { sent = E.sent err.old; faults = E.faults err.old }) (record { sent = E.sent err.new; faults = E.faults err.new }) result }
     ensures no_stray { SameStrays (command_of (map string_bytes words.now))
         (record { holds = S.holds shelf.old; read_faults = S.read_faults shelf.old; write_faults = S.write_faults shelf.old; strays = S.strays shelf.old })
         (record { holds = S.holds shelf.new; read_faults = S.read_faults shelf.new; write_faults = S.write_faults shelf.new; strays = S.strays shelf.new }) }

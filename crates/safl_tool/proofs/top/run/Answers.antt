@@ -1,14 +1,13 @@
-use Rattle.std.proofs.Common.{◌∙◌, sym, ap, subst, Option}
-use Rattle.safl_tool.specs.Commands.{Command, shown}
-use Rattle.safl_tool.specs.Outside.{SinkState}
-use Rattle.safl_tool.specs.Answers.{Told}
-use Rattle.safl_tool.proofs.Telling.{usage_told}
+use Rattle.std.proofs.Common.{map, string_bytes}
+use Rattle.safl_tool.specs.Commands.{command_of}
+use Rattle.safl_tool.specs.Outside.{ShelfState, SinkState}
+use Rattle.safl_tool.proofs.Complete.{completes}
 use Rattle.safl_tool.proofs.top.run.Goals as goal
 
-pub returns-in-None-clause-told : goal.returns-in-None-clause-told
-returns-in-None-clause-told g c =
-    let e = sym (ap shown c.in-None.is) ∙ c.read_words.ensures in
-    let before : SinkState = record { sent = g.E.Sink.sent c.args.err.now; faults = g.E.Sink.faults c.args.err.now } in
-    let after : SinkState = record { sent = g.E.Sink.sent c.tell.new.err; faults = g.E.Sink.faults c.tell.new.err } in
-    subst (λ (m : Option Command). Told m (g.S.Shelf.holds c.args.shelf.now) before after c.tell.result) e
-    (usage_told (g.S.Shelf.holds c.args.shelf.now) before after c.tell.result c.tell.ensures)
+pub returns-clause-complete : goal.returns-clause-complete
+returns-clause-complete g c =
+    let old : ShelfState = record { holds = g.S.Shelf.holds c.args.shelf.now; read_faults = g.S.Shelf.read_faults c.args.shelf.now; write_faults = g.S.Shelf.write_faults c.args.shelf.now; strays = g.S.Shelf.strays c.args.shelf.now } in
+    let new : ShelfState = record { holds = g.S.Shelf.holds c.dispatch.new.shelf; read_faults = g.S.Shelf.read_faults c.dispatch.new.shelf; write_faults = g.S.Shelf.write_faults c.dispatch.new.shelf; strays = g.S.Shelf.strays c.dispatch.new.shelf } in
+    let before : SinkState = record { sent = g.O.Sink.sent c.args.out.now; faults = g.O.Sink.faults c.args.out.now } in
+    let after : SinkState = record { sent = g.O.Sink.sent c.dispatch.new.out; faults = g.O.Sink.faults c.dispatch.new.out } in
+    completes c.tokens_law.ensures (command_of (map string_bytes c.args.words.now)) old new before after c.dispatch.result c.dispatch.ensures.says
