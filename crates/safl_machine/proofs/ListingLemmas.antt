@@ -5,13 +5,19 @@ use Rattle.std.proofs.lemmas.Bool.{lt-ltb, le-ltb, cases_eq}
 use Rattle.std.specs.Prelude.{IsTrue}
 use Rattle.std.proofs.lemmas.Bool.{false≢true}
 use Rattle.safl_core.specs.Machine.{Enabled}
-use Rattle.safl_machine.proofs.OutcomeLemmas.{enabled_of, enabled_can}
+use Rattle.safl_machine.proofs.OutcomeLemmas.{enabled_of, enabled_can, accept_within}
 use Rattle.safl_word.specs.Words.{Word}
 use Rattle.safl_check.specs.Program.{Program}
 use Rattle.safl_core.specs.Machine.{State, Event, Accept, Finish, Return, LoopInto}
 use Rattle.safl_core.specs.Picks.{picks}
 use Rattle.safl_machine.specs.Listing.{listed, event_at}
 use Rattle.safl_machine.specs.Testing.{can}
+use Rattle.safl_machine.specs.Shown.{Shown, state, CanFire, IsKept}
+use Rattle.safl_machine.specs.Outcomes.{IsOver}
+use Rattle.safl_machine.specs.declared.mode.Answer.{Answer as Kept}
+use Rattle.safl_check.specs.Checked.{program_of}
+use Rattle.safl_sites.proofs.TermLemmas.{empty_list}
+use Rattle.safl_machine.proofs.KeptLemmas.{finish_in, return_in, looping}
 
 pub picks_zero : (p : ℕ → Bool) (e : ℕ → Event) → picks p e 0 ≡ []
 unfolding picks
@@ -146,3 +152,40 @@ pub counted : (p : ℕ → Bool) (e : ℕ → Event) (i n : ℕ) (b : Bool) → 
 counted p e i n b is h =
     let one : i + 1 ≡ suc i = omega arith in
     ap (λ k. k + cond b 1 0) is ∙ (ap (λ t. length (picks p e i) + cond t 1 0) (sym h) ∙ (sym (count_more p e i) ∙ ap (λ k. length (picks p e k)) (sym one)))
+
+-- ---- where nothing is listed, nothing is enabled
+
+module _ {m : Shown} {answers : List Kept} {wants : List (Option (List Word))} {room : ℕ} (h : IsKept m answers wants room) where
+  pub event_place : (e : Event) → CanFire m e → (i : ℕ) × (i < suc (program_of m.program).sites + ((program_of m.program).functions + (suc (program_of m.program).sites + (program_of m.program).functions))) × (event_at (program_of m.program) i ≡ e)
+  event_place (Accept k) q =
+      let C = program_of m.program in
+      let le = accept_within h k q in
+      (k, omega (arith, le), below C m.args (state m) k (omega (arith, le)))
+  event_place (Finish f) q =
+      let C = program_of m.program in
+      let lt = finish_in h f q.0 q.1 q.3 in
+      (suc C.sites + f, omega (arith, lt), first C m.args (state m) f ∙ ap (λ b. cond b (Finish f) (after_finishes C m.args (state m) (f - C.functions))) (lt-ltb f C.functions lt))
+  event_place (Return k) q =
+      let C = program_of m.program in
+      let le = return_in h k q.0 q.1 in
+      let lt : k < suc C.sites = omega (arith, le) in
+      (suc C.sites + (C.functions + k), omega (arith, le), first C m.args (state m) (C.functions + k) ∙ (second C m.args (state m) k ∙ ap (λ b. cond b (Return k) (LoopInto (k - suc C.sites))) (lt-ltb k (suc C.sites) lt)))
+  event_place (LoopInto n) q =
+      let C = program_of m.program in
+      let lt = (looping h n q.0 q.1).within in
+      (suc C.sites + (C.functions + (suc C.sites + n)), omega (arith, lt), first C m.args (state m) (C.functions + (suc C.sites + n)) ∙ (second C m.args (state m) (suc C.sites + n) ∙ third C m.args (state m) n))
+
+  pub none_listed : length (listed (program_of m.program) m.args (state m)) ≡ 0 → IsOver m
+  none_listed none e q =
+      let C = program_of m.program in
+      let at = event_place e q in
+      let can_at : can C m.args (state m) (event_at C at.0) ≡ true = ap (can C m.args (state m)) at.2 ∙ enabled_can C m.args (state m) e q in
+      let p = picked_at (test_at C m.args (state m)) (event_at C) at.0 (suc C.sites + (C.functions + (suc C.sites + C.functions))) at.1 can_at in
+      let nothing = all_listed C m.args (state m) (suc C.sites + (C.functions + (suc C.sites + C.functions))) refl ∙ empty_list (listed C m.args (state m)) none in
+      never (length (picks (test_at C m.args (state m)) (event_at C) at.0)) (event_at C at.0) (sym (ap (λ l. slice_get l (length (picks (test_at C m.args (state m)) (event_at C) at.0))) nothing) ∙ p)
+    where
+      no_event : (x : Event) → None ≡ Some x → ⊥
+      no_event x e = cc
+
+      never : (i : ℕ) (x : Event) → slice_get [] i ≡ Some x → ⊥
+      never i x e = absurd (no_event x e)

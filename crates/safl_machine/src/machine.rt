@@ -198,8 +198,11 @@ impl<'a> Machine<'a> {
     /// The event at place `x` modulo their number among the enabled ones, which are listed as accepts, finishes,
     /// returns and loops, each by rising number: None where none is enabled, which is where main has returned.
     pub fn pick(&self, x: u64) -> Option<Event>
-        ensures { option_map event_of result ≡ slice_get (listed (program_of self.now.program) self.now.args (state self.now)) (x % length (listed (program_of self.now.program) self.now.args (state self.now))) }
+        ensures place { option_map event_of result ≡ slice_get (listed (program_of self.now.program) self.now.args (state self.now)) (x % length (listed (program_of self.now.program) self.now.args (state self.now))) }
+        ensures fires { IfSome result (λ e. CanFire self.now (event_of e)) }
+        ensures none { IfNone result (IsOver self.now) }
     {
+        let _ = &self.checked;
         let count = self.enabled_events();
         if count == 0 {
             return None;
@@ -224,7 +227,8 @@ impl<'a> Machine<'a> {
     // The enabled event at a place.
     fn enabled_at(&self, place: u64) -> Event
         requires { place < length (listed (program_of self.now.program) self.now.args (state self.now)) }
-        ensures { slice_get (listed (program_of self.now.program) self.now.args (state self.now)) place ≡ Some (event_of result) }
+        ensures place { slice_get (listed (program_of self.now.program) self.now.args (state self.now)) place ≡ Some (event_of result) }
+        ensures fires { CanFire self.now (event_of result) }
     {
         let mut seen = 0;
         for i in 0..self.places() {

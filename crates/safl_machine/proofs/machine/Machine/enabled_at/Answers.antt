@@ -30,8 +30,8 @@ loop-i-preserved c =
           (omega (arith, w.seen-is, more), omega (arith, w.seen-is, c.loop-i.invariant.1), omega (arith, w.seen-is, c.loop-i.invariant.2))
     ]
 
-pub returns-then-seen-place : goal.returns-then-seen-place
-returns-then-seen-place c =
+pub returns-then-seen-place-clause-place : goal.returns-then-seen-place-clause-place
+returns-then-seen-place-clause-place c =
     let C = program_of c.args.self.now.program in
     let A = c.args.self.now.args in
     let s = state c.args.self.now in
@@ -49,3 +49,6 @@ unreachable-requires c =
     let s = state c.args.self.now in
     let all = ap (λ (l : List Event). length l) (all_listed C A s c.loop-i.i (omega (arith, c.loop-i.auto.i-end, c.loop-i-test.false, c.places-i-end.ensures.places))) in
     omega (arith, all, c.loop-i.invariant.0, c.loop-i.invariant.2, c.requires)
+
+pub returns-then-seen-place-clause-fires : goal.returns-then-seen-place-clause-fires
+returns-then-seen-place-clause-fires c = c.enabled-fires.ensures.0 c.if-fires.true
