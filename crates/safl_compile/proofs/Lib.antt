@@ -14,3 +14,4 @@ pub mod Fitting
 pub mod Tidying
 pub mod Reading
 pub mod Viewing
+pub mod Agreeing

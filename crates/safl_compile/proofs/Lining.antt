@@ -6,7 +6,7 @@ use Rattle.safl_check.specs.Checked.{CheckedProgram, IsChecked, program_of}
 use Rattle.safl_net.specs.declared.cell.Sig.{Sig}
 use Rattle.safl_unit.specs.Equations.{Choice, many}
 use Rattle.safl_unit.specs.Names.{Names, names_of, of_function, of_param}
-use Rattle.safl_unit.specs.Layout.{Line, lines, site_lines, layout_registers}
+use Rattle.safl_unit.specs.Layout.{Line, lines, unit_lines, site_lines, layout_registers}
 use Rattle.safl_compile.specs.declared.parts.UnitPins.{UnitPins}
 use Rattle.safl_compile.specs.declared.parts.MemberPins.{MemberPins}
 use Rattle.safl_compile.specs.declared.parts.SitePins.{SitePins}
@@ -61,7 +61,7 @@ register_lines c h P b full =
     ∙ ap (λ l. l ++ map line_of (ties (site_ties C P b.sites.items) (suc C.sites)))
     (ties_lines (function_ties C D b.units.items b.members.items) (function_lines C D) C.functions (λ f l. of_one f (there b.units.items f C.functions full.units l) (there b.members.items f C.functions full.members l))
     ∙ sym (units_in_order c h))
-    ∙ ap (λ l. lines (Rattle.safl_unit.specs.Layout.unit_lines C D) C.functions ++ l)
+    ∙ ap (λ l. lines (unit_lines C D) C.functions ++ l)
     (ties_lines (site_ties C P b.sites.items) (site_lines C P) (suc C.sites) (λ k l. of_call k (there b.sites.items k (suc C.sites) full.sites l)))
   where
     C : Program
