@@ -15,3 +15,4 @@ pub mod Tidying
 pub mod Reading
 pub mod Viewing
 pub mod Agreeing
+pub mod Wiring
