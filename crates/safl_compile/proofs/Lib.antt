@@ -16,3 +16,4 @@ pub mod Reading
 pub mod Viewing
 pub mod Agreeing
 pub mod Wiring
+pub mod Sites

@@ -5,3 +5,4 @@ pub mod Stages
 pub mod Ties
 pub mod Finished
 pub mod Declaring
+pub mod Returning

@@ -5,5 +5,5 @@ mod declare;
 mod gates;
 mod loads;
 mod names;
-mod gates;
 pub mod parts;
+mod returns;
