@@ -1,6 +1,8 @@
 //! Wrong texts with their places, texts at the limits, and the public calls.
 
 use crate::{ParseErr, Parsed, parse};
+use safl_print::print;
+use safl_tree::laws::printable_law;
 use safl_word::{Fault, Rule};
 use std::alloc::{AllocError, Global};
 use std::process::Abort;
@@ -185,4 +187,42 @@ fn a_group_and_a_definition(rt: HostRuntime) -> Result<(), Fail> {
         Err(_) => assert!(rt; false),
     }
     Ok(())
+}
+
+// Sources, and the texts of their programs with least parentheses.
+static PRINTED: [(&[u8], &[u8]); 3] = [
+    (b"fun main():8=7;", b"fun main ( ) : 8 = 7\n"),
+    (
+        b"fun mul(x:8, y:8, acc:8):8 = if (x==0)|(y==0) then acc else mul(x<<1, y>>1, if bits(y,0,0)==1 then acc+x else acc) fun main(a:8, b:8):8 = mul(a, b, 0)",
+        b"fun mul ( x : 8 , y : 8 , acc : 8 ) : 8 = if x == 0 | y == 0 then acc else mul ( x << 1 , y >> 1 , if bits ( y , 0 , 0 ) == 1 then acc + x else acc )\nfun main ( a : 8 , b : 8 ) : 8 = mul ( a , b , 0 )\n",
+    ),
+    (
+        b"fun f(a:8):8 = case a - (a - 1) { 1 => ~(a + 1), 8'hff => (a + 1) * 2, default => let b:4 = 3, c = a in (b < c) == 1 } and g(x:1):8 = (1 + 2) - (3 + x)",
+        b"fun f ( a : 8 ) : 8 = case a - ( a - 1 ) { 1 => ~ ( a + 1 ) , 8'd255 => ( a + 1 ) * 2 , default => let b : 4 = 3 , c = a in ( b < c ) == 1 }\nand g ( x : 1 ) : 8 = 1 + 2 - ( 3 + x )\n",
+    ),
+];
+
+// The text of the program that a source spells, if it spells one.
+fn printed(alloc: Global, source: &[u8]) -> Option<Vec<u8>> {
+    if source.len() > 1048576 {
+        return None;
+    }
+    printable_law();
+    match parse(alloc, source) {
+        Ok(parsed) => print(alloc, parsed.program()).ok(),
+        Err(_) => None,
+    }
+}
+
+#[test]
+fn printed_texts(rt: HostRuntime) {
+    let rows: &[(&[u8], &[u8])] = &PRINTED;
+    for (source, text) in rows {
+        for read in [*source, *text] {
+            match printed(rt.alloc(), read) {
+                Some(written) => assert_eq!(rt; written.as_slice(), *text),
+                None => assert!(rt; false),
+            }
+        }
+    }
 }
