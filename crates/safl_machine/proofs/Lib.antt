@@ -7,3 +7,5 @@ pub mod KeptLemmas
 pub mod OpenLemmas
 pub mod OutcomeLemmas
 pub mod ListingLemmas
+mod Rows
+pub mod WalkLemmas

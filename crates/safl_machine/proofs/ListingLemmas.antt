@@ -10,7 +10,7 @@ use Rattle.safl_word.specs.Words.{Word}
 use Rattle.safl_check.specs.Program.{Program}
 use Rattle.safl_core.specs.Machine.{State, Event, Accept, Finish, Return, LoopInto}
 use Rattle.safl_core.specs.Picks.{picks}
-use Rattle.safl_machine.specs.Listing.{listed, event_at}
+use Rattle.safl_machine.specs.Listing.{listed, event_at, count_below}
 use Rattle.safl_machine.specs.Testing.{can}
 use Rattle.safl_machine.specs.Shown.{Shown, state, CanFire, IsKept}
 use Rattle.safl_machine.specs.Outcomes.{IsOver}
@@ -189,3 +189,18 @@ module _ {m : Shown} {answers : List Kept} {wants : List (Option (List Word))} {
 
       never : (i : ℕ) (x : Event) → slice_get [] i ≡ Some x → ⊥
       never i x e = absurd (no_event x e)
+
+-- ---- how many numbers pass a test
+
+pub count_none : (p : ℕ → Bool) → 0 ≡ count_below p 0
+unfolding count_below
+count_none p = refl
+
+count_suc : (p : ℕ → Bool) (n : ℕ) → count_below p (suc n) ≡ count_below p n + cond (p n) 1 0
+unfolding count_below
+count_suc p n = refl
+
+pub count_one : (p : ℕ → Bool) (k n : ℕ) (b : Bool) → k ≡ count_below p n → p n ≡ b → k + cond b 1 0 ≡ count_below p (n + 1)
+count_one p k n b is h =
+    let one : n + 1 ≡ suc n = omega arith in
+    ap (λ j. j + cond b 1 0) is ∙ (ap (λ t. count_below p n + cond t 1 0) (sym h) ∙ (sym (count_suc p n) ∙ ap (count_below p) (sym one)))

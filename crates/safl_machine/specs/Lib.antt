@@ -6,3 +6,4 @@ pub mod Shown
 pub mod Outcomes
 pub mod Testing
 pub mod Listing
+pub mod Walking

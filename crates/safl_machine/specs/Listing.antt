@@ -1,11 +1,9 @@
 -- The enabled events in order, and the units that are busy.
-use Rattle.std.specs.Prelude.{ℕ, suc, ◌+◌, ◌-◌, List, ◌++◌, Bool, cond, not, nat_lt, count_by}
+use Rattle.std.specs.Prelude.{ℕ, zero, suc, ◌+◌, ◌-◌, List, ◌++◌, Bool, cond, not, nat_lt}
 use Rattle.safl_word.specs.Words.{Word}
 use Rattle.safl_check.specs.Program.{Program}
 use Rattle.safl_core.specs.Machine.{State, Event, Accept, Finish, Return, LoopInto}
 use Rattle.safl_core.specs.Picks.{picks}
-use Rattle.safl_machine.specs.declared.mode.Mode.{Mode}
-use Rattle.safl_machine.specs.Modes.{mode_of}
 use Rattle.safl_machine.specs.Testing.{can, is_idle}
 
 -- the accepts that are enabled, the finishes, the returns and the loops, each by rising number
@@ -24,6 +22,11 @@ event_at C i =
     (cond (nat_lt (i - suc C.sites - C.functions) (suc C.sites)) (Return (i - suc C.sites - C.functions))
     (LoopInto (i - suc C.sites - C.functions - suc C.sites))))
 
+-- how many numbers below n pass a test
+unfoldable pub count_below : (ℕ → Bool) → ℕ → ℕ
+count_below p zero = 0
+count_below p (suc n) = count_below p n + cond (p n) 1 0
+
 -- how many units are not idle
-abbrev pub busy : List Mode → ℕ
-busy units = count_by (λ m. not (is_idle (mode_of m))) units
+abbrev pub busy : Program → State → ℕ
+busy C s = count_below (λ u. not (is_idle (s.unit u))) C.functions

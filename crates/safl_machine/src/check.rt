@@ -1,10 +1,11 @@
 //! Which events are enabled.
 
-ghost use Rattle.std.specs.Prelude.{◌≡◌, ◌<◌, ◌≤◌, ◌&&◌, suc, length, get_or, None};
+ghost use Rattle.std.specs.Prelude.{◌≡◌, ◌<◌, ◌≤◌, ◌&&◌, suc, length, get_or, not, None};
 ghost use Rattle.safl_check.specs.Checked.{program_of};
 ghost use Rattle.safl_check.specs.Program as program;
 ghost use Rattle.safl_core.specs.Machine as core;
-ghost use Rattle.safl_machine.specs.Modes.{answer_of, mode_of, unit_at};
+ghost use Rattle.safl_machine.specs.Listing.{count_below};
+ghost use Rattle.safl_machine.specs.Modes.{answer_of, unit_at};
 ghost use Rattle.safl_machine.specs.Stages.{stage_at};
 ghost use Rattle.safl_machine.specs.Testing as test;
 
@@ -64,15 +65,19 @@ pub fn loops(answers: &[Answer], u: u32, h: u32) -> bool
     }
 }
 
-/// Whether a mode is that of an idle unit.
-pub fn idle(mode: &Mode) -> bool
-    ensures { result ≡ test.is_idle (mode_of mode.now) }
+/// How many units are not idle.
+pub fn busy(modes: &[Mode], count: u32) -> u32
+    requires { count ≤ length modes.now }
+    ensures { result ≡ count_below (λ u. not (test.is_idle (unit_at modes.now u))) count }
 {
-    match mode {
-        Mode::Idle => true,
-        Mode::Runs(_, _, _) => false,
-        Mode::Delivers(_, _) => false,
+    let mut busy = 0;
+    for u in 0..count {
+        let idle = is_idle(modes, u);
+        if !idle {
+            busy += 1;
+        }
     }
+    busy
 }
 
 fn is_idle(modes: &[Mode], u: u32) -> bool

@@ -12,3 +12,4 @@ pub mod mode;
 pub mod refresh;
 pub mod stage;
 pub mod step;
+pub mod walk;

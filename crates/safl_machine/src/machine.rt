@@ -57,6 +57,7 @@ impl<'a> Machine<'a> {
     ghost use Rattle.safl_machine.specs.Evaluating.{widths};
     ghost use Rattle.safl_machine.specs.Listing.{busy, event_at, listed};
     ghost use Rattle.safl_machine.specs.Outcomes.{IsValue, IsBounded, GoesOn, IsOver};
+    ghost use Rattle.safl_machine.specs.Walking.{IsShort};
     ghost use Rattle.safl_machine.specs.Shown.{state, event_of, IsReached, CanFire, Fires, Opens};
 
     /// A machine whose units are idle, and whose main waits to be accepted with these arguments.
@@ -112,6 +113,7 @@ impl<'a> Machine<'a> {
         ensures value { IfSome result (λ v. IsValue self.now v) }
         ensures goes_on { IfNone result (GoesOn self.now) }
         ensures over { IsSome result → IsOver self.now }
+        ensures short { IfNone result (IsShort self.now self.now.events) }
     {
         match self.stages[0] {
             Stage::Unsent => None,
@@ -156,11 +158,9 @@ impl<'a> Machine<'a> {
 
     /// The number of units that are not idle.
     pub fn busy(&self) -> u32
-        ensures { result ≡ busy self.now.units }
+        ensures { result ≡ busy (program_of self.now.program) (state self.now) }
     {
-        let _functions = self.checked.functions();
-        let units = self.modes.iter();
-        units.filter(|mode| !check::idle(mode)).count() as u32
+        check::busy(&self.modes, self.checked.functions())
     }
 
     // The event at a place in the order of all events.

@@ -2,6 +2,8 @@ use Rattle.std.proofs.Common.{◌≡◌, ◌<◌, length, subst, ap, ◌∙◌, 
 use Rattle.safl_check.specs.Readiness.{back_word}
 use Rattle.safl_machine.specs.Outcomes.{IsValue, GoesOn, IsOver}
 use Rattle.safl_machine.specs.Shown.{Shown}
+use Rattle.safl_machine.specs.Walking.{IsShort}
+use Rattle.safl_machine.proofs.WalkLemmas.{short_of}
 use Rattle.safl_machine.proofs.OutcomeLemmas.{value_of, goes_on, over, read_stage}
 use Rattle.safl_machine.proofs.machine.Machine.result.Goals as goal
 
@@ -24,3 +26,13 @@ pub returns-in-Returned-clause-over : goal.returns-in-Returned-clause-over
 returns-in-Returned-clause-over c = λ some.
     let first = read_stage c.self.inside.stages.items _ _ (omega (arith, c.self.invariant.sites)) c.index.ensures c.in-Returned.is in
     subst (λ (m : Shown). IsOver m) c.self.view_is (over c.self.invariant c.in-Returned.word (ap back_word first))
+
+pub returns-in-Unsent-clause-short : goal.returns-in-Unsent-clause-short
+returns-in-Unsent-clause-short c =
+    let first = read_stage c.self.inside.stages.items _ _ (omega (arith, c.self.invariant.sites)) c.index.ensures c.in-Unsent.is in
+    subst (λ (m : Shown). IsShort m m.events) c.self.view_is (short_of c.self.invariant (goes_on c.self.invariant (ap back_word first)))
+
+pub returns-in-Sent-clause-short : goal.returns-in-Sent-clause-short
+returns-in-Sent-clause-short c =
+    let first = read_stage c.self.inside.stages.items _ _ (omega (arith, c.self.invariant.sites)) c.index.ensures c.in-Sent.is in
+    subst (λ (m : Shown). IsShort m m.events) c.self.view_is (short_of c.self.invariant (goes_on c.self.invariant (ap back_word first)))

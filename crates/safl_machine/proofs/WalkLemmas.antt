@@ -1,0 +1,62 @@
+-- Walks, a turn at a time.
+use Rattle.std.proofs.Common.{◌≡◌, ℕ, ◌+◌, ◌*◌, ◌%◌, ◌<◌, ◌≤◌, List, [], ◌∷◌, ◌++◌, length, max, Option, Some, None, ◌⊎◌, ⊎_elim, refl, sym, ap, ◌∙◌, subst, arith}
+use Rattle.std.specs.Prelude.{slice_get, IfNone}
+use Rattle.safl_word.specs.Words.{Word}
+use Rattle.safl_check.specs.Checked.{CheckedProgram, program_of}
+use Rattle.safl_check.specs.Meaning.{Main, main_cost, loops}
+use Rattle.safl_core.specs.Machine.{State, Event, opening, after, fire, Enabled}
+use Rattle.safl_core.proofs.Basics.{legal_append, legal_one}
+use Rattle.safl_core.proofs.FromWellFormed.{numbered}
+use Rattle.safl_core.proofs.MachineLaws as law
+use Rattle.safl_machine.specs.declared.mode.Answer.{Answer as Kept}
+use Rattle.safl_machine.specs.Listing.{listed, busy}
+use Rattle.safl_machine.specs.Outcomes.{GoesOn, IsOver}
+use Rattle.safl_machine.specs.Shown.{Shown, state, CanFire, Fires, IsKept}
+use Rattle.safl_machine.specs.Walking.{number_after, Walked, start, turn, IsShort}
+
+abbrev picked : CheckedProgram → List Word → State → ℕ → Option Event
+picked c args s y = slice_get (listed (program_of c) args s) (y % length (listed (program_of c) args s))
+
+pub first_turn : (m : Shown) (seed u : ℕ) → u ≡ busy (program_of m.program) (state m) → Walked (program_of m.program) m.args (state m) seed 0 (state m) seed u
+first_turn m seed u e = subst (λ w. Walked (program_of m.program) m.args (state m) seed 0 (state m) seed w) (sym e) start
+
+pub one_turn : (m0 m m1 : Shown) (seed n x u y w b : ℕ) (e : Event) → m.program ≡ m0.program → m.args ≡ m0.args → Walked (program_of m0.program) m0.args (state m0) seed n (state m) x u
+    → Fires m e m1 → y ≡ number_after x → picked m.program m.args (state m) y ≡ Some e → b ≡ busy (program_of m1.program) (state m1) → w ≡ max u b
+    → Walked (program_of m0.program) m0.args (state m0) seed (n + 1) (state m1) y w
+one_turn m0 m m1 seed n x u y w b e p a walked f ey pick eb ew =
+    let C = program_of m0.program in
+    let A = m0.args in
+    let at : picked m0.program A (state m) (number_after x) ≡ Some e = ap (λ P. picked P A (state m) (number_after x)) (sym p) ∙ (ap (λ X. picked m.program X (state m) (number_after x)) (sym a) ∙ (ap (picked m.program m.args (state m)) (sym ey) ∙ pick)) in
+    let next : state m1 ≡ fire C A (state m) e = f.next ∙ (ap (λ P. fire (program_of P) m.args (state m) e) p ∙ ap (λ X. fire C X (state m) e) a) in
+    let units : w ≡ max u (busy C (fire C A (state m) e)) = ew ∙ ap (max u) (eb ∙ (ap (λ P. busy (program_of P) (state m1)) (f.program ∙ p) ∙ ap (busy C) next)) in
+    subst (λ t. Walked C A (state m0) seed (n + 1) t y w) (sym next)
+    (subst (λ z. Walked C A (state m0) seed (n + 1) (fire C A (state m) e) z w) (sym ey)
+    (subst (λ z. Walked C A (state m0) seed (n + 1) (fire C A (state m) e) (number_after x) z) (sym units) (turn walked at)))
+
+one_longer : (xs : List Event) (x : Event) → length (xs ++ x ∷ []) ≡ length xs + 1
+one_longer [] x = omega arith
+one_longer (y ∷ ys) x = let r = one_longer ys x in omega (arith, r)
+
+-- where some event is enabled, main gives no value in the events so far
+pub short_of : {m : Shown} {answers : List Kept} {wants : List (Option (List Word))} {room : ℕ} → IsKept m answers wants room → GoesOn m → IsShort m m.events
+short_of {m} h on = λ v d.
+    let C = program_of m.program in
+    let e = on.0 in
+    let can = subst (λ s. Enabled C m.args s e) (sym h.reached.ends) on.1 in
+    let legal = legal_append C m.args opening h.reached.list (e ∷ []) h.reached.legal (legal_one C m.args (after C m.args opening h.reached.list) e can) in
+    let b = law.bounded C C.functions (numbered C h.checked.formed) h.checked.formed.numbered m.args (h.reached.list ++ e ∷ []) legal v d in
+    omega (arith, b, one_longer h.reached.list e, h.reached.count)
+
+abbrev ShortBy : CheckedProgram → List Word → ℕ → Type 0
+ShortBy c args n = (v : Word) (d : Main (program_of c) args v) → n + 2 * loops (program_of c) d < 3 * main_cost (program_of c) args d
+
+pub short_is : (m0 m : Shown) (n k : ℕ) → m.program ≡ m0.program → m.args ≡ m0.args → n ≡ k → IsShort m n → IsShort m0 k
+short_is m0 m n k p a e h =
+    subst (λ P. ShortBy P m0.args k) p (subst (λ X. ShortBy m.program X k) a (subst (ShortBy m.program m.args) e h))
+
+pub if_none : (o : Option Word) {A B R : Type 0} → (A → B → R) → IfNone o A → IfNone o B → IfNone o R
+if_none None f a b = f a b
+if_none (Some v) f a b = tt
+
+pub not_over : (m : Shown) {A : Type 0} → GoesOn m → IsOver m → A
+not_over m on over = absurd (over on.0 on.1)
