@@ -14,18 +14,19 @@ use Rattle.safl_text.specs.declared.error.LexErr.{LexErr}
 use Rattle.safl_text.specs.declared.error.LexErr.TheVariants as errors
 use Rattle.safl_net.specs.Netlist.{Netlist}
 use Rattle.safl_net.specs.Written.{written}
-use Rattle.safl_verilog.specs.Reads.{Reads}
 use Rattle.safl_verilog.specs.Laws.{WrittenReads, IsInOrder}
 use Rattle.safl_net.specs.Rules.{IsNetlist}
 use Rattle.safl_net.specs.Whole.{IsWhole}
 use Rattle.safl_run.specs.Arguments.{argument_widths}
 use Rattle.safl_tool.proofs.ReadBack.{whole, in_order}
-use Rattle.safl_io.specs.Shelf.{Files, file_of}
+use Rattle.safl_io.specs.Shelf.{Files, file_of, Leaves}
+use Rattle.safl_io.specs.Told.{TellsOn}
+use Rattle.safl_vwrite.specs.Torn.{LeavesOldOrTorn}
 use Rattle.safl_io.specs.Reading.{HasFile}
 use Rattle.safl_unit.specs.Correct.{Correct}
 use Rattle.safl_unit.specs.Constant.{constant_program, constant_net, main_names, no_choice}
 use Rattle.safl_unit.specs.Theorem.{IsCircuit}
-use Rattle.safl_tool.specs.Answers.{IsCircuitOf}
+use Rattle.safl_tool.specs.Answers.{IsCircuitOf, Built, IsUnwritten}
 use Rattle.safl_tool.specs.Sources.{IsCompiled, IsRefused, refused_fault}
 use Rattle.safl_tool.specs.Constants.{IsConstantSource, AreConstant, byte}
 use Rattle.safl_tool.specs.Lines.{placed_line, source_line, line_at, column_at}
@@ -77,9 +78,8 @@ is_compiled source m k w n p same is net made circuit =
     }
 
 -- what is compiled is written as a text that reads as it
-pub is_circuit : (source text : List ℕ) (n : Netlist) → IsCompiled source n → text ≡ written n → WrittenReads → IsCircuitOf source text
-is_circuit source text n c spelled law =
-    (c.program, c.names, n, c.source_of, spelled, subst (λ t. Reads t n) (sym spelled) (law n c.made c.whole c.in_order), c.correct)
+is_circuit : (source : List ℕ) (n : Netlist) → IsCompiled source n → WrittenReads → IsCircuitOf source (written n)
+is_circuit source n c law = (c.program, c.names, n, c.source_of, refl, law n c.made c.whole c.in_order, c.correct)
 
 pub some_of : (name bytes : List ℕ) (P : List ℕ → Type 0) (o : Option (List ℕ)) → o ≡ Some bytes → P bytes → IsSomeAnd o P
 some_of name bytes P o is p = subst (λ x. IsSomeAnd x P) (sym is) p
@@ -117,3 +117,32 @@ reading_refused old new input output refusal.Write never = absurd never
 reading_refused old new input output refusal.Output never = absurd never
 reading_refused old new input output (refusal.Count p g) never = absurd never
 reading_refused old new input output (refusal.Argument i w) never = absurd never
+
+-- the file of a compiled source
+module _ (before middle after : Option Files) (input output source : List ℕ) (n : Netlist) (compiled : IsCompiled source n) (small : length source ≤ source_max) (has : IfSome before (HasFile input source)) (same : middle ≡ before) where
+  left : (R : Files → Files → Type 0) → TellsOn R middle after → TellsOn R before after
+  left R t = subst (λ x. TellsOn R x after) same t
+
+  written_in : (o : Option Files) → IfSome o (HasFile input source) → WrittenReads → TellsOn (Leaves output (written n)) o after → Built o after input output
+  written_in None h law t = tt
+  written_in (Some files) h law t =
+      some_of input source (λ s. (length s ≤ source_max) × IsSomeAnd after (λ fs. IsSomeAnd (file_of fs output) (IsCircuitOf s))) (file_of files input) h
+      (small, told after t)
+    where
+      told : (o : Option Files) → IsSomeAnd o (Leaves output (written n) files) → IsSomeAnd o (λ fs. IsSomeAnd (file_of fs output) (IsCircuitOf source))
+      told None t = t
+      told (Some fs) t = some_of output (written n) (IsCircuitOf source) (file_of fs output) t.file (is_circuit source n compiled law)
+
+  pub is_built : WrittenReads → TellsOn (Leaves output (written n)) middle after → Built before after input output
+  is_built law t = written_in before has law (left (Leaves output (written n)) t)
+
+  pub is_unwritten : TellsOn (LeavesOldOrTorn output n) middle after → OfFile before input (IsUnwritten before after output)
+  is_unwritten t = of_file before input source (IsUnwritten before after output) has (record {
+    small = small;
+    program = compiled.program;
+    names = compiled.names;
+    net = n;
+    source_of = compiled.source_of;
+    correct = compiled.correct;
+    left = left (LeavesOldOrTorn output n) t;
+  })

@@ -7,10 +7,11 @@ use Rattle.safl_io.specs.Sink.{Sends, SendsPart}
 use Rattle.safl_net.specs.Netlist.{Netlist}
 use Rattle.safl_net.specs.Written.{written}
 use Rattle.safl_verilog.specs.Reads.{Reads}
+use Rattle.safl_vwrite.specs.Torn.{LeavesOldOrTorn}
 use Rattle.safl_check.specs.Program.{Program}
 use Rattle.safl_unit.specs.Names.{Names}
 use Rattle.safl_unit.specs.Correct.{Correct}
-use Rattle.safl_tool.specs.Sources.{IsAccepted, IsRefused, refused_fault}
+use Rattle.safl_tool.specs.Sources.{IsRefused, refused_fault}
 use Rattle.safl_tool.specs.Simulating.{SimSays, IsSimLine}
 use Rattle.safl_tool.specs.Commands.{Command, Build, Sim}
 use Rattle.safl_tool.specs.Constants.{IsSourceOf}
@@ -30,6 +31,17 @@ abbrev pub Built : Option Files → Option Files → List ℕ → List ℕ → T
 Built before after input output =
     OfFile before input (λ source. (length source ≤ source_max) × IsSomeAnd after (λ files. IsSomeAnd (file_of files output) (IsCircuitOf source)))
 
+-- the source is accepted, and the output file is the old one, or a front of such a text: it reads as no netlist, or lacks at
+-- most its last line feed
+pub record IsUnwritten (before after : Option Files) (output source : List ℕ) : Type 0 where
+  pub small : length source ≤ source_max
+  pub program : Program
+  pub names : Names
+  pub net : Netlist
+  pub source_of : IsSourceOf source program names
+  pub correct : Correct program names net
+  pub left : TellsOn (LeavesOldOrTorn output net) before after
+
 -- What a status of `build` says, of the shelf before the call and after it:
 -- Ok, that the circuit was written; SourceRefused and TooLong, that the source is so; ReadFault, that the shelf failed in a
 -- read; WriteFault, that the source is accepted and the shelf failed in a write. Want of memory may come at any point.
@@ -38,7 +50,7 @@ BuildSays before after input output status.Ok = Built before.holds after.holds i
 BuildSays before after input output status.SourceRefused = OfFile before.holds input IsRefused
 BuildSays before after input output status.Usage = ⊥
 BuildSays before after input output status.ReadFault = Rose before.read_faults after.read_faults
-BuildSays before after input output status.WriteFault = OfFile before.holds input IsAccepted × Rose before.write_faults after.write_faults
+BuildSays before after input output status.WriteFault = OfFile before.holds input (IsUnwritten before.holds after.holds output) × Rose before.write_faults after.write_faults
 BuildSays before after input output status.NoMemory = Unit {0}
 BuildSays before after input output status.NoResult = ⊥
 BuildSays before after input output status.VerilogRefused = ⊥

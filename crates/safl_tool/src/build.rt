@@ -1,19 +1,15 @@
 //! `build IN OUT`: from a source to the Verilog text of its circuit.
 
-ghost use Rattle.std.specs.Prelude.{◌≡◌, ◌≤◌, length, OnOk, OnSome, IfOk, IfErr};
-ghost use Rattle.safl_net.specs.Written.{written};
-ghost use Rattle.safl_verilog.specs.Reads.{Reads};
-ghost use Rattle.safl_tool.specs.Answers.{Built, IsCircuitOf};
-ghost use Rattle.safl_tool.specs.Limits.{source_max};
+ghost use Rattle.std.specs.Prelude.{◌≡◌, OnOk, OnSome, IfErr};
+ghost use Rattle.safl_tool.specs.Answers.{Built};
 ghost use Rattle.safl_tool.specs.Outside.{OfFile};
-ghost use Rattle.safl_tool.specs.Refusals.{Explains, RefusesSource};
+ghost use Rattle.safl_tool.specs.Refusals.{Explains};
 
 use crate::refusal::Refusal;
 use crate::source::{compile, read_source};
-use safl_io::{OutErr, Shelf, write_file};
+use safl_io::Shelf;
 use safl_verilog::laws::written_reads_law;
-use safl_vwrite::text_of;
-use safl_word::NoMemory;
+use safl_vwrite::{WriteErr, write_net};
 use std::alloc::Global;
 
 /// Reads the source of the name `input`, and writes the Verilog text of its circuit to `output`.
@@ -34,30 +30,14 @@ pub fn build<S: Shelf>(
         Ok(source) => source,
         Err(refusal) => return Err(refusal),
     };
-    let text = match verilog_of(alloc, &source) {
-        Ok(text) => text,
-        Err(refusal) => return Err(refusal),
-    };
-    match write_file(shelf, output, &text) {
-        Ok(()) => Ok(()),
-        Err(OutErr::Failed) => Err(Refusal::Write),
-        Err(OutErr::NoMemory) => Err(Refusal::NoMemory),
-    }
-}
-
-// The Verilog text of a source's circuit.
-fn verilog_of(alloc: Global, source: &[u8]) -> Result<Vec<u8>, Refusal>
-    requires { length source.now ≤ source_max }
-    ensures text { IfOk result (λ text. IsCircuitOf source.now text.items) }
-    ensures refused { IfErr result (λ r. RefusesSource source.now r) }
-{
-    let net = match compile(alloc, source) {
+    let net = match compile(alloc, &source) {
         Ok(net) => net,
         Err(refusal) => return Err(refusal),
     };
     written_reads_law();
-    match text_of(alloc, &net) {
-        Ok(text) => Ok(text),
-        Err(NoMemory) => Err(Refusal::NoMemory),
+    match write_net(alloc, &net, shelf, output) {
+        Ok(()) => Ok(()),
+        Err(WriteErr::Failed) => Err(Refusal::Write),
+        Err(WriteErr::NoMemory) => Err(Refusal::NoMemory),
     }
 }
