@@ -1,6 +1,10 @@
 -- Walks, a turn at a time.
 use Rattle.std.proofs.Common.{◌≡◌, ℕ, ◌+◌, ◌*◌, ◌%◌, ◌<◌, ◌≤◌, List, [], ◌∷◌, ◌++◌, length, max, Option, Some, None, ◌⊎◌, ⊎_elim, refl, sym, ap, ◌∙◌, subst, arith}
-use Rattle.std.specs.Prelude.{slice_get, IfNone}
+use Rattle.std.specs.Prelude.{slice_get, IfNone, IsNone, IsSome}
+use Rattle.safl_check.specs.Readiness.{back_word}
+use Rattle.safl_machine.specs.declared.event.Event as machine_event
+use Rattle.safl_machine.proofs.OutcomeLemmas.{goes_on, over}
+use Rattle.std.proofs.lemmas.Bool.{false≢true}
 use Rattle.safl_word.specs.Words.{Word}
 use Rattle.safl_check.specs.Checked.{CheckedProgram, program_of}
 use Rattle.safl_check.specs.Meaning.{Main, main_cost, loops}
@@ -11,7 +15,7 @@ use Rattle.safl_core.proofs.MachineLaws as law
 use Rattle.safl_machine.specs.declared.mode.Answer.{Answer as Kept}
 use Rattle.safl_machine.specs.Listing.{listed, busy}
 use Rattle.safl_machine.specs.Outcomes.{GoesOn, IsOver}
-use Rattle.safl_machine.specs.Shown.{Shown, state, CanFire, Fires, IsKept}
+use Rattle.safl_machine.specs.Shown.{Shown, state, event_of, CanFire, Fires, IsKept}
 use Rattle.safl_machine.specs.Walking.{number_after, Walked, start, turn, IsShort}
 
 abbrev picked : CheckedProgram → List Word → State → ℕ → Option Event
@@ -54,9 +58,31 @@ pub short_is : (m0 m : Shown) (n k : ℕ) → m.program ≡ m0.program → m.arg
 short_is m0 m n k p a e h =
     subst (λ P. ShortBy P m0.args k) p (subst (λ X. ShortBy m.program X k) a (subst (ShortBy m.program m.args) e h))
 
-pub if_none : (o : Option Word) {A B R : Type 0} → (A → B → R) → IfNone o A → IfNone o B → IfNone o R
-if_none None f a b = f a b
-if_none (Some v) f a b = tt
+-- where main has not returned, all turns were taken
+pub short_end : (o q : Option Word) {T A R : Type 0} → o ≡ q → T ⊎ IsSome q → (T → A → R) → IfNone o A → IfNone o R
+short_end (Some v) q e t f a = tt
+short_end None q e t f a = ⊎_elim (λ x. f x a) (λ s. absurd (never (subst (λ (z : Option Word). IsSome z) (sym e) s))) t
+  where
+    never : IsSome {T = Word} None → ⊥
+    never s = false≢true s
 
 pub not_over : (m : Shown) {A : Type 0} → GoesOn m → IsOver m → A
 not_over m on over = absurd (over on.0 on.1)
+
+abbrev pub Ends : Option machine_event.Event → Shown → Type 0
+Ends o m = (IsNone o → IsSome (back_word ((state m).site 0))) × (IsSome (back_word ((state m).site 0)) → IsNone o)
+
+-- nothing is picked exactly where main has returned
+pub none_ends : {m : Shown} {answers : List Kept} {wants : List (Option (List Word))} {room : ℕ} (h : IsKept m answers wants room) → IsOver m → Ends None m
+none_ends {m} h nothing = (λ n. by (back_word ((state m).site 0)) refl, λ s. search arith)
+  where
+    by : (o : Option Word) → back_word ((state m).site 0) ≡ o → IsSome o
+    by None e = not_over m (goes_on h e) nothing
+    by (Some v) e = search arith
+
+pub some_ends : {m : Shown} {answers : List Kept} {wants : List (Option (List Word))} {room : ℕ} (h : IsKept m answers wants room) (e : machine_event.Event) → CanFire m (event_of e) → Ends (Some e) m
+some_ends {m} h e can = (λ n. absurd (search arith), λ s. by (back_word ((state m).site 0)) refl s)
+  where
+    by : (o : Option Word) → back_word ((state m).site 0) ≡ o → IsSome o → IsNone (Some e)
+    by None q s = absurd (search arith)
+    by (Some v) q s = absurd (over h v q (event_of e) can)

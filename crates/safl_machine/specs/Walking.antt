@@ -1,12 +1,12 @@
 -- Walks: the events that a row of numbers picks.
-use Rattle.std.specs.Prelude.{◌≡◌, ℕ, ◌+◌, ◌*◌, ◌%◌, ◌^◌, ◌<◌, ◌≤◌, List, length, Some, slice_get, max, ◌⊎◌}
+use Rattle.std.specs.Prelude.{◌≡◌, ℕ, ◌+◌, ◌*◌, ◌%◌, ◌^◌, ◌<◌, ◌≤◌, List, length, Some, slice_get, max, IsSome, ◌⊎◌}
 use Rattle.safl_word.specs.Words.{Word}
 use Rattle.safl_check.specs.Checked.{program_of}
 use Rattle.safl_check.specs.Meaning.{Main, main_cost, loops}
 use Rattle.safl_check.specs.Program.{Program}
+use Rattle.safl_check.specs.Readiness.{back_word}
 use Rattle.safl_core.specs.Machine.{State, Event, fire}
 use Rattle.safl_machine.specs.Listing.{listed, busy}
-use Rattle.safl_machine.specs.Outcomes.{IsOver}
 use Rattle.safl_machine.specs.Shown.{Shown, state}
 
 -- the number after x in the row
@@ -20,7 +20,7 @@ pub data Walked (C : Program) (args : List Word) (from : State) (seed : ℕ) : �
   turn : {n x units : ℕ} {s : State} {e : Event} → Walked C args from seed n s x units → slice_get (listed C args s) (number_after x % length (listed C args s)) ≡ Some e
       → Walked C args from seed (n + 1) (fire C args s e) (number_after x) (max units (busy C (fire C args s e)))
 
--- a walk of this many turns, or fewer where nothing is enabled any more
+-- a walk of this many turns, or fewer where main has returned
 pub record IsWalk (m : Shown) (seed steps : ℕ) (n : Shown) (units : ℕ) : Type 0 where
   pub program : n.program ≡ m.program
   pub args : n.args ≡ m.args
@@ -29,7 +29,7 @@ pub record IsWalk (m : Shown) (seed steps : ℕ) (n : Shown) (units : ℕ) : Typ
   pub walked : Walked (program_of m.program) m.args (state m) seed turns (state n) number units
   pub events : n.events ≡ m.events + turns
   pub within : turns ≤ steps
-  pub ends : (turns ≡ steps) ⊎ IsOver n
+  pub ends : (turns ≡ steps) ⊎ IsSome (back_word ((state n).site 0))
 
 -- main gives no value in so many events
 abbrev pub IsShort : Shown → ℕ → Type 0

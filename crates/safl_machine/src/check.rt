@@ -29,7 +29,7 @@ pub fn accepts(
     requires wants { length wants.now ≡ suc (program_of c.now).sites }
     ensures { result ≡ ((core.is_unsent (stage_at stages.now k) && test.wanted_at wants.now k) && test.is_idle (unit_at modes.now (program.unit_for (program_of c.now) k))) }
 {
-    is_unsent(stages, k) & is_wanted(wants, k) & is_idle(modes, unit_for(c, k))
+    is_unsent(stages, k) && is_wanted(wants, k) && is_idle(modes, unit_for(c, k))
 }
 
 /// Whether a unit runs a member, and its body is ready.
@@ -38,7 +38,7 @@ pub fn finishes(modes: &[Mode], answers: &[Answer], u: u32, f: u32) -> bool
     requires answers { u < length answers.now }
     ensures { result ≡ (test.runs (unit_at modes.now u) f && test.is_ready (answer_of (get_or answers.now u Answer.NotYet))) }
 {
-    runs(modes, u, f) & is_ready(answers, u)
+    runs(modes, u, f) && is_ready(answers, u)
 }
 
 /// Whether a unit delivers a word to a site.

@@ -12,4 +12,8 @@ pub mod mode;
 pub mod refresh;
 pub mod stage;
 pub mod step;
-pub mod walk;
+pub mod walking;
+
+pub use crate::event::Event;
+pub use crate::machine::{Machine, MachineErr};
+pub use crate::walking::{Walked, walk};

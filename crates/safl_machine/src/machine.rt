@@ -50,7 +50,7 @@ impl<'a> Model for Machine<'a> {
 }
 
 impl<'a> Machine<'a> {
-    ghost use Rattle.std.specs.Prelude.{◌≡◌, ◌+◌, ◌-◌, ◌^◌, ◌<◌, ◌↔◌, Err, IsTrue, IfOk, IfSome, IfNone, IsSome, Some, suc, length, slice_get, option_map, ◌%◌};
+    ghost use Rattle.std.specs.Prelude.{◌≡◌, ◌+◌, ◌-◌, ◌^◌, ◌<◌, ◌↔◌, Err, IsTrue, IfOk, IfSome, IfNone, IsNone, IsSome, Some, suc, length, slice_get, option_map, ◌%◌};
     ghost use Rattle.safl_core.specs.Machine as core;
     ghost use Rattle.safl_check.specs.Checked.{program_of};
     ghost use Rattle.safl_check.specs.Readiness.{back_word};
@@ -200,7 +200,7 @@ impl<'a> Machine<'a> {
     pub fn pick(&self, x: u64) -> Option<Event>
         ensures place { option_map event_of result ≡ slice_get (listed (program_of self.now.program) self.now.args (state self.now)) (x % length (listed (program_of self.now.program) self.now.args (state self.now))) }
         ensures fires { IfSome result (λ e. CanFire self.now (event_of e)) }
-        ensures none { IfNone result (IsOver self.now) }
+        ensures none { IsNone result ↔ IsSome (back_word ((state self.now).site 0)) }
     {
         let _ = &self.checked;
         let count = self.enabled_events();

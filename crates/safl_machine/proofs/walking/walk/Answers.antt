@@ -1,9 +1,10 @@
-use Rattle.std.proofs.Common.{◌≡◌, ◌+◌, ◌≤◌, ◌⊎◌, inl, inr, ⊎_elim, refl, sym, ap, ◌∙◌, arith}
-use Rattle.safl_machine.specs.Outcomes.{IsOver}
-use Rattle.safl_machine.specs.Shown.{event_of}
-use Rattle.safl_machine.proofs.WalkLemmas.{first_turn, one_turn, short_is, if_none, not_over}
-use Rattle.safl_machine.proofs.walk.walk.Goals as goal
-use Rattle.safl_machine.proofs.walk.walk.Goals.{else-loop-turn-test, then-loop-turn-test+in_default}
+use Rattle.std.proofs.Common.{◌≡◌, ◌+◌, ◌≤◌, ◌⊎◌, inl, inr, refl, sym, ap, ◌∙◌, arith}
+use Rattle.std.specs.Prelude.{IsSome}
+use Rattle.safl_check.specs.Readiness.{back_word}
+use Rattle.safl_machine.specs.Shown.{event_of, state}
+use Rattle.safl_machine.proofs.WalkLemmas.{first_turn, one_turn, short_is, short_end}
+use Rattle.safl_machine.proofs.walking.walk.Goals as goal
+use Rattle.safl_machine.proofs.walking.walk.Goals.{else-loop-turn-test, then-loop-turn-test+in_default}
 
 pub loop-turn-init : goal.loop-turn-init
 loop-turn-init c = (refl, refl, first_turn c.args.machine.now c.args.seed c.busy-units.result c.busy-units.ensures, omega arith)
@@ -25,9 +26,9 @@ fire-requires-clause-few c = omega (arith, c.requires, c.loop-turn.invariant.3, 
 pub returns-clause-walk : goal.returns-clause-walk
 returns-clause-walk c =
     let h = c.loop-turn.invariant in
-    let ends : (c.loop-turn._turn ≡ c.args.steps) ⊎ IsOver c.loop-turn.machine = elim c.loop-turn-test.branch [
+    let ends : (c.loop-turn._turn ≡ c.args.steps) ⊎ IsSome (back_word ((state c.loop-turn.machine).site 0)) = elim c.loop-turn-test.branch [
       | else-loop-turn-test w ↦ inl (omega (arith, w.loop-turn-test.false, c.loop-turn.auto._turn-end))
-      | then-loop-turn-test+in_default w ↦ inr w.in_default.ensures.none
+      | then-loop-turn-test+in_default w ↦ inr (w.in_default.ensures.none.0 refl)
     ] in
     record {
       program = h.0;
@@ -43,13 +44,10 @@ returns-clause-walk c =
 pub returns-clause-short : goal.returns-clause-short
 returns-clause-short c =
     let h = c.loop-turn.invariant in
-    let ends : (c.loop-turn._turn ≡ c.args.steps) ⊎ IsOver c.loop-turn.machine = elim c.loop-turn-test.branch [
+    let ends : (c.loop-turn._turn ≡ c.args.steps) ⊎ IsSome (back_word ((state c.loop-turn.machine).site 0)) = elim c.loop-turn-test.branch [
       | else-loop-turn-test w ↦ inl (omega (arith, w.loop-turn-test.false, c.loop-turn.auto._turn-end))
-      | then-loop-turn-test+in_default w ↦ inr w.in_default.ensures.none
+      | then-loop-turn-test+in_default w ↦ inr (w.in_default.ensures.none.0 refl)
     ] in
-    if_none c.result.result
-    (λ on short. ⊎_elim
-    (λ all. short_is c.args.machine.now c.loop-turn.machine _ _ h.0 h.1 (omega (arith, h.3, all)) short)
-    (λ over. not_over c.loop-turn.machine on over)
-    ends)
-    c.result.ensures.goes_on c.result.ensures.short
+    short_end c.result.result (back_word ((state c.loop-turn.machine).site 0)) c.result.ensures.returned ends
+    (λ all short. short_is c.args.machine.now c.loop-turn.machine _ _ h.0 h.1 (omega (arith, h.3, all)) short)
+    c.result.ensures.short

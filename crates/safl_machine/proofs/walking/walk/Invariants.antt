@@ -2,7 +2,7 @@ use Rattle.std.proofs.Common.{◌≡◌, ◌+◌}
 use Rattle.safl_check.specs.Checked.{program_of}
 use Rattle.safl_machine.specs.Shown.{state}
 use Rattle.safl_machine.specs.Walking.{Walked}
-use Rattle.safl_machine.proofs.walk.walk.Given as goal
+use Rattle.safl_machine.proofs.walking.walk.Given as goal
 
 abbrev pub invariant-loop-turn : goal.invariant-loop-turn
 invariant-loop-turn l =
