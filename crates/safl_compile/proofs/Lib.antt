@@ -17,3 +17,6 @@ pub mod Viewing
 pub mod Agreeing
 pub mod Wiring
 pub mod Sites
+pub mod Granting
+pub mod Indexing
+pub mod Controlling

@@ -80,10 +80,10 @@ none_so_far C P n p s a b = record {
 }
 
 -- one more entry, of the next number
-one_more : {A : Type 0} (xs ys : List A) (a : A) (m : ℕ) (Q : ℕ → A → Type 0) → length xs ≡ suc m → ys ≡ xs ++ a ∷ [] → EachAt xs Q → Q (suc m) a → EachAt ys Q
+pub one_more : {A : Type 0} (xs ys : List A) (a : A) (m : ℕ) (Q : ℕ → A → Type 0) → length xs ≡ suc m → ys ≡ xs ++ a ∷ [] → EachAt xs Q → Q (suc m) a → EachAt ys Q
 one_more xs ys a m Q l e all here = subst (λ (zs : List _). EachAt zs Q) (sym e) (each_push xs a Q all (subst (λ (k : ℕ). Q k a) (sym l) here))
 
-longer : {A : Type 0} (xs ys : List A) (a : A) (m : ℕ) → length xs ≡ suc m → ys ≡ xs ++ a ∷ [] → length ys ≡ suc (suc m)
+pub longer : {A : Type 0} (xs ys : List A) (a : A) (m : ℕ) → length xs ≡ suc m → ys ≡ xs ++ a ∷ [] → length ys ≡ suc (suc m)
 longer xs ys a m l e = let h = ap (λ (zs : List _). length zs) e in let k = length-append xs (a ∷ []) in omega (arith, h, k, l)
 
 module _ (C : Program) (P : Choice) (a b : Netlist) (p : Pins) (s t : Returns) (m : ℕ) (u : UnitPins) (q : SitePins) (x : SiteReturn) (all : SoFar C P a p s m) (built : Builds a b 5)
@@ -103,7 +103,7 @@ module _ (C : Program) (P : Choice) (a b : Netlist) (p : Pins) (s t : Returns) (
         (λ l. sent_shown C P v r m u q x (shown v c.wired) (c.bank.units (C.callee (suc m)) u at) (c.bank.sites (suc m) q own (omega arith)));
   }
 
-port_there : {A : Type 0} (xs : List A) (k : ℕ) → k < length xs → (x : A) × (slice_get xs k ≡ Some x)
+pub port_there : {A : Type 0} (xs : List A) (k : ℕ) → k < length xs → (x : A) × (slice_get xs k ≡ Some x)
 port_there [] k l = absurd (omega (arith, l))
 port_there (x ∷ xs) zero l = (x, refl)
 port_there (x ∷ xs) (suc k) l = port_there xs k (omega (arith, l))

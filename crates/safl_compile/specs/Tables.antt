@@ -77,3 +77,11 @@ IsBitIn n (Some s) = IsSource n s 1
 
 abbrev pub BitsFit : Netlist → List (Option Sig) → Type 0
 BitsFit n xs = (i : ℕ) → IsBitIn n (sig_in (slice_get xs i))
+
+-- the bit of a load, or another where there is none
+abbrev pub load_bit : Load → Sig
+load_bit l = l.bit
+
+abbrev pub bit_or : Sig → Option Load → Sig
+bit_or s None = s
+bit_or s (Some l) = l.bit

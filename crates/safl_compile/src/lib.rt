@@ -1,8 +1,10 @@
 //! The circuit of a checked program.
 #![tactic(auto)]
 
+mod controls;
 mod declare;
 mod gates;
+mod grants;
 mod loads;
 mod names;
 pub mod parts;

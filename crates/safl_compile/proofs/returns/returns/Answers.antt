@@ -7,20 +7,9 @@ use Rattle.safl_compile.specs.Returning.{SiteShown}
 use Rattle.safl_compile.specs.Cycles.{choice_of}
 use Rattle.safl_compile.proofs.Building.{builds_same, builds_on, builds_within}
 use Rattle.safl_compile.proofs.Keeping.{pins_kept}
+use Rattle.safl_compile.proofs.Indexing.{unit_at, site_at}
 use Rattle.safl_compile.proofs.Sites.{SoFar, none_so_far, more_so_far, all_returns}
 use Rattle.safl_compile.proofs.returns.returns.Goals as goal
-
--- the registers of the next site's unit, and its own
-unit_at : (a b : CheckedProgram) (us : List UnitPins) (m r : ℕ) (u : UnitPins) → IsChecked b → b ≡ a → m < (program_of b).sites → r ≡ (program_of b).callee (m + 1) → length us ≡ (program_of a).functions → u ≡ slice_index_or us r u
-    → slice_get us ((program_of a).callee (suc m)) ≡ Some u
-unit_at a b us m r u checked same l q count e =
-    let n = (checked.formed.calls (m + 1) (omega arith) (omega (arith, l))).1 in
-    let f = ap (λ (x : CheckedProgram). (program_of x).functions) same in
-    let k : r < length us = omega (arith, n, f, q, count) in
-    ap (slice_get us) (sym (q ∙ ap (λ (x : CheckedProgram). (program_of x).callee (m + 1)) same ∙ ap (program_of a).callee (add-one m))) ∙ slice_get_read us (length us) r u refl k e
-
-site_at : (ss : List SitePins) (m n : ℕ) (s : SitePins) → m < n → length ss ≡ suc n → s ≡ slice_index_or ss (m + 1) s → slice_get ss (suc m) ≡ Some s
-site_at ss m n s l count e = let k : m + 1 < length ss = omega (arith, l, count) in ap (slice_get ss) (sym (add-one m)) ∙ slice_get_read ss (length ss) (m + 1) s refl k e
 
 pub loop-done-init : goal.loop-done-init
 loop-done-init c = record {

@@ -1,0 +1,9 @@
+use Rattle.std.proofs.Common.{◌≡◌, ℕ, None, length}
+use Rattle.safl_compile.specs.Tables.{EachAt}
+use Rattle.safl_compile.proofs.grants.no_bits.Given as goal
+
+abbrev pub invariant-loop-i : goal.invariant-loop-i
+invariant-loop-i l = record {
+  count : length l.bits.items ≡ l._i;
+  none : EachAt l.bits.items (λ i x. x ≡ None);
+}
