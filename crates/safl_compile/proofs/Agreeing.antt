@@ -17,6 +17,8 @@ use Rattle.safl_compile.specs.declared.parts.SitePins.{SitePins}
 use Rattle.safl_compile.specs.declared.parts.Bank.{Bank}
 use Rattle.safl_compile.specs.Cycles.{BankShows}
 use Rattle.safl_compile.proofs.Lining.{IsFull, there}
+use Rattle.safl_compile.proofs.Viewing.{FirstsShow}
+use Rattle.safl_lower.specs.Bits.{on}
 
 cond_none : (b : Bool) → cond b false false ≡ false
 cond_none true = refl
@@ -66,7 +68,7 @@ module _ (c : CheckedProgram) (h : IsChecked c) (P : Choice) where
       ∙ cond_none (P.arbiter (unit_for C (suc k)))
 
   module _ (b : Bank) (full : IsFull C b) (w : Val) (now later : List ℕ → ℕ) (i : Inputs)
-      (shows : BankShows C P b w (next C P i (view C D now))) (seen : BankShows C P b w (view C D later)) where
+      (shows : BankShows C P b w (next C P i (view C D now))) (seen : FirstsShow C P b w (view C D later)) where
     abbrev r : Registers
     r = view C D now
 
@@ -87,7 +89,7 @@ module _ (c : CheckedProgram) (h : IsChecked c) (P : Choice) where
     unfolding next
     run_agrees u true is =
         let x = unit_entry u is in
-        subst (λ y. q.run y ≡ n.run y) (own u is) (sym (seen.units u x.0 x.1).run ∙ (shows.units u x.0 x.1).run)
+        sym (seen.units u x.0 (own u is) x.1).run ∙ subst (λ y. on w x.0.run ≡ n.run y) (own u is) (shows.units u x.0 x.1).run
     run_agrees u false is =
         ap (λ t. t && (later (of_function D (codes "run$") u) == 1)) is
         ∙ sym (ap (λ o. cond (is_some o) false (r.run u || is_some (starts C P r i u))) (no_ends r u is)
@@ -98,7 +100,7 @@ module _ (c : CheckedProgram) (h : IsChecked c) (P : Choice) where
     unfolding next
     fin_agrees u true is =
         let x = unit_entry u is in
-        subst (λ y. q.fin y ≡ n.fin y) (own u is) (sym (seen.units u x.0 x.1).fin ∙ (shows.units u x.0 x.1).fin)
+        sym (seen.units u x.0 (own u is) x.1).fin ∙ subst (λ y. on w x.0.fin ≡ n.fin y) (own u is) (shows.units u x.0 x.1).fin
     fin_agrees u false is =
         ap (λ t. t && (later (of_function D (codes "fin$") u) == 1)) is
         ∙ sym (ap is_some (no_ends r u is))
@@ -107,7 +109,7 @@ module _ (c : CheckedProgram) (h : IsChecked c) (P : Choice) where
     unfolding next
     res_agrees u true is =
         let x = unit_entry u is in
-        ap (λ (v : Word). v.bits) (subst (λ y. q.res y ≡ n.res y) (own u is) (sym (seen.units u x.0 x.1).res ∙ (shows.units u x.0 x.1).res))
+        ap (λ (v : Word). v.bits) (sym (seen.units u x.0 (own u is) x.1).res ∙ subst (λ y. w x.0.res.0 ≡ n.res y) (own u is) (shows.units u x.0 x.1).res)
     res_agrees u false is =
         ap (λ t. cond t (later (of_function D (codes "res$") u)) 0) is
         ∙ sym (ap (λ o. (or_word o (r.res u)).bits) (no_ends r u is) ∙ ap (λ t. cond t (now (of_function D (codes "res$") u)) 0) is)

@@ -20,3 +20,9 @@ pub mod Sites
 pub mod Granting
 pub mod Indexing
 pub mod Controlling
+pub mod Setting
+pub mod Listing
+pub mod Finishing
+pub mod Layers
+pub mod Scheming
+pub mod Counting

@@ -22,7 +22,7 @@ use Rattle.safl_compile.proofs.Declaring.{map_more, lines_count, lines_on, lines
 
 -- ---- one function
 
-tied_sigs : (ls : List Line) (ss : List Sig) → length ss ≡ length ls → map sig_of (tied ls ss) ≡ ss
+pub tied_sigs : (ls : List Line) (ss : List Sig) → length ss ≡ length ls → map sig_of (tied ls ss) ≡ ss
 tied_sigs [] [] e = refl
 tied_sigs [] (s ∷ ss) e = absurd (omega (arith, e))
 tied_sigs (l ∷ ls) [] e = absurd (omega (arith, e))

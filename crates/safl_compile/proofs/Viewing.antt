@@ -8,13 +8,14 @@ use Rattle.safl_check.specs.Program.{Program}
 use Rattle.safl_check.specs.Checked.{CheckedProgram, IsChecked, program_of}
 use Rattle.safl_net.specs.declared.cell.Sig.{Sig}
 use Rattle.safl_net.specs.Growth.{Val, words}
-use Rattle.safl_unit.specs.Equations.{Choice, many}
+use Rattle.safl_unit.specs.Equations.{Registers, Choice, many}
 use Rattle.safl_unit.specs.Names.{Names, names_of, of_function, of_site, of_param, is_unit, is_site, as_word, as_words, view}
 use Rattle.safl_unit.specs.Layout.{named}
 use Rattle.safl_compile.specs.declared.parts.UnitPins.{UnitPins}
 use Rattle.safl_compile.specs.declared.parts.MemberPins.{MemberPins}
 use Rattle.safl_compile.specs.declared.parts.SitePins.{SitePins}
 use Rattle.safl_compile.specs.declared.parts.Bank.{Bank}
+use Rattle.safl_compile.specs.Tables.{EachAt}
 use Rattle.safl_compile.specs.Cycles.{UnitShows, MemberShows, SiteShows, BankShows}
 use Rattle.safl_compile.specs.Ties.{Tie, tied, ties, unit_ties, member_ties, function_ties, call_registers, site_ties, register_ties}
 use Rattle.safl_compile.proofs.Declaring.{params_long}
@@ -40,8 +41,13 @@ args_read get w f (p ∷ xs) (x ∷ ws) (s ∷ ss) a b r =
     let rest = args_read get w f xs ws ss (omega (arith, a)) (omega (arith, b)) (λ t h. r t (inr h)) in
     ap (λ v. v ∷ words w ss) (word_is (w s.0) x (get (f p)) here.width (sym here.number)) ∙ ap (λ l. as_word x (get (f p)) ∷ l) rest
 
+-- a bank shows registers, where each unit is seen at its first member
+pub record FirstsShow (C : Program) (P : Choice) (b : Bank) (v : Val) (r : Registers) : Type 0 where
+  pub units : (u : ℕ) (x : UnitPins) → C.unit u ≡ u → slice_get b.units.items u ≡ Some x → UnitShows v x r u
+  pub members : EachAt b.members.items (λ f m. MemberShows C v m r f)
+  pub sites : EachAt b.sites.items (λ k s. 0 < k → SiteShows P v s r k)
+
 module _ (c : CheckedProgram) (h : IsChecked c) (P : Choice) (b : Bank) (full : IsFull (program_of c) b) (w : Val) (get : List ℕ → ℕ)
-    (unit : (f : ℕ) → f < (program_of c).functions → slice_get b.units.items f ≡ slice_get b.units.items ((program_of c).unit f))
     (read : (t : Tie) → Among t (register_ties (program_of c) (names_of c) P b) → Reads get w t) where
   abbrev C : Program
   C = program_of c
@@ -63,24 +69,20 @@ module _ (c : CheckedProgram) (h : IsChecked c) (P : Choice) (b : Bank) (full : 
       read t (among_right t (ties (function_ties C D b.units.items b.members.items) C.functions) _
       (among_ties t (site_ties C P b.sites.items) k (suc C.sites) l (subst (λ o. Among t (call_registers C P k o)) (sym e) a)))
 
-  unit_shows : (f : ℕ) (x : UnitPins) → slice_get b.units.items f ≡ Some x → UnitShows w x (view C D get) (C.unit f)
-  unit_shows f x e =
+  unit_shows : (u : ℕ) (x : UnitPins) → C.unit u ≡ u → slice_get b.units.items u ≡ Some x → UnitShows w x (view C D get) u
+  unit_shows u x first e =
       let lu = full.units in
-      let inside = slice_get_within b.units.items f x e in
-      let l : f < C.functions = omega (arith, lu, inside) in
-      let q = h.formed.first f l in
-      let le = q.0 in
-      let lw : C.unit f < C.functions = omega (arith, le, l) in
-      let at : slice_get b.units.items (C.unit f) ≡ Some x = sym (unit f l) ∙ e in
-      let own = eq-eqb (C.unit (C.unit f)) (C.unit f) q.1 in
-      let is : is_unit C (C.unit f) ≡ true = ap (λ t. t && (C.unit (C.unit f) == C.unit f)) (lt-ltb (C.unit f) C.functions lw) ∙ own in
-      let run = in_unit (C.unit f) x ((of_function D (codes "run$") (C.unit f), 1), x.run) lw at (among_cond _ _ _ own (inl refl)) in
-      let fin = in_unit (C.unit f) x ((of_function D (codes "fin$") (C.unit f), 1), x.fin) lw at (among_cond _ _ _ own (inr (inl refl))) in
-      let res = in_unit (C.unit f) x ((of_function D (codes "res$") (C.unit f), C.result (C.unit f)), x.res) lw at (among_cond _ _ _ own (inr (inr (inl refl)))) in
+      let inside = slice_get_within b.units.items u x e in
+      let l : u < C.functions = omega (arith, lu, inside) in
+      let own = eq-eqb (C.unit u) u first in
+      let is : is_unit C u ≡ true = ap (λ t. t && (C.unit u == u)) (lt-ltb u C.functions l) ∙ own in
+      let run = in_unit u x ((of_function D (codes "run$") u, 1), x.run) l e (among_cond _ _ _ own (inl refl)) in
+      let fin = in_unit u x ((of_function D (codes "fin$") u, 1), x.fin) l e (among_cond _ _ _ own (inr (inl refl))) in
+      let res = in_unit u x ((of_function D (codes "res$") u, C.result u), x.res) l e (among_cond _ _ _ own (inr (inr (inl refl)))) in
       record {
-        run = ap (λ y. y == 1) (sym run.number) ∙ ap (λ t. t && (get (of_function D (codes "run$") (C.unit f)) == 1)) (sym is);
-        fin = ap (λ y. y == 1) (sym fin.number) ∙ ap (λ t. t && (get (of_function D (codes "fin$") (C.unit f)) == 1)) (sym is);
-        res = word_is (w x.res.0) (C.result (C.unit f)) _ res.width (sym res.number ∙ ap (λ t. cond t (get (of_function D (codes "res$") (C.unit f))) 0) (sym is));
+        run = ap (λ y. y == 1) (sym run.number) ∙ ap (λ t. t && (get (of_function D (codes "run$") u) == 1)) (sym is);
+        fin = ap (λ y. y == 1) (sym fin.number) ∙ ap (λ t. t && (get (of_function D (codes "fin$") u) == 1)) (sym is);
+        res = word_is (w x.res.0) (C.result u) _ res.width (sym res.number ∙ ap (λ t. cond t (get (of_function D (codes "res$") u)) 0) (sym is));
       }
 
   member_shows : (f : ℕ) (m : MemberPins) → slice_get b.members.items f ≡ Some m → MemberShows C w m (view C D get) f
@@ -112,5 +114,17 @@ module _ (c : CheckedProgram) (h : IsChecked c) (P : Choice) (b : Bank) (full : 
             word_is (w s.keep.0) (C.result (C.callee k)) _ keep.width (sym keep.number);
       }
 
-  pub bank_shows : BankShows C P b w (view C D get)
-  bank_shows = record { units = unit_shows; members = member_shows; sites = site_shows }
+  pub firsts_show : FirstsShow C P b w (view C D get)
+  firsts_show = record { units = unit_shows; members = member_shows; sites = site_shows }
+
+  -- where each function has the entry of its unit
+  pub bank_shows : ((f : ℕ) → f < C.functions → slice_get b.units.items f ≡ slice_get b.units.items (C.unit f)) → BankShows C P b w (view C D get)
+  bank_shows unit = record {
+    units = λ f x e.
+        let lu = full.units in
+        let inside = slice_get_within b.units.items f x e in
+        let l : f < C.functions = omega (arith, lu, inside) in
+        unit_shows (C.unit f) x ((h.formed.first f l).1) (sym (unit f l) ∙ e);
+    members = member_shows;
+    sites = site_shows;
+  }

@@ -4,6 +4,7 @@ use Rattle.safl_check.specs.Program.{Program}
 use Rattle.safl_net.specs.declared.cell.Op.TheVariants.{Copy}
 use Rattle.safl_net.specs.Netlist.{Netlist, Signal, Input, Reg, Wire}
 use Rattle.safl_net.specs.Valuations.{IsAcyclic}
+use Rattle.safl_net.specs.Growth.{Says}
 use Rattle.safl_lower.specs.Bits.{on}
 use Rattle.safl_unit.specs.Equations.{Choice, many, end_word, loop_words, want, ret, go}
 use Rattle.safl_unit.specs.Names.{Names}
@@ -91,3 +92,4 @@ pub record Finishes (C : Program) (D : Names) (P : Choice) (p : Pins) (next : Ba
   pub is_main : slice_get p.bank.units.items C.main ≡ Some main
   pub outputs : new.outputs ≡ (codes "done", main.fin.0) ∷ (codes "result", main.res.0) ∷ []
   pub acyclic : IsAcyclic new
+  pub says : Says old new

@@ -6,3 +6,4 @@ pub mod Ties
 pub mod Finished
 pub mod Declaring
 pub mod Returning
+pub mod Setting

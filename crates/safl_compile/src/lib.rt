@@ -3,6 +3,7 @@
 
 mod controls;
 mod declare;
+mod finish;
 mod gates;
 mod grants;
 mod loads;
