@@ -1,22 +1,20 @@
 -- How many signals a circuit has at most.
-use Rattle.std.proofs.Common.{◌≡◌, ℕ, zero, suc, ◌+◌, ◌*◌, ◌≤◌, ◌<◌, map, List, ◌++◌, length, length-append, take, sum_by, Some, slice_get, refl, sym, ap, ◌∙◌, arith}
+use Rattle.std.proofs.Common.{◌≡◌, ℕ, zero, suc, ◌+◌, ◌*◌, ◌≤◌, map, ◌++◌, length, length-append, take, sum_by, Some, slice_get, refl, ap, ◌∙◌, arith}
 use Rattle.std.specs.Prelude.{codes, [], ◌∷◌}
 use Rattle.std.specs.Option.{option_map_or}
 use Rattle.std.proofs.lemmas.List.Sums.{sum_by_push}
 use Rattle.safl_word.specs.Words.{no_word}
 use Rattle.safl_check.specs.declared.checked.Function.{Function}
-use Rattle.safl_check.specs.Program.{Program}
 use Rattle.safl_check.specs.Checked.{CheckedProgram, IsChecked, program_of}
 use Rattle.safl_check.specs.Terms.{Term, Terms, Const, Var, Op, If, Let, Call, Loop, Nil, Cons}
 use Rattle.safl_check.specs.Tree.{tree}
 use Rattle.safl_check.specs.Sizes as sizes
 use Rattle.safl_lower.specs.Typing as typed
 use Rattle.safl_unit.specs.Equations.{Choice}
-use Rattle.safl_unit.specs.Names.{Names, names_of}
+use Rattle.safl_unit.specs.Names.{names_of}
 use Rattle.safl_unit.specs.Layout.{lines, site_lines, unit_lines, function_wires, site_wires, layout_inputs, layout_registers, layout_wires}
 use Rattle.safl_compile.specs.Stages.{body_nodes}
 use Rattle.safl_compile.specs.Finished.{input_line, open_register, open_wire, declared_signals}
-use Rattle.safl_compile.specs.Declaring.{function_lines}
 use Rattle.safl_compile.proofs.Declaring.{map_long, param_lines_long, take_next, take_whole}
 use Rattle.safl_compile.proofs.Pinning.{few_below, few_sites, body_wires_count, few_calls}
 use Rattle.safl_compile.proofs.Ordering.{units_in_order}

@@ -5,7 +5,7 @@ use Rattle.std.proofs.lemmas.Bool.{ltb-true}
 use Rattle.safl_check.specs.Program.{Program, unit_for}
 use Rattle.safl_check.specs.Checked.{CheckedProgram, IsChecked, program_of}
 use Rattle.safl_net.specs.declared.cell.Sig.{Sig}
-use Rattle.safl_net.specs.Netlist.{Netlist, Signal, Kind, Reg, Wire, width_in, width_of}
+use Rattle.safl_net.specs.Netlist.{Netlist, Signal, Reg, Wire, width_in, width_of}
 use Rattle.safl_net.specs.Making.{kind_in, with_output}
 use Rattle.safl_net.specs.Names.{IsTidy}
 use Rattle.safl_net.specs.Settled.{IsSteady, IsSettled, Settles}
@@ -15,7 +15,7 @@ use Rattle.safl_net.proofs.Settling.{settles_on, settles_output}
 use Rattle.safl_net.proofs.Saying.{says_on, says_output}
 use Rattle.safl_unit.specs.Equations.{Choice, many}
 use Rattle.safl_unit.specs.Names.{Names, names_of, of_function, of_site, of_param}
-use Rattle.safl_unit.specs.Layout.{Line, named, lines, site_wires, layout_inputs, layout_registers, layout_wires}
+use Rattle.safl_unit.specs.Layout.{named, layout_inputs, layout_registers, layout_wires}
 use Rattle.safl_compile.specs.declared.parts.UnitPins.{UnitPins}
 use Rattle.safl_compile.specs.declared.parts.MemberPins.{MemberPins}
 use Rattle.safl_compile.specs.declared.parts.SitePins.{SitePins}
@@ -31,7 +31,7 @@ use Rattle.safl_compile.specs.Setting.{with_kinds, next_kind, copy_kind, Takes, 
 use Rattle.safl_compile.proofs.Declaring.{map_long, map_get}
 use Rattle.safl_compile.proofs.Tables.{get_front}
 use Rattle.safl_compile.proofs.Cells.{sources_length}
-use Rattle.safl_compile.proofs.Lining.{IsFull, register_lines, there}
+use Rattle.safl_compile.proofs.Lining.{register_lines, there}
 use Rattle.safl_compile.proofs.Listing.{wire_lines, bodies_long, calls_long}
 use Rattle.safl_compile.proofs.Setting.{kinded, takes_kept, kinds_list, kinds_long, kinds_outputs, registers_set, wires_set, IsOpen, settles_nexts, settles_copies, says_nexts, says_copies, tidy_kinds}
 
@@ -106,8 +106,8 @@ module _ (C : Program) (D : Names) (P : Choice) (n : Netlist) (b : Bank) (h : Ba
       from_cond (TakesNext n) i (nat_lt 0 k)
       (((of_site (codes "sent$") k, 1), s.sent) ∷ ((of_site (codes "got$") k, 1), s.got) ∷ cond (P.kept k) (((of_site (codes "keep$") k, C.result (C.callee k)), s.keep) ∷ []) [])
       (λ pos.
-          let q = h.sites k s e (ltb-true 0 k pos) in
-          (q.sent, (q.got, from_cond (TakesNext n) (suc (suc i)) (P.kept k) (((of_site (codes "keep$") k, C.result (C.callee k)), s.keep) ∷ []) (λ kept. (q.keep, tt)))))
+      let q = h.sites k s e (ltb-true 0 k pos) in
+      (q.sent, (q.got, from_cond (TakesNext n) (suc (suc i)) (P.kept k) (((of_site (codes "keep$") k, C.result (C.callee k)), s.keep) ∷ []) (λ kept. (q.keep, tt)))))
 
   pub registers_from : EachFrom (TakesNext n) 0 (register_ties C D P b)
   registers_from =
@@ -150,8 +150,8 @@ module _ (C : Program) (D : Names) (P : Choice) (n : Netlist) (first : ℕ) (T :
       (from_ties (Copies n first) (first + length bodies) (call_ties C P first T) (suc C.sites)
       (λ k l. from_cond (Copies n first) (first + length bodies + length (ties (call_ties C P first T) k)) (nat_lt 0 k) (four k (P.arbiter (unit_for C k)))
       (λ pos.
-          let q = calls_long C D P first T k in
-          call_from (first + length bodies + length (ties (call_ties C P first T) k)) k (P.arbiter (unit_for C k)) (ltb-true 0 k pos) (omega (arith, l)) (omega (arith, long, q)))))
+      let q = calls_long C D P first T k in
+      call_from (first + length bodies + length (ties (call_ties C P first T) k)) k (P.arbiter (unit_for C k)) (ltb-true 0 k pos) (omega (arith, l)) (omega (arith, long, q)))))
       (record { width = refl; source = inl (h.goes 0 (omega arith)) }, tt))
 
 -- ---- the net when all is set
@@ -259,8 +259,7 @@ module _ (c : CheckedProgram) (h : IsChecked c) (P : Choice) (old : Netlist) (p 
       let j = s - p.first_wire in
       let e : p.first_wire + j ≡ s = omega (arith, l) in
       let t = there wts j (length wts) refl (omega (arith, l, m, k)) in
-      let a = all_long in
-      (
+      let a = all_long in (
         omega (arith, a, m, k),
         ap (width_of old) (sym e) ∙ ap width_in (at_wire j t.0 t.1) ∙ (copies_at j t.0 t.1).width,
       )

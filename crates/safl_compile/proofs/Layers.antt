@@ -1,12 +1,9 @@
 -- The lines, kinds and numbers of a circuit's signals, from the list of its signals.
-use Rattle.std.proofs.Common.{◌≡◌, ℕ, zero, suc, ◌+◌, ◌<◌, ◌≤◌, List, [], ◌∷◌, ◌++◌, map, length, length-append, Option, Some, None, Bool, true, false, cond, slice_get, slice_index, bytes_eq, decimal, refl, sym, ap, subst, ◌∙◌, arith, append_assoc}
+use Rattle.std.proofs.Common.{◌≡◌, ℕ, zero, suc, List, [], ◌∷◌, ◌++◌, map, length, length-append, Option, Some, None, Bool, true, false, cond, slice_get, slice_index, bytes_eq, decimal, refl, sym, ap, subst, ◌∙◌, arith, append_assoc}
 use Rattle.std.specs.Prelude.{codes}
 use Rattle.std.proofs.lemmas.List.{append-nil}
 use Rattle.std.proofs.lemmas.Slice.Eq.{bytes_eq-Decides}
-use Rattle.safl_word.specs.Words.{Word}
-use Rattle.safl_net.specs.declared.cell.Sig.{Sig}
-use Rattle.safl_net.specs.Netlist.{Netlist, Signal, Kind, Input, Reg, Wire, Cell, IsSet, AllSet, width_in, width_of}
-use Rattle.safl_net.specs.Names.{one_wire, wires}
+use Rattle.safl_net.specs.Netlist.{Netlist, Signal, Kind, Input, Reg, Wire, IsSet, AllSet, width_in, width_of}
 use Rattle.safl_net.specs.Growth.{HasCell, AreTemps, words}
 use Rattle.safl_net.specs.Valuations.{Valuation, signal_word, kind_reset, reset_number, reset_state}
 use Rattle.safl_net.specs.Runs.{is_argument, input_numbers}
@@ -240,8 +237,8 @@ input_words names ws rs us i more n (y ∷ vs) temps el long e =
     let wirs = map set_wire us in
     let back = (regs ++ wirs) ++ more in
     let free = all_more (λ g. is_argument g.name g.kind ≡ false) (regs ++ wirs) more
-        (all_more (λ g. is_argument g.name g.kind ≡ false) regs wirs (all_made (λ g. is_argument g.name g.kind ≡ false) set_register rs (λ t. refl)) (all_made (λ g. is_argument g.name g.kind ≡ false) set_wire us (λ t. refl)))
-        (all_temps (λ g. is_argument g.name g.kind ≡ false) (λ g h. cell_free g.name g.kind h) i more temps) in
+    (all_more (λ g. is_argument g.name g.kind ≡ false) regs wirs (all_made (λ g. is_argument g.name g.kind ≡ false) set_register rs (λ t. refl)) (all_made (λ g. is_argument g.name g.kind ≡ false) set_wire us (λ t. refl)))
+    (all_temps (λ g. is_argument g.name g.kind ≡ false) (λ g h. cell_free g.name g.kind h) i more temps) in
     let whole : n.signals ≡ (input_line (codes "start", 1) ∷ []) ++ (port ++ back) = e ∙ ap (λ l. input_line (codes "start", 1) ∷ l) (append_assoc port (regs ++ wirs) more) in
     words_from n (y ∷ vs) (y ∷ []) vs (input_line (codes "start", 1) ∷ []) back names ws refl refl whole el long free
     ∙ ap (λ l. as_words ws l) (start_first (port ++ back) y vs)

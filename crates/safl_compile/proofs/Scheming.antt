@@ -11,20 +11,19 @@ use Rattle.safl_net.specs.Netlist.{Netlist, Signal, Wire, width_in, width_of}
 use Rattle.safl_net.specs.Names.{wires}
 use Rattle.safl_net.specs.Rules.{IsNetlist}
 use Rattle.safl_net.specs.Growth.{Val, Wired, AreTemps, Grows, words}
-use Rattle.safl_net.specs.Valuations.{Valuation, Fits, signal_word, read, read_next, read_output}
-use Rattle.safl_net.specs.Runs.{input_numbers}
+use Rattle.safl_net.specs.Valuations.{Valuation, Fits, signal_word, read, read_next}
 use Rattle.safl_net.proofs.Growth.{width_is}
 use Rattle.safl_net.proofs.CellWords.{wired_shown}
 use Rattle.safl_net.proofs.Reading.{read_output_word}
 use Rattle.safl_unit.specs.Equations.{Registers, Inputs, Choice, next}
-use Rattle.safl_unit.specs.Names.{Names, names_of, of_function, of_site, as_words, view, registers_now, registers_next, input_now}
+use Rattle.safl_unit.specs.Names.{Names, names_of, of_function, of_site, registers_now, registers_next, input_now}
 use Rattle.safl_unit.specs.Layout.{Line, lines, site_wires, each_line, input_kind, register_kind, wire_kind, output_lines, layout_inputs, layout_registers, layout_wires, layout_outputs, temporaries, IsCopy, HasPlan}
 use Rattle.safl_unit.specs.Scheme.{Agree, Wires, Scheme}
 use Rattle.safl_compile.specs.declared.parts.Bank.{Bank}
 use Rattle.safl_compile.specs.declared.parts.Pins.{Pins}
 use Rattle.safl_compile.specs.declared.parts.Controls.{Controls}
 use Rattle.safl_compile.specs.Tables.{pin}
-use Rattle.safl_compile.specs.Cycles.{BankShows, PinsFit, Cycle}
+use Rattle.safl_compile.specs.Cycles.{PinsFit, Cycle}
 use Rattle.safl_compile.specs.Stages.{HasNext}
 use Rattle.safl_compile.specs.Ties.{Tie, line_of, sig_of, numbered, ties, register_ties, want_wire, body_ties, call_ties, wire_ties}
 use Rattle.safl_compile.specs.Finished.{input_line, open_register, open_wire, set_register, set_wire, declared_signals, declared_net, ArePins, HasControls, Finishes}
@@ -37,7 +36,7 @@ use Rattle.safl_compile.proofs.Listing.{wire_lines, bodies_long, calls_long}
 use Rattle.safl_compile.proofs.Finishing.{at_made, from_get, TakesNext, registers_from, first_wire_is}
 use Rattle.safl_compile.proofs.Layers.{input_lines, register_lines_of, wire_lines_of, is_set, is_reset, input_words}
 use Rattle.safl_compile.proofs.Reading.{placed_at, read_is, read_next_is}
-use Rattle.safl_compile.proofs.Viewing.{Reads, FirstsShow, firsts_show, bank_shows}
+use Rattle.safl_compile.proofs.Viewing.{Reads, firsts_show, bank_shows}
 use Rattle.safl_compile.proofs.Agreeing.{agrees}
 use Rattle.safl_compile.proofs.Wiring.{Copied, wires_hold}
 

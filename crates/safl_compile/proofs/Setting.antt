@@ -1,9 +1,9 @@
 -- Registers and wires that are set one after another.
-use Rattle.std.proofs.Common.{◌≡◌, ℕ, zero, suc, ◌+◌, ◌<◌, ◌≤◌, List, [], ◌∷◌, ◌++◌, map, length, length-append, take, Option, Some, None, slice_get, ◌⊎◌, inl, inr, refl, sym, ap, subst, ◌∙◌, arith, append_assoc, true}
+use Rattle.std.proofs.Common.{◌≡◌, ℕ, zero, suc, ◌+◌, ◌<◌, ◌≤◌, List, [], ◌∷◌, ◌++◌, map, length, length-append, take, Some, None, slice_get, ◌⊎◌, inl, inr, refl, sym, ap, subst, ◌∙◌, arith, append_assoc, true}
 use Rattle.std.proofs.lemmas.Bool.{eqb-true, eqb-false}
 use Rattle.std.proofs.Common.{Bool, false, ◌==◌}
 use Rattle.safl_net.specs.declared.cell.Sig.{Sig}
-use Rattle.safl_net.specs.Netlist.{Netlist, Signal, Kind, Reg, Wire, Cell, width_in, width_of}
+use Rattle.safl_net.specs.Netlist.{Netlist, Signal, Kind, Reg, Wire, width_in, width_of}
 use Rattle.safl_net.specs.Making.{with_kind, set_kind, kind_in, kind_at}
 use Rattle.safl_net.specs.Names.{is_temp, one_wire, wires, temp_name, IsTidy}
 use Rattle.safl_net.specs.Settled.{IsSteady, Settles}
@@ -11,7 +11,6 @@ use Rattle.safl_net.specs.Growth.{Says}
 use Rattle.safl_net.proofs.Keeping.{Was, was}
 use Rattle.safl_net.proofs.Settling.{settles_same, settles_on, settles_next, settles_cell, steady_cell}
 use Rattle.safl_net.proofs.Saying.{says_same, says_on, says_next, says_cell}
-use Rattle.safl_unit.specs.Layout.{Line}
 use Rattle.safl_compile.specs.Tables.{EachAt}
 use Rattle.safl_compile.specs.Ties.{Tie, line_of, sig_of}
 use Rattle.safl_compile.specs.Finished.{open_register, open_wire, set_register, set_wire}

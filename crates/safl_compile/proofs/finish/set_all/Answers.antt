@@ -1,4 +1,4 @@
-use Rattle.std.proofs.Common.{◌≡◌, ◌<◌, length, subst, ap, ◌∙◌, arith}
+use Rattle.std.proofs.Common.{◌<◌, length, subst, ◌∙◌, arith}
 use Rattle.safl_check.specs.Checked.{IsChecked, program_of}
 use Rattle.safl_compile.specs.Cycles.{choice_of}
 use Rattle.safl_compile.proofs.Cells.{sources_length}

@@ -1,7 +1,6 @@
-use Rattle.std.proofs.Common.{◌≡◌, ◌<◌, ◌≤◌, ◌++◌, suc, map, length, refl, ap, ◌∙◌, arith}
+use Rattle.std.proofs.Common.{◌++◌, map, refl, ap, ◌∙◌, arith}
 use Rattle.safl_check.specs.Checked.{CheckedProgram, program_of}
 use Rattle.safl_unit.specs.Names.{names_of}
-use Rattle.safl_unit.specs.Layout.{layout_wires}
 use Rattle.safl_compile.specs.Cycles.{choice_of}
 use Rattle.safl_compile.specs.Ties.{sig_of, ties, body_ties, call_ties}
 use Rattle.safl_compile.proofs.Listing.{listed_from_one, more_listed, listed_long, listed_within}
