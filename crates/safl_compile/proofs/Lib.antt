@@ -26,3 +26,7 @@ pub mod Finishing
 pub mod Layers
 pub mod Scheming
 pub mod Counting
+pub mod Slices
+pub mod Lowered
+pub mod Rows
+pub mod Outcoming

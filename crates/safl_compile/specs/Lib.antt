@@ -7,3 +7,4 @@ pub mod Finished
 pub mod Declaring
 pub mod Returning
 pub mod Setting
+pub mod Outcomes

@@ -2,6 +2,7 @@
 #![tactic(auto)]
 
 mod controls;
+mod bodies;
 mod declare;
 mod finish;
 mod gates;

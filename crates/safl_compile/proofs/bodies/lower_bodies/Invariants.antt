@@ -1,0 +1,15 @@
+use Rattle.std.proofs.Common.{◌+◌, ◌*◌}
+use Rattle.safl_check.specs.Checked.{program_of}
+use Rattle.safl_net.specs.Names.{IsTidy}
+use Rattle.safl_compile.specs.Sources.{Builds}
+use Rattle.safl_compile.specs.Cycles.{choice_of}
+use Rattle.safl_compile.specs.Stages.{body_nodes}
+use Rattle.safl_compile.proofs.Outcoming.{OutcomesUpTo}
+use Rattle.safl_compile.proofs.bodies.lower_bodies.Given as goal
+
+abbrev pub invariant-loop-f : goal.invariant-loop-f
+invariant-loop-f l = record {
+  tidy : IsTidy l.net;
+  built : Builds l.initial.net l.net (33 * body_nodes (program_of l.p.program) l.f + 33 * l.f);
+  done : OutcomesUpTo l.p.program (choice_of l.p) l.net l.pins l.f l.all;
+}
