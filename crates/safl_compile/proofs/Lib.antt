@@ -30,3 +30,8 @@ pub mod Slices
 pub mod Lowered
 pub mod Rows
 pub mod Outcoming
+pub mod Chains
+pub mod Earlier
+pub mod Crossing
+pub mod Stepping
+pub mod Following

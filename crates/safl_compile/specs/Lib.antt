@@ -8,3 +8,6 @@ pub mod Declaring
 pub mod Returning
 pub mod Setting
 pub mod Outcomes
+pub mod Edges
+pub mod Steps
+pub mod Coming

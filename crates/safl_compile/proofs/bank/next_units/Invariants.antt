@@ -1,0 +1,13 @@
+use Rattle.std.proofs.Common.{ℕ, ◌*◌}
+use Rattle.safl_check.specs.Checked.{program_of}
+use Rattle.safl_net.specs.Names.{IsTidy}
+use Rattle.safl_compile.specs.Sources.{Builds}
+use Rattle.safl_compile.specs.Steps.{UnitsNext}
+use Rattle.safl_compile.proofs.bank.next_units.Given as goal
+
+abbrev pub invariant-loop-f : goal.invariant-loop-f
+invariant-loop-f l = record {
+  tidy : IsTidy l.net;
+  built : Builds l.initial.net l.net (5 * l.f);
+  table : UnitsNext (program_of l.p.program) l.net l.pins.bank.units.items l.ends.items l.starts.items l.all.items l.f;
+}

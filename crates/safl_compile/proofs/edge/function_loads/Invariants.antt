@@ -1,0 +1,17 @@
+use Rattle.std.proofs.Common.{ℕ, ◌*◌, ◌==◌, ◌&&◌, slice_get}
+use Rattle.safl_check.specs.Checked.{program_of}
+use Rattle.safl_core.specs.Picks.{first}
+use Rattle.safl_net.specs.Names.{IsTidy}
+use Rattle.safl_lower.specs.Bits.{on}
+use Rattle.safl_lower.specs.Entries.{gate}
+use Rattle.safl_compile.specs.Sources.{Builds}
+use Rattle.safl_compile.specs.Tables.{pin}
+use Rattle.safl_compile.specs.Edges.{operands_in, ShowsLoads}
+use Rattle.safl_compile.proofs.edge.function_loads.Given as goal
+
+abbrev pub invariant-loop-k : goal.invariant-loop-k
+invariant-loop-k l = record {
+  tidy : IsTidy l.net;
+  built : Builds l.initial.net l.net (17 * l.k);
+  table : ShowsLoads l.net l.all.items (program_of l.p.program).functions (program_of l.p.program).params (λ v f. first (λ k. gate ((f == (program_of l.p.program).callee k) && on v (pin l.goes k)) (operands_in v (slice_get l.outcomes.wants.items k))) l.k);
+}

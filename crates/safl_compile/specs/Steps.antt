@@ -1,0 +1,51 @@
+-- The next words of registers: those of now, and those after the edge.
+use Rattle.std.specs.Prelude.{◌≡◌, ℕ, suc, ◌<◌, List, [], ◌∷◌, length, Option, Some, Bool, true, ◌&&◌, ◌||◌, not, cond, is_some, slice_get}
+use Rattle.safl_word.specs.Words.{Word}
+use Rattle.safl_check.specs.Program.{Program}
+use Rattle.safl_net.specs.declared.cell.Sig.{Sig}
+use Rattle.safl_net.specs.Netlist.{Netlist}
+use Rattle.safl_net.specs.Growth.{Val, Wired, words}
+use Rattle.safl_lower.specs.Bits.{on}
+use Rattle.safl_unit.specs.Equations.{Choice, many, or_word}
+use Rattle.safl_compile.specs.declared.parts.Load.{Load}
+use Rattle.safl_compile.specs.declared.parts.UnitPins.{UnitPins}
+use Rattle.safl_compile.specs.declared.parts.MemberPins.{MemberPins}
+use Rattle.safl_compile.specs.declared.parts.SitePins.{SitePins}
+use Rattle.safl_compile.specs.Tables.{EachAt, pin, taken_from, on_from}
+use Rattle.safl_compile.specs.Cycles.{UnitFits, MemberFits, SiteFits}
+
+-- of a unit, by the word with which it ends, and whether it starts
+pub record UnitStep (v : Val) (end : Option (List Word)) (start : Bool) (now after : UnitPins) : Type 0 where
+  pub run : on v after.run ≡ ((start || on v now.run) && not (is_some end))
+  pub fin : on v after.fin ≡ is_some end
+  pub res : v after.res.0 ∷ [] ≡ or_word end (v now.res.0 ∷ [])
+
+-- of a function, by whether its unit has others, it or another of them starts, and what a site and a tail call load
+pub record MemberStep (v : Val) (many entry rival : Bool) (load looped : Option (List Word)) (now after : MemberPins) : Type 0 where
+  pub at : many ≡ true → on v after.at ≡ ((entry || on v now.at) && not rival)
+  pub args : words v after.args.items ≡ or_word load (or_word looped (words v now.args.items))
+
+-- of a site, by whether it keeps its word, is delivered to, starts and is cleared, and the word of its unit
+pub record SiteStep (v : Val) (kept ret go clear : Bool) (res : Word) (now after : SitePins) : Type 0 where
+  pub sent : on v after.sent ≡ ((on v now.sent || go) && not clear)
+  pub got : on v after.got ≡ ((on v now.got || ret) && not clear)
+  pub keep : kept ≡ true → v after.keep.0 ≡ cond ret res (v now.keep.0)
+
+-- of so many functions: the units' registers after the edge
+pub record UnitsNext (C : Program) (n : Netlist) (now : List UnitPins) (ends : List (Option Load)) (starts : List (Option Sig)) (after : List UnitPins) (count : ℕ) : Type 0 where
+  pub entries : length after ≡ count
+  pub fits : EachAt after (λ f y. UnitFits n y (C.result f))
+  pub shows : (v : Val) → Wired n v → EachAt after (λ f y. (x : UnitPins) → slice_get now (C.unit f) ≡ Some x → UnitStep v (taken_from v ends (C.unit f)) (on_from v starts (C.unit f)) x y)
+
+-- and their own
+pub record MembersNext (C : Program) (n : Netlist) (now : List MemberPins) (entries rivals : List (Option Sig)) (loads looped : List (Option Load)) (after : List MemberPins) (count : ℕ) : Type 0 where
+  pub entries_after : length after ≡ count
+  pub fits : EachAt after (λ f y. MemberFits n y (C.params f))
+  pub shows : (v : Val) → Wired n v → EachAt after (λ f y. (x : MemberPins) → slice_get now f ≡ Some x → MemberStep v (many C f) (on_from v entries f) (on_from v rivals f) (taken_from v loads f) (taken_from v looped f) x y)
+
+-- of the sites up to a number: theirs
+pub record SitesNext (C : Program) (P : Choice) (n : Netlist) (units : List UnitPins) (now : List SitePins) (rets goes : List Sig) (clears : List (Option Sig)) (after : List SitePins) (last : ℕ) : Type 0 where
+  pub entries : length after ≡ suc last
+  pub fits : EachAt after (λ k y. 0 < k → SiteFits n y (C.result (C.callee k)))
+  pub shows : (v : Val) → Wired n v → EachAt after (λ k y. 0 < k → (u : UnitPins) (x : SitePins) → slice_get units (C.callee k) ≡ Some u → slice_get now k ≡ Some x
+      → SiteStep v (P.kept k) (on v (pin rets k)) (on v (pin goes k)) (on_from v clears (C.unit (C.caller k))) (v u.res.0) x y)
