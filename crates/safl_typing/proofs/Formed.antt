@@ -10,7 +10,7 @@ use Rattle.safl_tree.specs.Printable.{IsLabel, FitsWritten, IsFormed, AreFormed,
 use Rattle.safl_typing.specs.Rewriting.{rewritten, rewritten_all, rewritten_binds, rewritten_arms}
 use Rattle.safl_typing.specs.Heads.{slot_of, unit_of, heads_from}
 use Rattle.safl_typing.proofs.Names.{some_is}
-use Rattle.safl_typing.proofs.Wide.{IsWide, WideSlots, WideHeads, IsInRange, AreInRange, BoundInRange}
+use Rattle.safl_typing.specs.Ranges.{IsWide, WideSlots, WideHeads, IsInRange, AreInRange, BoundInRange}
 
 width_here : (b : Bool) (n : ℕ) → nat_le 1 n ≡ b → cond b (nat_le n max_width) false ≡ true → IsWide n
 width_here true n q e = record { some = leb-true 1 n q; bounded = leb-true n max_width e }

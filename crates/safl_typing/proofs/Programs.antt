@@ -22,7 +22,7 @@ use Rattle.safl_typing.specs.Heads.{Slot, Head, params_of, head_of, heads}
 use Rattle.safl_typing.specs.Typing.{widths_of}
 use Rattle.safl_typing.specs.Forms.{shown_param, shown_function, shown, sites_of, all_sites, param_names, IsLast, function_names, IsFormOf}
 use Rattle.safl_typing.proofs.Names.{some_is}
-use Rattle.safl_typing.proofs.Wide.{IsWide}
+use Rattle.safl_typing.specs.Ranges.{IsWide}
 use Rattle.safl_typing.proofs.Formed.{width_wide}
 use Rattle.safl_typing.proofs.Widths.{Agrees, formed_full, has_width}
 use Rattle.safl_typing.proofs.Spans.{Noted, has_spans}

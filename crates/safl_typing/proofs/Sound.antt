@@ -13,7 +13,8 @@ use Rattle.safl_typing.specs.Heads.{Slot, Known, Callee, Member, Above, Unknown,
 use Rattle.safl_typing.specs.Typing.{At, innermost, word, widths_of, slots, Keeps, AreAll, AllRigid, RigidOr, Shifts, Suits, Calls, Has, HaveAll, HaveBound}
 use Rattle.safl_typing.specs.Walk.{after, unless, needs, fault_with, Typed, TypedAlike, TypedAll, Wanted, Any, Exactly, is_any, wanted_by, settle, number, sized, variable, branches, alike, resized, operated, called, all_any, amounts, exactly, check, check_all, check_alike, check_shift, check_bound}
 use Rattle.safl_typing.proofs.Names.{some_none, differ_bound}
-use Rattle.safl_typing.proofs.Wide.{IsWide, AreWide, WideSlots, WideHeads, WideCallee, IsInRange, AreInRange, BoundInRange, one_wide, table_wide, wide_widths, wide_append, wide_slots, innermost_wide, callee_wide}
+use Rattle.safl_typing.specs.Ranges.{IsWide, AreWide, WideSlots, WideHeads, IsInRange, AreInRange, BoundInRange}
+use Rattle.safl_typing.proofs.Wide.{WideCallee, one_wide, table_wide, wide_widths, wide_append, wide_slots, innermost_wide, callee_wide}
 use Rattle.safl_typing.proofs.Complete.{typed, typed_all, typed_alike, Met, MetAll, AsMany, length_widths}
 
 pub ok_is : {A : Type 0} (x y : A) → ◌≡◌ {A = Result A Fault} (Ok x) (Ok y) → x ≡ y

@@ -40,7 +40,7 @@ innermost_end x i (u ∷ vs) v =
     ap (λ (o : Option At). later o first) (innermost_end x (suc i) vs v) ∙ later_again (last (suc i + length vs)) (innermost x (suc i) vs) first
     ∙ ap (λ (n : ℕ). later (last n) (later (innermost x (suc i) vs) first)) e
 
-upto : (ss : List code.Slot) (i : ℕ) (s : code.Slot) → i < length ss → s ≡ get_or ss i s → (plain_slots (take (i + 1) ss) ≡ plain_slots (take i ss) ++ plain_slot s ∷ []) × (length (plain_slots (take i ss)) ≡ i)
+pub upto : (ss : List code.Slot) (i : ℕ) (s : code.Slot) → i < length ss → s ≡ get_or ss i s → (plain_slots (take (i + 1) ss) ≡ plain_slots (take i ss) ++ plain_slot s ∷ []) × (length (plain_slots (take i ss)) ≡ i)
 upto [] i s lt is = absurd (omega (arith, lt))
 upto (y ∷ ys) zero s lt is = (ap (λ (z : code.Slot). plain_slot z ∷ []) (sym is), refl)
 upto (y ∷ ys) (suc i) s lt is =

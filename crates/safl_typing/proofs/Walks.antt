@@ -18,7 +18,7 @@ use Rattle.safl_typing.specs.Walk.{after, unless, needs, or_else, fault, fault_w
 use Rattle.safl_typing.proofs.Counts.{has_sites}
 use Rattle.safl_typing.proofs.Names.{some_none, Apart, in_order, differ_repeat, repeat_differ, unseen, not_seen, differ_rest, apart_more, differ_first}
 use Rattle.safl_typing.proofs.Complete.{typed, after_gives, unless_gives, needs_gives, has_checks}
-use Rattle.safl_typing.proofs.Wide.{WideHeads}
+use Rattle.safl_typing.specs.Ranges.{WideHeads}
 use Rattle.safl_typing.proofs.Sound.{ok_is, after_ok, unless_ok, needs_ok, checks_has}
 use Rattle.safl_typing.proofs.Limits.{both_none, none_both, limit_none, none_limit, excess_none, none_excess, short_lets, no_long_let}
 use Rattle.safl_typing.proofs.Formed.{width_wide, formed_range, params_wide, heads_wide}

@@ -7,49 +7,11 @@ use Rattle.safl_word.specs.declared.primitive.Primitive.{Primitive}
 use Rattle.safl_word.specs.Primitives.{result_width, apply_prim}
 use Rattle.safl_word.proofs.Widths.{widths, apply_width}
 use Rattle.safl_word.proofs.Fits.{apply_fits}
-use Rattle.safl_typing.specs.Rewriting.{Expression, Number, Sized, Variable, Choice, Binding, Applied, Called, Expressions, no_expression, an_expression, Bindings, no_binding, a_binding}
+use Rattle.safl_typing.specs.Rewriting.{Bindings, no_binding, a_binding}
 use Rattle.safl_typing.specs.Heads.{Slot, Head, Known, Numbered, first_head, Callee, Member, Above, Unknown, member_or, callee}
 use Rattle.safl_typing.specs.Typing.{At, later, innermost, slots, word, widths_of}
+use Rattle.safl_typing.specs.Ranges.{IsWide, AreWide, WideSlots, IsWideHead, WideHeads}
 use Rattle.safl_typing.proofs.Names.{some_is}
-
-pub record IsWide (w : ℕ) : Type 0 where
-  pub some : 1 ≤ w
-  pub bounded : w ≤ max_width
-
-abbrev pub AreWide : List ℕ → Type 0
-AreWide [] = Unit {0}
-AreWide (w ∷ ws) = IsWide w × AreWide ws
-
-abbrev pub WideSlots : List Slot → Type 0
-WideSlots [] = Unit {0}
-WideSlots (v ∷ vs) = IsWide v.width × WideSlots vs
-
-pub record IsWideHead (h : Head) : Type 0 where
-  pub width : IsWide h.width
-  pub params : WideSlots h.params
-
-abbrev pub WideHeads : List Head → Type 0
-WideHeads [] = Unit {0}
-WideHeads (h ∷ hs) = IsWideHead h × WideHeads hs
-
--- written widths and those of sized numbers are in range
-abbrev mutual
-  pub IsInRange : Expression → Type 0
-  IsInRange (Number p n) = Unit {0}
-  IsInRange (Sized p w n) = IsWide w
-  IsInRange (Variable p x) = Unit {0}
-  IsInRange (Choice p c a b) = IsInRange c × IsInRange a × IsInRange b
-  IsInRange (Binding p bs b) = BoundInRange bs × IsInRange b
-  IsInRange (Applied p o es) = AreInRange es
-  IsInRange (Called p f es) = AreInRange es
-
-  pub AreInRange : Expressions → Type 0
-  AreInRange no_expression = Unit {0}
-  AreInRange (an_expression e es) = IsInRange e × AreInRange es
-
-  pub BoundInRange : Bindings → Type 0
-  BoundInRange no_binding = Unit {0}
-  BoundInRange (a_binding p x w e bs) = ((v : ℕ) → w ≡ Some v → IsWide v) × IsInRange e × BoundInRange bs
 
 pub one_wide : IsWide 1
 one_wide = record { some = omega arith; bounded = omega arith }

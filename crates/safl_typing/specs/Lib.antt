@@ -4,7 +4,9 @@ pub mod Typing
 pub mod Forms
 pub mod Walk
 pub mod Laws
+pub mod Ranges
 pub mod Plain
 pub mod PlainHeads
 pub mod PlainTyped
 pub mod PlainNames
+pub mod MayWalk

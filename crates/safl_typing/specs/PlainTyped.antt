@@ -1,16 +1,21 @@
 -- What the walk of the code gives, and what it shows.
-use Rattle.std.specs.Prelude.{◌≡◌, ℕ, ◌≤◌, List, Option, Some, None, slice_get, Result, Ok, Err}
+use Rattle.std.specs.Prelude.{◌≡◌, ℕ, ◌≤◌, List, Option, Some, None, Bool, if◌then◌else◌, slice_get, Result, Ok, Err}
 use Rattle.safl_word.specs.Words.{max_width}
 use Rattle.safl_word.specs.declared.fault.Fault.{Fault}
-use Rattle.safl_check.specs.Tree.{tree}
+use Rattle.safl_check.specs.Tree.{tree, forest}
 use Rattle.safl_typing.specs.declared.heads.Slot as code_slot
 use Rattle.safl_typing.specs.declared.typed.CheckErr.{CheckErr}
 use Rattle.safl_typing.specs.declared.typed.CheckErr.TheVariants as errors
 use Rattle.safl_typing.specs.declared.typed.Wanted as code_wanted
 use Rattle.safl_typing.specs.declared.typed.Wanted.TheVariants as wants
 use Rattle.safl_typing.specs.declared.typed.Typed as code_typed
+use Rattle.safl_typing.specs.declared.parts.TypedAll as code_all
+use Rattle.safl_typing.specs.declared.parts.TypedAlike as code_alike
+use Rattle.safl_typing.specs.declared.measure.Shape as code_shape
+use Rattle.safl_typing.specs.declared.measure.Shape.TheVariants as shapes
+use Rattle.safl_typing.specs.Rewriting.{Expressions, Shape, Alike, Comparing, Shifting, Resizing}
 use Rattle.safl_typing.specs.Typing.{At}
-use Rattle.safl_typing.specs.Walk.{Wanted, Any, Exactly, Typed}
+use Rattle.safl_typing.specs.Walk.{Wanted, Any, Exactly, Typed, TypedAll, TypedAlike, all_any, amounts}
 
 abbrev pub plain_wanted : code_wanted.Wanted → Wanted
 plain_wanted wants.Any = Any
@@ -24,14 +29,44 @@ abbrev pub HasWideWanted : code_wanted.Wanted → Type 0
 HasWideWanted wants.Any = Unit {0}
 HasWideWanted (wants.Exactly w) = HasWidthOfWord w
 
+abbrev pub HasWideWritten : Option ℕ → Type 0
+HasWideWritten None = Unit {0}
+HasWideWritten (Some w) = HasWidthOfWord w
+
 abbrev pub plain_typed : code_typed.Typed → Typed
 plain_typed t = record { width = t.width; term = tree t.term }
 
--- the result of the code is that of the walk; want of memory says nothing
+abbrev pub plain_all_typed : code_all.TypedAll → TypedAll
+plain_all_typed t = record { widths = t.widths.items; terms = forest t.terms.items }
+
+abbrev pub plain_alike : code_alike.TypedAlike → TypedAlike
+plain_alike t = record { width = t.width; terms = forest t.terms.items }
+
+-- the fault of the code is that of the walk; want of memory says nothing
+abbrev pub Refuses : {A : Type 0} → CheckErr → Result A Fault → Type 0
+Refuses (errors.Refused f) r = r ≡ Err f
+Refuses errors.NoMemory r = Unit {0}
+
+-- the result of the code is that of the walk
 abbrev pub Says : Result code_typed.Typed CheckErr → Result Typed Fault → Type 0
 Says (Ok x) r = r ≡ Ok (plain_typed x)
-Says (Err (errors.Refused f)) r = r ≡ Err f
-Says (Err errors.NoMemory) r = Unit {0}
+Says (Err e) r = Refuses e r
+
+-- the same of several
+abbrev pub SaysAll : Result code_all.TypedAll CheckErr → Result TypedAll Fault → Type 0
+SaysAll (Ok x) r = r ≡ Ok (plain_all_typed x)
+SaysAll (Err e) r = Refuses e r
+
+-- and of several of one width
+abbrev pub SaysAlike : Result code_alike.TypedAlike CheckErr → Result TypedAlike Fault → Type 0
+SaysAlike (Ok x) r = r ≡ Ok (plain_alike x)
+SaysAlike (Err e) r = Refuses e r
+
+abbrev pub plain_shape : code_shape.Shape → Shape
+plain_shape shapes.Alike = Alike
+plain_shape shapes.Comparing = Comparing
+plain_shape shapes.Shifting = Shifting
+plain_shape shapes.Resizing = Resizing
 
 abbrev pub with_slot : ℕ → Option code_slot.Slot → Option At
 with_slot i None = None
@@ -40,3 +75,12 @@ with_slot i (Some s) = Some (record { slot = i; width = s.width })
 abbrev pub at_slot : List code_slot.Slot → Option ℕ → Option At
 at_slot ss None = None
 at_slot ss (Some i) = with_slot i (slice_get ss i)
+
+-- how an operand is looked at, of a shift by this width or of another operator
+abbrev pub operand_wanted : Option ℕ → Bool → Wanted
+operand_wanted None is_flexible = Any
+operand_wanted (Some w) is_flexible = if is_flexible then Exactly w else Any
+
+abbrev pub operands_wanted : Option ℕ → Expressions → List Wanted
+operands_wanted None es = all_any es
+operands_wanted (Some w) es = amounts w es

@@ -6,6 +6,7 @@ mod heads;
 pub mod laws;
 mod lets;
 mod measure;
+mod parts;
 mod repeats;
 mod rewrite;
 mod sites;

@@ -1,8 +1,9 @@
 //! What is told of an expression before it is checked: whether it is flexible, and how many nodes it has.
 
-ghost use Rattle.std.specs.Prelude.{◌≡◌, ◌+◌, ◌≤◌, min};
+ghost use Rattle.std.specs.Prelude.{◌≡◌, ◌+◌, ◌≤◌, ◌&&◌, min};
 ghost use Rattle.safl_typing.specs.Rewriting.{shape, takes_width, flexible, all_flexible, nodes, nodes_in, nodes_bound};
 ghost use Rattle.safl_typing.specs.Plain.{plain, plain_all, plain_bindings};
+ghost use Rattle.safl_typing.specs.PlainTyped.{plain_shape};
 
 use crate::expression::{Bound, Expression};
 use safl_word::Primitive;
@@ -23,6 +24,13 @@ pub fn is_flexible(e: &Expression) -> bool
         }
         Expression::Called(_, _, _) => false,
     }
+}
+
+/// Whether two branches are both flexible.
+pub fn are_both_flexible(first: &Expression, second: &Expression) -> bool
+    ensures { result ≡ (flexible (plain first.now) && flexible (plain second.now)) }
+{
+    is_flexible(first) && is_flexible(second)
 }
 
 #[cycle(flexible)]
@@ -123,5 +131,44 @@ fn add_node(counted: u32) -> u32
         counted + 1
     } else {
         counted
+    }
+}
+
+/// What an operator asks of the widths of its operands.
+#[derive(Clone, Copy)]
+pub enum Shape {
+    /// All are alike, and the result is.
+    Alike,
+    /// All are alike, and the result is one bit.
+    Comparing,
+    /// The result has the first one's width.
+    Shifting,
+    /// The table of widths tells the result's.
+    Resizing,
+}
+
+/// What an operator asks of its operands.
+pub fn shape_of(operator: Primitive) -> Shape
+    ensures { plain_shape result ≡ shape operator }
+{
+    match operator {
+        Primitive::Add => Shape::Alike,
+        Primitive::Sub => Shape::Alike,
+        Primitive::Mul => Shape::Alike,
+        Primitive::And => Shape::Alike,
+        Primitive::Or => Shape::Alike,
+        Primitive::Xor => Shape::Alike,
+        Primitive::Not => Shape::Alike,
+        Primitive::Eq => Shape::Comparing,
+        Primitive::Ne => Shape::Comparing,
+        Primitive::Lt => Shape::Comparing,
+        Primitive::Le => Shape::Comparing,
+        Primitive::Gt => Shape::Comparing,
+        Primitive::Ge => Shape::Comparing,
+        Primitive::Shl => Shape::Shifting,
+        Primitive::Shr => Shape::Shifting,
+        Primitive::Cat => Shape::Resizing,
+        Primitive::Bits(_, _) => Shape::Resizing,
+        Primitive::Ext(_) => Shape::Resizing,
     }
 }

@@ -51,8 +51,9 @@ fn add_all_sites(heads: &[Head], unit: u32, counted: u32, es: &[Expression]) -> 
     total
 }
 
+/// Adds the sites of the values of bindings.
 #[cycle(sites)]
-fn add_bound_sites(heads: &[Head], unit: u32, counted: u32, bound: &[Bound]) -> u32
+pub fn add_bound_sites(heads: &[Head], unit: u32, counted: u32, bound: &[Bound]) -> u32
     requires { counted ≤ 4001 }
     ensures { result ≡ min 4001 (counted + sites_bound (known heads.now unit) (plain_bindings bound.now)) }
 {

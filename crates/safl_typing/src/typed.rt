@@ -1,23 +1,48 @@
 //! What the walk gives: a width with a term, or a fault.
 
-ghost use Rattle.std.specs.Prelude.{◌≡◌, ◌<◌, ◌^◌, IfSome, length};
+ghost use Rattle.std.specs.Prelude.{◌≡◌, ◌<◌, ◌^◌, ◌&&◌, IfSome, length};
 ghost use Rattle.safl_check.specs.Tree.{tree};
 ghost use Rattle.safl_typing.specs.Typing.{innermost};
-ghost use Rattle.safl_typing.specs.Walk.{fault, settle, number, sized, variable};
+ghost use Rattle.safl_typing.specs.Walk.{fault, settle, number, sized, variable, is_known, is_any, wanted_by};
 ghost use Rattle.safl_typing.specs.declared.typed.CheckErr.TheVariants as errors;
 ghost use Rattle.safl_typing.specs.PlainHeads.{plain_slots};
-ghost use Rattle.safl_typing.specs.PlainTyped.{plain_wanted, HasWideWanted, HasWidthOfWord, Says, at_slot};
+ghost use Rattle.safl_typing.specs.PlainTyped.{plain_wanted, HasWideWanted, HasWidthOfWord, Says, at_slot, operand_wanted};
 
 use crate::heads::Slot;
 use safl_check::Term;
 use safl_tree::Name;
-use safl_word::{Fault, Raw, Rule, Word};
+use safl_word::{Fault, NoMemory, Raw, Rule, Word};
+use std::alloc::{AllocError, AllocFailed};
 
 /// A fault of the source, or want of memory.
 #[derive(Clone, Copy, Debug, PartialEq, Eq)]
 pub enum CheckErr {
     Refused(Fault),
     NoMemory,
+}
+
+impl From<AllocError> for CheckErr {
+    ghost from_gives = { λ _ e. e ≡ errors.NoMemory };
+
+    fn from(_e: AllocError) -> CheckErr {
+        CheckErr::NoMemory
+    }
+}
+
+impl<T: Drop> From<AllocFailed<T>> for CheckErr {
+    ghost from_gives = { λ _ e. e ≡ errors.NoMemory };
+
+    fn from(_e: AllocFailed<T>) -> CheckErr {
+        CheckErr::NoMemory
+    }
+}
+
+impl From<NoMemory> for CheckErr {
+    ghost from_gives = { λ _ e. e ≡ errors.NoMemory };
+
+    fn from(_e: NoMemory) -> CheckErr {
+        CheckErr::NoMemory
+    }
 }
 
 /// How an expression is looked at: its width is found, or it is expected at a width.
@@ -34,8 +59,8 @@ pub struct Typed {
     pub term: Term,
 }
 
-// A fault without numbers.
-fn refused(rule: Rule, place: u32) -> CheckErr
+/// A fault without numbers.
+pub fn refused(rule: Rule, place: u32) -> CheckErr
     ensures { result ≡ errors.Refused (fault rule place) }
 {
     CheckErr::Refused(Fault {
@@ -44,6 +69,46 @@ fn refused(rule: Rule, place: u32) -> CheckErr
         first: 0,
         second: 0,
     })
+}
+
+/// Whether a width is expected, or the expression is rigid.
+pub fn has_width(wanted: Wanted, flexible: bool) -> bool
+    ensures { result ≡ is_known (plain_wanted wanted) flexible }
+{
+    match wanted {
+        Wanted::Any => !flexible,
+        Wanted::Exactly(_) => true,
+    }
+}
+
+/// Whether what follows an expression gives the width, and is looked at first.
+pub fn comes_later(wanted: Wanted, flexible: bool) -> bool
+    ensures { result ≡ (is_any (plain_wanted wanted) && flexible) }
+{
+    match wanted {
+        Wanted::Any => flexible,
+        Wanted::Exactly(_) => false,
+    }
+}
+
+/// A binding is expected at its written width, or else found.
+pub fn as_written(width: Option<u8>) -> Wanted
+    ensures { plain_wanted result ≡ wanted_by width }
+{
+    match width {
+        Some(width) => Wanted::Exactly(width),
+        None => Wanted::Any,
+    }
+}
+
+/// An operand is found, but a flexible amount of a shift has the width of what is shifted.
+pub fn as_operand(shifted: Option<u8>, flexible: bool) -> Wanted
+    ensures { plain_wanted result ≡ operand_wanted shifted flexible }
+{
+    match shifted {
+        Some(width) if flexible => Wanted::Exactly(width),
+        _ => Wanted::Any,
+    }
 }
 
 /// An expression whose width was found: E12 where another is expected.

@@ -1,0 +1,368 @@
+-- What is asked of the parts of an expression, and the walk over each form, step by step.
+use Rattle.std.proofs.Common.{◌≡◌, ℕ, zero, suc, ◌+◌, ◌*◌, ◌<◌, ◌≤◌, ◌^◌, arith, get_or, List, [], ◌∷◌, ◌++◌, length, map, Option, Some, None, Bool, true, false, refl, sym, ap, ◌∙◌, subst}
+use Rattle.std.specs.Prelude.{min, ◌&&◌, ◌==◌, Result, Ok, Err, slice_get}
+use Rattle.std.proofs.lemmas.Option.{slice_get_read}
+use Rattle.safl_word.specs.declared.fault.Rule.TheVariants as rules
+use Rattle.safl_word.specs.declared.fault.Fault.{Fault}
+use Rattle.safl_word.specs.declared.primitive.Primitive.{Primitive}
+use Rattle.safl_word.specs.Primitives.{result_width}
+use Rattle.safl_check.specs.Terms.{Term, Terms, If, Let, Op, Call, Loop, Nil, Cons}
+use Rattle.safl_typing.specs.declared.expression.Bound.{Bound}
+use Rattle.safl_typing.specs.declared.expression.Expression as code
+use Rattle.safl_typing.specs.declared.heads.Slot as code_slot
+use Rattle.safl_typing.specs.declared.heads.Head as code_head
+use Rattle.safl_typing.specs.declared.heads.Callee as code_callee
+use Rattle.safl_typing.specs.declared.heads.Callee.TheVariants as callees
+use Rattle.safl_typing.specs.declared.typed.CheckErr.{CheckErr}
+use Rattle.safl_typing.specs.declared.typed.CheckErr.TheVariants as errors
+use Rattle.safl_typing.specs.declared.typed.Wanted as code_wanted
+use Rattle.safl_typing.specs.declared.typed.Wanted.TheVariants as wants
+use Rattle.safl_typing.specs.Rewriting.{Expression, Number, Sized, Variable, Choice, Binding, Applied, Called, Expressions, no_expression, an_expression, Bindings, no_binding, a_binding, Shape, Alike, Comparing, Shifting, Resizing, shape, flexible, count, nodes, nodes_in, nodes_bound}
+use Rattle.safl_typing.specs.Heads.{Slot, Head, Known, Callee, Member, Above, Unknown, callee, sites, sites_in, sites_bound}
+use Rattle.safl_typing.specs.Typing.{slots, widths_of}
+use Rattle.safl_typing.specs.Ranges.{IsWide, AreWide, WideSlots, IsInRange, AreInRange, BoundInRange}
+use Rattle.safl_typing.specs.Walk.{fault, fault_with, after, unless, needs, Typed, TypedAll, TypedAlike, Wanted, Any, Exactly, is_any, is_known, wanted_by, settle, branches, alike, resized, operated, arguments, called, placed, repeated, all_any, amounts, exactly, check, check_all, check_alike, check_shift, check_bound}
+use Rattle.safl_typing.specs.Plain.{plain, plain_all, plain_bindings}
+use Rattle.safl_typing.specs.PlainHeads.{plain_slot, plain_slots, plain_head, plain_heads, known, with_number, a_member, an_earlier, plain_callee, IsOneOf}
+use Rattle.safl_typing.specs.PlainTyped.{plain_wanted, HasWidthOfWord, HasWideWanted, HasWideWritten, Refuses, operand_wanted, operands_wanted}
+use Rattle.safl_typing.specs.MayWalk.{MayWalk, MayCheck, MayCheckAll, MayBind}
+use Rattle.safl_typing.proofs.Wide.{wide_slots, wide_append}
+use Rattle.safl_typing.proofs.Sound.{WideWanted, checks_has, checks_have_alike, checks_have_bound}
+
+pub some_node : (e : Expression) → 1 ≤ nodes e
+some_node (Number p n) = omega arith
+some_node (Sized p w n) = omega arith
+some_node (Variable p x) = omega arith
+some_node (Choice p c a b) = omega arith
+some_node (Binding p bs b) = omega arith
+some_node (Applied p o es) = omega arith
+some_node (Called p f es) = omega arith
+
+pub next_site : (lo n r : ℕ) → r ≡ min 4001 (lo + n) → lo + n ≤ 4001 → r ≡ lo + n
+next_site lo n r e h = omega (arith, e, h)
+
+pub may_part : {R S : Type 0} (hs : List code_head.Head) (ss : List code_slot.Slot) (lo n d lo2 n2 d2 : ℕ) → MayWalk hs ss lo R n d → S → lo2 + n2 ≤ 4001 → d2 ≤ d → MayWalk hs ss lo2 S n2 d2
+may_part hs ss lo n d lo2 n2 d2 h s w l = record { heads = h.heads; counted = h.counted; params = h.params; slots = h.slots; range = s; within = w; room = omega (arith, h.room, l) }
+
+-- ---- lists
+
+pub first_of : (hs : List code_head.Head) (u : ℕ) (ss : List code_slot.Slot) (lo : ℕ) (es : List code.Expression) (y : code.Expression) (ys : List code.Expression)
+    → es ≡ y ∷ ys → MayCheckAll hs u ss lo (plain_all es) → MayCheck hs u ss lo (plain y)
+first_of hs u ss lo es y ys e h =
+    let g : MayCheckAll hs u ss lo (plain_all (y ∷ ys)) = subst (λ (l : List code.Expression). MayCheckAll hs u ss lo (plain_all l)) e h in
+    may_part hs ss lo (sites_in (known hs u) (plain_all (y ∷ ys))) (nodes_in (plain_all (y ∷ ys))) lo (sites (known hs u) (plain y)) (nodes (plain y)) g g.range.0 (omega (arith, g.within)) (omega arith)
+
+pub rest_of : (hs : List code_head.Head) (u : ℕ) (ss : List code_slot.Slot) (lo : ℕ) (es : List code.Expression) (y : code.Expression) (ys : List code.Expression) (r : ℕ)
+    → es ≡ y ∷ ys → r ≡ min 4001 (lo + sites (known hs u) (plain y)) → MayCheckAll hs u ss lo (plain_all es) → MayCheckAll hs u ss r (plain_all ys)
+rest_of hs u ss lo es y ys r e q h =
+    let g : MayCheckAll hs u ss lo (plain_all (y ∷ ys)) = subst (λ (l : List code.Expression). MayCheckAll hs u ss lo (plain_all l)) e h in
+    may_part hs ss lo (sites_in (known hs u) (plain_all (y ∷ ys))) (nodes_in (plain_all (y ∷ ys))) r (sites_in (known hs u) (plain_all ys)) (nodes_in (plain_all ys)) g g.range.1 (omega (arith, g.within, q)) (omega arith)
+
+pub next_of : (hs : List code_head.Head) (u : ℕ) (ss : List code_slot.Slot) (lo : ℕ) (es : List code.Expression) (y : code.Expression) (ys : List code.Expression) (r : ℕ)
+    → es ≡ y ∷ ys → r ≡ min 4001 (lo + sites (known hs u) (plain y)) → MayCheckAll hs u ss lo (plain_all es) → r ≡ lo + sites (known hs u) (plain y)
+next_of hs u ss lo es y ys r e q h = next_site lo (sites (known hs u) (plain y)) r q (first_of hs u ss lo es y ys e h).within
+
+pub less_first : (es : List code.Expression) (y : code.Expression) (ys : List code.Expression) → es ≡ y ∷ ys → 3 * nodes (plain y) < 3 * nodes_in (plain_all es) + 1
+less_first es y ys e = omega (arith, ap (λ (l : List code.Expression). nodes_in (plain_all l)) e)
+
+pub less_rest : (es : List code.Expression) (y : code.Expression) (ys : List code.Expression) → es ≡ y ∷ ys → 3 * nodes_in (plain_all ys) + 1 < 3 * nodes_in (plain_all es) + 1
+less_rest es y ys e = omega (arith, some_node (plain y), ap (λ (l : List code.Expression). nodes_in (plain_all l)) e)
+
+-- the same of bindings
+pub bound_first : (hs : List code_head.Head) (u : ℕ) (ss : List code_slot.Slot) (lo : ℕ) (es : List Bound) (y : Bound) (ys : List Bound)
+    → es ≡ y ∷ ys → MayBind hs u ss lo (plain_bindings es) → MayCheck hs u ss lo (plain y.value)
+bound_first hs u ss lo es y ys e h =
+    let g : MayBind hs u ss lo (plain_bindings (y ∷ ys)) = subst (λ (l : List Bound). MayBind hs u ss lo (plain_bindings l)) e h in
+    may_part hs ss lo (sites_bound (known hs u) (plain_bindings (y ∷ ys))) (nodes_bound (plain_bindings (y ∷ ys))) lo (sites (known hs u) (plain y.value)) (nodes (plain y.value)) g g.range.1 (omega (arith, g.within)) (omega arith)
+
+pub bound_rest : (hs : List code_head.Head) (u : ℕ) (ss : List code_slot.Slot) (lo : ℕ) (es : List Bound) (y : Bound) (ys : List Bound) (r : ℕ)
+    → es ≡ y ∷ ys → r ≡ min 4001 (lo + sites (known hs u) (plain y.value)) → MayBind hs u ss lo (plain_bindings es) → MayBind hs u ss r (plain_bindings ys)
+bound_rest hs u ss lo es y ys r e q h =
+    let g : MayBind hs u ss lo (plain_bindings (y ∷ ys)) = subst (λ (l : List Bound). MayBind hs u ss lo (plain_bindings l)) e h in
+    may_part hs ss lo (sites_bound (known hs u) (plain_bindings (y ∷ ys))) (nodes_bound (plain_bindings (y ∷ ys))) r (sites_bound (known hs u) (plain_bindings ys)) (nodes_bound (plain_bindings ys)) g g.range.2 (omega (arith, g.within, q)) (omega arith)
+
+written_wide : (o : Option ℕ) (m : code_wanted.Wanted) → plain_wanted m ≡ wanted_by o → ((v : ℕ) → o ≡ Some v → IsWide v) → HasWideWanted m
+written_wide o wants.Any e f = tt
+written_wide None (wants.Exactly w) e f = absurd cc
+written_wide (Some v) (wants.Exactly w) e f = let q : v ≡ w = cc in let g = f v refl in subst HasWidthOfWord q (g.some, g.bounded)
+
+pub bound_wanted : (hs : List code_head.Head) (u : ℕ) (ss : List code_slot.Slot) (lo : ℕ) (es : List Bound) (y : Bound) (ys : List Bound) (m : code_wanted.Wanted)
+    → es ≡ y ∷ ys → MayBind hs u ss lo (plain_bindings es) → plain_wanted m ≡ wanted_by y.width → HasWideWanted m
+bound_wanted hs u ss lo es y ys m e h q =
+    let g : MayBind hs u ss lo (plain_bindings (y ∷ ys)) = subst (λ (l : List Bound). MayBind hs u ss lo (plain_bindings l)) e h in
+    written_wide y.width m q g.range.0
+
+pub bound_next : (hs : List code_head.Head) (u : ℕ) (ss : List code_slot.Slot) (lo : ℕ) (es : List Bound) (y : Bound) (ys : List Bound) (r : ℕ)
+    → es ≡ y ∷ ys → r ≡ min 4001 (lo + sites (known hs u) (plain y.value)) → MayBind hs u ss lo (plain_bindings es) → r ≡ lo + sites (known hs u) (plain y.value)
+bound_next hs u ss lo es y ys r e q h = next_site lo (sites (known hs u) (plain y.value)) r q (bound_first hs u ss lo es y ys e h).within
+
+pub bound_less_first : (es : List Bound) (y : Bound) (ys : List Bound) → es ≡ y ∷ ys → 3 * nodes (plain y.value) < 3 * nodes_bound (plain_bindings es) + 1
+bound_less_first es y ys e = omega (arith, ap (λ (l : List Bound). nodes_bound (plain_bindings l)) e)
+
+pub bound_less_rest : (es : List Bound) (y : Bound) (ys : List Bound) → es ≡ y ∷ ys → 3 * nodes_bound (plain_bindings ys) + 1 < 3 * nodes_bound (plain_bindings es) + 1
+bound_less_rest es y ys e = omega (arith, some_node (plain y.value), ap (λ (l : List Bound). nodes_bound (plain_bindings l)) e)
+
+-- ---- widths that were found
+
+pub wide_wanted : (m : code_wanted.Wanted) → HasWideWanted m → WideWanted (plain_wanted m)
+wide_wanted wants.Any h = tt
+wide_wanted (wants.Exactly w) h = record { some = h.0; bounded = h.1 }
+
+pub found_wide : (hs : List code_head.Head) (u : ℕ) (ss : List code_slot.Slot) (tail : Bool) (lo : ℕ) (m : code_wanted.Wanted) (e : Expression) (x : Typed)
+    → MayCheck hs u ss lo e → HasWideWanted m → check (known hs u) (plain_slots ss) tail lo (plain_wanted m) e ≡ Ok x → HasWidthOfWord x.width
+found_wide hs u ss tail lo m e x h w q =
+    let g = (checks_has (known hs u) (plain_slots ss) tail lo (lo + sites (known hs u) e) (plain_wanted m) e x refl h.heads h.slots h.range (wide_wanted m w) q).wide in
+    (g.some, g.bounded)
+
+pub alike_wide : (hs : List code_head.Head) (u : ℕ) (ss : List code_slot.Slot) (lo p : ℕ) (m : code_wanted.Wanted) (es : Expressions) (r : TypedAlike)
+    → MayCheckAll hs u ss lo es → HasWideWanted m → check_alike (known hs u) (plain_slots ss) lo p (plain_wanted m) es ≡ Ok r → HasWidthOfWord r.width
+alike_wide hs u ss lo p m es r h w q =
+    let g = (checks_have_alike (known hs u) (plain_slots ss) lo (lo + sites_in (known hs u) es) p (plain_wanted m) es r refl h.heads h.slots h.range (wide_wanted m w) q).wide in
+    (g.some, g.bounded)
+
+pub operand_wide : (o : Option ℕ) (b : Bool) (m : code_wanted.Wanted) → HasWideWritten o → plain_wanted m ≡ operand_wanted o b → HasWideWanted m
+operand_wide o b wants.Any h e = tt
+operand_wide None b (wants.Exactly w) h e = absurd cc
+operand_wide (Some v) true (wants.Exactly w) h e = let q : v ≡ w = cc in subst HasWidthOfWord q h
+operand_wide (Some v) false (wants.Exactly w) h e = absurd cc
+
+-- ---- operands, arguments and bindings
+
+abbrev pub joined : Typed → TypedAll → TypedAll
+joined x r = record { widths = x.width ∷ r.widths; terms = Cons x.term r.terms }
+
+abbrev pub with_operand : ℕ → Typed → Terms → TypedAlike
+with_operand w x us = record { width = w; terms = Cons x.term us }
+
+operands_cons : (k : Known) (s : List Slot) (lo : ℕ) (o : Option ℕ) (y : Expression) (ys : Expressions)
+    → check_all k s lo (operands_wanted o (an_expression y ys)) (an_expression y ys) ≡ after (check k s false lo (operand_wanted o (flexible y)) y) (λ x. after (check_all k s (lo + sites k y) (operands_wanted o ys) ys) (λ r. Ok (joined x r)))
+operands_cons k s lo None y ys = refl
+operands_cons k s lo (Some w) y ys = refl
+
+pub operands_is : (k : Known) (s : List Slot) (lo : ℕ) (o : Option ℕ) (es : List code.Expression) (y : code.Expression) (ys : List code.Expression) (m : Wanted) (n : ℕ)
+    → es ≡ y ∷ ys → m ≡ operand_wanted o (flexible (plain y)) → n ≡ lo + sites k (plain y)
+    → check_all k s lo (operands_wanted o (plain_all es)) (plain_all es) ≡ after (check k s false lo m (plain y)) (λ x. after (check_all k s n (operands_wanted o (plain_all ys)) (plain_all ys)) (λ r. Ok (joined x r)))
+operands_is k s lo o es y ys m n e em en =
+    let f : Wanted → ℕ → Result TypedAll Fault = λ v i. after (check k s false lo v (plain y)) (λ x. after (check_all k s i (operands_wanted o (plain_all ys)) (plain_all ys)) (λ r. Ok (joined x r))) in
+    ap (λ (l : List code.Expression). check_all k s lo (operands_wanted o (plain_all l)) (plain_all l)) e ∙ operands_cons k s lo o (plain y) (plain_all ys)
+    ∙ sym (ap (λ (v : Wanted). f v (lo + sites k (plain y))) em) ∙ sym (ap (λ (i : ℕ). f m i) en)
+
+pub arguments_is : (k : Known) (s : List Slot) (lo : ℕ) (ps : List code_slot.Slot) (p : code_slot.Slot) (qs : List code_slot.Slot) (es : List code.Expression) (y : code.Expression) (ys : List code.Expression) (n : ℕ)
+    → ps ≡ p ∷ qs → es ≡ y ∷ ys → n ≡ lo + sites k (plain y)
+    → check_all k s lo (exactly (widths_of (plain_slots ps))) (plain_all es) ≡ after (check k s false lo (Exactly p.width) (plain y)) (λ x. after (check_all k s n (exactly (widths_of (plain_slots qs))) (plain_all ys)) (λ r. Ok (joined x r)))
+arguments_is k s lo ps p qs es y ys n ep e en =
+    let f : ℕ → Result TypedAll Fault = λ i. after (check k s false lo (Exactly p.width) (plain y)) (λ x. after (check_all k s i (exactly (widths_of (plain_slots qs))) (plain_all ys)) (λ r. Ok (joined x r))) in
+    ap (λ (l : List code_slot.Slot). check_all k s lo (exactly (widths_of (plain_slots l))) (plain_all es)) ep
+    ∙ ap (λ (l : List code.Expression). check_all k s lo (exactly (widths_of (plain_slots (p ∷ qs)))) (plain_all l)) e ∙ sym (ap f en)
+
+pub arguments_none : (k : Known) (s : List Slot) (lo : ℕ) (ps : List code_slot.Slot) (es : Expressions) → length ps ≡ 0 → check_all k s lo (exactly (widths_of (plain_slots ps))) es ≡ Ok (record { widths = []; terms = Nil })
+arguments_none k s lo [] no_expression e = refl
+arguments_none k s lo [] (an_expression y ys) e = refl
+arguments_none k s lo (p ∷ ps) es e = absurd (omega (arith, e))
+
+pub none_is : (k : Known) (s : List Slot) (lo : ℕ) (ms : List Wanted) (es : List code.Expression) → length es ≡ 0 → check_all k s lo ms (plain_all es) ≡ Ok (record { widths = []; terms = Nil })
+none_is k s lo ms [] e = refl
+none_is k s lo ms (y ∷ ys) e = absurd (omega (arith, e))
+
+pub no_bound : (k : Known) (s : List Slot) (lo : ℕ) (bs : List Bound) → length bs ≡ 0 → check_bound k s lo (plain_bindings bs) ≡ Ok (record { widths = []; terms = Nil })
+no_bound k s lo [] e = refl
+no_bound k s lo (b ∷ bs) e = absurd (omega (arith, e))
+
+pub no_list : (es : List code.Expression) → length es ≡ 0 → plain_all es ≡ no_expression
+no_list [] e = refl
+no_list (y ∷ ys) e = absurd (omega (arith, e))
+
+pub bound_is : (k : Known) (s : List Slot) (lo : ℕ) (es : List Bound) (y : Bound) (ys : List Bound) (m : Wanted) (n : ℕ)
+    → es ≡ y ∷ ys → m ≡ wanted_by y.width → n ≡ lo + sites k (plain y.value)
+    → check_bound k s lo (plain_bindings es) ≡ after (check k s false lo m (plain y.value)) (λ x. after (check_bound k s n (plain_bindings ys)) (λ r. Ok (joined x r)))
+bound_is k s lo es y ys m n e em en =
+    let f : Wanted → ℕ → Result TypedAll Fault = λ v i. after (check k s false lo v (plain y.value)) (λ x. after (check_bound k s i (plain_bindings ys)) (λ r. Ok (joined x r))) in
+    ap (λ (l : List Bound). check_bound k s lo (plain_bindings l)) e
+    ∙ sym (ap (λ (v : Wanted). f v (lo + sites k (plain y.value))) em) ∙ sym (ap (λ (i : ℕ). f m i) en)
+
+pub shift_is : (k : Known) (s : List Slot) (lo p : ℕ) (es : List code.Expression) (y : code.Expression) (ys : List code.Expression) (n : ℕ)
+    → es ≡ y ∷ ys → n ≡ lo + sites k (plain y)
+    → check_shift k s lo p (plain_all es) ≡ after (check k s false lo Any (plain y)) (λ x. after (check_all k s n (amounts x.width (plain_all ys)) (plain_all ys)) (λ r. Ok (with_operand x.width x r.terms)))
+shift_is k s lo p es y ys n e en =
+    let f : ℕ → Result TypedAlike Fault = λ i. after (check k s false lo Any (plain y)) (λ x. after (check_all k s i (amounts x.width (plain_all ys)) (plain_all ys)) (λ r. Ok (with_operand x.width x r.terms))) in
+    ap (λ (l : List code.Expression). check_shift k s lo p (plain_all l)) e ∙ sym (ap f en)
+
+pub alike_later : (k : Known) (s : List Slot) (lo p : ℕ) (m : Wanted) (es : List code.Expression) (y : code.Expression) (ys : List code.Expression) (n : ℕ)
+    → es ≡ y ∷ ys → (is_any m && flexible (plain y)) ≡ true → n ≡ lo + sites k (plain y)
+    → check_alike k s lo p m (plain_all es) ≡ after (check_alike k s n p m (plain_all ys)) (λ r. after (check k s false lo (Exactly r.width) (plain y)) (λ x. Ok (with_operand r.width x r.terms)))
+alike_later k s lo p m es y ys n e b en =
+    let f : ℕ → Result TypedAlike Fault = λ i. after (check_alike k s i p m (plain_all ys)) (λ r. after (check k s false lo (Exactly r.width) (plain y)) (λ x. Ok (with_operand r.width x r.terms))) in
+    ap (λ (l : List code.Expression). check_alike k s lo p m (plain_all l)) e
+    ∙ ap (λ (c : Bool). alike c m (λ v. check k s false lo v (plain y)) (λ v. check_alike k s (lo + sites k (plain y)) p v (plain_all ys))) b ∙ sym (ap f en)
+
+pub alike_first : (k : Known) (s : List Slot) (lo p : ℕ) (m : Wanted) (es : List code.Expression) (y : code.Expression) (ys : List code.Expression) (n : ℕ)
+    → es ≡ y ∷ ys → (is_any m && flexible (plain y)) ≡ false → n ≡ lo + sites k (plain y)
+    → check_alike k s lo p m (plain_all es) ≡ after (check k s false lo m (plain y)) (λ x. after (check_alike k s n p (Exactly x.width) (plain_all ys)) (λ r. Ok (with_operand x.width x r.terms)))
+alike_first k s lo p m es y ys n e b en =
+    let f : ℕ → Result TypedAlike Fault = λ i. after (check k s false lo m (plain y)) (λ x. after (check_alike k s i p (Exactly x.width) (plain_all ys)) (λ r. Ok (with_operand x.width x r.terms))) in
+    ap (λ (l : List code.Expression). check_alike k s lo p m (plain_all l)) e
+    ∙ ap (λ (c : Bool). alike c m (λ v. check k s false lo v (plain y)) (λ v. check_alike k s (lo + sites k (plain y)) p v (plain_all ys))) b ∙ sym (ap f en)
+
+-- ---- ifs and lets
+
+pub branches_later : (k : Known) (s : List Slot) (tail : Bool) (lo : ℕ) (m : Wanted) (a b : Expression) (t : Term) (n : ℕ)
+    → (is_any m && flexible a) ≡ true → n ≡ lo + sites k a
+    → branches (is_any m && flexible a) m (λ v. check k s tail lo v a) (λ v. check k s tail (lo + sites k a) v b) t
+    ≡ after (check k s tail n m b) (λ z. after (check k s tail lo (Exactly z.width) a) (λ y. Ok (record { width = z.width; term = If t y.term z.term })))
+branches_later k s tail lo m a b t n e en =
+    let f : ℕ → Result Typed Fault = λ i. after (check k s tail i m b) (λ z. after (check k s tail lo (Exactly z.width) a) (λ y. Ok (record { width = z.width; term = If t y.term z.term }))) in
+    ap (λ (c : Bool). branches c m (λ v. check k s tail lo v a) (λ v. check k s tail (lo + sites k a) v b) t) e ∙ sym (ap f en)
+
+pub branches_first : (k : Known) (s : List Slot) (tail : Bool) (lo : ℕ) (m : Wanted) (a b : Expression) (t : Term) (n : ℕ)
+    → (is_any m && flexible a) ≡ false → n ≡ lo + sites k a
+    → branches (is_any m && flexible a) m (λ v. check k s tail lo v a) (λ v. check k s tail (lo + sites k a) v b) t
+    ≡ after (check k s tail lo m a) (λ y. after (check k s tail n (Exactly y.width) b) (λ z. Ok (record { width = y.width; term = If t y.term z.term })))
+branches_first k s tail lo m a b t n e en =
+    let f : ℕ → Result Typed Fault = λ i. after (check k s tail lo m a) (λ y. after (check k s tail i (Exactly y.width) b) (λ z. Ok (record { width = y.width; term = If t y.term z.term }))) in
+    ap (λ (c : Bool). branches c m (λ v. check k s tail lo v a) (λ v. check k s tail (lo + sites k a) v b) t) e ∙ sym (ap f en)
+
+pub choice_not : (k : Known) (s : List Slot) (tail : Bool) (lo : ℕ) (m : Wanted) (p : ℕ) (c a b : Expression) → is_known m (flexible a && flexible b) ≡ false → check k s tail lo m (Choice p c a b) ≡ Err (fault rules.E14 p)
+choice_not k s tail lo m p c a b e =
+    ap (λ (t : Bool). unless (needs t (fault rules.E14 p)) (after (check k s false lo (Exactly 1) c) (λ x. branches (is_any m && flexible a) m (λ v. check k s tail (lo + sites k c) v a) (λ v. check k s tail (lo + sites k c + sites k a) v b) x.term))) e
+
+pub choice_is : (k : Known) (s : List Slot) (tail : Bool) (lo : ℕ) (m : Wanted) (p : ℕ) (c a b : Expression) (n : ℕ) → is_known m (flexible a && flexible b) ≡ true → n ≡ lo + sites k c
+    → check k s tail lo m (Choice p c a b) ≡ after (check k s false lo (Exactly 1) c) (λ x. branches (is_any m && flexible a) m (λ v. check k s tail n v a) (λ v. check k s tail (n + sites k a) v b) x.term)
+choice_is k s tail lo m p c a b n e en =
+    let f : ℕ → Result Typed Fault = λ i. after (check k s false lo (Exactly 1) c) (λ x. branches (is_any m && flexible a) m (λ v. check k s tail i v a) (λ v. check k s tail (i + sites k a) v b) x.term) in
+    ap (λ (t : Bool). unless (needs t (fault rules.E14 p)) (f (lo + sites k c))) e ∙ sym (ap f en)
+
+pub binding_not : (k : Known) (s : List Slot) (tail : Bool) (lo : ℕ) (m : Wanted) (p : ℕ) (bs : Bindings) (b : Expression) → is_known m (flexible b) ≡ false → check k s tail lo m (Binding p bs b) ≡ Err (fault rules.E14 p)
+binding_not k s tail lo m p bs b e =
+    ap (λ (t : Bool). unless (needs t (fault rules.E14 p)) (unless (repeated [] (placed bs)) (after (check_bound k s lo bs) (λ r. after (check k (s ++ slots bs r.widths) tail (lo + sites_bound k bs) m b) (λ y. Ok (record { width = y.width; term = Let r.terms y.term })))))) e
+
+binding_known : (k : Known) (s : List Slot) (tail : Bool) (lo : ℕ) (m : Wanted) (p : ℕ) (bs : Bindings) (b : Expression) (o : Option Fault) → is_known m (flexible b) ≡ true → repeated [] (placed bs) ≡ o
+    → check k s tail lo m (Binding p bs b) ≡ unless o (after (check_bound k s lo bs) (λ r. after (check k (s ++ slots bs r.widths) tail (lo + sites_bound k bs) m b) (λ y. Ok (record { width = y.width; term = Let r.terms y.term }))))
+binding_known k s tail lo m p bs b o e q =
+    let f : Option Fault → Result Typed Fault = λ z. unless z (after (check_bound k s lo bs) (λ r. after (check k (s ++ slots bs r.widths) tail (lo + sites_bound k bs) m b) (λ y. Ok (record { width = y.width; term = Let r.terms y.term })))) in
+    ap (λ (t : Bool). unless (needs t (fault rules.E14 p)) (f (repeated [] (placed bs)))) e ∙ ap f q
+
+pub binding_twice : (k : Known) (s : List Slot) (tail : Bool) (lo : ℕ) (m : Wanted) (p : ℕ) (bs : Bindings) (b : Expression) (f : Fault) → is_known m (flexible b) ≡ true → repeated [] (placed bs) ≡ Some f
+    → check k s tail lo m (Binding p bs b) ≡ Err f
+binding_twice k s tail lo m p bs b f e q = binding_known k s tail lo m p bs b (Some f) e q
+
+pub binding_is : (k : Known) (s : List Slot) (tail : Bool) (lo : ℕ) (m : Wanted) (p : ℕ) (bs : Bindings) (b : Expression) (n : ℕ) → is_known m (flexible b) ≡ true → repeated [] (placed bs) ≡ None → n ≡ lo + sites_bound k bs
+    → check k s tail lo m (Binding p bs b) ≡ after (check_bound k s lo bs) (λ r. after (check k (s ++ slots bs r.widths) tail n m b) (λ y. Ok (record { width = y.width; term = Let r.terms y.term })))
+binding_is k s tail lo m p bs b n e q en =
+    let f : ℕ → Result Typed Fault = λ i. after (check_bound k s lo bs) (λ r. after (check k (s ++ slots bs r.widths) tail i m b) (λ y. Ok (record { width = y.width; term = Let r.terms y.term }))) in
+    binding_known k s tail lo m p bs b None e q ∙ sym (ap f en)
+
+slots_few : (bs : Bindings) (ws : List ℕ) → length (slots bs ws) ≤ nodes_bound bs
+slots_few no_binding ws = omega arith
+slots_few (a_binding p x v e bs) [] = omega arith
+slots_few (a_binding p x v e bs) (w ∷ ws) = omega (arith, some_node e, slots_few bs ws)
+
+pub slots_length : (ss : List code_slot.Slot) → length (plain_slots ss) ≡ length ss
+slots_length [] = refl
+slots_length (s ∷ ss) = ap (λ n. suc n) (slots_length ss)
+
+append_length : (a b : List Slot) → length (a ++ b) ≡ length a + length b
+append_length [] b = omega arith
+append_length (x ∷ a) b = let i = append_length a b in omega (arith, i)
+
+pub may_below : (hs : List code_head.Head) (u : ℕ) (ss below : List code_slot.Slot) (lo p : ℕ) (bs : Bindings) (b : Expression) (r : TypedAll) (n : ℕ)
+    → MayCheck hs u ss lo (Binding p bs b) → n ≡ min 4001 (lo + sites_bound (known hs u) bs) → check_bound (known hs u) (plain_slots ss) lo bs ≡ Ok r
+    → plain_slots below ≡ plain_slots ss ++ slots bs r.widths → MayCheck hs u below n b
+may_below hs u ss below lo p bs b r n h q c e =
+    let w = (checks_have_bound (known hs u) (plain_slots ss) lo (lo + sites_bound (known hs u) bs) bs r refl h.heads h.slots h.range.0 c).wide in
+    let l : length below ≡ length ss + length (slots bs r.widths) = omega (arith, sym (slots_length below), ap (λ (z : List Slot). length z) e, append_length (plain_slots ss) (slots bs r.widths), slots_length ss) in
+    record { heads = h.heads; counted = h.counted; params = h.params; slots = subst WideSlots (sym e) (wide_append (plain_slots ss) (slots bs r.widths) h.slots (wide_slots bs r.widths w)); range = h.range.1; within = omega (arith, h.within, q); room = omega (arith, h.room, l, slots_few bs r.widths) }
+
+-- ---- operators
+
+operated_is : (k : Known) (s : List Slot) (tail : Bool) (lo : ℕ) (m : Wanted) (p : ℕ) (o : Primitive) (es : Expressions) (sh : Shape) → sh ≡ shape o
+    → check k s tail lo m (Applied p o es) ≡ operated sh p m o (λ v. check_alike k s lo p v es) (check_shift k s lo p es) (check_all k s lo (all_any es) es)
+operated_is k s tail lo m p o es sh e = sym (ap (λ (z : Shape). operated z p m o (λ v. check_alike k s lo p v es) (check_shift k s lo p es) (check_all k s lo (all_any es) es)) e)
+
+pub alike_is : (k : Known) (s : List Slot) (tail : Bool) (lo : ℕ) (m : Wanted) (p : ℕ) (o : Primitive) (es : Expressions) → Alike ≡ shape o
+    → check k s tail lo m (Applied p o es) ≡ after (check_alike k s lo p m es) (λ r. Ok (record { width = r.width; term = Op o r.terms }))
+alike_is k s tail lo m p o es e = operated_is k s tail lo m p o es Alike e
+
+pub comparing_is : (k : Known) (s : List Slot) (tail : Bool) (lo : ℕ) (m : Wanted) (p : ℕ) (o : Primitive) (es : Expressions) → Comparing ≡ shape o
+    → check k s tail lo m (Applied p o es) ≡ after (check_alike k s lo p Any es) (λ r. settle p m 1 (Op o r.terms))
+comparing_is k s tail lo m p o es e = operated_is k s tail lo m p o es Comparing e
+
+pub shifting_is : (k : Known) (s : List Slot) (tail : Bool) (lo : ℕ) (m : Wanted) (p : ℕ) (o : Primitive) (es : Expressions) → Shifting ≡ shape o
+    → check k s tail lo m (Applied p o es) ≡ after (check_shift k s lo p es) (λ r. settle p m r.width (Op o r.terms))
+shifting_is k s tail lo m p o es e = operated_is k s tail lo m p o es Shifting e
+
+pub resizing_is : (k : Known) (s : List Slot) (tail : Bool) (lo : ℕ) (m : Wanted) (p : ℕ) (o : Primitive) (es : Expressions) → Resizing ≡ shape o
+    → check k s tail lo m (Applied p o es) ≡ after (check_all k s lo (all_any es) es) (λ r. resized p m o (result_width o r.widths) r.terms)
+resizing_is k s tail lo m p o es e = operated_is k s tail lo m p o es Resizing e
+
+-- ---- calls
+
+pub callee_member : (hs : List code_head.Head) (k : Known) (f : List ℕ) (c : code_callee.Callee) (n : ℕ) (h : code_head.Head) → plain_callee hs c ≡ callee k f → IsOneOf hs c → c ≡ callees.Member n → h ≡ get_or hs n h → callee k f ≡ Member n (plain_head h)
+callee_member hs k f c n h e one is get =
+    sym e ∙ ap (plain_callee hs) is ∙ ap (λ (o : Option code_head.Head). a_member (with_number n o)) (slice_get_read hs (length hs) n h refl (subst (IsOneOf hs) is one) get)
+
+pub callee_above : (hs : List code_head.Head) (k : Known) (f : List ℕ) (c : code_callee.Callee) (n : ℕ) (h : code_head.Head) → plain_callee hs c ≡ callee k f → IsOneOf hs c → c ≡ callees.Above n → h ≡ get_or hs n h → callee k f ≡ Above n (plain_head h)
+callee_above hs k f c n h e one is get =
+    sym e ∙ ap (plain_callee hs) is ∙ ap (λ (o : Option code_head.Head). an_earlier (with_number n o)) (slice_get_read hs (length hs) n h refl (subst (IsOneOf hs) is one) get)
+
+called_is : (k : Known) (s : List Slot) (tail : Bool) (lo : ℕ) (m : Wanted) (p : ℕ) (f : List ℕ) (es : Expressions) (c : Callee) → callee k f ≡ c
+    → check k s tail lo m (Called p f es) ≡ called c tail lo p m (count es) (λ first ws. check_all k s first (exactly ws) es)
+called_is k s tail lo m p f es c e = ap (λ (z : Callee). called z tail lo p m (count es) (λ first ws. check_all k s first (exactly ws) es)) e
+
+pub unknown_is : (k : Known) (s : List Slot) (tail : Bool) (lo : ℕ) (m : Wanted) (p : ℕ) (f : List ℕ) (es : Expressions) → callee k f ≡ Unknown → check k s tail lo m (Called p f es) ≡ Err (fault rules.E09 p)
+unknown_is k s tail lo m p f es e = called_is k s tail lo m p f es Unknown e
+
+pub not_tail : (k : Known) (s : List Slot) (tail : Bool) (lo : ℕ) (m : Wanted) (p : ℕ) (f : List ℕ) (es : Expressions) (n : ℕ) (h : Head) → callee k f ≡ Member n h → tail ≡ false → check k s tail lo m (Called p f es) ≡ Err (fault rules.E10 p)
+not_tail k s tail lo m p f es n h e t =
+    called_is k s tail lo m p f es (Member n h) e ∙ ap (λ (b : Bool). unless (needs b (fault rules.E10 p)) (arguments p m h (count es) (check_all k s lo (exactly (widths_of h.params)) es) (λ us. Loop n us))) t
+
+counted : (p : ℕ) (m : Wanted) (h : Head) (n : ℕ) (args : Result TypedAll Fault) (call : Terms → Term) (b : Bool) → (length h.params == n) ≡ b
+    → arguments p m h n args call ≡ unless (needs b (fault_with rules.E11 p (length h.params) n)) (after args (λ r. settle p m h.width (call r.terms)))
+counted p m h n args call b e = ap (λ (z : Bool). unless (needs z (fault_with rules.E11 p (length h.params) n)) (after args (λ r. settle p m h.width (call r.terms)))) e
+
+pub loop_count : (k : Known) (s : List Slot) (tail : Bool) (lo : ℕ) (m : Wanted) (p : ℕ) (f : List ℕ) (es : Expressions) (n : ℕ) (h : Head) → callee k f ≡ Member n h → tail ≡ true → (length h.params == count es) ≡ false
+    → check k s tail lo m (Called p f es) ≡ Err (fault_with rules.E11 p (length h.params) (count es))
+loop_count k s tail lo m p f es n h e t q =
+    called_is k s tail lo m p f es (Member n h) e ∙ ap (λ (b : Bool). unless (needs b (fault rules.E10 p)) (arguments p m h (count es) (check_all k s lo (exactly (widths_of h.params)) es) (λ us. Loop n us))) t
+    ∙ counted p m h (count es) (check_all k s lo (exactly (widths_of h.params)) es) (λ us. Loop n us) false q
+
+pub loop_is : (k : Known) (s : List Slot) (tail : Bool) (lo : ℕ) (m : Wanted) (p : ℕ) (f : List ℕ) (es : Expressions) (n : ℕ) (h : Head) → callee k f ≡ Member n h → tail ≡ true → (length h.params == count es) ≡ true
+    → check k s tail lo m (Called p f es) ≡ after (check_all k s lo (exactly (widths_of h.params)) es) (λ r. settle p m h.width (Loop n r.terms))
+loop_is k s tail lo m p f es n h e t q =
+    called_is k s tail lo m p f es (Member n h) e ∙ ap (λ (b : Bool). unless (needs b (fault rules.E10 p)) (arguments p m h (count es) (check_all k s lo (exactly (widths_of h.params)) es) (λ us. Loop n us))) t
+    ∙ counted p m h (count es) (check_all k s lo (exactly (widths_of h.params)) es) (λ us. Loop n us) true q
+
+pub call_count : (k : Known) (s : List Slot) (tail : Bool) (lo : ℕ) (m : Wanted) (p : ℕ) (f : List ℕ) (es : Expressions) (n : ℕ) (h : Head) → callee k f ≡ Above n h → (length h.params == count es) ≡ false
+    → check k s tail lo m (Called p f es) ≡ Err (fault_with rules.E11 p (length h.params) (count es))
+call_count k s tail lo m p f es n h e q =
+    called_is k s tail lo m p f es (Above n h) e ∙ counted p m h (count es) (check_all k s (suc lo) (exactly (widths_of h.params)) es) (λ us. Call n lo us) false q
+
+pub call_is : (k : Known) (s : List Slot) (tail : Bool) (lo : ℕ) (m : Wanted) (p : ℕ) (f : List ℕ) (es : Expressions) (n : ℕ) (h : Head) (next : ℕ) → callee k f ≡ Above n h → (length h.params == count es) ≡ true → next ≡ suc lo
+    → check k s tail lo m (Called p f es) ≡ after (check_all k s next (exactly (widths_of h.params)) es) (λ r. settle p m h.width (Call n lo r.terms))
+call_is k s tail lo m p f es n h next e q en =
+    called_is k s tail lo m p f es (Above n h) e ∙ counted p m h (count es) (check_all k s (suc lo) (exactly (widths_of h.params)) es) (λ us. Call n lo us) true q
+    ∙ sym (ap (λ (i : ℕ). after (check_all k s i (exactly (widths_of h.params)) es) (λ r. settle p m h.width (Call n lo r.terms))) en)
+
+pub count_all : (es : List code.Expression) → count (plain_all es) ≡ length es
+count_all [] = refl
+count_all (y ∷ ys) = let i = count_all ys in omega (arith, i)
+
+pub few_arguments : (es : Expressions) → count es ≤ nodes_in es
+few_arguments no_expression = omega arith
+few_arguments (an_expression e es) = omega (arith, some_node e, few_arguments es)
+
+-- ---- results
+
+pub ok_all : (a b : TypedAll) → a ≡ b → ◌≡◌ {A = Result TypedAll Fault} (Ok a) (Ok b)
+ok_all a b e = rw e refl
+
+pub ok_typed : (a b : Typed) → a ≡ b → ◌≡◌ {A = Result Typed Fault} (Ok a) (Ok b)
+ok_typed a b e = rw e refl
+
+pub same_typed : (v w : ℕ) (t u : Term) → v ≡ w → t ≡ u → ◌≡◌ {A = Typed} (record { width = v; term = t }) (record { width = w; term = u })
+same_typed v w t u e q = rw (e, q) refl
+
+pub refused_is : {A : Type 0} (r : CheckErr) (q : Result A Fault) (f : Fault) → r ≡ errors.Refused f → q ≡ Err f → Refuses r q
+refused_is r q f e h = subst (λ (z : CheckErr). Refuses z q) (sym e) h
+
+pub refuses_by : {A : Type 0} (r : CheckErr) (a b : Result A Fault) → a ≡ b → Refuses r a → Refuses r b
+refuses_by r a b e h = subst (λ z. Refuses r z) e h

@@ -1,0 +1,209 @@
+//! Terms of several expressions, and terms made of their parts.
+
+ghost use Rattle.std.specs.Prelude.{◌≡◌, ℕ, ◌++◌, List, [], ◌∷◌, IfOk, OnOk, Ok};
+ghost use Rattle.safl_check.specs.Terms.{Nil, Cons, If, Let, Op, Call, Loop};
+ghost use Rattle.safl_check.specs.Tree.{tree, forest};
+ghost use Rattle.safl_typing.specs.Rewriting.{no_expression};
+ghost use Rattle.safl_typing.specs.Heads as plain_heads;
+ghost use Rattle.safl_typing.specs.Typing.{slots};
+ghost use Rattle.safl_typing.specs.Walk.{settle, check_alike};
+ghost use Rattle.safl_typing.specs.Plain.{plain_bindings};
+ghost use Rattle.safl_typing.specs.PlainHeads.{plain_slots};
+ghost use Rattle.safl_typing.specs.PlainTyped.{plain_wanted, plain_all_typed, Says, SaysAll, SaysAlike};
+
+use crate::expression::Bound;
+use crate::heads::Slot;
+use crate::typed::{CheckErr, Typed, Wanted, refused, settled};
+use safl_check::Term;
+use safl_tree::Name;
+use safl_word::{Primitive, Rule};
+use std::alloc::Global;
+
+/// The widths of several expressions, in bits, and their terms.
+#[derive(Drop)]
+pub struct TypedAll {
+    pub widths: Vec<u8>,
+    pub terms: Vec<Term>,
+}
+
+/// The terms of several expressions of one width, in bits.
+#[derive(Drop)]
+pub struct TypedAlike {
+    pub width: u8,
+    pub terms: Vec<Term>,
+}
+
+/// No expressions.
+pub fn none_typed(alloc: Global) -> TypedAll
+    ensures { plain_all_typed result ≡ record { widths = []; terms = Nil } }
+{
+    TypedAll {
+        widths: Vec::new(alloc),
+        terms: Vec::new(alloc),
+    }
+}
+
+/// No operands: E14 where no width is expected.
+pub fn none_alike(alloc: Global, place: u32, wanted: Wanted) -> Result<TypedAlike, CheckErr>
+    ensures { (k : plain_heads.Known) (s : List plain_heads.Slot) (lo : ℕ) → SaysAlike result (check_alike k s lo place (plain_wanted wanted) no_expression) }
+{
+    match wanted {
+        Wanted::Any => Err(refused(Rule::E14, place)),
+        Wanted::Exactly(width) => Ok(TypedAlike {
+            width,
+            terms: Vec::new(alloc),
+        }),
+    }
+}
+
+/// An expression, and those that follow it.
+pub fn put_first(first: Typed, rest: TypedAll) -> Result<TypedAll, CheckErr>
+    ensures { SaysAll result (Ok (record { widths = first.width ∷ rest.widths.items; terms = Cons (tree first.term) (forest rest.terms.items) })) }
+{
+    let mut all = rest;
+    all.widths.insert(0, first.width)?;
+    all.terms.insert(0, first.term)?;
+    Ok(all)
+}
+
+/// An operand, and those that follow it.
+pub fn put_operand(width: u8, first: Term, rest: Vec<Term>) -> Result<TypedAlike, CheckErr>
+    ensures { SaysAlike result (Ok (record { width = width; terms = Cons (tree first) (forest rest.items) })) }
+{
+    let mut terms = rest;
+    terms.insert(0, first)?;
+    Ok(TypedAlike { width, terms })
+}
+
+/// An if.
+pub fn make_if(
+    alloc: Global,
+    width: u8,
+    test: Term,
+    first: Term,
+    second: Term,
+) -> Result<Typed, CheckErr>
+    ensures { Says result (Ok (record { width = width; term = If (tree test) (tree first) (tree second) })) }
+{
+    let test = Box::new(alloc, test)?;
+    let first = Box::new(alloc, first)?;
+    let second = Box::new(alloc, second)?;
+    let term = Term::If(test, first, second);
+    Ok(Typed { width, term })
+}
+
+/// A let, whose first binding is in this slot.
+pub fn make_let(
+    alloc: Global,
+    width: u8,
+    slot: u32,
+    bound: Vec<Term>,
+    body: Term,
+) -> Result<Typed, CheckErr>
+    ensures { Says result (Ok (record { width = width; term = Let (forest bound.items) (tree body) })) }
+{
+    let body = Box::new(alloc, body)?;
+    let term = Term::Let(slot, bound, body);
+    Ok(Typed { width, term })
+}
+
+/// An operator with its operands, which all have the width of the result.
+pub fn make_operation(width: u8, operator: Primitive, operands: Vec<Term>) -> Typed
+    ensures width { result.width ≡ width }
+    ensures term { tree result.term ≡ Op operator (forest operands.items) }
+{
+    let term = Term::Op(operator, operands);
+    Typed { width, term }
+}
+
+/// An operator with its operands, where its width was found.
+pub fn settled_operation(
+    place: u32,
+    wanted: Wanted,
+    width: u8,
+    operator: Primitive,
+    operands: Vec<Term>,
+) -> Result<Typed, CheckErr>
+    ensures { Says result (settle place (plain_wanted wanted) width (Op operator (forest operands.items))) }
+{
+    settled(place, wanted, width, Term::Op(operator, operands))
+}
+
+/// A call of a function of an earlier group, and its site.
+pub fn settled_call(
+    place: u32,
+    wanted: Wanted,
+    width: u8,
+    function: u32,
+    site: u32,
+    arguments: Vec<Term>,
+) -> Result<Typed, CheckErr>
+    ensures { Says result (settle place (plain_wanted wanted) width (Call function site (forest arguments.items))) }
+{
+    settled(place, wanted, width, Term::Call(function, site, arguments))
+}
+
+/// A call of a member of the own group.
+pub fn settled_loop(
+    place: u32,
+    wanted: Wanted,
+    width: u8,
+    function: u32,
+    arguments: Vec<Term>,
+) -> Result<Typed, CheckErr>
+    ensures { Says result (settle place (plain_wanted wanted) width (Loop function (forest arguments.items))) }
+{
+    settled(place, wanted, width, Term::Loop(function, arguments))
+}
+
+/// The slots below a let: those around it, and then its bindings.
+pub fn slots_below(
+    alloc: Global,
+    around: &[Slot],
+    bound: &[Bound],
+    widths: &[u8],
+) -> Result<Vec<Slot>, CheckErr>
+    ensures { IfOk result (λ all. plain_slots all.items ≡ plain_slots around.now ++ slots (plain_bindings bound.now) widths.now) }
+{
+    let mut all = Vec::new(alloc);
+    copy_slots(alloc, &mut all, around)?;
+    add_slots(alloc, &mut all, bound, widths)?;
+    Ok(all)
+}
+
+// Adds slots to others.
+fn copy_slots(alloc: Global, all: &mut Vec<Slot>, around: &[Slot]) -> Result<(), CheckErr>
+    ensures { OnOk result (plain_slots all.new.items ≡ plain_slots all.old.items ++ plain_slots around.now) }
+{
+    for slot in around {
+        let name = Name::new(alloc, slot.name.bytes())?;
+        all.push(Slot {
+            name,
+            width: slot.width,
+        })?;
+    }
+    Ok(())
+}
+
+// Adds a slot for each binding. Lets have few bindings.
+fn add_slots(
+    alloc: Global,
+    all: &mut Vec<Slot>,
+    bound: &[Bound],
+    widths: &[u8],
+) -> Result<(), CheckErr>
+    ensures { OnOk result (plain_slots all.new.items ≡ plain_slots all.old.items ++ slots (plain_bindings bound.now) widths.now) }
+{
+    let Some((first, rest)) = bound.split_first() else {
+        return Ok(());
+    };
+    let Some((width, others)) = widths.split_first() else {
+        return Ok(());
+    };
+    let name = Name::new(alloc, first.name.bytes())?;
+    all.push(Slot {
+        name,
+        width: *width,
+    })?;
+    add_slots(alloc, all, rest, others)
+}
