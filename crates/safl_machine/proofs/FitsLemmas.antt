@@ -1,15 +1,14 @@
 -- The widths of words in a state that is reached.
-use Rattle.std.proofs.Common.{◌≡◌, ◌≢◌, ℕ, zero, suc, ◌<◌, ◌≤◌, List, [], ◌∷◌, length, cond, eqb, Option, Some, None, Bool, true, false, get_or, ◌⊎◌, inl, inr, refl, sym, ap, ◌∙◌, subst, ⊎_elim, arith}
-use Rattle.std.proofs.lemmas.Bool.{cases_eq, eq-eqb, eqb-true, ne_eqb}
+use Rattle.std.proofs.Common.{◌≡◌, ℕ, zero, suc, ◌<◌, ◌≤◌, List, [], ◌∷◌, cond, eqb, Some, Bool, true, false, ◌⊎◌, inl, inr, refl, sym, ap, ◌∙◌, subst, ⊎_elim, arith}
+use Rattle.std.proofs.lemmas.Bool.{cases_eq, eqb-true}
 use Rattle.safl_word.specs.Words.{Word}
 use Rattle.safl_check.specs.Program.{Program, unit_for}
-use Rattle.safl_check.specs.Readiness.{Stage, Unsent, Sent, Returned, Answer, Ready, LoopTo, NotYet, answer, wanted, back_word}
+use Rattle.safl_check.specs.Readiness.{Unsent, Sent, Returned, Ready, LoopTo, NotYet, answer, wanted, back_word}
 use Rattle.safl_check.specs.WellFormed.{IsWellFormed, HasWidth}
 use Rattle.safl_check.proofs.Widths.{answer_width, loop_widths, wanted_widths}
 use Rattle.safl_core.specs.Machine.{State, Mode, Idle, Runs, Delivers, Event, Accept, Finish, Return, LoopInto, opening, put, back, says, says_as, asked, asked_as, Enabled, Legal, after, fire, accept, finish, give_back, loop_into, ended}
 use Rattle.safl_core.proofs.Basics.{serves, put_at, put_off, some_none, some_is, cond_some}
 use Rattle.safl_core.proofs.Invariant.{Inv, inv_fire, inv_open}
-use Rattle.safl_core.proofs.Numbered.{Numbered}
 use Rattle.safl_core.proofs.FromWellFormed.{numbered}
 use Rattle.safl_machine.specs.Evaluating.{widths}
 

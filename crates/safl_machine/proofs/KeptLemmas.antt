@@ -1,14 +1,13 @@
 -- What a machine keeps, from one event to the next.
-use Rattle.std.proofs.Common.{◌≡◌, ◌≢◌, ℕ, zero, suc, ◌+◌, ◌<◌, ◌≤◌, List, [], ◌∷◌, ◌++◌, length, cond, eqb, take, drop, Option, Some, None, Bool, true, false, get_or, refl, sym, ap, ◌∙◌, subst, ⊎_elim, arith}
-use Rattle.std.proofs.lemmas.Bool.{cases_eq, eq-eqb, ne_eqb}
+use Rattle.std.proofs.Common.{◌≡◌, ◌≢◌, ℕ, zero, suc, ◌+◌, ◌<◌, ◌≤◌, List, [], ◌∷◌, ◌++◌, length, cond, eqb, take, drop, Option, Some, None, get_or, refl, sym, ap, ◌∙◌, subst, ⊎_elim, arith}
+use Rattle.std.proofs.lemmas.Bool.{cases_eq, ne_eqb}
 use Rattle.std.proofs.lemmas.List.{take_at}
 use Rattle.safl_word.specs.Words.{Word}
-use Rattle.safl_check.specs.Checked.{CheckedProgram, IsChecked, program_of}
+use Rattle.safl_check.specs.Checked.{CheckedProgram, program_of}
 use Rattle.safl_check.specs.Program.{Program, unit_for}
 use Rattle.safl_check.specs.Readiness.{Stage, Unsent, Sent, Returned, Ready, LoopTo, NotYet, answer, wanted, back_word, word_of}
 use Rattle.safl_check.specs.Readiness as plain
-use Rattle.safl_core.specs.Machine as core
-use Rattle.safl_core.specs.Machine.{State, Mode, Idle, Runs, Delivers, Event, Accept, Finish, Return, LoopInto, opening, put, back, says, says_as, asked, asked_as, Enabled, Legal, after, fire, accept, finish, give_back, loop_into, ended, is_unsent}
+use Rattle.safl_core.specs.Machine.{State, Mode, Idle, Runs, Delivers, Event, Finish, Return, LoopInto, opening, put, back, says, says_as, asked, asked_as, Enabled, Legal, after, fire, accept, finish, give_back, loop_into, ended}
 use Rattle.safl_core.proofs.Basics.{serves, cond_some, put_at, put_off, after_append, after_one, legal_append, legal_one}
 use Rattle.safl_core.proofs.Invariant.{Inv, inv_fire, inv_after, found}
 use Rattle.safl_core.proofs.Bodies.{goes_stands}
@@ -19,11 +18,9 @@ use Rattle.safl_machine.specs.declared.mode.Answer.{Answer}
 use Rattle.safl_machine.specs.declared.mode.Answer as declared_answers
 use Rattle.safl_machine.specs.declared.mode.Mode as modes_declared
 use Rattle.safl_machine.specs.declared.stage.Stage as stages_declared
-use Rattle.safl_machine.specs.Evaluating.{widths}
-use Rattle.safl_machine.specs.Knowing.{IsKnown, BackFits, RunsMember, HasRoom}
-use Rattle.safl_machine.specs.Modes.{unit_at, state_of, answer_of}
+use Rattle.safl_machine.specs.Knowing.{IsKnown, BackFits, RunsMember}
+use Rattle.safl_machine.specs.Modes.{state_of, answer_of}
 use Rattle.safl_machine.specs.Shown.{Shown, shown_of, state, IsReached, CanFire, IsKept, serves_of, word_given, args_given}
-use Rattle.safl_machine.specs.Stages.{back_at}
 use Rattle.safl_machine.proofs.StateLemmas.{core_state}
 use Rattle.safl_machine.proofs.FitsLemmas.{Fits, fits_after, fits_fire}
 

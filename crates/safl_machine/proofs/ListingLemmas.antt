@@ -1,5 +1,5 @@
 -- The enabled events, by their places.
-use Rattle.std.proofs.Common.{◌≡◌, ℕ, zero, suc, ◌+◌, ◌-◌, ◌<◌, ◌≤◌, List, [], ◌∷◌, ◌++◌, length, cond, Option, Some, None, Bool, true, false, nat_lt, refl, sym, ap, ◌∙◌, subst, ⊎_elim, arith, append_assoc}
+use Rattle.std.proofs.Common.{◌≡◌, ℕ, zero, suc, ◌+◌, ◌-◌, ◌<◌, List, [], ◌∷◌, ◌++◌, length, cond, Option, Some, None, Bool, true, false, nat_lt, refl, sym, ap, ◌∙◌, subst, ⊎_elim, arith, append_assoc}
 use Rattle.std.specs.Prelude.{slice_get}
 use Rattle.std.proofs.lemmas.Bool.{lt-ltb, le-ltb, cases_eq}
 use Rattle.std.specs.Prelude.{IsTrue}

@@ -11,14 +11,13 @@ use Rattle.safl_machine.specs.declared.stage.Stage as declared
 use Rattle.safl_machine.specs.Stages.{stage_of, stage_at}
 use Rattle.safl_word.specs.Words.{Word}
 use Rattle.safl_check.specs.Checked.{program_of}
-use Rattle.safl_check.specs.Meaning.{Main, main_cost, loops}
+use Rattle.safl_check.specs.Meaning.{loops}
 use Rattle.safl_check.specs.Program.{Program, arity, unit_for}
 use Rattle.safl_check.specs.Readiness.{Stage, Unsent, Sent, Returned, Answer, Ready, LoopTo, NotYet, back_word}
 use Rattle.safl_core.specs.Machine.{State, Mode, Idle, Runs, Delivers, Event, Accept, Finish, Return, LoopInto, opening, after, asked, asked_as, back, says, Enabled, is_unsent}
 use Rattle.safl_core.proofs.FromWellFormed.{numbered}
 use Rattle.safl_core.proofs.MachineLaws as law
 use Rattle.safl_machine.specs.declared.mode.Answer.{Answer as Kept}
-use Rattle.safl_machine.specs.Evaluating.{widths}
 use Rattle.safl_machine.specs.Outcomes.{IsValue, IsBounded, GoesOn, IsOver}
 use Rattle.safl_machine.specs.Shown.{Shown, state, CanFire, IsKept}
 use Rattle.safl_machine.specs.Testing.{is_idle, runs, delivers_to, is_ready, loops_to, can, wanted_at}

@@ -1,16 +1,14 @@
 -- What is kept of partial evaluation, after a unit's body was looked at anew.
-use Rattle.std.proofs.Common.{◌≡◌, ◌≢◌, ℕ, zero, suc, ◌+◌, ◌<◌, ◌≤◌, List, [], ◌∷◌, ◌++◌, length, take, drop, cond, eqb, Option, Some, None, Bool, true, false, get_or, slice_set, refl, sym, ap, ◌∙◌, subst, ⊎_elim, arith}
+use Rattle.std.proofs.Common.{◌≡◌, ◌≢◌, ℕ, suc, ◌<◌, ◌≤◌, List, length, cond, eqb, Option, Some, None, true, get_or, slice_set, refl, sym, ap, ◌∙◌, subst, ⊎_elim, arith}
 use Rattle.std.proofs.lemmas.Bool.{cases_eq, eq-eqb, ne_eqb}
 use Rattle.std.proofs.lemmas.List.{get_or-set_other, get_or-set_same, get_or_read}
 use Rattle.safl_word.specs.Words.{Word}
 use Rattle.safl_check.specs.Checked.{CheckedProgram, IsChecked, program_of}
-use Rattle.safl_check.specs.Program.{Program, arity}
-use Rattle.safl_check.specs.Readiness.{answer, wanted, or_else}
-use Rattle.safl_check.specs.Standing.{Stands}
+use Rattle.safl_check.specs.Program.{Program}
+use Rattle.safl_check.specs.Readiness.{wanted, or_else}
 use Rattle.safl_check.specs.WellFormed.{HasWidth}
-use Rattle.safl_core.specs.Machine.{State, Mode, Idle, Runs, Delivers, back, says, says_as, asked_as}
+use Rattle.safl_core.specs.Machine.{State, Runs, back, says, asked_as}
 use Rattle.safl_core.proofs.Numbered.{Numbered}
-use Rattle.safl_core.proofs.FromWellFormed.{numbered}
 use Rattle.safl_machine.specs.declared.mode.Answer.{Answer}
 use Rattle.safl_machine.specs.declared.mode.Answer.TheVariants.{NotYet}
 use Rattle.safl_machine.specs.declared.stage.Stage.{Stage}
@@ -18,7 +16,6 @@ use Rattle.safl_machine.specs.declared.mode.Mode as declared
 use Rattle.safl_machine.specs.Evaluating.{CanRun, Notes, Unasked, widths}
 use Rattle.safl_machine.specs.Knowing.{IsKnown, BackFits}
 use Rattle.safl_machine.specs.Modes.{answer_of, mode_of, unit_at}
-use Rattle.safl_machine.specs.Stages.{back_at}
 use Rattle.safl_machine.proofs.RunLemmas.{not_wanted}
 
 -- a function's body may be evaluated with arguments of the widths of its parameters

@@ -1,11 +1,11 @@
 -- A whole run with a group of functions, by computation.
-use Rattle.std.proofs.Common.{◌≡◌, ℕ, List, [], ◌∷◌, length, cond, ◌==◌, nat_lt, refl}
+use Rattle.std.proofs.Common.{◌≡◌, ℕ, List, [], ◌∷◌, cond, ◌==◌, nat_lt, refl}
 use Rattle.safl_word.specs.Words.{Word}
 use Rattle.safl_word.specs.declared.primitive.Primitive.TheVariants.{Eq, Sub}
 use Rattle.safl_check.specs.Terms.{Term, Terms, Const, Var, Op, If, Call, Loop, Nil, Cons}
 use Rattle.safl_check.specs.Program.{Program}
 use Rattle.safl_check.specs.Readiness.{Returned, answer, wanted}
-use Rattle.safl_core.specs.Machine.{State, Event, Accept, Finish, Return, LoopInto, opening, after}
+use Rattle.safl_core.specs.Machine.{Event, Accept, Finish, Return, LoopInto, opening, after}
 use Rattle.safl_core.specs.Picks.{picks}
 use Rattle.safl_machine.specs.Listing.{listed}
 

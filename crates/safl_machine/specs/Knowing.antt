@@ -1,5 +1,5 @@
 -- What is kept of partial evaluation.
-use Rattle.std.specs.Prelude.{◌≡◌, ℕ, suc, ◌+◌, ◌<◌, ◌≤◌, List, length, Option, Some, None, get_or}
+use Rattle.std.specs.Prelude.{◌≡◌, ℕ, ◌+◌, ◌<◌, ◌≤◌, List, Option, Some, None, get_or}
 use Rattle.safl_word.specs.Words.{Word}
 use Rattle.safl_check.specs.Program.{Program, arity}
 use Rattle.safl_check.specs.Sizes.{nodes}

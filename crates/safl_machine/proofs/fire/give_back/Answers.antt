@@ -1,10 +1,10 @@
-use Rattle.std.proofs.Common.{◌≡◌, ◌≢◌, ℕ, ◌<◌, ◌≤◌, Some, None, get_or, refl, sym, ap, ◌∙◌, subst, arith}
+use Rattle.std.proofs.Common.{◌≡◌, ◌<◌, sym, ap, ◌∙◌, subst, arith}
 use Rattle.safl_check.specs.Checked.{program_of}
 use Rattle.safl_core.specs.Machine as core
 use Rattle.safl_core.specs.Machine.{Accept, Finish, Return, LoopInto}
 use Rattle.safl_machine.specs.Knowing.{IsKnown}
 use Rattle.safl_machine.specs.Modes.{state_of}
-use Rattle.safl_machine.proofs.KeptLemmas.{inv, good, next_member, next_back, after_accept, after_end, after_return, accept_words, finish_in, finish_is, return_in, return_is, return_next, looping, loop_is}
+use Rattle.safl_machine.proofs.KeptLemmas.{inv, good, next_member, next_back, after_return, return_in, return_is, return_next}
 use Rattle.safl_machine.proofs.fire.give_back.Goals as goal
 use Rattle.safl_machine.proofs.fire.give_back.Goals.{then-k-eq0, else-k-eq0}
 

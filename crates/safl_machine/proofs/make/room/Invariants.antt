@@ -1,4 +1,4 @@
-use Rattle.std.proofs.Common.{◌≡◌, ℕ, length}
+use Rattle.std.proofs.Common.{◌≡◌, length}
 use Rattle.safl_machine.proofs.make.room.Given as goal
 
 abbrev pub invariant-loop-made : goal.invariant-loop-made

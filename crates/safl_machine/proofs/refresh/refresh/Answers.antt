@@ -1,6 +1,4 @@
-use Rattle.std.proofs.Common.{◌≡◌, ℕ, ◌<◌, length, None, cond, eqb, get_or, refl, sym, ap, ◌∙◌, subst, arith}
-use Rattle.std.proofs.lemmas.List.{get_or_read}
-use Rattle.std.proofs.lemmas.Bool.{eq-eqb}
+use Rattle.std.proofs.Common.{◌<◌, length, None, refl, sym, ap, ◌∙◌, subst, arith}
 use Rattle.safl_check.specs.Checked.{program_of}
 use Rattle.safl_check.specs.Readiness.{wanted}
 use Rattle.safl_core.specs.Machine as machine

@@ -1,4 +1,4 @@
-use Rattle.std.proofs.Common.{◌≡◌, length, refl, sym, ap, ◌∙◌, arith, List}
+use Rattle.std.proofs.Common.{◌≡◌, length, refl, sym, ap, ◌∙◌, List}
 use Rattle.std.proofs.lemmas.List.{take_at}
 use Rattle.safl_word.specs.Words.{Word}
 use Rattle.safl_machine.proofs.RunLemmas.{can_is}

@@ -1,8 +1,5 @@
-use Rattle.std.proofs.Common.{◌+◌, ◌<◌, length, cond, sym, ap, ◌∙◌, arith}
-use Rattle.std.proofs.lemmas.Bool.{eq-eqb, ne_eqb}
+use Rattle.std.proofs.Common.{◌+◌, ◌<◌, length, sym, ap, ◌∙◌, arith}
 use Rattle.safl_check.specs.Checked.{program_of}
-use Rattle.safl_check.specs.Readiness as plain
-use Rattle.safl_machine.specs.Stages.{stage_at}
 use Rattle.safl_machine.proofs.StateLemmas.{end_more, end_less}
 use Rattle.safl_machine.proofs.step.end_sites.Goals as goal
 use Rattle.safl_machine.proofs.step.end_sites.Goals.{then-unit-u, else-unit-u}

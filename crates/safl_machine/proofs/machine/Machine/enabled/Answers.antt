@@ -1,4 +1,4 @@
-use Rattle.std.proofs.Common.{◌≡◌, ◌<◌, ◌&&◌, List, Option, None, get_or, sym, ap, ◌∙◌, arith}
+use Rattle.std.proofs.Common.{◌&&◌, List, Option, get_or, ap, ◌∙◌, arith}
 use Rattle.safl_word.specs.Words.{Word}
 use Rattle.safl_check.specs.Checked.{program_of}
 use Rattle.safl_check.specs.Program.{unit_for}

@@ -1,10 +1,10 @@
-use Rattle.std.proofs.Common.{◌≡◌, ◌+◌, ◌≤◌, ◌<◌, List, Some, cond, true, false, length, refl, sym, ap, ◌∙◌, suc, arith}
+use Rattle.std.proofs.Common.{List, Some, true, false, length, sym, ap, ◌∙◌, arith}
 use Rattle.std.specs.Prelude.{slice_get}
 use Rattle.safl_check.specs.Checked.{program_of}
 use Rattle.safl_core.specs.Machine.{Event}
 use Rattle.safl_core.specs.Picks.{picks}
-use Rattle.safl_machine.specs.Listing.{event_at, listed}
-use Rattle.safl_machine.specs.Shown.{state, event_of}
+use Rattle.safl_machine.specs.Listing.{event_at}
+use Rattle.safl_machine.specs.Shown.{state}
 use Rattle.safl_machine.proofs.ListingLemmas.{test_at, test_true, test_false, counted, picks_zero, all_listed, picked_at}
 use Rattle.safl_machine.proofs.machine.Machine.enabled_at.Goals as goal
 use Rattle.safl_machine.proofs.machine.Machine.enabled_at.Goals.{then-fires+else-seen-place, else-fires}

@@ -1,4 +1,4 @@
-use Rattle.std.proofs.Common.{◌≡◌, ◌+◌, length, List, refl, sym, ap, ◌∙◌, subst, arith}
+use Rattle.std.proofs.Common.{◌+◌, length, List, sym, ap, ◌∙◌, subst}
 use Rattle.safl_word.specs.Words.{Word}
 use Rattle.safl_check.specs.Checked.{program_of}
 use Rattle.safl_core.specs.Machine as core

@@ -1,8 +1,6 @@
-use Rattle.std.proofs.Common.{◌≡◌, ◌≤◌, ◌+◌, ◌∙◌, sym, ap, subst, length, suc, List, arith}
-use Rattle.safl_word.specs.Words.{Word}
-use Rattle.safl_check.specs.Checked.{program_of}
+use Rattle.std.proofs.Common.{◌∙◌, ap, arith}
 use Rattle.safl_machine.specs.Evaluating.{widths}
-use Rattle.safl_machine.proofs.OpenLemmas.{kept_open, opens}
+use Rattle.safl_machine.proofs.OpenLemmas.{kept_open}
 use Rattle.safl_machine.proofs.machine.Machine.opened.Goals as goal
 
 pub invariant_of-result : goal.invariant_of-result

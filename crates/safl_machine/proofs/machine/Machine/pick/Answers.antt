@@ -1,4 +1,4 @@
-use Rattle.std.proofs.Common.{◌≡◌, None, Some, subst, sym, ap, ◌∙◌, length, List, arith}
+use Rattle.std.proofs.Common.{None, Some, subst, sym, ap, ◌∙◌, length}
 use Rattle.safl_check.specs.Checked.{program_of}
 use Rattle.safl_machine.specs.Listing.{listed}
 use Rattle.safl_machine.specs.Shown.{Shown, state, event_of, CanFire}

@@ -1,4 +1,4 @@
-use Rattle.std.proofs.Common.{◌≡◌, ◌<◌, length, subst, ap, ◌∙◌, arith}
+use Rattle.std.proofs.Common.{subst, ap, arith}
 use Rattle.safl_check.specs.Readiness.{back_word}
 use Rattle.safl_machine.specs.Outcomes.{IsValue, GoesOn, IsOver}
 use Rattle.safl_machine.specs.Shown.{Shown}
