@@ -1,14 +1,13 @@
 //! The circuit of a checked program.
 #![tactic(auto)]
 
-mod controls;
-mod bodies;
-mod declare;
-mod finish;
 mod bank;
+mod bodies;
+mod controls;
 mod declare;
 mod edge;
 mod events;
+mod finish;
 mod gates;
 mod grants;
 mod loads;
