@@ -1,6 +1,6 @@
 -- The tables of an edge show what the equations say.
-use Rattle.std.proofs.Common.{◌≡◌, ℕ, zero, suc, ◌+◌, ◌<◌, ◌≤◌, List, [], ◌∷◌, length, Option, Some, None, Bool, true, false, cond, not, ◌&&◌, ◌||◌, ◌==◌, slice_get, is_some, ⊎_elim, refl, sym, ap, subst, ◌∙◌, arith}
-use Rattle.std.proofs.lemmas.Bool.{cases_eq, false≢true, true≢false, eq-eqb, eqb-true, and_parts, and_from}
+use Rattle.std.proofs.Common.{◌≡◌, ℕ, zero, suc, ◌<◌, List, [], ◌∷◌, Option, Some, None, Bool, true, false, cond, not, ◌&&◌, ◌||◌, ◌==◌, slice_get, is_some, refl, sym, ap, ◌∙◌, arith}
+use Rattle.std.proofs.lemmas.Bool.{false≢true, eq-eqb, eqb-true, and_parts, and_from}
 use Rattle.safl_word.specs.Words.{Word}
 use Rattle.safl_check.specs.Program.{Program, unit_for}
 use Rattle.safl_check.specs.Readiness.{or_else}
@@ -10,13 +10,13 @@ use Rattle.safl_net.specs.Netlist.{Netlist}
 use Rattle.safl_net.specs.Growth.{Val, words}
 use Rattle.safl_lower.specs.Bits.{on}
 use Rattle.safl_lower.specs.Entries.{gate}
-use Rattle.safl_unit.specs.Equations.{Registers, Inputs, Choice, body_wants, want, wants_at, go, go_words, end_word, loop_words, end_in, loop_in, go_in, load_in as loads_from, ends, loops, starts, loads, clears, starts_it, if_other, starts_other}
+use Rattle.safl_unit.specs.Equations.{Registers, Inputs, Choice, body_wants, want, wants_at, go, go_words, end_word, loop_words, end_in, loop_in, go_in, load_in as loads_from, ends, loops, starts, loads, starts_it, if_other}
 use Rattle.safl_compile.specs.declared.parts.Load.{Load}
 use Rattle.safl_compile.specs.declared.parts.Outcomes.{Outcomes}
 use Rattle.safl_compile.specs.declared.parts.Pins.{Pins}
 use Rattle.safl_compile.specs.Sources.{Builds}
 use Rattle.safl_compile.specs.Tables.{pin, taken_in, taken_at, taken_from, on_from, one_word}
-use Rattle.safl_compile.specs.Stages.{called, OutcomesFit, HasOutcomes, HasGoes, HasEnds, HasLoads, HasBits, HasStarts, HasClears, HasEntries, HasRivals}
+use Rattle.safl_compile.specs.Stages.{called, OutcomesFit, HasOutcomes, HasGoes, HasEnds, HasLoads, HasStarts, HasClears, HasEntries, HasRivals}
 use Rattle.safl_compile.specs.Edges.{one_below, operands_in, rival, ShowsBits, ShowsLoads, ShowsBelow}
 use Rattle.safl_compile.proofs.Keeping.{load_kept, some_kept}
 use Rattle.safl_compile.proofs.Earlier.{same_truth, below_true, below_found}

@@ -35,3 +35,4 @@ pub mod Earlier
 pub mod Crossing
 pub mod Stepping
 pub mod Following
+pub mod Whole

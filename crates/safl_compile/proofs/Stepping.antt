@@ -1,5 +1,5 @@
 -- The next words of the registers, by one entry more.
-use Rattle.std.proofs.Common.{◌≡◌, ℕ, suc, ◌+◌, ◌<◌, List, [], ◌∷◌, ◌++◌, length, length-append, Option, Some, Bool, true, false, cond, Result, Ok, Err, IfOk, slice_get, slice_index_or, ◌⊎◌, inl, inr, ⊎_elim, refl, sym, ap, subst, ◌∙◌, arith}
+use Rattle.std.proofs.Common.{◌≡◌, ℕ, zero, suc, ◌+◌, ◌<◌, List, [], ◌∷◌, ◌++◌, length, length-append, Option, Some, Bool, true, false, cond, Result, Ok, Err, IfOk, slice_get, slice_index_or, ◌⊎◌, ⊎_elim, refl, sym, ap, subst, ◌∙◌, arith}
 use Rattle.safl_check.specs.Program.{Program}
 use Rattle.safl_core.proofs.Basics.{some_is}
 use Rattle.safl_net.specs.declared.cell.Sig.{Sig}
@@ -7,15 +7,17 @@ use Rattle.safl_net.specs.Netlist.{Netlist}
 use Rattle.safl_net.specs.Growth.{Val, Wired, words}
 use Rattle.safl_word.specs.Words.{Word}
 use Rattle.safl_lower.specs.Bits.{on}
-use Rattle.safl_unit.specs.Equations.{or_word}
+use Rattle.safl_unit.specs.Equations.{Choice, many, or_word}
 use Rattle.safl_net.proofs.Growth.{wired_before}
 use Rattle.safl_compile.specs.declared.parts.UnitPins.{UnitPins}
+use Rattle.safl_compile.specs.declared.parts.MemberPins.{MemberPins}
+use Rattle.safl_compile.specs.declared.parts.SitePins.{SitePins}
 use Rattle.safl_compile.specs.declared.parts.Load.{Load}
 use Rattle.safl_compile.specs.Sources.{IsSource, AreSources, Builds}
-use Rattle.safl_compile.specs.Tables.{EachAt, load_in, sig_in, taken_in, taken_from, on_in, on_from}
-use Rattle.safl_compile.specs.Cycles.{UnitFits}
-use Rattle.safl_compile.specs.Steps.{UnitStep, UnitsNext}
-use Rattle.safl_compile.proofs.Keeping.{unit_kept}
+use Rattle.safl_compile.specs.Tables.{EachAt, pin, load_in, sig_in, taken_in, taken_from, on_in, on_from}
+use Rattle.safl_compile.specs.Cycles.{UnitFits, MemberFits, SiteFits}
+use Rattle.safl_compile.specs.Steps.{UnitStep, MemberStep, SiteStep, UnitsNext, MembersNext, SitesNext}
+use Rattle.safl_compile.proofs.Keeping.{unit_kept, member_kept, site_kept}
 use Rattle.safl_compile.proofs.Joining.{words_show}
 use Rattle.safl_compile.proofs.Tables.{each_none, each_push}
 
@@ -84,3 +86,73 @@ module _ (C : Program) (a b : Netlist) (now : List UnitPins) (ends : List (Optio
     fits = next_entry all ys y f (λ g z. UnitFits b z (C.result g)) so.entries push (λ g z e. unit_kept built (so.fits g z e)) fit_here;
     shows = λ v w. next_entry all ys y f (λ g z. StepAt v (C.unit g) z) so.entries push (so.shows v (wired_before built.grows w)) (step_here v w);
   }
+
+pub no_members : (C : Program) (n : Netlist) (now : List MemberPins) (entries rivals : List (Option Sig)) (loads looped : List (Option Load)) (after : List MemberPins) → after ≡ [] → MembersNext C n now entries rivals loads looped after 0
+no_members C n now entries rivals loads looped after e = record {
+  entries_after = ap (λ (zs : List MemberPins). length zs) e;
+  fits = subst (λ (zs : List MemberPins). EachAt zs (λ f y. MemberFits n y (C.params f))) (sym e) (each_none (λ f y. MemberFits n y (C.params f)));
+  shows = λ v w.
+      subst (λ (zs : List MemberPins). EachAt zs (λ f y. (x : MemberPins) → slice_get now f ≡ Some x → MemberStep v (many C f) (on_from v entries f) (on_from v rivals f) (taken_from v loads f) (taken_from v looped f) x y)) (sym e)
+      (each_none (λ f y. (x : MemberPins) → slice_get now f ≡ Some x → MemberStep v (many C f) (on_from v entries f) (on_from v rivals f) (taken_from v loads f) (taken_from v looped f) x y));
+}
+
+module _ (C : Program) (a b : Netlist) (k : ℕ) (now : List MemberPins) (entries rivals : List (Option Sig)) (loads looped : List (Option Load)) (all ys : List MemberPins) (f : ℕ) (e r : Option Sig) (l g : Option Load) (x y : MemberPins)
+    (so : MembersNext C a now entries rivals loads looped all f) (built : Builds a b k) (at_entry : slice_get entries f ≡ Some e) (at_rival : slice_get rivals f ≡ Some r)
+    (at_load : slice_get loads f ≡ Some l) (at_loop : slice_get looped f ≡ Some g) (at : slice_get now f ≡ Some x) (fit : MemberFits b y (C.params f))
+    (shown : (v : Val) → Wired b v → MemberStep v (many C f) (on_in v e) (on_in v r) (taken_in v l) (taken_in v g) x y) (push : ys ≡ all ++ y ∷ []) where
+  abbrev Next : Val → ℕ → MemberPins → Type 0
+  Next v h y = (x : MemberPins) → slice_get now h ≡ Some x → MemberStep v (many C h) (on_from v entries h) (on_from v rivals h) (taken_from v loads h) (taken_from v looped h) x y
+
+  next_here : (v : Val) → Wired b v → Next v f y
+  next_here v w z q =
+      let same : x ≡ z = some_is x z (sym at ∙ q) in
+      subst (λ (t : MemberPins). MemberStep v (many C f) (on_from v entries f) (on_from v rivals f) (taken_from v loads f) (taken_from v looped f) t y) same
+      (subst (λ (o : Option (Option Sig)). MemberStep v (many C f) (on_in v (sig_in o)) (on_from v rivals f) (taken_from v loads f) (taken_from v looped f) x y) (sym at_entry)
+      (subst (λ (o : Option (Option Sig)). MemberStep v (many C f) (on_in v e) (on_in v (sig_in o)) (taken_from v loads f) (taken_from v looped f) x y) (sym at_rival)
+      (subst (λ (o : Option (Option Load)). MemberStep v (many C f) (on_in v e) (on_in v r) (taken_in v (load_in o)) (taken_from v looped f) x y) (sym at_load)
+      (subst (λ (o : Option (Option Load)). MemberStep v (many C f) (on_in v e) (on_in v r) (taken_in v l) (taken_in v (load_in o)) x y) (sym at_loop) (shown v w)))))
+
+  pub more_members : MembersNext C b now entries rivals loads looped ys (f + 1)
+  more_members = record {
+    entries_after = next_length all ys y f so.entries_after push;
+    fits = next_entry all ys y f (λ h z. MemberFits b z (C.params h)) so.entries_after push (λ h z q. member_kept built (so.fits h z q)) fit;
+    shows = λ v w. next_entry all ys y f (λ h z. Next v h z) so.entries_after push (so.shows v (wired_before built.grows w)) (next_here v w);
+  }
+
+-- the first entry counts for nothing
+first_alone : {A : Type 0} (xs : List A) (Q : ℕ → A → Type 0) → length xs ≡ 1 → EachAt xs (λ k x. 0 < k → Q k x)
+first_alone [] Q e i x h l = absurd (cc)
+first_alone (y ∷ xs) Q e zero x h l = absurd (omega (arith, l))
+first_alone (y ∷ []) Q e (suc i) x h l = absurd (cc)
+first_alone (y ∷ (z ∷ xs)) Q e (suc i) x h l = absurd (omega (arith, e))
+
+abbrev SiteNext : Program → Choice → List UnitPins → List SitePins → List Sig → List Sig → List (Option Sig) → Val → ℕ → SitePins → Type 0
+SiteNext C P units now rets goes clears v k y = (u : UnitPins) (x : SitePins) → slice_get units (C.callee k) ≡ Some u → slice_get now k ≡ Some x
+    → SiteStep v (P.kept k) (on v (pin rets k)) (on v (pin goes k)) (on_from v clears (C.unit (C.caller k))) (v u.res.0) x y
+
+pub no_sites : (C : Program) (P : Choice) (n : Netlist) (units : List UnitPins) (now : List SitePins) (rets goes : List Sig) (clears : List (Option Sig)) (after : List SitePins) → length after ≡ 1 → SitesNext C P n units now rets goes clears after 0
+no_sites C P n units now rets goes clears after e = record {
+  entries = e;
+  fits = first_alone after (λ k y. SiteFits n y (C.result (C.callee k))) e;
+  shows = λ v w. first_alone after (λ k y. SiteNext C P units now rets goes clears v k y) e;
+}
+
+module _ (C : Program) (P : Choice) (a b : Netlist) (units : List UnitPins) (now : List SitePins) (rets goes : List Sig) (clears : List (Option Sig)) (all ys : List SitePins) (m k : ℕ) (next : k ≡ suc m) (u : UnitPins) (clear : Option Sig) (x y : SitePins)
+    (so : SitesNext C P a units now rets goes clears all m) (built : Builds a b 7) (at_unit : slice_get units (C.callee k) ≡ Some u) (at_clear : slice_get clears (C.unit (C.caller k)) ≡ Some clear) (at : slice_get now k ≡ Some x)
+    (fit : SiteFits b y (C.result (C.callee k))) (shown : (v : Val) → Wired b v → SiteStep v (P.kept k) (on v (pin rets k)) (on v (pin goes k)) (on_in v clear) (v u.res.0) x y) (push : ys ≡ all ++ y ∷ []) where
+  site_here : (v : Val) → Wired b v → SiteNext C P units now rets goes clears v k y
+  site_here v w h z q s =
+      let same : x ≡ z = some_is x z (sym at ∙ s) in
+      let unit : u ≡ h = some_is u h (sym at_unit ∙ q) in
+      subst (λ (t : SitePins). SiteStep v (P.kept k) (on v (pin rets k)) (on v (pin goes k)) (on_from v clears (C.unit (C.caller k))) (v h.res.0) t y) same
+      (subst (λ (t : UnitPins). SiteStep v (P.kept k) (on v (pin rets k)) (on v (pin goes k)) (on_from v clears (C.unit (C.caller k))) (v t.res.0) x y) unit
+      (subst (λ (o : Option (Option Sig)). SiteStep v (P.kept k) (on v (pin rets k)) (on v (pin goes k)) (on_in v (sig_in o)) (v u.res.0) x y) (sym at_clear) (shown v w)))
+
+  pub more_sites : SitesNext C P b units now rets goes clears ys k
+  more_sites =
+      let count : length all ≡ k = let e = so.entries in omega (arith, e, next) in
+      record {
+        entries = let e = next_length all ys y k count push in omega (arith, e);
+        fits = next_entry all ys y k (λ j z. 0 < j → SiteFits b z (C.result (C.callee j))) count push (λ j z q l. site_kept built (so.fits j z q l)) (λ l. fit);
+        shows = λ v w. next_entry all ys y k (λ j z. 0 < j → SiteNext C P units now rets goes clears v j z) count push (so.shows v (wired_before built.grows w)) (λ l. site_here v w);
+      }

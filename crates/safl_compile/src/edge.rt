@@ -162,8 +162,8 @@ pub fn function_count(p: &Planned) -> u32
     p.checked().functions()
 }
 
-// The number of sites.
-fn site_count(p: &Planned) -> u32
+/// The number of sites.
+pub fn site_count(p: &Planned) -> u32
     ensures count { result ≡ (program_of p.now.program).sites }
     ensures small { result ≤ 4000 }
 {
@@ -184,8 +184,8 @@ pub fn unit_of(p: &Planned, f: u32) -> u32
     c.unit(f)
 }
 
-// The function that a site calls; site 0 is the call of main from outside.
-fn callee_of(p: &Planned, k: u32) -> u32
+/// The function that a site calls; site 0 is the call of main from outside.
+pub fn callee_of(p: &Planned, k: u32) -> u32
     requires { k ≤ (program_of p.now.program).sites }
     ensures number { result ≡ (program_of p.now.program).callee k }
     ensures within { result < (program_of p.now.program).functions }
@@ -196,6 +196,18 @@ fn callee_of(p: &Planned, k: u32) -> u32
         return main_function(c);
     }
     c.callee(k)
+}
+
+/// The function in whose body a site stands.
+pub fn caller_of(p: &Planned, k: u32) -> u32
+    requires least { 1 ≤ k }
+    requires most { k ≤ (program_of p.now.program).sites }
+    ensures number { result ≡ (program_of p.now.program).caller k }
+    ensures within { result < (program_of p.now.program).functions }
+{
+    let c = p.checked();
+    let _functions = c.functions();
+    c.caller(k)
 }
 
 /// So many bits, of which none is there.

@@ -1,10 +1,9 @@
-use Rattle.std.proofs.Common.{◌≡◌, ℕ, ◌+◌, ◌*◌, ◌<◌, List, [], ◌∷◌, length, Option, Some, slice_get, refl, sym, ap, subst, ◌∙◌, arith}
+use Rattle.std.proofs.Common.{◌≡◌, ℕ, ◌+◌, ◌*◌, [], ◌∷◌, length, Option, refl, sym, ap, subst, ◌∙◌, arith}
 use Rattle.std.proofs.lemmas.Option.{slice_get_read}
 use Rattle.safl_check.specs.Checked.{program_of}
 use Rattle.safl_net.specs.declared.cell.Sig.{Sig}
 use Rattle.safl_compile.specs.declared.parts.Load.{Load}
 use Rattle.safl_compile.specs.Tables.{load_in, sig_in, FitsIn, IsBitIn}
-use Rattle.safl_compile.specs.Cycles.{UnitFits}
 use Rattle.safl_compile.specs.Steps.{UnitsNext}
 use Rattle.safl_compile.proofs.Building.{builds_same, builds_on, builds_within}
 use Rattle.safl_compile.proofs.Keeping.{maybe_load_kept, maybe_bit_kept, unit_kept}

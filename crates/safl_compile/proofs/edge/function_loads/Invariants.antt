@@ -1,4 +1,4 @@
-use Rattle.std.proofs.Common.{ℕ, ◌*◌, ◌==◌, ◌&&◌, slice_get}
+use Rattle.std.proofs.Common.{◌*◌, ◌==◌, ◌&&◌, slice_get}
 use Rattle.safl_check.specs.Checked.{program_of}
 use Rattle.safl_core.specs.Picks.{first}
 use Rattle.safl_net.specs.Names.{IsTidy}

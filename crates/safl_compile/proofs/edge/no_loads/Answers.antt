@@ -1,4 +1,4 @@
-use Rattle.std.proofs.Common.{◌≡◌, ℕ, ◌+◌, subst, arith}
+use Rattle.std.proofs.Common.{◌≡◌, ℕ, subst, arith}
 use Rattle.safl_compile.specs.Edges.{IsBare}
 use Rattle.safl_compile.proofs.Chains.{bare_none, bare_more}
 use Rattle.safl_compile.proofs.edge.no_loads.Goals as goal

@@ -1,4 +1,4 @@
-use Rattle.std.proofs.Common.{◌≡◌, ℕ, ◌+◌, ◌<◌, ◌==◌, ◌&&◌, ◌||◌, Bool, is_some, refl, ap, subst, ◌∙◌, arith}
+use Rattle.std.proofs.Common.{◌≡◌, ℕ, ◌==◌, ◌&&◌, ◌||◌, is_some, refl, subst, arith}
 use Rattle.safl_check.specs.Checked.{program_of}
 use Rattle.safl_net.specs.Growth.{Val}
 use Rattle.safl_compile.specs.Tables.{taken_from, on_in}

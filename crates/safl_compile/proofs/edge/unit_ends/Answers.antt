@@ -1,5 +1,4 @@
-use Rattle.std.proofs.Common.{◌≡◌, ℕ, ◌+◌, ◌*◌, ◌<◌, ◌==◌, List, [], ◌∷◌, length, Option, refl, ap, subst, ◌∙◌, arith}
-use Rattle.safl_word.specs.Words.{Word}
+use Rattle.std.proofs.Common.{◌≡◌, ℕ, ◌+◌, ◌*◌, ◌==◌, List, [], ◌∷◌, length, refl, ap, subst, arith}
 use Rattle.safl_check.specs.Checked.{program_of}
 use Rattle.safl_core.specs.Picks.{first}
 use Rattle.safl_net.specs.declared.cell.Sig.{Sig}

@@ -1,4 +1,4 @@
-use Rattle.std.proofs.Common.{◌≡◌, ℕ, suc, ◌+◌, ◌<◌, ◌≤◌, ◌==◌, ◌&&◌, Bool, false, List, length, refl, ap, subst, ◌∙◌, arith}
+use Rattle.std.proofs.Common.{◌≡◌, ℕ, suc, ◌+◌, ◌==◌, ◌&&◌, false, refl, ap, subst, ◌∙◌, arith}
 use Rattle.safl_check.specs.Checked.{program_of}
 use Rattle.safl_check.specs.Program.{unit_for}
 use Rattle.safl_net.specs.Growth.{Val}

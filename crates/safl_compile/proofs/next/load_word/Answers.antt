@@ -1,4 +1,3 @@
-use Rattle.std.proofs.Common.{◌≡◌, ℕ, [], ◌∷◌}
 use Rattle.safl_compile.proofs.Joining.{first_fits}
 use Rattle.safl_compile.proofs.Stepping.{only_word, load_word_value}
 use Rattle.safl_compile.proofs.next.load_word.Goals as goal

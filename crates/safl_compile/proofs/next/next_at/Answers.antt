@@ -1,4 +1,4 @@
-use Rattle.std.proofs.Common.{◌≡◌, Bool, ◌&&◌, not, ap, ◌∙◌}
+use Rattle.std.proofs.Common.{Bool, ◌&&◌, not, ap, ◌∙◌}
 use Rattle.safl_net.proofs.Growth.{wired_before}
 use Rattle.safl_compile.specs.Tables.{on_in}
 use Rattle.safl_compile.proofs.Building.{builds_on}

@@ -1,4 +1,3 @@
-use Rattle.std.proofs.Common.{◌≡◌, ℕ, ap, ◌∙◌}
 use Rattle.safl_net.proofs.Growth.{wired_before}
 use Rattle.safl_compile.proofs.Building.{builds_on, source_kept}
 use Rattle.safl_compile.proofs.Keeping.{maybe_bit_kept}

@@ -1,4 +1,4 @@
-use Rattle.std.proofs.Common.{◌≡◌, ℕ, [], ◌∷◌, Bool, ◌&&◌, ◌||◌, not, ap, ◌∙◌}
+use Rattle.std.proofs.Common.{[], ◌∷◌, Bool, ◌&&◌, ◌||◌, not, ap, ◌∙◌}
 use Rattle.safl_net.proofs.Growth.{wired_before}
 use Rattle.safl_lower.specs.Bits.{on}
 use Rattle.safl_compile.specs.Tables.{on_in}

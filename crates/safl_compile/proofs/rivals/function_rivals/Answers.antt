@@ -1,4 +1,4 @@
-use Rattle.std.proofs.Common.{◌≡◌, ℕ, ◌+◌, ◌*◌, ◌<◌, ◌||◌, Bool, true, false, subst, ap, ◌∙◌, arith}
+use Rattle.std.proofs.Common.{ℕ, ◌*◌, ◌||◌, Bool, true, false, subst, ap, ◌∙◌, arith}
 use Rattle.safl_check.specs.Checked.{program_of}
 use Rattle.safl_net.proofs.Growth.{wired_before}
 use Rattle.safl_compile.specs.Tables.{on_from}
