@@ -19,6 +19,7 @@ use Rattle.safl_compile.specs.Stages.{OutcomesFit}
 use Rattle.safl_compile.specs.Edges.{one_below, bit_of, operands_in, IsBare, ShowsBits, ShowsLoads}
 use Rattle.safl_compile.proofs.Tables.{each_none, each_push}
 use Rattle.safl_compile.proofs.Cells.{sources_length}
+use Rattle.safl_compile.proofs.Joining.{or_false}
 use Rattle.safl_compile.proofs.Building.{sources_kept}
 
 -- ---- nothing is there
@@ -62,10 +63,6 @@ bare_loads n xs count ws h = record {
 
 -- ---- one more
 
-or_nothing : (b : Bool) → b ≡ (b || false)
-or_nothing true = refl
-or_nothing false = refl
-
 or_both : (a b c : Bool) → ((a || b) || c) ≡ (a || (b || c))
 or_both true b c = refl
 or_both false b c = refl
@@ -90,7 +87,7 @@ pub start_bits : (n : Netlist) (xs : List (Option Sig)) (count : ℕ) (base : Va
 start_bits n xs count base t h = record {
   entries = h.entries;
   fits = h.fits;
-  shows = λ v w i. h.shows v w i ∙ or_nothing (base v i) ∙ ap (λ (b : Bool). base v i || b) (sym (below_none (t v i)));
+  shows = λ v w i. h.shows v w i ∙ or_false (base v i) ∙ ap (λ (b : Bool). base v i || b) (sym (below_none (t v i)));
 }
 
 pub more_bits : (a b : Netlist) (xs ys : List (Option Sig)) (count place k m : ℕ) (new : Val → Bool) (base : Val → ℕ → Bool) (t : Val → ℕ → ℕ → Bool) → Builds a b k
@@ -158,7 +155,7 @@ loop_there C n o f l h m e =
     let k : f < length o.loops.items = omega (arith, a, m) in
     slice_get_read o.loops.items (length o.loops.items) f l refl k e
 
-gates_both : {A : Type 0} (a b : Bool) (o : Option A) → gate (a && b) o ≡ gate a (gate b o)
+pub gates_both : {A : Type 0} (a b : Bool) (o : Option A) → gate (a && b) o ≡ gate a (gate b o)
 gates_both true b o = refl
 gates_both false b o = refl
 

@@ -1,5 +1,5 @@
 -- The bits that the named wires copy.
-use Rattle.std.proofs.Common.{◌≡◌, ℕ, zero, suc, ◌+◌, ◌<◌, ◌≤◌, List, [], ◌∷◌, ◌++◌, length, map, take, slice_get, Option, Some, None, Bool, true, false, is_some, refl, sym, ap, subst, ◌∙◌, add-one, arith}
+use Rattle.std.proofs.Common.{◌≡◌, ℕ, zero, suc, ◌+◌, ◌<◌, ◌≤◌, List, [], ◌∷◌, ◌++◌, length, map, take, slice_get, Option, Some, None, false, is_some, refl, sym, ap, subst, ◌∙◌, add-one, arith}
 use Rattle.safl_word.specs.Words.{Word}
 use Rattle.safl_check.specs.Program.{Program}
 use Rattle.safl_net.specs.declared.cell.Sig.{Sig}
@@ -13,7 +13,7 @@ use Rattle.safl_compile.specs.declared.parts.Returns.{Returns}
 use Rattle.safl_compile.specs.declared.parts.Outcomes.{Outcomes}
 use Rattle.safl_compile.specs.declared.parts.Controls.{Controls}
 use Rattle.safl_compile.specs.Sources.{IsSource, Builds}
-use Rattle.safl_compile.specs.Tables.{pin, load_bit, bit_or, load_in, taken_at, taken_in, taken_from, one_word, FitsIn}
+use Rattle.safl_compile.specs.Tables.{pin, load_bit, bit_or, load_in, taken_in, one_word, FitsIn}
 use Rattle.safl_compile.specs.Cycles.{Cycle}
 use Rattle.safl_compile.specs.Stages.{HasReturns, HasOutcomes, HasGoes}
 use Rattle.safl_compile.specs.Finished.{HasControls}

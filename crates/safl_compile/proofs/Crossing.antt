@@ -19,6 +19,7 @@ use Rattle.safl_compile.specs.Tables.{pin, taken_in, taken_at, taken_from, on_fr
 use Rattle.safl_compile.specs.Stages.{called, OutcomesFit, HasOutcomes, HasGoes, HasEnds, HasLoads, HasStarts, HasClears, HasEntries, HasRivals}
 use Rattle.safl_compile.specs.Edges.{one_below, operands_in, rival, ShowsBits, ShowsLoads, ShowsBelow}
 use Rattle.safl_compile.proofs.Keeping.{load_kept, some_kept}
+use Rattle.safl_compile.proofs.Chains.{gates_both}
 use Rattle.safl_compile.proofs.Earlier.{same_truth, below_true, below_found}
 
 -- ---- firsts and tests, number by number
@@ -65,17 +66,13 @@ some_if : {A : Type 0} (b : Bool) (x : A) → is_some (cond b (Some x) None) ≡
 some_if true x = refl
 some_if false x = refl
 
-some_word : (o : Option Word) → is_some (one_word o) ≡ is_some o
+pub some_word : (o : Option Word) → is_some (one_word o) ≡ is_some o
 some_word None = refl
 some_word (Some w) = refl
 
 word_if : (b : Bool) (o : Option Word) → gate b (one_word o) ≡ one_word (cond b o None)
 word_if true o = refl
 word_if false o = refl
-
-gates_both : {A : Type 0} (a b : Bool) (o : Option A) → gate (a && b) o ≡ gate a (gate b o)
-gates_both true b o = refl
-gates_both false b o = refl
 
 -- ---- a site that starts is wanted
 

@@ -10,6 +10,7 @@ use Rattle.safl_compile.specs.declared.parts.MemberPins.{MemberPins}
 use Rattle.safl_compile.specs.declared.parts.SitePins.{SitePins}
 use Rattle.safl_compile.specs.Tables.{one_word}
 use Rattle.safl_compile.specs.Cycles.{UnitShows, MemberShows, SiteShows}
+use Rattle.safl_compile.proofs.Crossing.{some_word}
 use Rattle.safl_compile.specs.Steps.{UnitStep, MemberStep, SiteStep}
 
 -- set, and cleared before all
@@ -30,10 +31,6 @@ set_last false true true = refl
 set_last false true false = refl
 set_last false false true = refl
 set_last false false false = refl
-
-some_word : (o : Option Word) → is_some (one_word o) ≡ is_some o
-some_word None = refl
-some_word (Some w) = refl
 
 word_or : (o : Option Word) (a b : Word) → a ∷ [] ≡ or_word (one_word o) (b ∷ []) → a ≡ or_word o b
 word_or None a b e = cc

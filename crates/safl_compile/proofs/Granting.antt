@@ -1,5 +1,5 @@
 -- Which sites start, one by one.
-use Rattle.std.proofs.Common.{◌≡◌, ℕ, zero, suc, ◌+◌, ◌<◌, ◌≤◌, List, [], ◌∷◌, ◌++◌, length, slice_get, subst, Option, Some, None, Bool, true, false, ◌&&◌, ◌||◌, ◌==◌, not, cond, is_some, Result, Ok, Err, IfOk, OnOk, refl, sym, ap, ◌∙◌, arith}
+use Rattle.std.proofs.Common.{◌≡◌, ℕ, zero, suc, ◌<◌, ◌≤◌, List, [], ◌∷◌, ◌++◌, length, slice_get, subst, Option, Some, None, Bool, true, false, ◌&&◌, ◌||◌, ◌==◌, not, cond, is_some, Result, Ok, Err, IfOk, OnOk, refl, sym, ap, ◌∙◌, arith}
 use Rattle.std.proofs.lemmas.Bool.{eqb-true, ne_eqb}
 use Rattle.safl_check.specs.Program.{Program, unit_for}
 use Rattle.safl_check.specs.Readiness.{or_else}
@@ -11,15 +11,15 @@ use Rattle.safl_net.proofs.Growth.{wired_before}
 use Rattle.safl_lower.specs.Bits.{on}
 use Rattle.safl_lower.specs.Entries.{gate}
 use Rattle.safl_lower.proofs.Kept.{same}
-use Rattle.safl_unit.specs.Equations.{Registers, Inputs, Choice, body_wants, want, wants_at, go}
+use Rattle.safl_unit.specs.Equations.{Registers, Inputs, Choice, want, wants_at, go}
 use Rattle.safl_compile.specs.declared.parts.Pins.{Pins}
 use Rattle.safl_compile.specs.declared.parts.Load.{Load}
 use Rattle.safl_compile.specs.Sources.{IsSource, Builds}
-use Rattle.safl_compile.specs.Tables.{EachAt, BitsFit, IsBitIn, sig_in, taken_at, taken_in, on_from, on_in, pin}
+use Rattle.safl_compile.specs.Tables.{EachAt, BitsFit, IsBitIn, taken_at, taken_in, on_from, on_in, pin}
 use Rattle.safl_compile.specs.Cycles.{InEachCycle}
 use Rattle.safl_compile.specs.Stages.{called, HasGoes}
 use Rattle.safl_compile.proofs.Building.{source_kept}
-use Rattle.safl_compile.proofs.Keeping.{bits_kept, cycle_before}
+use Rattle.safl_compile.proofs.Keeping.{cycle_before}
 use Rattle.safl_compile.proofs.Sites.{one_more, longer}
 use Rattle.safl_compile.proofs.Tables.{pin_get}
 

@@ -1,5 +1,5 @@
 -- What a site shows, by its registers.
-use Rattle.std.proofs.Common.{◌≡◌, ℕ, zero, suc, ◌+◌, ◌<◌, ◌≤◌, List, [], ◌∷◌, ◌++◌, length, slice_get, length-append, subst, Option, Some, None, Bool, true, false, ◌&&◌, ◌||◌, not, cond, refl, sym, ap, ◌∙◌, arith}
+use Rattle.std.proofs.Common.{◌≡◌, ℕ, zero, suc, ◌<◌, ◌≤◌, List, [], ◌∷◌, ◌++◌, length, slice_get, length-append, subst, Some, Bool, true, false, ◌&&◌, ◌||◌, not, cond, refl, sym, ap, ◌∙◌, arith}
 use Rattle.safl_word.specs.Words.{Word}
 use Rattle.safl_check.specs.Program.{Program, unit_for}
 use Rattle.safl_net.specs.Growth.{Val}
@@ -9,12 +9,9 @@ use Rattle.safl_unit.specs.Equations.{Registers, Choice, ret, on_wires, word_on}
 use Rattle.safl_compile.specs.declared.parts.UnitPins.{UnitPins}
 use Rattle.safl_compile.specs.declared.parts.SitePins.{SitePins}
 use Rattle.safl_compile.specs.declared.returns.SiteReturn.{SiteReturn}
-use Rattle.safl_net.specs.declared.cell.Sig.{Sig}
 use Rattle.safl_net.specs.Netlist.{Netlist}
 use Rattle.safl_net.specs.Growth.{Wired}
-use Rattle.safl_lower.specs.declared.parts.SitePorts.{SitePorts}
 use Rattle.safl_lower.specs.Lowering.{returned_word, was_sent}
-use Rattle.safl_unit.specs.Equations.{Inputs}
 use Rattle.safl_compile.specs.declared.parts.Pins.{Pins}
 use Rattle.safl_compile.specs.declared.parts.Returns.{Returns}
 use Rattle.safl_compile.specs.Sources.{IsSource, Builds}
@@ -62,7 +59,7 @@ pub record SoFar (C : Program) (P : Choice) (n : Netlist) (p : Pins) (s : Return
   pub sents : InEachCycle C P n p (λ v r i. EachAt s.ports.items (λ k q. 0 < k → on v q.sent ≡ r.sent k))
 
 -- the first entry counts for nothing
-first_only : {A : Type 0} (xs : List A) (Q : ℕ → A → Type 0) → length xs ≡ 1 → EachAt xs (λ k x. 0 < k → Q k x)
+pub first_only : {A : Type 0} (xs : List A) (Q : ℕ → A → Type 0) → length xs ≡ 1 → EachAt xs (λ k x. 0 < k → Q k x)
 first_only [] Q e i x h l = absurd (cc)
 first_only (y ∷ xs) Q e zero x h l = absurd (omega (arith, l))
 first_only (y ∷ []) Q e (suc i) x h l = absurd (cc)

@@ -1,5 +1,5 @@
 -- The next words of the registers, by one entry more.
-use Rattle.std.proofs.Common.{◌≡◌, ℕ, zero, suc, ◌+◌, ◌<◌, List, [], ◌∷◌, ◌++◌, length, length-append, Option, Some, Bool, true, false, cond, Result, Ok, Err, IfOk, slice_get, slice_index_or, ◌⊎◌, ⊎_elim, refl, sym, ap, subst, ◌∙◌, arith}
+use Rattle.std.proofs.Common.{◌≡◌, ℕ, suc, ◌+◌, ◌<◌, List, [], ◌∷◌, ◌++◌, length, length-append, Option, Some, Bool, true, false, cond, Result, Ok, Err, IfOk, slice_get, slice_index_or, ◌⊎◌, ⊎_elim, refl, sym, ap, subst, ◌∙◌, arith}
 use Rattle.safl_check.specs.Program.{Program}
 use Rattle.safl_core.proofs.Basics.{some_is}
 use Rattle.safl_net.specs.declared.cell.Sig.{Sig}
@@ -19,6 +19,7 @@ use Rattle.safl_compile.specs.Cycles.{UnitFits, MemberFits, SiteFits}
 use Rattle.safl_compile.specs.Steps.{UnitStep, MemberStep, SiteStep, UnitsNext, MembersNext, SitesNext}
 use Rattle.safl_compile.proofs.Keeping.{unit_kept, member_kept, site_kept}
 use Rattle.safl_compile.proofs.Joining.{words_show}
+use Rattle.safl_compile.proofs.Sites.{first_only}
 use Rattle.safl_compile.proofs.Tables.{each_none, each_push}
 
 -- a word of a load, and where it is chosen
@@ -119,13 +120,6 @@ module _ (C : Program) (a b : Netlist) (k : ℕ) (now : List MemberPins) (entrie
     shows = λ v w. next_entry all ys y f (λ h z. Next v h z) so.entries_after push (so.shows v (wired_before built.grows w)) (next_here v w);
   }
 
--- the first entry counts for nothing
-first_alone : {A : Type 0} (xs : List A) (Q : ℕ → A → Type 0) → length xs ≡ 1 → EachAt xs (λ k x. 0 < k → Q k x)
-first_alone [] Q e i x h l = absurd (cc)
-first_alone (y ∷ xs) Q e zero x h l = absurd (omega (arith, l))
-first_alone (y ∷ []) Q e (suc i) x h l = absurd (cc)
-first_alone (y ∷ (z ∷ xs)) Q e (suc i) x h l = absurd (omega (arith, e))
-
 abbrev SiteNext : Program → Choice → List UnitPins → List SitePins → List Sig → List Sig → List (Option Sig) → Val → ℕ → SitePins → Type 0
 SiteNext C P units now rets goes clears v k y = (u : UnitPins) (x : SitePins) → slice_get units (C.callee k) ≡ Some u → slice_get now k ≡ Some x
     → SiteStep v (P.kept k) (on v (pin rets k)) (on v (pin goes k)) (on_from v clears (C.unit (C.caller k))) (v u.res.0) x y
@@ -133,8 +127,8 @@ SiteNext C P units now rets goes clears v k y = (u : UnitPins) (x : SitePins) �
 pub no_sites : (C : Program) (P : Choice) (n : Netlist) (units : List UnitPins) (now : List SitePins) (rets goes : List Sig) (clears : List (Option Sig)) (after : List SitePins) → length after ≡ 1 → SitesNext C P n units now rets goes clears after 0
 no_sites C P n units now rets goes clears after e = record {
   entries = e;
-  fits = first_alone after (λ k y. SiteFits n y (C.result (C.callee k))) e;
-  shows = λ v w. first_alone after (λ k y. SiteNext C P units now rets goes clears v k y) e;
+  fits = first_only after (λ k y. SiteFits n y (C.result (C.callee k))) e;
+  shows = λ v w. first_only after (λ k y. SiteNext C P units now rets goes clears v k y) e;
 }
 
 module _ (C : Program) (P : Choice) (a b : Netlist) (units : List UnitPins) (now : List SitePins) (rets goes : List Sig) (clears : List (Option Sig)) (all ys : List SitePins) (m k : ℕ) (next : k ≡ suc m) (u : UnitPins) (clear : Option Sig) (x y : SitePins)

@@ -1,5 +1,5 @@
 -- All registers after the edge.
-use Rattle.std.proofs.Common.{◌≡◌, ℕ, zero, suc, ◌<◌, ◌≤◌, List, [], ◌∷◌, length, Option, Some, slice_get, is_some, refl, subst, arith}
+use Rattle.std.proofs.Common.{ℕ, ◌<◌, ◌≤◌, List, Option, is_some, subst, arith}
 use Rattle.std.proofs.lemmas.Option.{slice_get_within}
 use Rattle.safl_check.specs.Program.{Program}
 use Rattle.safl_check.specs.WellFormed.{IsWellFormed}
@@ -23,6 +23,7 @@ use Rattle.safl_compile.specs.Steps.{UnitsNext, MembersNext, SitesNext}
 use Rattle.safl_compile.specs.Coming.{HasEvents, EventsFit}
 use Rattle.safl_compile.specs.Sources.{Builds}
 use Rattle.safl_compile.proofs.Keeping.{unit_kept, member_kept, ends_kept, all_loads_kept, tests_kept}
+use Rattle.safl_compile.proofs.Sites.{port_there}
 use Rattle.safl_compile.proofs.Following.{unit_follows, member_follows, site_follows}
 
 -- ---- what is known of a net is known of what is built on it
@@ -62,11 +63,6 @@ members_next_kept h q = record { entries_after = q.entries_after; fits = λ f y 
 
 -- ---- the registers
 
-entry_of : {A : Type 0} (xs : List A) (k : ℕ) → k < length xs → (x : A) × (slice_get xs k ≡ Some x)
-entry_of [] k l = absurd (omega (arith, l))
-entry_of (x ∷ xs) zero l = (x, refl)
-entry_of (x ∷ xs) (suc k) l = entry_of xs k (omega (arith, l))
-
 pub has_next : (C : Program) (P : Choice) (n : Netlist) (p : Pins) (s : Returns) (o : Outcomes) (goes : List Sig) (e : Events) (b : Bank) → IsWellFormed C → PinsFit C n p → HasReturns C P n p s → HasOutcomes C P n p o → HasGoes C P n p goes
     → HasEvents C P n p e → UnitsNext C n p.bank.units.items e.ends.items e.starts.items b.units.items C.functions
     → MembersNext C n p.bank.members.items e.entries.items e.rivals.items e.loads.items o.loops.items b.members.items C.functions
@@ -82,7 +78,7 @@ has_next C P n p s o goes e b formed pf hs ho hg he U M S = record {
         let u = C.unit f in
         let ul : u < C.functions = omega (arith, low, within, count) in
         let many = pf.bank.units_length in
-        let x = entry_of p.bank.units.items u (omega (arith, ul, many)) in
+        let x = port_there p.bank.units.items u (omega (arith, ul, many)) in
         unit_follows C P v r i u (taken_from v e.ends.items u) (on_from v e.starts.items u) x.0 y (U.shows v c.wired f y q x.0 x.1) (subst (λ (k : ℕ). UnitShows v x.0 r k) first.1 (c.bank.units u x.0 x.1))
         (he.ends.shows v r i c u ul) (he.starts.shows v r i c u ul);
     members = λ f y q.
@@ -90,7 +86,7 @@ has_next C P n p s o goes e b formed pf hs ho hg he U M S = record {
         let count = M.entries_after in
         let l : f < C.functions = omega (arith, within, count) in
         let many = pf.bank.members_length in
-        let x = entry_of p.bank.members.items f (omega (arith, l, many)) in
+        let x = port_there p.bank.members.items f (omega (arith, l, many)) in
         member_follows C P v r i f (on_from v e.entries.items f) (on_from v e.rivals.items f) (taken_from v e.loads.items f) (taken_from v o.loops.items f) x.0 y (M.shows v c.wired f y q x.0 x.1) (c.bank.members f x.0 x.1)
         (he.entries.shows v r i c f l) (he.rivals.shows v r i c f l) (he.loads.shows v r i c f l) ((ho.shows v r i c).loops f l);
     sites = λ k y q above.
@@ -102,8 +98,8 @@ has_next C P n p s o goes e b formed pf hs ho hg he U M S = record {
         let caller = calls.0 in
         let units = pf.bank.units_length in
         let sites = pf.bank.sites_length in
-        let u = entry_of p.bank.units.items (C.callee k) (omega (arith, callee, units)) in
-        let x = entry_of p.bank.sites.items k (omega (arith, l, sites)) in
+        let u = port_there p.bank.units.items (C.callee k) (omega (arith, callee, units)) in
+        let x = port_there p.bank.sites.items k (omega (arith, l, sites)) in
         let low = (formed.first (C.caller k) caller).0 in
         site_follows C P v r i k (on v (pin s.ret.items k)) (on v (pin goes k)) (on_from v e.clears.items (C.unit (C.caller k))) (v u.0.res.0) x.0 y (S.shows v c.wired k y q above u.0 x.0 u.1 x.1) (c.bank.sites k x.0 x.1 above)
         ((hs.shows v r i c).ret k above l) (hg.shows v r i c k l) (he.clears.shows v r i c (C.unit (C.caller k)) (omega (arith, low, caller))) (c.bank.units (C.callee k) u.0 u.1).res;

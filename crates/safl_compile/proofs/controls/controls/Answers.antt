@@ -1,4 +1,4 @@
-use Rattle.std.proofs.Common.{◌≡◌, List, Option, map, ap, ◌∙◌}
+use Rattle.std.proofs.Common.{List, Option, map, ap, ◌∙◌}
 use Rattle.safl_check.specs.Checked.{program_of}
 use Rattle.safl_compile.specs.declared.parts.Load.{Load}
 use Rattle.safl_compile.specs.Tables.{load_bit, bit_or}

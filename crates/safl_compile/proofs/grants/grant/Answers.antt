@@ -1,7 +1,4 @@
-use Rattle.std.proofs.Common.{Ok, Err, Result, IfOk, Bool, ◌&&◌, not, ◌≡◌, ap, ◌∙◌}
-use Rattle.safl_net.specs.declared.cell.Sig.{Sig}
-use Rattle.safl_net.specs.Netlist.{Netlist}
-use Rattle.safl_net.specs.Growth.{Val, Wired}
+use Rattle.std.proofs.Common.{Bool, ◌&&◌, not, ap, ◌∙◌}
 use Rattle.safl_net.proofs.Growth.{wired_before}
 use Rattle.safl_lower.specs.Bits.{on}
 use Rattle.safl_compile.specs.Tables.{on_in}

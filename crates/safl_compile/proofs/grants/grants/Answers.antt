@@ -1,5 +1,4 @@
-use Rattle.std.proofs.Common.{◌≡◌, ℕ, suc, ◌+◌, ◌-◌, ◌*◌, ◌<◌, ◌≤◌, Bool, ◌&&◌, ◌||◌, ◌==◌, not, cond, length, Some, slice_get, refl, sym, ap, subst, ◌∙◌, add-one, arith}
-use Rattle.std.proofs.lemmas.Option.{slice_get_read}
+use Rattle.std.proofs.Common.{◌≡◌, ℕ, suc, ◌+◌, ◌*◌, Bool, ◌&&◌, ◌||◌, ◌==◌, not, cond, sym, ap, subst, ◌∙◌, add-one, arith}
 use Rattle.safl_check.specs.Checked.{CheckedProgram, program_of}
 use Rattle.safl_check.specs.Program.{unit_for}
 use Rattle.safl_lower.specs.Bits.{on}

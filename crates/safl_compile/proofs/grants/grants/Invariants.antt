@@ -1,4 +1,4 @@
-use Rattle.std.proofs.Common.{ℕ, ◌+◌, ◌*◌}
+use Rattle.std.proofs.Common.{◌+◌, ◌*◌}
 use Rattle.safl_check.specs.Checked.{program_of}
 use Rattle.safl_net.specs.Names.{IsTidy}
 use Rattle.safl_compile.specs.Sources.{Builds}

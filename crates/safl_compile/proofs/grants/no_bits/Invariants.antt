@@ -1,4 +1,4 @@
-use Rattle.std.proofs.Common.{◌≡◌, ℕ, None, length}
+use Rattle.std.proofs.Common.{◌≡◌, None, length}
 use Rattle.safl_compile.specs.Tables.{EachAt}
 use Rattle.safl_compile.proofs.grants.no_bits.Given as goal
 

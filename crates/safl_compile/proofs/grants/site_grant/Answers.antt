@@ -1,4 +1,4 @@
-use Rattle.std.proofs.Common.{◌≡◌, Bool, true, ◌&&◌, not, cond, length, Option, refl, sym, ap, ◌∙◌}
+use Rattle.std.proofs.Common.{Bool, ◌&&◌, not, cond, length, Option, refl, sym, ap, ◌∙◌}
 use Rattle.std.proofs.lemmas.Option.{slice_get_read}
 use Rattle.safl_net.specs.declared.cell.Sig.{Sig}
 use Rattle.safl_net.proofs.Growth.{wired_before}

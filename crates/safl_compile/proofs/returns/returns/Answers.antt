@@ -1,8 +1,5 @@
-use Rattle.std.proofs.Common.{◌≡◌, ℕ, suc, Bool, List, slice_index_or, ◌+◌, ◌*◌, ◌<◌, ◌≤◌, length, Some, slice_get, refl, sym, ap, subst, ◌∙◌, add-one, arith}
-use Rattle.std.proofs.lemmas.Option.{slice_get_read}
-use Rattle.safl_check.specs.Checked.{CheckedProgram, IsChecked, program_of}
-use Rattle.safl_compile.specs.declared.parts.UnitPins.{UnitPins}
-use Rattle.safl_compile.specs.declared.parts.SitePins.{SitePins}
+use Rattle.std.proofs.Common.{◌≡◌, ℕ, suc, Bool, ◌+◌, ◌*◌, refl, sym, ap, subst, ◌∙◌, add-one, arith}
+use Rattle.safl_check.specs.Checked.{CheckedProgram, program_of}
 use Rattle.safl_compile.specs.Returning.{SiteShown}
 use Rattle.safl_compile.specs.Cycles.{choice_of}
 use Rattle.safl_compile.proofs.Building.{builds_same, builds_on, builds_within}
