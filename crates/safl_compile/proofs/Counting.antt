@@ -14,7 +14,9 @@ use Rattle.safl_unit.specs.Equations.{Choice}
 use Rattle.safl_unit.specs.Names.{names_of}
 use Rattle.safl_unit.specs.Layout.{lines, site_lines, unit_lines, function_wires, site_wires, layout_inputs, layout_registers, layout_wires}
 use Rattle.safl_compile.specs.Stages.{body_nodes}
-use Rattle.safl_compile.specs.Finished.{input_line, open_register, open_wire, declared_signals}
+use Rattle.safl_net.specs.Netlist.{Netlist}
+use Rattle.safl_compile.specs.Sources.{HasRoom}
+use Rattle.safl_compile.specs.Finished.{input_line, open_register, open_wire, declared_signals, declared_net}
 use Rattle.safl_compile.proofs.Declaring.{map_long, param_lines_long, take_next, take_whole}
 use Rattle.safl_compile.proofs.Pinning.{few_below, few_sites, body_wires_count, few_calls}
 use Rattle.safl_compile.proofs.Ordering.{units_in_order}
@@ -90,3 +92,14 @@ declared_few c h P =
     let p = body_wires_count D C.functions in
     let q = few_calls C P (suc C.sites) in
     omega (arith, a, b, d, e, f, g, i, j, k, l, m, n, o, p, q)
+
+-- ---- room
+
+-- a net that is built on the declared one, and not too large
+pub room_for : (c : CheckedProgram) → IsChecked c → (P : Choice) (old new : Netlist) (k m : ℕ) → old ≡ declared_net (program_of c) (names_of c) P → length new.signals ≤ length old.signals + k → k + m ≤ 2900000 → HasRoom new m
+room_for c h P old new k m e l few =
+    let a = ap (λ (n : Netlist). length n.signals) e in
+    let b = declared_few c h P in
+    let d = h.limits.functions in
+    let f = h.limits.sites in
+    omega (arith, a, b, d, f, l, few)

@@ -192,14 +192,3 @@ module _ (C : Program) (D : Names) (P : Choice) (first : ℕ) (T : Controls) whe
       let f = length-append (lines (site_wires C P) (suc C.sites)) ((codes "go$main", 1) ∷ []) in
       let g = body_wires_count D C.functions in
       omega (arith, a, b, d, f, g)
-
-  pub wires_listed : (k : ℕ) (s : Sig) (xs ys : List Sig) → k ≡ suc C.sites → s ≡ pin T.goes.items 0 → xs ≡ map sig_of (ties (body_ties D T) C.functions) ++ map sig_of (ties (call_ties C P first T) k) → ys ≡ xs ++ s ∷ []
-      → ys ≡ map sig_of (wire_ties C D P first T)
-  wires_listed k s xs ys e es q r =
-      let B = ties (body_ties D T) C.functions in
-      let K = ties (call_ties C P first T) (suc C.sites) in
-      r ∙ ap (λ l. l ++ s ∷ []) (q ∙ ap (λ j. map sig_of B ++ map sig_of (ties (call_ties C P first T) j)) e)
-      ∙ append_assoc (map sig_of B) (map sig_of K) (s ∷ [])
-      ∙ ap (λ z. map sig_of B ++ (map sig_of K ++ z ∷ [])) es
-      ∙ ap (λ l. map sig_of B ++ l) (sym (map_more sig_of K (((codes "go$main", 1), pin T.goes.items 0) ∷ [])))
-      ∙ sym (map_more sig_of B (K ++ ((codes "go$main", 1), pin T.goes.items 0) ∷ []))

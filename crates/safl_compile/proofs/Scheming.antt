@@ -340,3 +340,22 @@ module _ (c : CheckedProgram) (h : IsChecked c) (P : Choice) (old new : Netlist)
     wires = named_are;
     direct = direct_copy;
   }
+
+  -- as many signals as before
+  pub finished_count : length new.signals ≡ length old.signals
+  finished_count =
+      let a = ap length f.signals in
+      let d = length-append (inputs ++ (registers ++ named)) f.more in
+      let e = length-append inputs (registers ++ named) in
+      let g = length-append registers named in
+      let i = map_long set_register rts in
+      let j = map_long set_wire wts in
+      let k = ap length f.before in
+      let l = length-append (declared_signals C D P) f.more in
+      let m = length-append inputs (map open_register (layout_registers C D P) ++ map open_wire (layout_wires C D P)) in
+      let n = length-append (map open_register (layout_registers C D P)) (map open_wire (layout_wires C D P)) in
+      let o = map_long open_register (layout_registers C D P) in
+      let q = map_long open_wire (layout_wires C D P) in
+      let r = sym (map_long line_of rts) ∙ ap length (register_lines c h P b full) in
+      let s = sym (map_long line_of wts) ∙ ap length (wire_lines C D P p.first_wire T) in
+      omega (arith, a, d, e, g, i, j, k, l, m, n, o, q, r, s)
