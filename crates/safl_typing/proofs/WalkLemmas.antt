@@ -20,13 +20,13 @@ use Rattle.safl_typing.specs.declared.typed.Wanted.TheVariants as wants
 use Rattle.safl_typing.specs.Rewriting.{Expression, Number, Sized, Variable, Choice, Binding, Applied, Called, Expressions, no_expression, an_expression, Bindings, no_binding, a_binding, Shape, Alike, Comparing, Shifting, Resizing, shape, flexible, count, nodes, nodes_in, nodes_bound}
 use Rattle.safl_typing.specs.Heads.{Slot, Head, Known, Callee, Member, Above, Unknown, callee, sites, sites_in, sites_bound}
 use Rattle.safl_typing.specs.Typing.{slots, widths_of}
-use Rattle.safl_typing.specs.Ranges.{IsWide, AreWide, WideSlots, IsInRange, AreInRange, BoundInRange}
+use Rattle.safl_typing.specs.Ranges.{IsWide, AreWide, WideSlots, WideHeads, IsInRange, AreInRange, BoundInRange}
 use Rattle.safl_typing.specs.Walk.{fault, fault_with, after, unless, needs, Typed, TypedAll, TypedAlike, Wanted, Any, Exactly, is_any, is_known, wanted_by, settle, branches, alike, resized, operated, arguments, called, placed, repeated, all_any, amounts, exactly, check, check_all, check_alike, check_shift, check_bound}
 use Rattle.safl_typing.specs.Plain.{plain, plain_all, plain_bindings}
 use Rattle.safl_typing.specs.PlainHeads.{plain_slot, plain_slots, plain_head, plain_heads, known, with_number, a_member, an_earlier, plain_callee, IsOneOf}
 use Rattle.safl_typing.specs.PlainTyped.{plain_wanted, HasWidthOfWord, HasWideWanted, HasWideWritten, Refuses, operand_wanted, operands_wanted}
-use Rattle.safl_typing.specs.MayWalk.{MayWalk, MayCheck, MayCheckAll, MayBind}
-use Rattle.safl_typing.proofs.Wide.{wide_slots, wide_append}
+use Rattle.safl_typing.specs.MayWalk.{CountParams, MayWalk, MayCheck, MayCheckAll, MayBind}
+use Rattle.safl_typing.proofs.Wide.{WideCallee, callee_wide, wide_slots, wide_append}
 use Rattle.safl_typing.proofs.Sound.{WideWanted, checks_has, checks_have_alike, checks_have_bound}
 
 pub some_node : (e : Expression) → 1 ≤ nodes e
@@ -62,10 +62,10 @@ pub next_of : (hs : List code_head.Head) (u : ℕ) (ss : List code_slot.Slot) (l
     → es ≡ y ∷ ys → r ≡ min 4001 (lo + sites (known hs u) (plain y)) → MayCheckAll hs u ss lo (plain_all es) → r ≡ lo + sites (known hs u) (plain y)
 next_of hs u ss lo es y ys r e q h = next_site lo (sites (known hs u) (plain y)) r q (first_of hs u ss lo es y ys e h).within
 
-pub less_first : (es : List code.Expression) (y : code.Expression) (ys : List code.Expression) → es ≡ y ∷ ys → 3 * nodes (plain y) < 3 * nodes_in (plain_all es) + 1
+pub less_first : (es : List code.Expression) (y : code.Expression) (ys : List code.Expression) → es ≡ y ∷ ys → 4 * nodes (plain y) < 4 * nodes_in (plain_all es) + 1
 less_first es y ys e = omega (arith, ap (λ (l : List code.Expression). nodes_in (plain_all l)) e)
 
-pub less_rest : (es : List code.Expression) (y : code.Expression) (ys : List code.Expression) → es ≡ y ∷ ys → 3 * nodes_in (plain_all ys) + 1 < 3 * nodes_in (plain_all es) + 1
+pub less_rest : (es : List code.Expression) (y : code.Expression) (ys : List code.Expression) → es ≡ y ∷ ys → 4 * nodes_in (plain_all ys) + 1 < 4 * nodes_in (plain_all es) + 1
 less_rest es y ys e = omega (arith, some_node (plain y), ap (λ (l : List code.Expression). nodes_in (plain_all l)) e)
 
 -- the same of bindings
@@ -96,10 +96,10 @@ pub bound_next : (hs : List code_head.Head) (u : ℕ) (ss : List code_slot.Slot)
     → es ≡ y ∷ ys → r ≡ min 4001 (lo + sites (known hs u) (plain y.value)) → MayBind hs u ss lo (plain_bindings es) → r ≡ lo + sites (known hs u) (plain y.value)
 bound_next hs u ss lo es y ys r e q h = next_site lo (sites (known hs u) (plain y.value)) r q (bound_first hs u ss lo es y ys e h).within
 
-pub bound_less_first : (es : List Bound) (y : Bound) (ys : List Bound) → es ≡ y ∷ ys → 3 * nodes (plain y.value) < 3 * nodes_bound (plain_bindings es) + 1
+pub bound_less_first : (es : List Bound) (y : Bound) (ys : List Bound) → es ≡ y ∷ ys → 4 * nodes (plain y.value) < 4 * nodes_bound (plain_bindings es) + 1
 bound_less_first es y ys e = omega (arith, ap (λ (l : List Bound). nodes_bound (plain_bindings l)) e)
 
-pub bound_less_rest : (es : List Bound) (y : Bound) (ys : List Bound) → es ≡ y ∷ ys → 3 * nodes_bound (plain_bindings ys) + 1 < 3 * nodes_bound (plain_bindings es) + 1
+pub bound_less_rest : (es : List Bound) (y : Bound) (ys : List Bound) → es ≡ y ∷ ys → 4 * nodes_bound (plain_bindings ys) + 1 < 4 * nodes_bound (plain_bindings es) + 1
 bound_less_rest es y ys e = omega (arith, some_node (plain y.value), ap (λ (l : List Bound). nodes_bound (plain_bindings l)) e)
 
 -- ---- widths that were found
@@ -315,33 +315,6 @@ pub not_tail : (k : Known) (s : List Slot) (tail : Bool) (lo : ℕ) (m : Wanted)
 not_tail k s tail lo m p f es n h e t =
     called_is k s tail lo m p f es (Member n h) e ∙ ap (λ (b : Bool). unless (needs b (fault rules.E10 p)) (arguments p m h (count es) (check_all k s lo (exactly (widths_of h.params)) es) (λ us. Loop n us))) t
 
-counted : (p : ℕ) (m : Wanted) (h : Head) (n : ℕ) (args : Result TypedAll Fault) (call : Terms → Term) (b : Bool) → (length h.params == n) ≡ b
-    → arguments p m h n args call ≡ unless (needs b (fault_with rules.E11 p (length h.params) n)) (after args (λ r. settle p m h.width (call r.terms)))
-counted p m h n args call b e = ap (λ (z : Bool). unless (needs z (fault_with rules.E11 p (length h.params) n)) (after args (λ r. settle p m h.width (call r.terms)))) e
-
-pub loop_count : (k : Known) (s : List Slot) (tail : Bool) (lo : ℕ) (m : Wanted) (p : ℕ) (f : List ℕ) (es : Expressions) (n : ℕ) (h : Head) → callee k f ≡ Member n h → tail ≡ true → (length h.params == count es) ≡ false
-    → check k s tail lo m (Called p f es) ≡ Err (fault_with rules.E11 p (length h.params) (count es))
-loop_count k s tail lo m p f es n h e t q =
-    called_is k s tail lo m p f es (Member n h) e ∙ ap (λ (b : Bool). unless (needs b (fault rules.E10 p)) (arguments p m h (count es) (check_all k s lo (exactly (widths_of h.params)) es) (λ us. Loop n us))) t
-    ∙ counted p m h (count es) (check_all k s lo (exactly (widths_of h.params)) es) (λ us. Loop n us) false q
-
-pub loop_is : (k : Known) (s : List Slot) (tail : Bool) (lo : ℕ) (m : Wanted) (p : ℕ) (f : List ℕ) (es : Expressions) (n : ℕ) (h : Head) → callee k f ≡ Member n h → tail ≡ true → (length h.params == count es) ≡ true
-    → check k s tail lo m (Called p f es) ≡ after (check_all k s lo (exactly (widths_of h.params)) es) (λ r. settle p m h.width (Loop n r.terms))
-loop_is k s tail lo m p f es n h e t q =
-    called_is k s tail lo m p f es (Member n h) e ∙ ap (λ (b : Bool). unless (needs b (fault rules.E10 p)) (arguments p m h (count es) (check_all k s lo (exactly (widths_of h.params)) es) (λ us. Loop n us))) t
-    ∙ counted p m h (count es) (check_all k s lo (exactly (widths_of h.params)) es) (λ us. Loop n us) true q
-
-pub call_count : (k : Known) (s : List Slot) (tail : Bool) (lo : ℕ) (m : Wanted) (p : ℕ) (f : List ℕ) (es : Expressions) (n : ℕ) (h : Head) → callee k f ≡ Above n h → (length h.params == count es) ≡ false
-    → check k s tail lo m (Called p f es) ≡ Err (fault_with rules.E11 p (length h.params) (count es))
-call_count k s tail lo m p f es n h e q =
-    called_is k s tail lo m p f es (Above n h) e ∙ counted p m h (count es) (check_all k s (suc lo) (exactly (widths_of h.params)) es) (λ us. Call n lo us) false q
-
-pub call_is : (k : Known) (s : List Slot) (tail : Bool) (lo : ℕ) (m : Wanted) (p : ℕ) (f : List ℕ) (es : Expressions) (n : ℕ) (h : Head) (next : ℕ) → callee k f ≡ Above n h → (length h.params == count es) ≡ true → next ≡ suc lo
-    → check k s tail lo m (Called p f es) ≡ after (check_all k s next (exactly (widths_of h.params)) es) (λ r. settle p m h.width (Call n lo r.terms))
-call_is k s tail lo m p f es n h next e q en =
-    called_is k s tail lo m p f es (Above n h) e ∙ counted p m h (count es) (check_all k s (suc lo) (exactly (widths_of h.params)) es) (λ us. Call n lo us) true q
-    ∙ sym (ap (λ (i : ℕ). after (check_all k s i (exactly (widths_of h.params)) es) (λ r. settle p m h.width (Call n lo r.terms))) en)
-
 pub count_all : (es : List code.Expression) → count (plain_all es) ≡ length es
 count_all [] = refl
 count_all (y ∷ ys) = let i = count_all ys in omega (arith, i)
@@ -366,3 +339,72 @@ refused_is r q f e h = subst (λ (z : CheckErr). Refuses z q) (sym e) h
 
 pub refuses_by : {A : Type 0} (r : CheckErr) (a b : Result A Fault) → a ≡ b → Refuses r a → Refuses r b
 refuses_by r a b e h = subst (λ z. Refuses r z) e h
+
+-- ---- functions that are called
+
+pub few_params : (hs : List code_head.Head) (n : ℕ) (h : code_head.Head) → CountParams hs → n < length hs → h ≡ get_or hs n h → length h.params.items < 2 ^ 32
+few_params [] n h c lt get = absurd (omega (arith, lt))
+few_params (y ∷ ys) zero h c lt get = subst (λ (z : code_head.Head). length z.params.items < 2 ^ 32) (sym get) c.0
+few_params (y ∷ ys) (suc n) h c lt get = few_params ys n h c.1 (omega (arith, lt)) get
+
+pub wide_member : (hs : List code_head.Head) (u : ℕ) (f : List ℕ) (n : ℕ) (h : code_head.Head) → WideHeads (plain_heads hs) → callee (known hs u) f ≡ Member n (plain_head h) → WideSlots (plain_head h).params
+wide_member hs u f n h w e = let g : WideCallee (Member n (plain_head h)) = subst WideCallee e (callee_wide (known hs u) f w) in g.params
+
+pub wide_above : (hs : List code_head.Head) (u : ℕ) (f : List ℕ) (n : ℕ) (h : code_head.Head) → WideHeads (plain_heads hs) → callee (known hs u) f ≡ Above n (plain_head h) → WideSlots (plain_head h).params
+wide_above hs u f n h w e = let g : WideCallee (Above n (plain_head h)) = subst WideCallee e (callee_wide (known hs u) f w) in g.params
+
+pub same_count : (a b : ℕ) (ps : List code_slot.Slot) (es : List code.Expression) → a ≡ length ps → b ≡ length es → (a == b) ≡ (length (plain_slots ps) == count (plain_all es))
+same_count a b ps es e q = ap (λ (n : ℕ). n == b) (e ∙ sym (slots_length ps)) ∙ ap (λ (n : ℕ). length (plain_slots ps) == n) (q ∙ sym (count_all es))
+
+counted_after : {A B : Type 0} (o : Option Fault) (r : Result A Fault) (rest : A → Result B Fault) → unless o (after r rest) ≡ after (unless o r) rest
+counted_after None r rest = refl
+counted_after (Some f) r rest = refl
+
+abbrev pub counted_arguments : Known → List Slot → ℕ → ℕ → Head → Expressions → Result TypedAll Fault
+counted_arguments k s lo p h es = unless (needs (length h.params == count es) (fault_with rules.E11 p (length h.params) (count es))) (check_all k s lo (exactly (widths_of h.params)) es)
+
+pub loop_is : (k : Known) (s : List Slot) (tail : Bool) (lo : ℕ) (m : Wanted) (p : ℕ) (f : List ℕ) (es : Expressions) (n : ℕ) (h : Head) → callee k f ≡ Member n h → tail ≡ true
+    → check k s tail lo m (Called p f es) ≡ after (counted_arguments k s lo p h es) (λ r. settle p m h.width (Loop n r.terms))
+loop_is k s tail lo m p f es n h e t =
+    called_is k s tail lo m p f es (Member n h) e ∙ ap (λ (b : Bool). unless (needs b (fault rules.E10 p)) (arguments p m h (count es) (check_all k s lo (exactly (widths_of h.params)) es) (λ us. Loop n us))) t
+    ∙ counted_after (needs (length h.params == count es) (fault_with rules.E11 p (length h.params) (count es))) (check_all k s lo (exactly (widths_of h.params)) es) (λ r. settle p m h.width (Loop n r.terms))
+
+pub call_is : (k : Known) (s : List Slot) (tail : Bool) (lo : ℕ) (m : Wanted) (p : ℕ) (f : List ℕ) (es : Expressions) (n : ℕ) (h : Head) (next : ℕ) → callee k f ≡ Above n h → next ≡ suc lo
+    → check k s tail lo m (Called p f es) ≡ after (counted_arguments k s next p h es) (λ r. settle p m h.width (Call n lo r.terms))
+call_is k s tail lo m p f es n h next e en =
+    called_is k s tail lo m p f es (Above n h) e
+    ∙ counted_after (needs (length h.params == count es) (fault_with rules.E11 p (length h.params) (count es))) (check_all k s (suc lo) (exactly (widths_of h.params)) es) (λ r. settle p m h.width (Call n lo r.terms))
+    ∙ sym (ap (λ (i : ℕ). after (counted_arguments k s i p h es) (λ r. settle p m h.width (Call n lo r.terms))) en)
+
+-- ---- an expression by its parts
+
+pub choice_same : (e : Expression) (p : ℕ) (c a b c2 a2 b2 : code.Expression) → e ≡ Choice p (plain c) (plain a) (plain b) → c2 ≡ c → a2 ≡ a → b2 ≡ b → e ≡ Choice p (plain c2) (plain a2) (plain b2)
+choice_same e p c a b c2 a2 b2 q x y z =
+    q ∙ sym (ap (λ (v : code.Expression). Choice p (plain v) (plain a) (plain b)) x) ∙ sym (ap (λ (v : code.Expression). Choice p (plain c2) (plain v) (plain b)) y)
+    ∙ sym (ap (λ (v : code.Expression). Choice p (plain c2) (plain a2) (plain v)) z)
+
+pub binding_same : (e : Expression) (p : ℕ) (bs cs : List Bound) (b c : code.Expression) → e ≡ Binding p (plain_bindings bs) (plain b) → cs ≡ bs → c ≡ b → e ≡ Binding p (plain_bindings cs) (plain c)
+binding_same e p bs cs b c q x y =
+    q ∙ sym (ap (λ (l : List Bound). Binding p (plain_bindings l) (plain b)) x) ∙ sym (ap (λ (v : code.Expression). Binding p (plain_bindings cs) (plain v)) y)
+
+abbrev pub refusal : Fault → Result TypedAll Fault
+refusal f = Err f
+
+-- the function of a number, where it is one
+abbrev pub head_at : List code_head.Head → ℕ → Head
+head_at [] n = record { name = []; params = []; width = 0; unit = 0 }
+head_at (h ∷ hs) zero = plain_head h
+head_at (h ∷ hs) (suc n) = head_at hs n
+
+get_head : (hs : List code_head.Head) (n : ℕ) → n < length hs → (h : code_head.Head) × (slice_get hs n ≡ Some h) × (plain_head h ≡ head_at hs n)
+get_head [] n lt = absurd (omega (arith, lt))
+get_head (h ∷ hs) zero lt = (h, refl, refl)
+get_head (h ∷ hs) (suc n) lt = get_head hs n (omega (arith, lt))
+
+pub member_is : (hs : List code_head.Head) (k : Known) (f : List ℕ) (c : code_callee.Callee) (n : ℕ) → plain_callee hs c ≡ callee k f → IsOneOf hs c → c ≡ callees.Member n → callee k f ≡ Member n (head_at hs n)
+member_is hs k f c n e one is =
+    let g = get_head hs n (subst (IsOneOf hs) is one) in
+    sym e ∙ ap (plain_callee hs) is ∙ ap (λ (o : Option code_head.Head). a_member (with_number n o)) g.1 ∙ ap (λ (h : Head). Member n h) g.2
+
+pub wrong_is : (p : ℕ) (ps : List code_slot.Slot) (es : List code.Expression) → errors.Refused (fault_with rules.E11 p (length ps) (length es)) ≡ errors.Refused (fault_with rules.E11 p (length (plain_slots ps)) (count (plain_all es)))
+wrong_is p ps es = ap (λ (n : ℕ). errors.Refused (fault_with rules.E11 p n (length es))) (sym (slots_length ps)) ∙ ap (λ (n : ℕ). errors.Refused (fault_with rules.E11 p (length (plain_slots ps)) n)) (sym (count_all es))

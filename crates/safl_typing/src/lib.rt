@@ -11,3 +11,4 @@ mod repeats;
 mod rewrite;
 mod sites;
 mod typed;
+mod walk;

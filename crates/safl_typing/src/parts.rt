@@ -16,7 +16,7 @@ use crate::heads::Slot;
 use crate::typed::{CheckErr, Typed, Wanted, refused, settled};
 use safl_check::Term;
 use safl_tree::Name;
-use safl_word::{Primitive, Rule};
+use safl_word::{NoMemory, Primitive, Rule};
 use std::alloc::Global;
 
 /// The widths of several expressions, in bits, and their terms.
@@ -162,7 +162,7 @@ pub fn slots_below(
     around: &[Slot],
     bound: &[Bound],
     widths: &[u8],
-) -> Result<Vec<Slot>, CheckErr>
+) -> Result<Vec<Slot>, NoMemory>
     ensures { IfOk result (λ all. plain_slots all.items ≡ plain_slots around.now ++ slots (plain_bindings bound.now) widths.now) }
 {
     let mut all = Vec::new(alloc);
@@ -172,7 +172,7 @@ pub fn slots_below(
 }
 
 // Adds slots to others.
-fn copy_slots(alloc: Global, all: &mut Vec<Slot>, around: &[Slot]) -> Result<(), CheckErr>
+fn copy_slots(alloc: Global, all: &mut Vec<Slot>, around: &[Slot]) -> Result<(), NoMemory>
     ensures { OnOk result (plain_slots all.new.items ≡ plain_slots all.old.items ++ plain_slots around.now) }
 {
     for slot in around {
@@ -191,7 +191,7 @@ fn add_slots(
     all: &mut Vec<Slot>,
     bound: &[Bound],
     widths: &[u8],
-) -> Result<(), CheckErr>
+) -> Result<(), NoMemory>
     ensures { OnOk result (plain_slots all.new.items ≡ plain_slots all.old.items ++ slots (plain_bindings bound.now) widths.now) }
 {
     let Some((first, rest)) = bound.split_first() else {

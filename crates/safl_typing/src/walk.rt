@@ -1,0 +1,425 @@
+//! The walk over an expression: its width and its term, or the first fault.
+
+ghost use Rattle.std.specs.Prelude.{◌≡◌, ◌+◌, ◌<◌, ◌^◌, ◌&&◌, ◌==◌, Bool, length};
+ghost use Rattle.safl_check.specs.Tree.{tree};
+ghost use Rattle.safl_word.specs.declared.fault.Rule.TheVariants as rules;
+ghost use Rattle.safl_typing.specs.declared.typed.CheckErr.TheVariants as errors;
+ghost use Rattle.safl_typing.specs.Rewriting.{Choice, Binding, Applied, Called, flexible, count, nodes};
+ghost use Rattle.safl_typing.specs.Heads.{sites};
+ghost use Rattle.safl_typing.specs.Typing.{widths_of};
+ghost use Rattle.safl_typing.specs.Ranges.{IsInRange, WideSlots};
+ghost use Rattle.safl_typing.specs.Walk.{fault_with, unless, needs, is_any, branches, exactly, check, check_all, check_alike, check_shift, check_bound};
+ghost use Rattle.safl_typing.specs.Plain.{plain, plain_all, plain_bindings};
+ghost use Rattle.safl_typing.specs.PlainHeads.{plain_slots, plain_head, known};
+ghost use Rattle.safl_typing.specs.PlainTyped.{plain_wanted, HasWideWanted, HasWideWritten, Says, SaysAll, SaysAlike, operands_wanted};
+ghost use Rattle.safl_typing.specs.MayWalk.{MayWalk, MayCheck, MayCheckAll, MayBind};
+
+use crate::expression::{Bound, Expression};
+use crate::heads::{Callee, Head, Slot, find_callee};
+use crate::measure::{Shape, are_both_flexible, is_flexible, shape_of};
+use crate::parts::{
+    TypedAlike, TypedAll, make_if, make_let, make_operation, none_alike, none_typed, put_first,
+    put_operand, settled_call, settled_loop, settled_operation, slots_below,
+};
+use crate::repeats::find_repeated;
+use crate::sites::{add_bound_sites, add_sites};
+use crate::typed::{
+    CheckErr, Typed, Wanted, as_operand, as_written, comes_later, has_width, refused, typed_number,
+    typed_sized, typed_variable,
+};
+use safl_check::Term;
+use safl_tree::Name;
+use safl_word::{Fault, Primitive, Rule, result_width};
+use std::alloc::Global;
+
+/// Checks an expression in a body of this group, where its sites are numbered from `lo` on.
+#[cycle(walk)]
+pub fn check_expression(
+    alloc: Global,
+    heads: &[Head],
+    unit: u32,
+    slots: &[Slot],
+    tail: bool,
+    lo: u32,
+    wanted: Wanted,
+    e: &Expression,
+) -> Result<Typed, CheckErr>
+    requires able { MayCheck heads.now unit slots.now lo (plain e.now) }
+    requires wanted { HasWideWanted wanted }
+    ensures { Says result (check (known heads.now unit) (plain_slots slots.now) tail lo (plain_wanted wanted) (plain e.now)) }
+{
+    match e {
+        Expression::Number(place, value) => typed_number(*place, *value, wanted),
+        Expression::Sized(place, width, value) => typed_sized(*place, *width, *value, wanted),
+        Expression::Variable(place, name) => typed_variable(*place, slots, name, wanted),
+        Expression::Choice(place, condition, first, second) => check_choice(
+            alloc, heads, unit, slots, tail, lo, wanted, *place, condition, first, second,
+        ),
+        Expression::Binding(place, bound, body) => check_binding(
+            alloc, heads, unit, slots, tail, lo, wanted, *place, bound, body,
+        ),
+        Expression::Applied(place, operator, operands) => check_applied(
+            alloc, heads, unit, slots, lo, wanted, *place, *operator, operands,
+        ),
+        Expression::Called(place, name, arguments) => check_called(
+            alloc, heads, unit, slots, tail, lo, wanted, *place, name, arguments,
+        ),
+    }
+}
+
+// An if: E14 where neither branch gives a width and none is expected.
+#[cycle(walk)]
+fn check_choice(
+    alloc: Global,
+    heads: &[Head],
+    unit: u32,
+    slots: &[Slot],
+    tail: bool,
+    lo: u32,
+    wanted: Wanted,
+    place: u32,
+    condition: &Expression,
+    first: &Expression,
+    second: &Expression,
+) -> Result<Typed, CheckErr>
+    requires able { MayCheck heads.now unit slots.now lo (Choice place (plain condition.now) (plain first.now) (plain second.now)) }
+    requires wanted { HasWideWanted wanted }
+    ensures { Says result (check (known heads.now unit) (plain_slots slots.now) tail lo (plain_wanted wanted) (Choice place (plain condition.now) (plain first.now) (plain second.now))) }
+{
+    let flexible = are_both_flexible(first, second);
+    let known = has_width(wanted, flexible);
+    if !known {
+        return Err(refused(Rule::E14, place));
+    }
+    let next = add_sites(heads, unit, lo, condition);
+    let bit = Wanted::Exactly(1);
+    let x = check_expression(alloc, heads, unit, slots, false, lo, bit, condition)?;
+    check_branches(
+        alloc, heads, unit, slots, tail, next, wanted, x.term, first, second,
+    )
+}
+
+// Two branches: where no width is expected, the first rigid one gives it.
+#[cycle(walk)]
+fn check_branches(
+    alloc: Global,
+    heads: &[Head],
+    unit: u32,
+    slots: &[Slot],
+    tail: bool,
+    lo: u32,
+    wanted: Wanted,
+    test: Term,
+    first: &Expression,
+    second: &Expression,
+) -> Result<Typed, CheckErr>
+    requires able { MayWalk heads.now slots.now lo (IsInRange (plain first.now) × IsInRange (plain second.now)) (sites (known heads.now unit) (plain first.now) + sites (known heads.now unit) (plain second.now)) (nodes (plain first.now) + nodes (plain second.now)) }
+    requires wanted { HasWideWanted wanted }
+    ensures { Says result (branches (is_any (plain_wanted wanted) && flexible (plain first.now)) (plain_wanted wanted) (λ v. check (known heads.now unit) (plain_slots slots.now) tail lo v (plain first.now)) (λ v. check (known heads.now unit) (plain_slots slots.now) tail (lo + sites (known heads.now unit) (plain first.now)) v (plain second.now)) (tree test)) }
+{
+    let next = add_sites(heads, unit, lo, first);
+    let flexible = is_flexible(first);
+    let later = comes_later(wanted, flexible);
+    if later {
+        let z = check_expression(alloc, heads, unit, slots, tail, next, wanted, second)?;
+        let found = Wanted::Exactly(z.width);
+        let y = check_expression(alloc, heads, unit, slots, tail, lo, found, first)?;
+        return make_if(alloc, z.width, test, y.term, z.term);
+    }
+    let y = check_expression(alloc, heads, unit, slots, tail, lo, wanted, first)?;
+    let found = Wanted::Exactly(y.width);
+    let z = check_expression(alloc, heads, unit, slots, tail, next, found, second)?;
+    make_if(alloc, y.width, test, y.term, z.term)
+}
+
+// A let: E14 where its body gives no width and none is expected, E07 where it has a name twice.
+#[cycle(walk)]
+fn check_binding(
+    alloc: Global,
+    heads: &[Head],
+    unit: u32,
+    slots: &[Slot],
+    tail: bool,
+    lo: u32,
+    wanted: Wanted,
+    place: u32,
+    bound: &[Bound],
+    body: &Expression,
+) -> Result<Typed, CheckErr>
+    requires able { MayCheck heads.now unit slots.now lo (Binding place (plain_bindings bound.now) (plain body.now)) }
+    requires wanted { HasWideWanted wanted }
+    ensures { Says result (check (known heads.now unit) (plain_slots slots.now) tail lo (plain_wanted wanted) (Binding place (plain_bindings bound.now) (plain body.now))) }
+{
+    let flexible = is_flexible(body);
+    let known = has_width(wanted, flexible);
+    if !known {
+        return Err(refused(Rule::E14, place));
+    }
+    if let Some(twice) = find_repeated(bound) {
+        return Err(refused(Rule::E07, twice));
+    }
+    let next = add_bound_sites(heads, unit, lo, bound);
+    let all = check_bound(alloc, heads, unit, slots, lo, bound)?;
+    let below = slots_below(alloc, slots, bound, &all.widths)?;
+    let y = check_expression(alloc, heads, unit, &below, tail, next, wanted, body)?;
+    make_let(alloc, y.width, slots.len() as u32, all.terms, y.term)
+}
+
+// Bindings in order, each expected at its written width, or else found.
+#[cycle(walk)]
+fn check_bound(
+    alloc: Global,
+    heads: &[Head],
+    unit: u32,
+    slots: &[Slot],
+    lo: u32,
+    bound: &[Bound],
+) -> Result<TypedAll, CheckErr>
+    requires { MayBind heads.now unit slots.now lo (plain_bindings bound.now) }
+    ensures { SaysAll result (check_bound (known heads.now unit) (plain_slots slots.now) lo (plain_bindings bound.now)) }
+{
+    let Some((first, rest)) = bound.split_first() else {
+        return Ok(none_typed(alloc));
+    };
+    let next = add_sites(heads, unit, lo, &first.value);
+    let wanted = as_written(first.width);
+    let x = check_expression(alloc, heads, unit, slots, false, lo, wanted, &first.value)?;
+    let others = check_bound(alloc, heads, unit, slots, next, rest)?;
+    put_first(x, others)
+}
+
+// An operator, by what it asks of its operands.
+#[cycle(walk)]
+fn check_applied(
+    alloc: Global,
+    heads: &[Head],
+    unit: u32,
+    slots: &[Slot],
+    lo: u32,
+    wanted: Wanted,
+    place: u32,
+    operator: Primitive,
+    operands: &[Expression],
+) -> Result<Typed, CheckErr>
+    requires able { MayCheck heads.now unit slots.now lo (Applied place operator (plain_all operands.now)) }
+    requires wanted { HasWideWanted wanted }
+    ensures { (tail : Bool) → Says result (check (known heads.now unit) (plain_slots slots.now) tail lo (plain_wanted wanted) (Applied place operator (plain_all operands.now))) }
+{
+    match shape_of(operator) {
+        Shape::Alike => {
+            let r = check_alike(alloc, heads, unit, slots, lo, place, wanted, operands)?;
+            Ok(make_operation(r.width, operator, r.terms))
+        }
+        Shape::Comparing => {
+            let any = Wanted::Any;
+            let r = check_alike(alloc, heads, unit, slots, lo, place, any, operands)?;
+            settled_operation(place, wanted, 1, operator, r.terms)
+        }
+        Shape::Shifting => {
+            let r = check_shift(alloc, heads, unit, slots, lo, place, operands)?;
+            settled_operation(place, wanted, r.width, operator, r.terms)
+        }
+        Shape::Resizing => {
+            let r = check_operands(alloc, heads, unit, slots, lo, None, operands)?;
+            match result_width(operator, &r.widths) {
+                Some(width) => settled_operation(place, wanted, width, operator, r.terms),
+                None => Err(refused(Rule::E05, place)),
+            }
+        }
+    }
+}
+
+// Operands of one width: where none is expected, the first rigid one gives it, and is looked at first.
+#[cycle(walk)]
+fn check_alike(
+    alloc: Global,
+    heads: &[Head],
+    unit: u32,
+    slots: &[Slot],
+    lo: u32,
+    place: u32,
+    wanted: Wanted,
+    es: &[Expression],
+) -> Result<TypedAlike, CheckErr>
+    requires able { MayCheckAll heads.now unit slots.now lo (plain_all es.now) }
+    requires wanted { HasWideWanted wanted }
+    ensures { SaysAlike result (check_alike (known heads.now unit) (plain_slots slots.now) lo place (plain_wanted wanted) (plain_all es.now)) }
+{
+    let Some((first, rest)) = es.split_first() else {
+        return none_alike(alloc, place, wanted);
+    };
+    let next = add_sites(heads, unit, lo, first);
+    let flexible = is_flexible(first);
+    let later = comes_later(wanted, flexible);
+    if later {
+        let r = check_alike(alloc, heads, unit, slots, next, place, wanted, rest)?;
+        let found = Wanted::Exactly(r.width);
+        let x = check_expression(alloc, heads, unit, slots, false, lo, found, first)?;
+        return put_operand(r.width, x.term, r.terms);
+    }
+    let x = check_expression(alloc, heads, unit, slots, false, lo, wanted, first)?;
+    let found = Wanted::Exactly(x.width);
+    let r = check_alike(alloc, heads, unit, slots, next, place, found, rest)?;
+    put_operand(x.width, x.term, r.terms)
+}
+
+// The first operand's width is found, and then the others are looked at.
+#[cycle(walk)]
+fn check_shift(
+    alloc: Global,
+    heads: &[Head],
+    unit: u32,
+    slots: &[Slot],
+    lo: u32,
+    place: u32,
+    es: &[Expression],
+) -> Result<TypedAlike, CheckErr>
+    requires { MayCheckAll heads.now unit slots.now lo (plain_all es.now) }
+    ensures { SaysAlike result (check_shift (known heads.now unit) (plain_slots slots.now) lo place (plain_all es.now)) }
+{
+    let Some((first, rest)) = es.split_first() else {
+        return Err(refused(Rule::E14, place));
+    };
+    let next = add_sites(heads, unit, lo, first);
+    let any = Wanted::Any;
+    let x = check_expression(alloc, heads, unit, slots, false, lo, any, first)?;
+    let shifted = Some(x.width);
+    let r = check_operands(alloc, heads, unit, slots, next, shifted, rest)?;
+    put_operand(x.width, x.term, r.terms)
+}
+
+// Operands in order, each found, but a flexible amount of a shift has the width of what is shifted.
+#[cycle(walk)]
+fn check_operands(
+    alloc: Global,
+    heads: &[Head],
+    unit: u32,
+    slots: &[Slot],
+    lo: u32,
+    shifted: Option<u8>,
+    es: &[Expression],
+) -> Result<TypedAll, CheckErr>
+    requires able { MayCheckAll heads.now unit slots.now lo (plain_all es.now) }
+    requires shifted { HasWideWritten shifted }
+    ensures { SaysAll result (check_all (known heads.now unit) (plain_slots slots.now) lo (operands_wanted shifted (plain_all es.now)) (plain_all es.now)) }
+{
+    let Some((first, rest)) = es.split_first() else {
+        return Ok(none_typed(alloc));
+    };
+    let next = add_sites(heads, unit, lo, first);
+    let flexible = is_flexible(first);
+    let wanted = as_operand(shifted, flexible);
+    let x = check_expression(alloc, heads, unit, slots, false, lo, wanted, first)?;
+    let others = check_operands(alloc, heads, unit, slots, next, shifted, rest)?;
+    put_first(x, others)
+}
+
+// A call: of a member of the own group in tail position alone, or of a function of an earlier group.
+#[cycle(walk)]
+fn check_called(
+    alloc: Global,
+    heads: &[Head],
+    unit: u32,
+    slots: &[Slot],
+    tail: bool,
+    lo: u32,
+    wanted: Wanted,
+    place: u32,
+    name: &Name,
+    arguments: &[Expression],
+) -> Result<Typed, CheckErr>
+    requires able { MayCheck heads.now unit slots.now lo (Called place name.now (plain_all arguments.now)) }
+    requires wanted { HasWideWanted wanted }
+    ensures { Says result (check (known heads.now unit) (plain_slots slots.now) tail lo (plain_wanted wanted) (Called place name.now (plain_all arguments.now))) }
+{
+    match find_callee(heads, unit, name) {
+        Callee::Member(n) => {
+            if !tail {
+                return Err(refused(Rule::E10, place));
+            }
+            let head = &heads[n];
+            let all = check_counted(alloc, heads, unit, slots, lo, place, head, arguments)?;
+            settled_loop(place, wanted, head.width, n as u32, all.terms)
+        }
+        Callee::Above(n) => {
+            let head = &heads[n];
+            let first = lo + 1;
+            let all = check_counted(alloc, heads, unit, slots, first, place, head, arguments)?;
+            settled_call(place, wanted, head.width, n as u32, lo, all.terms)
+        }
+        Callee::Unknown => Err(refused(Rule::E09, place)),
+    }
+}
+
+// The arguments of a function: E11 where they are not as many as its parameters.
+#[cycle(walk)]
+fn check_counted(
+    alloc: Global,
+    heads: &[Head],
+    unit: u32,
+    slots: &[Slot],
+    lo: u32,
+    place: u32,
+    head: &Head,
+    es: &[Expression],
+) -> Result<TypedAll, CheckErr>
+    requires able { MayCheckAll heads.now unit slots.now lo (plain_all es.now) }
+    requires wide { WideSlots (plain_head head.now).params }
+    requires counted { length head.now.params.items < 2 ^ 32 }
+    ensures { SaysAll result (unless (needs (length (plain_head head.now).params == count (plain_all es.now)) (fault_with rules.E11 place (length (plain_head head.now).params) (count (plain_all es.now)))) (check_all (known heads.now unit) (plain_slots slots.now) lo (exactly (widths_of (plain_head head.now).params)) (plain_all es.now))) }
+{
+    let same = are_as_many(&head.params, es);
+    if !same {
+        return Err(wrong_count(place, &head.params, es));
+    }
+    check_arguments(alloc, heads, unit, slots, lo, &head.params, es)
+}
+
+// Arguments in order, each at its parameter's width.
+#[cycle(walk)]
+fn check_arguments(
+    alloc: Global,
+    heads: &[Head],
+    unit: u32,
+    slots: &[Slot],
+    lo: u32,
+    params: &[Slot],
+    es: &[Expression],
+) -> Result<TypedAll, CheckErr>
+    requires able { MayCheckAll heads.now unit slots.now lo (plain_all es.now) }
+    requires params { WideSlots (plain_slots params.now) }
+    ensures { SaysAll result (check_all (known heads.now unit) (plain_slots slots.now) lo (exactly (widths_of (plain_slots params.now))) (plain_all es.now)) }
+{
+    let Some((first, rest)) = es.split_first() else {
+        return Ok(none_typed(alloc));
+    };
+    let Some((param, others)) = params.split_first() else {
+        return Ok(none_typed(alloc));
+    };
+    let next = add_sites(heads, unit, lo, first);
+    let wanted = Wanted::Exactly(param.width);
+    let x = check_expression(alloc, heads, unit, slots, false, lo, wanted, first)?;
+    let r = check_arguments(alloc, heads, unit, slots, next, others, rest)?;
+    put_first(x, r)
+}
+
+// Whether a function has as many parameters as it is given arguments.
+fn are_as_many(params: &[Slot], es: &[Expression]) -> bool
+    ensures { result ≡ (length (plain_slots params.now) == count (plain_all es.now)) }
+{
+    params.len() == es.len()
+}
+
+// E11, with the number of the parameters and that of the arguments.
+fn wrong_count(place: u32, params: &[Slot], es: &[Expression]) -> CheckErr
+    requires params { length params.now < 2 ^ 32 }
+    requires arguments { length es.now < 2 ^ 32 }
+    ensures { result ≡ errors.Refused (fault_with rules.E11 place (length (plain_slots params.now)) (count (plain_all es.now))) }
+{
+    CheckErr::Refused(Fault {
+        rule: Rule::E11,
+        place,
+        first: params.len() as u32,
+        second: es.len() as u32,
+    })
+}
