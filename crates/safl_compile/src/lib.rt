@@ -3,6 +3,7 @@
 
 mod bank;
 mod bodies;
+pub mod compile;
 mod controls;
 mod declare;
 mod edge;

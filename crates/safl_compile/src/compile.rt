@@ -1,0 +1,50 @@
+//! The circuit of a planned program.
+
+ghost use Rattle.std.specs.Prelude.{◌≤◌, length, IfOk};
+ghost use Rattle.safl_check.specs.Checked.{program_of};
+ghost use Rattle.safl_net.specs.Names.{IsTidy};
+ghost use Rattle.safl_unit.specs.Names.{names_of};
+ghost use Rattle.safl_unit.specs.Layout.{HasPlan};
+ghost use Rattle.safl_unit.specs.Scheme.{Scheme};
+ghost use Rattle.safl_unit.specs.Theorem.{IsCircuit};
+ghost use Rattle.safl_compile.specs.Cycles.{choice_of};
+
+use crate::bank::edge;
+use crate::bodies::lower_bodies;
+use crate::controls::controls;
+use crate::declare::declare;
+use crate::finish::finish;
+use crate::grants::grants;
+use crate::returns::returns;
+use safl_net::Net;
+use safl_sites::laws::plan_law;
+use safl_sites::Planned;
+use safl_unit::laws::circuit_law;
+use safl_word::NoMemory;
+use std::alloc::Global;
+
+/// The netlist of a program's circuit, with at most 3,000,000 signals.
+pub fn netlist_of(alloc: Global, p: &Planned) -> Result<Net, NoMemory>
+    ensures scheme { IfOk result (λ n. Scheme (program_of p.now.program) (names_of p.now.program) (choice_of p.now) n) }
+    ensures plan { IfOk result (λ n. HasPlan (program_of p.now.program) (names_of p.now.program) (choice_of p.now) n) }
+    ensures circuit { IfOk result (λ n. IsCircuit (program_of p.now.program) (names_of p.now.program) (choice_of p.now) n) }
+    ensures tidy { IfOk result (λ n. IsTidy n) }
+    ensures count { IfOk result (λ n. length n.signals ≤ 3000000) }
+{
+    circuit_law();
+    plan_law();
+    let c = p.checked();
+    let _functions = c.functions();
+    let declared = declare(alloc, p)?;
+    let mut net = declared.net;
+    let pins = declared.pins;
+    let shown = returns(alloc, &mut net, p, &pins)?;
+    let outcomes = lower_bodies(alloc, &mut net, p, &pins, &shown)?;
+    let goes = grants(alloc, &mut net, p, &pins, &outcomes)?;
+    let starts = goes.as_slice();
+    let next = edge(alloc, &mut net, p, &pins, &shown, &outcomes, &goes)?;
+    let copied = controls(alloc, &mut net, p, &pins, &shown, &outcomes, starts)?;
+    finish(alloc, &mut net, p, &pins, &next, &copied)?;
+    let _signals = net.signals();
+    Ok(net)
+}
