@@ -23,7 +23,9 @@ use safl_unit::laws::circuit_law;
 use safl_word::NoMemory;
 use std::alloc::Global;
 
-/// The netlist of a program's circuit, with at most 3,000,000 signals.
+/// The netlist of a planned program: the ports, registers and named wires of the layout, with an arbiter at each unit
+/// and a kept word at each site that the plan names, and temporaries for all logic. It does what the program means, and
+/// has at most 3,000,000 signals. The error is want of memory.
 pub fn netlist_of(alloc: Global, p: &Planned) -> Result<Net, NoMemory>
     ensures scheme { IfOk result (λ n. Scheme (program_of p.now.program) (names_of p.now.program) (choice_of p.now) n) }
     ensures plan { IfOk result (λ n. HasPlan (program_of p.now.program) (names_of p.now.program) (choice_of p.now) n) }
