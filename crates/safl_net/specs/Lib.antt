@@ -11,3 +11,4 @@ pub mod Stored
 pub mod Growth
 pub mod Settled
 pub mod Whole
+pub mod Arranged

@@ -21,7 +21,7 @@ use Rattle.safl_verilog.specs.declared.fault.VFault.{VFault}
 use Rattle.safl_verilog.specs.Tokens.{IsIdentifier}
 use Rattle.safl_verilog.specs.Files.{Spot, Expression, Binary}
 use Rattle.safl_verilog.specs.Faults.{is_short, before_quote, behind_quote, base_at, literal_width, literal_value, is_word, is_literal, expression_number_faults, operation, operands, where_not}
-use Rattle.safl_verilog.specs.Laws.{Each}
+use Rattle.safl_net.specs.Arranged.{Each}
 use Rattle.safl_verilog.proofs.Runs.{other_than}
 use Rattle.safl_verilog.proofs.Decimals.{decimal_numeral, decimal_value, decimal_short}
 use Rattle.safl_verilog.proofs.Printed.{is_operator, IsWritten, FineExpression}

@@ -3,7 +3,7 @@ use Rattle.std.proofs.Common.{◌≡◌, ℕ, zero, suc, List, [], ◌∷◌, �
 use Rattle.std.specs.Prelude.{◌⊎◌, slice_get, filter}
 use Rattle.std.specs.List.{flat_map}
 use Rattle.std.proofs.lemmas.Slice.Eq.{bytes_eq-Decides}
-use Rattle.safl_verilog.specs.Laws.{Each}
+use Rattle.safl_net.specs.Arranged.{Each}
 
 abbrev pub Name : Type 0
 Name = List ℕ

@@ -17,7 +17,7 @@ use Rattle.safl_verilog.specs.declared.token.Sort.TheVariants as sorts
 use Rattle.safl_verilog.specs.declared.token.Symbol.TheVariants as symbols
 use Rattle.safl_verilog.specs.Tokens.{Piece, text_of_all, symbol_text}
 use Rattle.safl_verilog.specs.Files.{Spot, Expression, Literal, Plain, Inverted, Binary, Choice, Joined, Slice, Declaration, Statement, Assign, Always, File}
-use Rattle.safl_verilog.specs.Laws.{IsInput, Each}
+use Rattle.safl_net.specs.Arranged.{IsInput, Each}
 use Rattle.safl_verilog.proofs.WholeNets.{IsUpdated, IsAssigned}
 use Rattle.safl_verilog.proofs.Printed.{sy, symbol_of, line_end, declaration_pieces, expression_pieces, statement_pieces, port_pieces, spot_of, header_end, body_pieces, last_pieces, file_pieces}
 use Rattle.safl_verilog.proofs.PrintedStands.{text_append}

@@ -6,7 +6,7 @@ use Rattle.safl_verilog.specs.declared.fault.VRule.TheVariants as rules
 use Rattle.safl_verilog.specs.Files.{Spot, Declaration, Statement, Assign, Always}
 use Rattle.safl_verilog.specs.Faults.{where_not, at, among, repeat_faults, find, assigned, updated}
 use Rattle.safl_verilog.specs.Netlists.{place_of}
-use Rattle.safl_verilog.specs.Laws.{Each}
+use Rattle.safl_net.specs.Arranged.{Each}
 use Rattle.safl_verilog.proofs.Distinct.{Name, Has, Distinct, has_right, distinct_apart, same_name, other_name, each_of}
 
 abbrev pub spot_names : List Spot → List Name

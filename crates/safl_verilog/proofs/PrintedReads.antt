@@ -18,7 +18,7 @@ use Rattle.safl_verilog.specs.Grammar.{sort_codes}
 use Rattle.safl_verilog.specs.Reader.{comes, read_word, read_symbol, read_constant, read_inverted, read_binary, read_choice, read_joined, read_slice, read_named, read_cell, read_written_range, read_range, read_decl, read_assign, read_otherwise, read_at_reset, read_always, read_stmt, read_another_id, read_ids, read_another_decl, read_decls, read_another_stmt, read_stmts, read_body, read_file, read_text}
 use Rattle.safl_verilog.proofs.Grammar.{another_id_parses, another_decl_parses, another_stmt_parses}
 use Rattle.safl_verilog.proofs.Printed.{is_operator, declaration_pieces, statement_pieces, port_pieces, last_pieces, body_pieces, header_end, file_pieces, FineStatement}
-use Rattle.safl_verilog.specs.Laws.{Each}
+use Rattle.safl_net.specs.Arranged.{Each}
 
 -- ---- files without places
 

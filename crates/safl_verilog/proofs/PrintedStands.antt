@@ -14,7 +14,7 @@ use Rattle.safl_verilog.specs.Pieces.{named, double_symbols}
 use Rattle.safl_verilog.proofs.Symbols.{double_named}
 use Rattle.safl_verilog.proofs.Found.{no_keyword}
 use Rattle.safl_verilog.proofs.Printed.{line_end, sy, symbol_of, range_pieces, declaration_end, declaration_pieces, expression_pieces, statement_pieces, port_pieces, last_pieces, body_pieces, header_end, file_pieces, IsWritten, IsName, FineRange, FineDeclaration, FineExpression, FineStatement}
-use Rattle.safl_verilog.specs.Laws.{Each}
+use Rattle.safl_net.specs.Arranged.{Each}
 
 pub text_append : (xs ys : List Piece) → text_of_all (xs ++ ys) ≡ text_of_all xs ++ text_of_all ys
 text_append [] ys = refl

@@ -26,7 +26,7 @@ use Rattle.safl_verilog.specs.Pieces.{named, all_keywords, word_kind}
 use Rattle.safl_verilog.specs.Files.{Spot, Declaration, Statement, File}
 use Rattle.safl_verilog.specs.Grammar.{keyword_code, symbol_code, code_of}
 use Rattle.safl_verilog.specs.Reads.{IsFile, Reads}
-use Rattle.safl_verilog.specs.Laws.{IsInOrder}
+use Rattle.safl_net.specs.Arranged.{IsInOrder}
 use Rattle.safl_verilog.proofs.Runs.{other_than, are_parts-all}
 use Rattle.safl_verilog.proofs.Found.{word_kinds}
 use Rattle.safl_verilog.proofs.Texts.{same_pieces, final_end, split}

@@ -6,7 +6,7 @@ use Rattle.safl_net.specs.Netlist
 use Rattle.safl_net.specs.Netlist.{Netlist, Signal, Kind, Input, Reg, Wire, Cell, IsSet, AllSet, width_of, place, output_place}
 use Rattle.safl_net.specs.Making
 use Rattle.safl_net.specs.Whole.{IsWhole}
-use Rattle.safl_verilog.specs.Laws.{IsRegister, IsWire, Each}
+use Rattle.safl_net.specs.Arranged.{IsRegister, IsWire, Each}
 use Rattle.safl_verilog.proofs.Runs.{chosen, some_is}
 use Rattle.safl_verilog.proofs.Distinct.{each_left, each_right, each_both, each_by_index}
 

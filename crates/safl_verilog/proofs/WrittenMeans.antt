@@ -13,7 +13,7 @@ use Rattle.safl_verilog.specs.Files.{Spot, Plain, Declaration, Statement, File}
 use Rattle.safl_verilog.specs.Faults.{is_data, is_reg, is_wire, is_output, operands, assigned, updated}
 use Rattle.safl_verilog.specs.Netlists
 use Rattle.safl_verilog.specs.Netlists.{signals_of, place_of, number_of, cell_of, driven, register_of, kind_of, signal_of, shown, output_of, netlist}
-use Rattle.safl_verilog.specs.Laws.{IsInput, Each}
+use Rattle.safl_net.specs.Arranged.{IsInput, Each}
 use Rattle.safl_verilog.proofs.WholeNets.{IsUpdated, IsAssigned}
 use Rattle.safl_verilog.proofs.Distinct.{Name, Distinct, each_join, each_mapped, each_of, each_both, filter_all, filter_none}
 use Rattle.safl_verilog.proofs.Lookups.{names, place_at}

@@ -19,7 +19,7 @@ use Rattle.safl_verilog.specs.Tokens.{keyword_text, IsIdentifier}
 use Rattle.safl_verilog.specs.Files.{Declaration}
 use Rattle.safl_verilog.specs.Faults
 use Rattle.safl_verilog.specs.Faults.{find, passes, is_signal, is_clock, is_reset, range_width, width_in}
-use Rattle.safl_verilog.specs.Laws.{IsInput, Each}
+use Rattle.safl_net.specs.Arranged.{IsInput, Each}
 use Rattle.safl_verilog.proofs.WholeNets.{IsUpdated, IsAssigned}
 use Rattle.safl_verilog.proofs.Decimals.{decimal_value}
 use Rattle.safl_verilog.proofs.Distinct.{Name, Has, Distinct, Apart, has_either, has_left, has_right, distinct_between, has_at, distinct_at, each_left, each_right, each_join, each_map, each_both, each_at, other_name}

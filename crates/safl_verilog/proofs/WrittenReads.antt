@@ -12,7 +12,7 @@ use Rattle.safl_verilog.specs.declared.token.Sort.TheVariants as sorts
 use Rattle.safl_verilog.specs.Tokens.{IsIdentifier, text_of_all, StandAll, tokens_from}
 use Rattle.safl_verilog.specs.Files.{Spot, Declaration, Statement, File}
 use Rattle.safl_verilog.specs.Reads.{IsFile, Reads}
-use Rattle.safl_verilog.specs.Laws.{IsInput, Each, IsInOrder}
+use Rattle.safl_net.specs.Arranged.{IsInput, Each, IsInOrder}
 use Rattle.safl_net.specs.Whole.{IsWhole}
 use Rattle.safl_verilog.proofs.WholeNets.{all_set, whole_ports, IsUpdated, IsAssigned, HasPorts}
 use Rattle.safl_verilog.proofs.Found.{no_keyword}

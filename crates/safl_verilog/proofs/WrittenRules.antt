@@ -21,7 +21,7 @@ use Rattle.safl_verilog.specs.declared.fault.VFault.{VFault}
 use Rattle.safl_verilog.specs.Tokens.{IsIdentifier}
 use Rattle.safl_verilog.specs.Files.{Spot, Plain, Declaration, Statement, Assign, File}
 use Rattle.safl_verilog.specs.Faults.{is_range, declared_number_faults, stated_number_faults, all_number_faults, all_repeat_faults, declared_names, find, is_input, is_output, is_reg, is_port, passes, range_width, width_of, width_in, header_faults, port_faults, has_ports, all_port_faults, is_target, unfit_faults, operands, is_plain, expression_width, assigned, updated, is_none, width_faults, assign_faults, always_faults, statement_faults, all_statement_faults, missing_faults, faults}
-use Rattle.safl_verilog.specs.Laws.{IsInput, Each}
+use Rattle.safl_net.specs.Arranged.{IsInput, Each}
 use Rattle.safl_verilog.proofs.WholeNets.{IsUpdated, IsAssigned, HasPorts}
 use Rattle.safl_verilog.proofs.Decimals.{decimal_value, decimal_short}
 use Rattle.safl_verilog.proofs.Distinct.{Name, Has, Distinct, distinct_left, distinct_right, distinct_swap, distinct_apart, each_left, each_right, each_join, each_map, each_mapped, each_of, each_both, each_at, each_by_index, no_items, same_name}

@@ -1,6 +1,7 @@
 -- What is claimed of files.
-use Rattle.std.specs.Prelude.{◌≡◌, ℕ, List, [], ◌∷◌, ◌++◌, ◌⊎◌, Option, codes}
-use Rattle.safl_net.specs.Netlist.{Netlist, Signal, Cell, Input, Reg, Wire}
+use Rattle.std.specs.Prelude.{◌≡◌, ℕ, List, [], ◌++◌, ◌⊎◌, codes}
+use Rattle.safl_net.specs.Netlist.{Netlist}
+use Rattle.safl_net.specs.Arranged.{IsInOrder}
 use Rattle.safl_net.specs.Rules.{IsNetlist}
 use Rattle.safl_net.specs.Whole.{IsWhole}
 use Rattle.safl_net.specs.Written.{written}
@@ -24,30 +25,6 @@ NotBoth = (text : List ℕ) (n : Netlist) (f : VFault) → Reads text n → HasF
 -- no shorter front of a file is a file
 abbrev pub NoShorterFile : Type 0
 NoShorterFile = (u v : List Terminal) (a b : File) → IsFile u a → IsFile (u ++ v) b → v ≡ []
-
--- what a signal is
-abbrev pub IsInput : Signal → Type 0
-IsInput g = g.kind ≡ Input
-
-abbrev pub IsRegister : Signal → Type 0
-IsRegister g = (init : ℕ) × (next : Option ℕ) × (g.kind ≡ Reg init next)
-
-abbrev pub IsWire : Signal → Type 0
-IsWire g = (cell : Option Cell) × (g.kind ≡ Wire cell)
-
-abbrev pub Each : {X : Type 0} → (X → Type 0) → List X → Type 0
-Each P [] = Unit {0}
-Each P (x ∷ xs) = P x × Each P xs
-
--- the signals stand as inputs, then registers, then wires
-pub record IsInOrder (n : Netlist) : Type 0 where
-  pub inputs : List Signal
-  pub registers : List Signal
-  pub wires : List Signal
-  pub joined : n.signals ≡ inputs ++ (registers ++ wires)
-  pub are_inputs : Each IsInput inputs
-  pub are_registers : Each IsRegister registers
-  pub are_wires : Each IsWire wires
 
 -- the text that is written of a whole net reads as that net, where its signals stand in this order
 abbrev pub WrittenReads : Type 0

@@ -9,7 +9,8 @@ use Rattle.safl_net.specs.Netlist.{Netlist}
 use Rattle.safl_net.specs.Rules.{IsNetlist}
 use Rattle.safl_net.specs.Whole.{IsWhole}
 use Rattle.safl_net.specs.Written.{written}
-use Rattle.safl_verilog.specs.Laws.{IsInOrder, NoShorterText}
+use Rattle.safl_net.specs.Arranged.{IsInOrder}
+use Rattle.safl_verilog.specs.Laws.{NoShorterText}
 use Rattle.safl_vwrite.specs.Torn.{IsTornOrWhole, LeavesOldOrTorn}
 
 module _ (law : NoShorterText) (n : Netlist) (net : IsNetlist n) (whole : IsWhole n) (order : IsInOrder n) where

@@ -6,7 +6,7 @@ ghost use Rattle.safl_io.specs.Told.{TellsOn};
 ghost use Rattle.safl_io.specs.Shelf.{Leaves, LeavesOldOrPart};
 ghost use Rattle.safl_net.specs.Whole.{IsWhole};
 ghost use Rattle.safl_net.specs.Written.{written};
-ghost use Rattle.safl_verilog.specs.Laws.{IsInOrder};
+ghost use Rattle.safl_net.specs.Arranged.{IsInOrder};
 ghost use Rattle.safl_vwrite.specs.Torn.{LeavesOldOrTorn};
 
 use crate::text::text_of;

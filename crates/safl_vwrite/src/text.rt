@@ -3,7 +3,7 @@
 ghost use Rattle.std.specs.Prelude.{◌≡◌, ◌≤◌, ℕ, List, ◌++◌, length, IfOk};
 ghost use Rattle.safl_net.specs.Whole.{IsWhole};
 ghost use Rattle.safl_net.specs.Written.{written};
-ghost use Rattle.safl_verilog.specs.Laws.{IsInOrder};
+ghost use Rattle.safl_net.specs.Arranged.{IsInOrder};
 ghost use Rattle.safl_verilog.specs.Reads.{Reads};
 ghost use Rattle.safl_vwrite.specs.Sizes.{text_max};
 ghost use Rattle.safl_vwrite.specs.Torn.{IsTornOrWhole};
