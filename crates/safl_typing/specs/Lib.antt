@@ -1,5 +1,6 @@
 pub mod Rewriting
 pub mod Heads
+pub mod Named
 pub mod Typing
 pub mod Forms
 pub mod Walk

@@ -5,7 +5,11 @@ ghost use Rattle.std.specs.Str.{bytes_eq};
 ghost use Rattle.safl_typing.specs.Heads.{first_head, callee};
 ghost use Rattle.safl_typing.specs.PlainHeads.{plain_heads, plain_callee, numbered, known, IsOneOf};
 
+use indexmap::IndexMap;
 use safl_tree::Name;
+use safl_word::NoMemory;
+use std::alloc::Global;
+use std::marker::Model;
 
 /// A name with its width in bits: a parameter or a binding.
 #[derive(Drop)]
@@ -24,6 +28,67 @@ pub struct Head {
     pub unit: u32,
 }
 
+/// The functions of a program in order, each found by its name.
+#[derive(Drop)]
+pub struct Heads {
+    list: Vec<Head>,
+    last: IndexMap<Vec<u8>, usize>,
+    before: Vec<Option<usize>>,
+}
+
+impl Model for Heads {
+    ghost use Rattle.std.specs.Prelude.{List, length};
+    ghost use Rattle.safl_typing.specs.declared.heads.Head.{Head};
+    ghost use Rattle.safl_typing.specs.Named.{KeepsNames};
+
+    ghost Value = { List Head };
+
+    ghost view = { λ a. a.list.items };
+
+    ghost invariant = { λ a. KeepsNames a.last.entries a.before.items a.list.items (length a.list.items) };
+}
+
+impl Heads {
+    ghost use Rattle.std.specs.Prelude.{◌≡◌, ◌<◌, Some, length, slice_get, IfOk};
+    ghost use Rattle.safl_typing.specs.Named.{last_named, before_it};
+
+    /// These functions, in their order.
+    pub fn new(alloc: Global, list: Vec<Head>) -> Result<Heads, NoMemory>
+        ensures { IfOk result (λ heads. heads ≡ list.items) }
+    {
+        let mut last = IndexMap::new(alloc);
+        let mut before = Vec::new(alloc);
+        for number in 0..list.len() {
+            let name = Vec::from_slice(alloc, list[number].name.bytes())?;
+            before.push(last.insert(name, number)?)?;
+        }
+        Ok(Heads { list, last, before })
+    }
+
+    /// The function of this number.
+    pub fn get(&self, number: usize) -> &Head
+        requires { number < length self.now }
+        ensures { slice_get self.now number ≡ Some result.now }
+    {
+        &self.list[number]
+    }
+
+    // The last function with this name.
+    fn last(&self, name: &Name) -> Option<usize>
+        ensures { result ≡ last_named self.now name.now (length self.now) }
+    {
+        self.last.get(name.bytes()).copied()
+    }
+
+    /// The last function before this one that has its name.
+    pub fn before(&self, number: usize) -> Option<usize>
+        requires { number < length self.now }
+        ensures { result ≡ before_it self.now number }
+    {
+        self.before[number]
+    }
+}
+
 /// The function that a call names, by its number: a member of the own group, or a function of an earlier one.
 #[derive(Clone, Copy)]
 pub enum Callee {
@@ -33,7 +98,7 @@ pub enum Callee {
 }
 
 /// The function that a call in a body of this group names.
-pub fn find_callee(heads: &[Head], unit: u32, name: &Name) -> Callee
+pub fn find_callee(heads: &Heads, unit: u32, name: &Name) -> Callee
     ensures one { IsOneOf heads.now result }
     ensures found { plain_callee heads.now result ≡ callee (known heads.now unit) name.now }
 {
@@ -47,29 +112,33 @@ pub fn find_callee(heads: &[Head], unit: u32, name: &Name) -> Callee
 }
 
 // The first member of the group with this name.
-fn find_member(heads: &[Head], unit: u32, name: &Name) -> Option<usize>
+fn find_member(heads: &Heads, unit: u32, name: &Name) -> Option<usize>
     ensures within { IfSome result (λ n. n < length heads.now) }
     ensures found { numbered heads.now result ≡ first_head (λ h. h.unit == unit && bytes_eq h.name name.now) 0 (plain_heads heads.now) }
 {
-    for number in 0..heads.len() {
-        let head = &heads[number];
-        if head.unit == unit && head.name.bytes() == name.bytes() {
-            return Some(number);
+    let mut found = None;
+    let mut at = heads.last(name);
+    while let Some(number) = at {
+        if heads.get(number).unit == unit {
+            found = Some(number);
         }
+        at = heads.before(number);
     }
-    None
+    found
 }
 
 // The first function of an earlier group with this name.
-fn find_above(heads: &[Head], unit: u32, name: &Name) -> Option<usize>
+fn find_above(heads: &Heads, unit: u32, name: &Name) -> Option<usize>
     ensures within { IfSome result (λ n. n < length heads.now) }
     ensures found { numbered heads.now result ≡ first_head (λ h. nat_lt h.unit unit && bytes_eq h.name name.now) 0 (plain_heads heads.now) }
 {
-    for number in 0..heads.len() {
-        let head = &heads[number];
-        if head.unit < unit && head.name.bytes() == name.bytes() {
-            return Some(number);
+    let mut found = None;
+    let mut at = heads.last(name);
+    while let Some(number) = at {
+        if heads.get(number).unit < unit {
+            found = Some(number);
         }
+        at = heads.before(number);
     }
-    None
+    found
 }

@@ -6,14 +6,14 @@ ghost use Rattle.safl_typing.specs.Plain.{plain, plain_all, plain_bindings};
 ghost use Rattle.safl_typing.specs.PlainHeads.{known, site_of};
 
 use crate::expression::{Bound, Expression};
-use crate::heads::{Callee, Head, find_callee};
+use crate::heads::{Callee, Heads, find_callee};
 
 /// The most sites that are counted: one more than a program may have.
 pub const SITES_COUNTED: u32 = 4_001;
 
 /// Adds the sites of an expression in a body of this group to those that were counted, up to the most.
 #[cycle(sites)]
-pub fn add_sites(heads: &[Head], unit: u32, counted: u32, e: &Expression) -> u32
+pub fn add_sites(heads: &Heads, unit: u32, counted: u32, e: &Expression) -> u32
     requires { counted ≤ 4001 }
     ensures { result ≡ min 4001 (counted + sites (known heads.now unit) (plain e.now)) }
 {
@@ -40,7 +40,7 @@ pub fn add_sites(heads: &[Head], unit: u32, counted: u32, e: &Expression) -> u32
 }
 
 #[cycle(sites)]
-fn add_all_sites(heads: &[Head], unit: u32, counted: u32, es: &[Expression]) -> u32
+fn add_all_sites(heads: &Heads, unit: u32, counted: u32, es: &[Expression]) -> u32
     requires { counted ≤ 4001 }
     ensures { result ≡ min 4001 (counted + sites_in (known heads.now unit) (plain_all es.now)) }
 {
@@ -53,7 +53,7 @@ fn add_all_sites(heads: &[Head], unit: u32, counted: u32, es: &[Expression]) -> 
 
 /// Adds the sites of the values of bindings.
 #[cycle(sites)]
-pub fn add_bound_sites(heads: &[Head], unit: u32, counted: u32, bound: &[Bound]) -> u32
+pub fn add_bound_sites(heads: &Heads, unit: u32, counted: u32, bound: &[Bound]) -> u32
     requires { counted ≤ 4001 }
     ensures { result ≡ min 4001 (counted + sites_bound (known heads.now unit) (plain_bindings bound.now)) }
 {

@@ -15,7 +15,7 @@ ghost use Rattle.safl_typing.specs.PlainTyped.{plain_wanted, HasWideWanted, HasW
 ghost use Rattle.safl_typing.specs.MayWalk.{MayWalk, MayCheck, MayCheckAll, MayBind};
 
 use crate::expression::{Bound, Expression};
-use crate::heads::{Callee, Head, Slot, find_callee};
+use crate::heads::{Callee, Head, Heads, Slot, find_callee};
 use crate::measure::{Shape, are_both_flexible, is_flexible, shape_of};
 use crate::parts::{
     TypedAlike, TypedAll, make_if, make_let, make_operation, none_alike, none_typed, put_first,
@@ -36,7 +36,7 @@ use std::alloc::Global;
 #[cycle(walk)]
 pub fn check_expression(
     alloc: Global,
-    heads: &[Head],
+    heads: &Heads,
     unit: u32,
     slots: &[Slot],
     tail: bool,
@@ -71,7 +71,7 @@ pub fn check_expression(
 #[cycle(walk)]
 fn check_choice(
     alloc: Global,
-    heads: &[Head],
+    heads: &Heads,
     unit: u32,
     slots: &[Slot],
     tail: bool,
@@ -103,7 +103,7 @@ fn check_choice(
 #[cycle(walk)]
 fn check_branches(
     alloc: Global,
-    heads: &[Head],
+    heads: &Heads,
     unit: u32,
     slots: &[Slot],
     tail: bool,
@@ -136,7 +136,7 @@ fn check_branches(
 #[cycle(walk)]
 fn check_binding(
     alloc: Global,
-    heads: &[Head],
+    heads: &Heads,
     unit: u32,
     slots: &[Slot],
     tail: bool,
@@ -169,7 +169,7 @@ fn check_binding(
 #[cycle(walk)]
 fn check_bound(
     alloc: Global,
-    heads: &[Head],
+    heads: &Heads,
     unit: u32,
     slots: &[Slot],
     lo: u32,
@@ -192,7 +192,7 @@ fn check_bound(
 #[cycle(walk)]
 fn check_applied(
     alloc: Global,
-    heads: &[Head],
+    heads: &Heads,
     unit: u32,
     slots: &[Slot],
     lo: u32,
@@ -233,7 +233,7 @@ fn check_applied(
 #[cycle(walk)]
 fn check_alike(
     alloc: Global,
-    heads: &[Head],
+    heads: &Heads,
     unit: u32,
     slots: &[Slot],
     lo: u32,
@@ -267,7 +267,7 @@ fn check_alike(
 #[cycle(walk)]
 fn check_shift(
     alloc: Global,
-    heads: &[Head],
+    heads: &Heads,
     unit: u32,
     slots: &[Slot],
     lo: u32,
@@ -292,7 +292,7 @@ fn check_shift(
 #[cycle(walk)]
 fn check_operands(
     alloc: Global,
-    heads: &[Head],
+    heads: &Heads,
     unit: u32,
     slots: &[Slot],
     lo: u32,
@@ -318,7 +318,7 @@ fn check_operands(
 #[cycle(walk)]
 fn check_called(
     alloc: Global,
-    heads: &[Head],
+    heads: &Heads,
     unit: u32,
     slots: &[Slot],
     tail: bool,
@@ -337,12 +337,12 @@ fn check_called(
             if !tail {
                 return Err(refused(Rule::E10, place));
             }
-            let head = &heads[n];
+            let head = heads.get(n);
             let all = check_counted(alloc, heads, unit, slots, lo, place, head, arguments)?;
             settled_loop(place, wanted, head.width, n as u32, all.terms)
         }
         Callee::Above(n) => {
-            let head = &heads[n];
+            let head = heads.get(n);
             let first = lo + 1;
             let all = check_counted(alloc, heads, unit, slots, first, place, head, arguments)?;
             settled_call(place, wanted, head.width, n as u32, lo, all.terms)
@@ -355,7 +355,7 @@ fn check_called(
 #[cycle(walk)]
 fn check_counted(
     alloc: Global,
-    heads: &[Head],
+    heads: &Heads,
     unit: u32,
     slots: &[Slot],
     lo: u32,
@@ -379,7 +379,7 @@ fn check_counted(
 #[cycle(walk)]
 fn check_arguments(
     alloc: Global,
-    heads: &[Head],
+    heads: &Heads,
     unit: u32,
     slots: &[Slot],
     lo: u32,

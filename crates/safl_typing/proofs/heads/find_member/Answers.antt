@@ -1,11 +1,21 @@
-use Rattle.std.proofs.Common.{◌∙◌, sym}
-use Rattle.std.specs.Prelude.{◌==◌, ◌&&◌}
-use Rattle.std.specs.Str.{bytes_eq}
-use Rattle.std.proofs.lemmas.Bool.{and_from, eq-eqb}
-use Rattle.safl_typing.specs.Heads.{Head}
-use Rattle.safl_typing.proofs.HeadLemmas.{first_hit, same_bytes}
+use Rattle.std.proofs.Common.{ℕ, true, false}
+use Rattle.std.specs.Prelude.{◌==◌}
+use Rattle.std.proofs.lemmas.Bool.{eq-eqb, ne_eqb}
+use Rattle.safl_typing.proofs.NamedLemmas.{sought_begins, sought_more, sought_falls}
 use Rattle.safl_typing.proofs.heads.find_member.Goals as goal
+use Rattle.safl_typing.proofs.heads.find_member.Goals.{then-get-unit, else-get-unit}
 
-pub returns-then-eq-clause-found : goal.returns-then-eq-clause-found
-returns-then-eq-clause-found c =
-    first_hit (λ (h : Head). h.unit == c.args.unit && bytes_eq h.name c.args.name.now) c.args.heads.now c.loop-number.number c.index-heads-number.result c.loop-number-test.true c.index-heads-number.is (and_from _ _ (eq-eqb c.index-heads-number.result.unit c.args.unit c.if-head-unit.true) (same_bytes _ _ _ _ c.eq.result c.eq.ensures c.if-eq.true c.bytes.ensures.bytes c.bytes-then-head-unit.ensures.bytes)) ∙ sym c.loop-number.invariant
+pub loop-at-init : goal.loop-at-init
+loop-at-init c = sought_begins (λ (u : ℕ). u == c.args.unit) c.args.name.now c.args.heads.now c.last-at.result c.last-at.ensures
+
+pub loop-at-smaller : goal.loop-at-smaller
+loop-at-smaller c =
+    sought_falls (λ (u : ℕ). u == c.args.unit) c.args.name.now c.args.heads.now c.loop-at.at c.loop-at.found c.before-at.result c.in-Some.number c.loop-at.invariant c.in-Some.is c.before-at.ensures
+
+pub loop-at-preserved : goal.loop-at-preserved
+loop-at-preserved c =
+    let more = sought_more (λ (u : ℕ). u == c.args.unit) c.args.name.now c.args.heads.now c.loop-at.at c.loop-at.found c.before-at.result c.if-get-unit.found c.in-Some.number c.get.result.now in
+    elim c.if-get-unit.branch [
+      | then-get-unit w ↦ more true c.loop-at.invariant c.in-Some.is c.get.ensures c.before-at.ensures (eq-eqb c.get.result.now.unit c.args.unit w.if-get-unit.true) w.found-is
+      | else-get-unit w ↦ more false c.loop-at.invariant c.in-Some.is c.get.ensures c.before-at.ensures (ne_eqb c.get.result.now.unit c.args.unit w.if-get-unit.false) w.found-is
+    ]

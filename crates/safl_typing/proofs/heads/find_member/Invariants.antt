@@ -1,10 +1,10 @@
-use Rattle.std.proofs.Common.{◌≡◌, drop}
-use Rattle.std.specs.Prelude.{◌==◌, ◌&&◌}
-use Rattle.std.specs.Str.{bytes_eq}
-use Rattle.safl_typing.specs.Heads.{first_head}
-use Rattle.safl_typing.specs.PlainHeads.{plain_heads}
+use Rattle.std.specs.Prelude.{◌==◌}
+use Rattle.safl_typing.proofs.NamedLemmas.{bound, IsSought}
 use Rattle.safl_typing.proofs.heads.find_member.Given as goal
 
--- none of those before has the name
-abbrev pub invariant-loop-number : goal.invariant-loop-number
-invariant-loop-number l = first_head (λ h. h.unit == l.unit && bytes_eq h.name l.name) 0 (plain_heads l.heads) ≡ first_head (λ h. h.unit == l.unit && bytes_eq h.name l.name) l.number (plain_heads (drop l.number l.heads))
+-- it falls to the function before it
+abbrev pub decreases-loop-at : goal.decreases-loop-at
+decreases-loop-at l = bound l.at
+
+abbrev pub invariant-loop-at : goal.invariant-loop-at
+invariant-loop-at l = IsSought (λ u. u == l.unit) l.name l.heads l.at l.found

@@ -1,27 +1,18 @@
-use Rattle.std.proofs.Common.{rules, ◌≡◌, ℕ, suc, ◌+◌, ◌*◌, ◌<◌, ◌≤◌, ◌^◌, ◌++◌, List, [], ◌∷◌, length, Bool, true, false, Option, Some, None, refl, sym, ap, subst, ◌∙◌, arith}
-use Rattle.std.specs.Prelude.{Result, Ok, Err, ◌&&◌, ◌==◌}
+use Rattle.std.proofs.Common.{rules, ℕ, ◌+◌, ◌*◌, ◌<◌, ◌^◌, ◌++◌, List, ◌∷◌, length, Bool, false, Option, refl, sym, ap, subst, ◌∙◌, arith}
+use Rattle.std.specs.Prelude.{Result, Err, ◌&&◌, ◌==◌}
 use Rattle.std.proofs.lemmas.Result.{err_from_is_err_and}
-use Rattle.std.proofs.lemmas.Bool.{eq-eqb, false_from_ne_true, eqb-true}
 use Rattle.safl_word.specs.declared.fault.Rule.TheVariants as faults
 use Rattle.safl_word.specs.declared.fault.Fault.{Fault}
 use Rattle.safl_word.specs.Primitives.{result_width}
-use Rattle.safl_check.specs.Terms.{Term, Terms, If, Let, Op, Call, Loop}
 use Rattle.safl_check.specs.Tree.{tree, forest}
-use Rattle.safl_typing.specs.declared.expression.Bound.{Bound}
 use Rattle.safl_typing.specs.declared.expression.Expression as code
 use Rattle.safl_typing.specs.declared.heads.Slot as code_slot
-use Rattle.safl_typing.specs.declared.heads.Head as code_head
-use Rattle.safl_typing.specs.declared.measure.Shape as code_shape
-use Rattle.safl_typing.specs.declared.typed.CheckErr.{CheckErr}
-use Rattle.safl_typing.specs.declared.typed.CheckErr.TheVariants as errors
-use Rattle.safl_typing.specs.declared.typed.Typed as code_typed
-use Rattle.safl_typing.specs.declared.typed.Wanted as code_wanted
 use Rattle.safl_typing.specs.declared.typed.Wanted.TheVariants as wants
-use Rattle.safl_typing.specs.Rewriting.{Expression, Expressions, Bindings, Choice, Binding, Applied, Called, Alike, Comparing, Shifting, Resizing, shape, flexible, count, nodes, nodes_in, nodes_bound}
-use Rattle.safl_typing.specs.Heads.{Slot, Known, Callee, Unknown, callee, is_site, sites, sites_in, sites_bound}
+use Rattle.safl_typing.specs.Rewriting.{Expression, Expressions, Choice, Binding, Applied, Called, flexible, count, nodes, nodes_in, nodes_bound}
+use Rattle.safl_typing.specs.Heads.{Slot, is_site, sites, sites_in, sites_bound}
 use Rattle.safl_typing.specs.Typing.{slots, widths_of}
-use Rattle.safl_typing.specs.Ranges.{IsWide, WideSlots, IsInRange}
-use Rattle.safl_typing.specs.Walk.{fault, fault_with, unless, needs, Typed, TypedAll, TypedAlike, Wanted, Any, Exactly, is_any, is_known, wanted_by, settle, resized, branches, placed, repeated, all_any, amounts, exactly, check, check_all, check_alike, check_shift, check_bound}
+use Rattle.safl_typing.specs.Ranges.{WideSlots, IsInRange}
+use Rattle.safl_typing.specs.Walk.{fault_with, unless, needs, Typed, TypedAll, TypedAlike, is_any, is_known, resized, exactly, check, check_all, check_alike, check_shift}
 use Rattle.safl_typing.specs.Plain.{plain, plain_all, plain_bindings}
 use Rattle.safl_typing.specs.PlainHeads.{plain_slots, plain_head, plain_callee, IsOneOf, known}
 use Rattle.safl_typing.specs.PlainNames.{twice_at}
@@ -30,6 +21,7 @@ use Rattle.safl_typing.specs.MayWalk.{MayWalk, MayCheck, MayCheckAll, MayBind}
 use Rattle.safl_typing.proofs.PlainLemmas.{plain-Applied, plain-Called, plain-Binding}
 use Rattle.safl_typing.proofs.SaysLemmas.{fails, goes}
 use Rattle.safl_typing.proofs.WalkLemmas as walk
+use Rattle.safl_typing.proofs.NamedLemmas.{got}
 use Rattle.safl_typing.proofs.walk.+walk.Goals as goal
 
 pub check_operands-check_expression-requires : goal.check_operands-check_expression-requires
@@ -403,47 +395,47 @@ pub check_applied-returns-in-None : goal.check_applied-returns-in-None
 check_applied-returns-in-None t c =
     λ (tail : Bool). walk.refused_is c.refused.result _ _ c.refused.ensures (goes _ _ _ (plain_all_typed c.in_ok-r-in-Resizing.r) (walk.resizing_is (known c.args.heads.now c.args.unit) (plain_slots c.args.slots.now) tail c.args.lo (plain_wanted c.args.wanted) c.args.place c.args.operator (plain_all c.args.operands.now) (sym (ap plain_shape c.in-Resizing.is) ∙ c.shape_of.ensures)) c.in_ok-r-in-Resizing.ensures ∙ ap (λ (o : Option ℕ). resized c.args.place (plain_wanted c.args.wanted) c.args.operator o (forest c.in_ok-r-in-Resizing.r.terms.items)) ((sym (c.result_width.ensures ∙ ap (λ (ws : List ℕ). result_width c.args.operator ws) c.deref.ensures.value)) ∙ c.in-None.is))
 
-pub check_called-bounds-heads-n : goal.check_called-bounds-heads-n
-check_called-bounds-heads-n t c =
+pub check_called-get-head-requires : goal.check_called-get-head-requires
+check_called-get-head-requires t c =
     subst (IsOneOf c.args.heads.now) c.in-Member.is c.find_callee.ensures.one
 
 pub check_called-check_counted-requires : goal.check_called-check_counted-requires
 check_called-check_counted-requires t c =
     let smaller : 4 * nodes_in (plain_all c.args.arguments.now) + 2 < 4 * nodes_in (plain_all c.args.arguments.now) + 3 = omega arith in
     let ok : MayCheckAll c.args.heads.now c.args.unit c.args.slots.now c.args.lo (plain_all c.args.arguments.now) = walk.may_part c.args.heads.now c.args.slots.now c.args.lo _ _ c.args.lo (sites_in (known c.args.heads.now c.args.unit) (plain_all c.args.arguments.now)) (nodes_in (plain_all c.args.arguments.now)) c.requires.able c.requires.able.range (omega (arith, c.requires.able.within)) (omega arith) in
-    let wide : WideSlots (plain_head c.index-heads-n.result).params = walk.wide_member c.args.heads.now c.args.unit c.args.name.now c.in-Member.n c.index-heads-n.result c.requires.able.heads (walk.callee_member c.args.heads.now (known c.args.heads.now c.args.unit) c.args.name.now c.find_callee.result c.in-Member.n c.index-heads-n.result c.find_callee.ensures.found c.find_callee.ensures.one c.in-Member.is c.index-heads-n.is) in
-    let few : length c.index-heads-n.result.params.items < 2 ^ 32 = walk.few_params c.args.heads.now c.in-Member.n c.index-heads-n.result c.requires.able.params (subst (IsOneOf c.args.heads.now) c.in-Member.is c.find_callee.ensures.one) c.index-heads-n.is in
+    let wide : WideSlots (plain_head c.get-head.result.now).params = walk.wide_member c.args.heads.now c.args.unit c.args.name.now c.in-Member.n c.get-head.result.now c.requires.able.heads (walk.callee_member c.args.heads.now (known c.args.heads.now c.args.unit) c.args.name.now c.find_callee.result c.in-Member.n c.get-head.result.now c.find_callee.ensures.found c.find_callee.ensures.one c.in-Member.is (got c.args.heads.now c.in-Member.n c.get-head.result.now c.get-head.ensures)) in
+    let few : length c.get-head.result.now.params.items < 2 ^ 32 = walk.few_params c.args.heads.now c.in-Member.n c.get-head.result.now c.requires.able.params (subst (IsOneOf c.args.heads.now) c.in-Member.is c.find_callee.ensures.one) (got c.args.heads.now c.in-Member.n c.get-head.result.now c.get-head.ensures) in
     search rules
 
 pub check_called-returns-in_err-all-in-Member : goal.check_called-returns-in_err-all-in-Member
 check_called-returns-in_err-all-in-Member t c =
     let p = err_from_is_err_and c.from_residual.result c.from_residual.ensures.1 in
-    rw (p.1, p.2) (fails c.in_err-all-in-Member.field-0.0 _ _ _ (walk.loop_is (known c.args.heads.now c.args.unit) (plain_slots c.args.slots.now) c.args.tail c.args.lo (plain_wanted c.args.wanted) c.args.place c.args.name.now (plain_all c.args.arguments.now) c.in-Member.n (plain_head c.index-heads-n.result) (walk.callee_member c.args.heads.now (known c.args.heads.now c.args.unit) c.args.name.now c.find_callee.result c.in-Member.n c.index-heads-n.result c.find_callee.ensures.found c.find_callee.ensures.one c.in-Member.is c.index-heads-n.is) c.if-not-tail.false) c.in_err-all-in-Member.ensures)
+    rw (p.1, p.2) (fails c.in_err-all-in-Member.field-0.0 _ _ _ (walk.loop_is (known c.args.heads.now c.args.unit) (plain_slots c.args.slots.now) c.args.tail c.args.lo (plain_wanted c.args.wanted) c.args.place c.args.name.now (plain_all c.args.arguments.now) c.in-Member.n (plain_head c.get-head.result.now) (walk.callee_member c.args.heads.now (known c.args.heads.now c.args.unit) c.args.name.now c.find_callee.result c.in-Member.n c.get-head.result.now c.find_callee.ensures.found c.find_callee.ensures.one c.in-Member.is (got c.args.heads.now c.in-Member.n c.get-head.result.now c.get-head.ensures)) c.if-not-tail.false) c.in_err-all-in-Member.ensures)
 
 pub check_called-returns-in_ok-all-in-Member : goal.check_called-returns-in_ok-all-in-Member
 check_called-returns-in_ok-all-in-Member t c =
-    subst (λ (z : Result Typed Fault). Says c.settled_loop.result z) (sym (goes _ _ _ (plain_all_typed c.in_ok-all-in-Member.all) (walk.loop_is (known c.args.heads.now c.args.unit) (plain_slots c.args.slots.now) c.args.tail c.args.lo (plain_wanted c.args.wanted) c.args.place c.args.name.now (plain_all c.args.arguments.now) c.in-Member.n (plain_head c.index-heads-n.result) (walk.callee_member c.args.heads.now (known c.args.heads.now c.args.unit) c.args.name.now c.find_callee.result c.in-Member.n c.index-heads-n.result c.find_callee.ensures.found c.find_callee.ensures.one c.in-Member.is c.index-heads-n.is) c.if-not-tail.false) c.in_ok-all-in-Member.ensures)) c.settled_loop.ensures
+    subst (λ (z : Result Typed Fault). Says c.settled_loop.result z) (sym (goes _ _ _ (plain_all_typed c.in_ok-all-in-Member.all) (walk.loop_is (known c.args.heads.now c.args.unit) (plain_slots c.args.slots.now) c.args.tail c.args.lo (plain_wanted c.args.wanted) c.args.place c.args.name.now (plain_all c.args.arguments.now) c.in-Member.n (plain_head c.get-head.result.now) (walk.callee_member c.args.heads.now (known c.args.heads.now c.args.unit) c.args.name.now c.find_callee.result c.in-Member.n c.get-head.result.now c.find_callee.ensures.found c.find_callee.ensures.one c.in-Member.is (got c.args.heads.now c.in-Member.n c.get-head.result.now c.get-head.ensures)) c.if-not-tail.false) c.in_ok-all-in-Member.ensures)) c.settled_loop.ensures
 
-pub check_called-bounds-heads-n-in-Above : goal.check_called-bounds-heads-n-in-Above
-check_called-bounds-heads-n-in-Above t c =
+pub check_called-get-head-requires-in-Above : goal.check_called-get-head-requires-in-Above
+check_called-get-head-requires-in-Above t c =
     subst (IsOneOf c.args.heads.now) c.in-Above.is c.find_callee.ensures.one
 
 pub check_called-check_counted-requires-in-Above : goal.check_called-check_counted-requires-in-Above
 check_called-check_counted-requires-in-Above t c =
     let smaller : 4 * nodes_in (plain_all c.args.arguments.now) + 2 < 4 * nodes_in (plain_all c.args.arguments.now) + 3 = omega arith in
-    let ok : MayCheckAll c.args.heads.now c.args.unit c.args.slots.now (c.args.lo + 1) (plain_all c.args.arguments.now) = walk.may_part c.args.heads.now c.args.slots.now c.args.lo _ _ (c.args.lo + 1) (sites_in (known c.args.heads.now c.args.unit) (plain_all c.args.arguments.now)) (nodes_in (plain_all c.args.arguments.now)) c.requires.able c.requires.able.range (omega (arith, c.requires.able.within, ap is_site (walk.callee_above c.args.heads.now (known c.args.heads.now c.args.unit) c.args.name.now c.find_callee.result c.in-Above.n c.index-heads-n-in-Above.result c.find_callee.ensures.found c.find_callee.ensures.one c.in-Above.is c.index-heads-n-in-Above.is))) (omega arith) in
-    let wide : WideSlots (plain_head c.index-heads-n-in-Above.result).params = walk.wide_above c.args.heads.now c.args.unit c.args.name.now c.in-Above.n c.index-heads-n-in-Above.result c.requires.able.heads (walk.callee_above c.args.heads.now (known c.args.heads.now c.args.unit) c.args.name.now c.find_callee.result c.in-Above.n c.index-heads-n-in-Above.result c.find_callee.ensures.found c.find_callee.ensures.one c.in-Above.is c.index-heads-n-in-Above.is) in
-    let few : length c.index-heads-n-in-Above.result.params.items < 2 ^ 32 = walk.few_params c.args.heads.now c.in-Above.n c.index-heads-n-in-Above.result c.requires.able.params (subst (IsOneOf c.args.heads.now) c.in-Above.is c.find_callee.ensures.one) c.index-heads-n-in-Above.is in
+    let ok : MayCheckAll c.args.heads.now c.args.unit c.args.slots.now (c.args.lo + 1) (plain_all c.args.arguments.now) = walk.may_part c.args.heads.now c.args.slots.now c.args.lo _ _ (c.args.lo + 1) (sites_in (known c.args.heads.now c.args.unit) (plain_all c.args.arguments.now)) (nodes_in (plain_all c.args.arguments.now)) c.requires.able c.requires.able.range (omega (arith, c.requires.able.within, ap is_site (walk.callee_above c.args.heads.now (known c.args.heads.now c.args.unit) c.args.name.now c.find_callee.result c.in-Above.n c.get-head-in-Above.result.now c.find_callee.ensures.found c.find_callee.ensures.one c.in-Above.is (got c.args.heads.now c.in-Above.n c.get-head-in-Above.result.now c.get-head-in-Above.ensures)))) (omega arith) in
+    let wide : WideSlots (plain_head c.get-head-in-Above.result.now).params = walk.wide_above c.args.heads.now c.args.unit c.args.name.now c.in-Above.n c.get-head-in-Above.result.now c.requires.able.heads (walk.callee_above c.args.heads.now (known c.args.heads.now c.args.unit) c.args.name.now c.find_callee.result c.in-Above.n c.get-head-in-Above.result.now c.find_callee.ensures.found c.find_callee.ensures.one c.in-Above.is (got c.args.heads.now c.in-Above.n c.get-head-in-Above.result.now c.get-head-in-Above.ensures)) in
+    let few : length c.get-head-in-Above.result.now.params.items < 2 ^ 32 = walk.few_params c.args.heads.now c.in-Above.n c.get-head-in-Above.result.now c.requires.able.params (subst (IsOneOf c.args.heads.now) c.in-Above.is c.find_callee.ensures.one) (got c.args.heads.now c.in-Above.n c.get-head-in-Above.result.now c.get-head-in-Above.ensures) in
     search rules
 
 pub check_called-returns-in_err-all-in-Above : goal.check_called-returns-in_err-all-in-Above
 check_called-returns-in_err-all-in-Above t c =
     let p = err_from_is_err_and c.from_residual-in_err-all-in-Above.result c.from_residual-in_err-all-in-Above.ensures.1 in
-    rw (p.1, p.2) (fails c.in_err-all-in-Above.field-0.0 _ _ _ (walk.call_is (known c.args.heads.now c.args.unit) (plain_slots c.args.slots.now) c.args.tail c.args.lo (plain_wanted c.args.wanted) c.args.place c.args.name.now (plain_all c.args.arguments.now) c.in-Above.n (plain_head c.index-heads-n-in-Above.result) (c.args.lo + 1) (walk.callee_above c.args.heads.now (known c.args.heads.now c.args.unit) c.args.name.now c.find_callee.result c.in-Above.n c.index-heads-n-in-Above.result c.find_callee.ensures.found c.find_callee.ensures.one c.in-Above.is c.index-heads-n-in-Above.is) (omega arith)) c.in_err-all-in-Above.ensures)
+    rw (p.1, p.2) (fails c.in_err-all-in-Above.field-0.0 _ _ _ (walk.call_is (known c.args.heads.now c.args.unit) (plain_slots c.args.slots.now) c.args.tail c.args.lo (plain_wanted c.args.wanted) c.args.place c.args.name.now (plain_all c.args.arguments.now) c.in-Above.n (plain_head c.get-head-in-Above.result.now) (c.args.lo + 1) (walk.callee_above c.args.heads.now (known c.args.heads.now c.args.unit) c.args.name.now c.find_callee.result c.in-Above.n c.get-head-in-Above.result.now c.find_callee.ensures.found c.find_callee.ensures.one c.in-Above.is (got c.args.heads.now c.in-Above.n c.get-head-in-Above.result.now c.get-head-in-Above.ensures)) (omega arith)) c.in_err-all-in-Above.ensures)
 
 pub check_called-returns-in_ok-all-in-Above : goal.check_called-returns-in_ok-all-in-Above
 check_called-returns-in_ok-all-in-Above t c =
-    subst (λ (z : Result Typed Fault). Says c.settled_call.result z) (sym (goes _ _ _ (plain_all_typed c.in_ok-all-in-Above.all) (walk.call_is (known c.args.heads.now c.args.unit) (plain_slots c.args.slots.now) c.args.tail c.args.lo (plain_wanted c.args.wanted) c.args.place c.args.name.now (plain_all c.args.arguments.now) c.in-Above.n (plain_head c.index-heads-n-in-Above.result) (c.args.lo + 1) (walk.callee_above c.args.heads.now (known c.args.heads.now c.args.unit) c.args.name.now c.find_callee.result c.in-Above.n c.index-heads-n-in-Above.result c.find_callee.ensures.found c.find_callee.ensures.one c.in-Above.is c.index-heads-n-in-Above.is) (omega arith)) c.in_ok-all-in-Above.ensures)) c.settled_call.ensures
+    subst (λ (z : Result Typed Fault). Says c.settled_call.result z) (sym (goes _ _ _ (plain_all_typed c.in_ok-all-in-Above.all) (walk.call_is (known c.args.heads.now c.args.unit) (plain_slots c.args.slots.now) c.args.tail c.args.lo (plain_wanted c.args.wanted) c.args.place c.args.name.now (plain_all c.args.arguments.now) c.in-Above.n (plain_head c.get-head-in-Above.result.now) (c.args.lo + 1) (walk.callee_above c.args.heads.now (known c.args.heads.now c.args.unit) c.args.name.now c.find_callee.result c.in-Above.n c.get-head-in-Above.result.now c.find_callee.ensures.found c.find_callee.ensures.one c.in-Above.is (got c.args.heads.now c.in-Above.n c.get-head-in-Above.result.now c.get-head-in-Above.ensures)) (omega arith)) c.in_ok-all-in-Above.ensures)) c.settled_call.ensures
 
 pub check_called-overflow_add-first : goal.check_called-overflow_add-first
 check_called-overflow_add-first t c =
