@@ -1,0 +1,11 @@
+mod Remaining
+mod Walked
+mod PrepareLemmas
+mod FaultLemmas
+mod LimitLemmas
+mod GroupLemmas
+mod NumberedLemmas
+mod FormLemmas
+mod SiteLemmas
+mod OutcomeLemmas
+mod NamesakeLemmas

@@ -1,0 +1,6 @@
+pub mod Prepared
+pub mod Groups
+pub mod Answers
+pub mod Numbered
+pub mod Laws
+pub mod Functions

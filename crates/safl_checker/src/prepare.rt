@@ -1,0 +1,93 @@
+//! What is known of all definitions before any is checked.
+
+ghost use Rattle.std.specs.Prelude.{◌≡◌, ◌≤◌, length, map, IfOk};
+ghost use Rattle.safl_tree.specs.Tree.{Definition};
+ghost use Rattle.safl_tree.specs.Shown.{shows_def, shows_defs, shows_params};
+ghost use Rattle.safl_typing.specs.Heads.{slot_of, unit_of, head_of, heads};
+ghost use Rattle.safl_typing.specs.Plain.{plain};
+ghost use Rattle.safl_typing.specs.PlainHeads.{plain_slots, plain_head, plain_heads};
+ghost use Rattle.safl_typing.specs.Rewriting.{rewritten};
+ghost use Rattle.safl_checker.specs.Prepared.{IsPrepared};
+
+use safl_tree::{Def, Name, Param};
+use safl_typing::expression::Expression;
+use safl_typing::heads::{Head, Heads, Slot};
+use safl_typing::rewrite::rewrite;
+use safl_word::NoMemory;
+use std::alloc::Global;
+
+/// The heads of all definitions, and their bodies in which each `case` is rewritten, both in the order of the text.
+#[derive(Drop)]
+pub struct Prepared {
+    pub heads: Heads,
+    pub bodies: Vec<Expression>,
+}
+
+/// The heads and bodies of at most 1,000 definitions.
+pub fn prepare(alloc: Global, defs: &[Def]) -> Result<Prepared, NoMemory>
+    requires { length defs.now ≤ 1000 }
+    ensures { IfOk result (IsPrepared (shows_defs defs.now)) }
+{
+    let heads = Heads::new(alloc, make_heads(alloc, defs)?)?;
+    let bodies = rewrite_bodies(alloc, defs)?;
+    Ok(Prepared { heads, bodies })
+}
+
+/// The group of the definition of this number, where that of the definition before it is `unit`.
+pub fn next_unit(number: u32, unit: u32, def: &Def) -> u32
+    ensures { result ≡ unit_of number unit (shows_def def.now) }
+{
+    if def.joined { unit } else { number }
+}
+
+fn make_heads(alloc: Global, defs: &[Def]) -> Result<Vec<Head>, NoMemory>
+    requires { length defs.now ≤ 1000 }
+    ensures { IfOk result (λ all. plain_heads all.items ≡ heads (shows_defs defs.now)) }
+{
+    let mut all = Vec::new(alloc);
+    let mut unit = 0;
+    for (number, def) in defs.iter().enumerate() {
+        unit = next_unit(number as u32, unit, def);
+        let head = make_head(alloc, unit, def)?;
+        all.push(head)?;
+    }
+    Ok(all)
+}
+
+fn make_head(alloc: Global, unit: u32, def: &Def) -> Result<Head, NoMemory>
+    ensures { IfOk result (λ head. plain_head head ≡ head_of unit (shows_def def.now)) }
+{
+    let name = Name::new(alloc, def.name.bytes())?;
+    let params = make_slots(alloc, &def.params)?;
+    Ok(Head {
+        name,
+        params,
+        width: def.width,
+        unit,
+    })
+}
+
+fn make_slots(alloc: Global, params: &[Param]) -> Result<Vec<Slot>, NoMemory>
+    ensures { IfOk result (λ all. plain_slots all.items ≡ map slot_of (shows_params params.now)) }
+{
+    let mut all = Vec::new(alloc);
+    for param in params {
+        let name = Name::new(alloc, param.name.bytes())?;
+        all.push(Slot {
+            name,
+            width: param.width,
+        })?;
+    }
+    Ok(all)
+}
+
+fn rewrite_bodies(alloc: Global, defs: &[Def]) -> Result<Vec<Expression>, NoMemory>
+    ensures { IfOk result (λ all. map plain all.items ≡ map (λ (d : Definition). rewritten d.body) (shows_defs defs.now)) }
+{
+    let mut all = Vec::new(alloc);
+    for def in defs {
+        let body = rewrite(alloc, &def.body)?;
+        all.push(body)?;
+    }
+    Ok(all)
+}

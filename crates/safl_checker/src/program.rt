@@ -1,0 +1,67 @@
+//! From a program's tree to its numbered form.
+
+ghost use Rattle.std.specs.Prelude.{◌≡◌, [], None, Ok, map, IfOk, OnOk, IfErr};
+ghost use Rattle.safl_tree.specs.Shown.{shows_defs, shows_program};
+ghost use Rattle.safl_tree.specs.Printable.{IsFormedProgram};
+ghost use Rattle.safl_typing.specs.Heads.{heads};
+ghost use Rattle.safl_typing.specs.Forms.{IsFormOf, shown, shown_function};
+ghost use Rattle.safl_typing.specs.Walk.{limits, functions_from};
+ghost use Rattle.safl_checker.specs.Answers.{RefusesProgram};
+ghost use Rattle.safl_checker.specs.Prepared.{IsPrepared};
+
+use crate::functions::check_functions;
+use crate::limits::{find_function_fault, find_limit_fault, find_main_fault};
+use crate::prepare::{Prepared, prepare};
+use crate::sites::sites_of;
+use safl_check::{Checked, Function};
+use safl_tree::Def;
+use safl_tree::tree::Program;
+use safl_typing::laws::{forms_are_checked_law, walk_law};
+use safl_typing::typed::CheckErr;
+use std::alloc::Global;
+
+/// The checked program of a tree: functions numbered from 0 and sites from 1 in the order of the text. Refused is the
+/// first fault of E05 to E16 in the order of checking; there is one exactly where the program has no numbered form.
+pub fn check(alloc: Global, program: Program) -> Result<Checked, CheckErr>
+    requires { IsFormedProgram (shows_program program) }
+    ensures form { IfOk result (λ c. IsFormOf (shows_program program) (shown c)) }
+    ensures refused { IfErr result (RefusesProgram (shows_program program)) }
+{
+    let defs = program.defs.as_slice();
+    let prepared = prepare_within(alloc, defs)?;
+    let functions = check_functions(alloc, defs, &prepared)?;
+    checked_of(alloc, defs, functions)
+}
+
+// What is known of definitions that pass no limit.
+fn prepare_within(alloc: Global, defs: &[Def]) -> Result<Prepared, CheckErr>
+    ensures prepared { IfOk result (IsPrepared (shows_defs defs.now)) }
+    ensures within { OnOk result (limits (shows_defs defs.now) ≡ None) }
+    ensures refused { IfErr result (RefusesProgram (shows_defs defs.now)) }
+{
+    if let Some(fault) = find_function_fault(defs) {
+        return Err(CheckErr::Refused(fault));
+    }
+    let prepared = prepare(alloc, defs)?;
+    if let Some(fault) = find_limit_fault(defs, &prepared) {
+        return Err(CheckErr::Refused(fault));
+    }
+    Ok(prepared)
+}
+
+// The program of checked functions, whose last one is `main`.
+fn checked_of(alloc: Global, defs: &[Def], functions: Vec<Function>) -> Result<Checked, CheckErr>
+    requires formed { IsFormedProgram (shows_defs defs.now) }
+    requires within { limits (shows_defs defs.now) ≡ None }
+    requires functions { functions_from (heads (shows_defs defs.now)) [] 0 0 1 (shows_defs defs.now) ≡ Ok (map shown_function functions.items) }
+    ensures form { IfOk result (λ c. IsFormOf (shows_defs defs.now) (shown c)) }
+    ensures refused { IfErr result (RefusesProgram (shows_defs defs.now)) }
+{
+    if let Some(fault) = find_main_fault(defs) {
+        return Err(CheckErr::Refused(fault));
+    }
+    walk_law();
+    forms_are_checked_law();
+    let sites = sites_of(alloc, &functions)?;
+    Ok(Checked::new(functions, sites))
+}
