@@ -1,0 +1,37 @@
+use Rattle.std.proofs.Common.{◌≡◌, ◌<◌, ◌+◌, ◌*◌, ◌≤◌, drop}
+use Rattle.safl_check.specs.Checked.{program_of}
+use Rattle.safl_check.specs.Fuel.{eval_all}
+use Rattle.safl_check.specs.Sizes.{nodes, nodes_in}
+use Rattle.safl_check.specs.Tree.{tree, forest}
+use Rattle.safl_interpreter.specs.Interpreting.{widths, applied}
+use Rattle.safl_interpreter.proofs.Steps.{after, call_size}
+use Rattle.safl_interpreter.proofs.evaluate.+evaluate.Given as goal
+
+abbrev pub decreases-call : goal.decreases-call
+decreases-call l = call_size * l.left
+
+abbrev pub decreases-evaluate : goal.decreases-evaluate
+decreases-evaluate l = call_size * l.left + 3 * nodes (tree l.t.now)
+
+abbrev pub decreases-value : goal.decreases-value
+decreases-value l = call_size * l.left + 3 * nodes (tree l.t.now) + 1
+
+abbrev pub decreases-values : goal.decreases-values
+decreases-values l = call_size * l.left + 3 * nodes_in (forest l.ts.now) + 2
+
+abbrev pub invariant-call-loop-calls : goal.invariant-call-loop-calls
+invariant-call-loop-calls l = record {
+  function : l.function < (program_of l.c).functions;
+  fit : widths l.words.items ≡ (program_of l.c).params l.function;
+  within : l.calls ≤ l.left;
+  same : applied (program_of l.c) l.left l.fn.f l.fn.args.items ≡ applied (program_of l.c) l.calls l.function l.words.items;
+}
+
+abbrev pub decreases-call-loop-calls : goal.decreases-call-loop-calls
+decreases-call-loop-calls l = l.calls
+
+abbrev pub invariant-values-loop-t : goal.invariant-values-loop-t
+invariant-values-loop-t l = record {
+  within : l.rest ≤ l.left;
+  same : eval_all (program_of l.c) (applied (program_of l.c)) (forest l.ts) l.left l.env ≡ after l.words.items (eval_all (program_of l.c) (applied (program_of l.c)) (forest (drop l.t-index l.ts)) l.rest l.env);
+}

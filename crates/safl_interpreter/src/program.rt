@@ -1,0 +1,31 @@
+//! The meaning of main.
+
+ghost use Rattle.std.specs.Prelude.{◌≡◌, IfOk};
+ghost use Rattle.safl_check.specs.Checked.{program_of};
+ghost use Rattle.safl_check.specs.Fuel.{apply};
+ghost use Rattle.safl_interpreter.specs.Interpreting.{widths, shown};
+
+use crate::answer::Answer;
+use crate::evaluate::call;
+use safl_check::Checked;
+use safl_word::{NoMemory, Word};
+use std::alloc::Global;
+
+/// Main's word on these arguments and how many calls are left of the budget, where the evaluation makes at most
+/// so many calls, the call of main included; else none.
+///
+/// # Errors
+///
+/// There is no memory left.
+pub fn interpret(
+    alloc: Global,
+    c: &Checked,
+    args: &[Word],
+    budget: u32,
+) -> Result<Option<Answer>, NoMemory>
+    requires { widths args.now ≡ (program_of c.now).params (program_of c.now).main }
+    ensures { IfOk result (λ answer. shown answer ≡ apply (program_of c.now) budget budget ((program_of c.now).callee 0) args.now) }
+{
+    let main = c.functions() - 1;
+    call(alloc, c, main, args.to_vec(alloc)?, budget)
+}
