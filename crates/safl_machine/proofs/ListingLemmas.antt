@@ -1,6 +1,8 @@
 -- The enabled events, by their places.
 use Rattle.std.proofs.Common.{◌≡◌, ℕ, zero, suc, ◌+◌, ◌-◌, ◌<◌, List, [], ◌∷◌, ◌++◌, length, cond, Option, Some, None, Bool, true, false, nat_lt, refl, sym, ap, ◌∙◌, subst, ⊎_elim, arith, append_assoc}
-use Rattle.std.specs.Prelude.{slice_get}
+use Rattle.std.specs.Prelude.{slice_get, get_or}
+use Rattle.std.proofs.Common.{◌%◌, slice_set, below_more}
+use Rattle.std.proofs.lemmas.List.{get_or-set_other, get_or-set_same}
 use Rattle.std.proofs.lemmas.Bool.{lt-ltb, le-ltb, cases_eq}
 use Rattle.std.specs.Prelude.{IsTrue}
 use Rattle.std.proofs.lemmas.Bool.{false≢true}
@@ -10,7 +12,7 @@ use Rattle.safl_word.specs.Words.{Word}
 use Rattle.safl_check.specs.Program.{Program}
 use Rattle.safl_core.specs.Machine.{State, Event, Accept, Finish, Return, LoopInto}
 use Rattle.safl_core.specs.Picks.{picks}
-use Rattle.safl_machine.specs.Listing.{listed, event_at, count_below}
+use Rattle.safl_machine.specs.Listing.{listed, event_at, places, Lists, count_below}
 use Rattle.safl_machine.specs.Testing.{can}
 use Rattle.safl_machine.specs.Shown.{Shown, state, CanFire, IsKept}
 use Rattle.safl_machine.specs.Outcomes.{IsOver}
@@ -152,6 +154,65 @@ pub counted : (p : ℕ → Bool) (e : ℕ → Event) (i n : ℕ) (b : Bool) → 
 counted p e i n b is h =
     let one : i + 1 ≡ suc i = omega arith in
     ap (λ k. k + cond b 1 0) is ∙ (ap (λ t. length (picks p e i) + cond t 1 0) (sym h) ∙ (sym (count_more p e i) ∙ ap (λ k. length (picks p e k)) (sym one)))
+
+-- ---- the places of the enabled events
+
+module _ (C : Program) (args : List Word) (s : State) where
+  pub lists_none : (found : List ℕ) → Lists C args s found 0 0
+  lists_none found = record {
+    count_is = sym (ap (λ (l : List Event). length l) (picks_zero (test_at C args s) (event_at C)));
+    within = omega arith;
+    each = λ j lt. absurd (omega (arith, lt));
+    fires = λ j lt. absurd (omega (arith, lt));
+    below = λ j lt. absurd (omega (arith, lt));
+  }
+
+  front : (found : List ℕ) (count i : ℕ) → Lists C args s found count i → (j : ℕ) → j < count → slice_get (picks (test_at C args s) (event_at C) (i + 1)) j ≡ Some (event_at C (get_or found j 0))
+  front found count i h j lt =
+      let one : i + 1 ≡ suc i = omega arith in
+      ap (λ n. slice_get (picks (test_at C args s) (event_at C) n) j) one
+      ∙ (ap (λ l. slice_get l j) (picks_more (test_at C args s) (event_at C) i)
+      ∙ got_front (picks (test_at C args s) (event_at C) i) (cond (test_at C args s i) (event_at C i ∷ []) []) j (event_at C (get_or found j 0)) (h.each j lt))
+
+  pub lists_more : (found : List ℕ) (count i : ℕ) → Lists C args s found count i → test_at C args s i ≡ true → count < length found → Lists C args s (slice_set found count i) (count + 1) (i + 1)
+  lists_more found count i h is lt = record {
+    count_is = counted (test_at C args s) (event_at C) i count true h.count_is is;
+    within = omega (arith, h.within);
+    each = below_more (λ j. slice_get (picks (test_at C args s) (event_at C) (i + 1)) j ≡ Some (event_at C (get_or (slice_set found count i) j 0))) count
+        (λ j le. front found count i h j le ∙ ap (λ n. Some (event_at C n)) (sym (off j le)))
+        (ap (slice_get (picks (test_at C args s) (event_at C) (i + 1))) h.count_is ∙ (picked_at (test_at C args s) (event_at C) i (i + 1) (omega arith) is ∙ ap (λ n. Some (event_at C n)) (sym at)));
+    fires = below_more (λ j. test_at C args s (get_or (slice_set found count i) j 0) ≡ true) count (λ j le. ap (test_at C args s) (off j le) ∙ h.fires j le) (ap (test_at C args s) at ∙ is);
+    below = below_more (λ j. get_or (slice_set found count i) j 0 < i + 1) count (λ j le. omega (arith, off j le, h.below j le)) (omega (arith, at));
+  }
+    where
+      at : get_or (slice_set found count i) count 0 ≡ i
+      at = get_or-set_same found count i 0 lt
+
+      off : (j : ℕ) → j < count → get_or (slice_set found count i) j 0 ≡ get_or found j 0
+      off j le = get_or-set_other found count j i 0 (λ q. absurd (omega (arith, le, q)))
+
+  pub lists_same : (found : List ℕ) (count i : ℕ) → Lists C args s found count i → test_at C args s i ≡ false → Lists C args s found count (i + 1)
+  lists_same found count i h is = record {
+    count_is = let more = counted (test_at C args s) (event_at C) i count false h.count_is is in omega (arith, more);
+    within = omega (arith, h.within);
+    each = front found count i h;
+    fires = h.fires;
+    below = λ j le. omega (arith, h.below j le);
+  }
+
+  pub lists_count : (found : List ℕ) (count : ℕ) → Lists C args s found count (places C) → count ≡ length (listed C args s)
+  lists_count found count h = h.count_is ∙ ap (λ (l : List Event). length l) (all_listed C args s (places C) refl)
+
+  -- nothing is picked where there is none
+  pub lists_nothing : (found : List ℕ) (count x : ℕ) → Lists C args s found count (places C) → count ≡ 0 → None ≡ slice_get (listed C args s) (x % length (listed C args s))
+  lists_nothing found count x h none = sym (ap (λ l. slice_get l (x % length (listed C args s))) (empty_list (listed C args s) (sym (lists_count found count h) ∙ none)))
+
+  pub lists_pick : (found : List ℕ) (count x j : ℕ) (e : Event) → Lists C args s found count (places C) → j ≡ x % count → j < count → e ≡ event_at C (get_or found j 0)
+      → (Some e ≡ slice_get (listed C args s) (x % length (listed C args s))) × Enabled C args s e
+  lists_pick found count x j e h at lt is = (
+    ap Some is ∙ (sym (h.each j lt) ∙ (ap (λ l. slice_get l j) (all_listed C args s (places C) refl) ∙ ap (slice_get (listed C args s)) (at ∙ ap (λ n. x % n) (lists_count found count h)))),
+    enabled_of C args s e (ap (can C args s) is ∙ h.fires j lt),
+  )
 
 -- ---- where nothing is listed, nothing is enabled
 

@@ -3,7 +3,7 @@ use Rattle.std.proofs.Common.{◌≡◌, ◌+◌, ◌*◌, ◌≤◌, ◌<◌, �
 use Rattle.std.proofs.lemmas.Bool.{eqb-true, eq-eqb, and_parts, and_from, false≢true, le-leb}
 use Rattle.std.specs.Prelude.{IsTrue}
 use Rattle.std.proofs.lemmas.List.{get_or_read}
-use Rattle.safl_core.proofs.Basics.{some_of}
+use Rattle.safl_core.proofs.Basics.{serves, some_of}
 use Rattle.safl_core.proofs.Invariant.{found}
 use Rattle.safl_machine.specs.declared.mode.Answer.TheVariants as kept_declared
 use Rattle.safl_machine.specs.Modes.{answer_of}
@@ -20,7 +20,8 @@ use Rattle.safl_core.proofs.MachineLaws as law
 use Rattle.safl_machine.specs.declared.mode.Answer.{Answer as Kept}
 use Rattle.safl_machine.specs.Outcomes.{IsValue, IsBounded, GoesOn, IsOver}
 use Rattle.safl_machine.specs.Shown.{Shown, state, CanFire, IsKept}
-use Rattle.safl_machine.specs.Testing.{is_idle, runs, delivers_to, is_ready, loops_to, can, wanted_at}
+use Rattle.safl_machine.specs.Testing.{is_idle, runs, is_sent, delivers_to, is_ready, loops_to, can, wanted_at}
+use Rattle.safl_machine.proofs.KeptLemmas.{inv}
 use Rattle.safl_machine.proofs.OpenLemmas.{widths_long}
 
 some_is : (v w : Word) → Some v ≡ Some w → v ≡ w
@@ -178,6 +179,24 @@ module _ {m : Shown} {answers : List Kept} {wants : List (Option (List Word))} {
   finish_test f u b at e =
       let C = program_of m.program in
       e ∙ (ap (λ a. runs ((state m).unit u) f && is_ready a) (h.known u).outcome ∙ ap (λ n. runs ((state m).unit n) f && is_ready (says C (state m) n)) at)
+
+  -- a site that a unit delivers to is sent
+  pub return_test : (k : ℕ) (b : Bool) → b ≡ (is_sent ((state m).site k) && delivers_to ((state m).unit (unit_for (program_of m.program) k)) k) → b ≡ can (program_of m.program) m.args (state m) (Return k)
+  return_test k b e = e ∙ by ((state m).unit (unit_for (program_of m.program) k)) refl
+    where
+      never : (x : Bool) → (x && false) ≡ false
+      never true = refl
+      never false = refl
+
+      sent : (x t : Bool) → (t ≡ true → x ≡ true) → (x && t) ≡ t
+      sent x true q = ap (λ z. z && true) (q refl)
+      sent x false q = never x
+
+      by : (x : Mode) → (state m).unit (unit_for (program_of m.program) k) ≡ x → (is_sent ((state m).site k) && delivers_to x k) ≡ delivers_to x k
+      by Idle q = never (is_sent ((state m).site k))
+      by (Runs f j ws) q = never (is_sent ((state m).site k))
+      by (Delivers j v) q = sent (is_sent ((state m).site k)) (eqb j k)
+          (λ t. ap is_sent ((inv h).serving (unit_for (program_of m.program) k) k (ap serves q ∙ ap Some (eqb-true j k t))).0)
 
   pub loop_test : (n u : ℕ) (b : Bool) → u ≡ (program_of m.program).unit n → b ≡ loops_to (answer_of (get_or answers u kept_declared.NotYet)) n → b ≡ can (program_of m.program) m.args (state m) (LoopInto n)
   loop_test n u b at e =

@@ -2,7 +2,7 @@
 use Rattle.std.specs.Prelude.{ℕ, zero, suc, List, Option, None, Bool, true, false, ◌==◌, ◌&&◌, is_some, get_or}
 use Rattle.safl_word.specs.Words.{Word}
 use Rattle.safl_check.specs.Program.{Program, unit_for}
-use Rattle.safl_check.specs.Readiness.{Answer, Ready, LoopTo, NotYet}
+use Rattle.safl_check.specs.Readiness.{Stage, Unsent, Sent, Returned, Answer, Ready, LoopTo, NotYet}
 use Rattle.safl_core.specs.Machine.{State, Mode, Idle, Runs, Delivers, Event, Accept, Finish, Return, LoopInto, asked, says}
 
 abbrev pub is_idle : Mode → Bool
@@ -19,6 +19,11 @@ abbrev pub delivers_to : Mode → ℕ → Bool
 delivers_to Idle k = false
 delivers_to (Runs f j ws) k = false
 delivers_to (Delivers j v) k = j == k
+
+abbrev pub is_sent : Stage → Bool
+is_sent Unsent = false
+is_sent Sent = true
+is_sent (Returned v) = false
 
 abbrev pub is_ready : Answer → Bool
 is_ready (Ready v) = true

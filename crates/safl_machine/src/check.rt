@@ -41,8 +41,18 @@ pub fn finishes(modes: &[Mode], answers: &[Answer], u: u32, f: u32) -> bool
     runs(modes, u, f) && is_ready(answers, u)
 }
 
-/// Whether a unit delivers a word to a site.
-pub fn delivers(modes: &[Mode], u: u32, k: u32) -> bool
+/// Whether a site is sent, and its unit delivers a word to it. Few sites are sent, so that most units stay unread.
+pub fn returns(c: &Checked, modes: &[Mode], stages: &[Stage], k: u32) -> bool
+    requires site { k ≤ (program_of c.now).sites }
+    requires units { length modes.now ≡ (program_of c.now).functions }
+    requires stages { length stages.now ≡ suc (program_of c.now).sites }
+    ensures { result ≡ (test.is_sent (stage_at stages.now k) && test.delivers_to (unit_at modes.now (program.unit_for (program_of c.now) k)) k) }
+{
+    is_sent(stages, k) && delivers(modes, unit_for(c, k), k)
+}
+
+// Whether a unit delivers a word to a site.
+fn delivers(modes: &[Mode], u: u32, k: u32) -> bool
     requires { u < length modes.now }
     ensures { result ≡ test.delivers_to (unit_at modes.now u) k }
 {
@@ -120,6 +130,17 @@ fn is_unsent(stages: &[Stage], k: u32) -> bool
     match stages[k as usize] {
         Stage::Unsent => true,
         Stage::Sent => false,
+        Stage::Returned(_) => false,
+    }
+}
+
+fn is_sent(stages: &[Stage], k: u32) -> bool
+    requires { k < length stages.now }
+    ensures { result ≡ test.is_sent (stage_at stages.now k) }
+{
+    match stages[k as usize] {
+        Stage::Unsent => false,
+        Stage::Sent => true,
         Stage::Returned(_) => false,
     }
 }

@@ -4,7 +4,6 @@ use crate::args::Args;
 use crate::event::Event;
 use crate::mode::{Answer, Mode};
 use crate::stage::Stage;
-use crate::step::unit_for;
 use crate::{check, fire, make};
 use safl_check::Checked;
 use safl_word::Word;
@@ -13,6 +12,10 @@ use std::marker::Model;
 
 /// The words of the slots of any body: at most as many as its parameters and nodes.
 const ROOM: usize = 50_016;
+
+/// The most events of a program, enabled or not: accepts and returns of 4,001 sites, finishes and loops of 1,000
+/// functions.
+const PLACES: usize = 10_002;
 
 /// Why there is no machine: the arguments differ from main's parameters in number or in a width, or no memory is left.
 #[derive(Clone, Copy, Debug, PartialEq, Eq)]
@@ -50,12 +53,12 @@ impl<'a> Model for Machine<'a> {
 }
 
 impl<'a> Machine<'a> {
-    ghost use Rattle.std.specs.Prelude.{◌≡◌, ◌+◌, ◌-◌, ◌^◌, ◌<◌, ◌↔◌, Err, IsTrue, IfOk, IfSome, IfNone, IsNone, IsSome, Some, suc, length, slice_get, option_map, ◌%◌};
+    ghost use Rattle.std.specs.Prelude.{◌≡◌, ◌+◌, ◌-◌, ◌^◌, ◌<◌, ◌≤◌, ◌↔◌, Err, IsTrue, IfOk, IfSome, IfNone, IsNone, IsSome, Some, suc, length, slice_get, option_map, ◌%◌};
     ghost use Rattle.safl_core.specs.Machine as core;
     ghost use Rattle.safl_check.specs.Checked.{program_of};
     ghost use Rattle.safl_check.specs.Readiness.{back_word};
     ghost use Rattle.safl_machine.specs.Evaluating.{widths};
-    ghost use Rattle.safl_machine.specs.Listing.{busy, event_at, listed};
+    ghost use Rattle.safl_machine.specs.Listing.{Lists, busy, event_at, listed, places};
     ghost use Rattle.safl_machine.specs.Outcomes.{IsValue, IsBounded, GoesOn, IsOver};
     ghost use Rattle.safl_machine.specs.Walking.{IsShort};
     ghost use Rattle.safl_machine.specs.Shown.{state, event_of, IsReached, CanFire, Fires, Opens};
@@ -145,7 +148,7 @@ impl<'a> Machine<'a> {
                 if k > c.sites() {
                     return false;
                 }
-                check::delivers(&self.modes, unit_for(c, k), k)
+                check::returns(c, &self.modes, &self.stages, k)
             }
             Event::Loop(h) => {
                 if h >= functions {
@@ -187,8 +190,8 @@ impl<'a> Machine<'a> {
 
     // How many events there are, enabled or not.
     fn places(&self) -> u32
-        ensures places { result ≡ suc (program_of self.now.program).sites + ((program_of self.now.program).functions + (suc (program_of self.now.program).sites + (program_of self.now.program).functions)) }
-        ensures few { result < 2 ^ 31 }
+        ensures places { result ≡ places (program_of self.now.program) }
+        ensures few { result ≤ 10002 }
     {
         let functions = self.checked.functions();
         let sites = self.checked.sites() + 1;
@@ -203,45 +206,30 @@ impl<'a> Machine<'a> {
         ensures none { IsNone result ↔ IsSome (back_word ((state self.now).site 0)) }
     {
         let _ = &self.checked;
-        let count = self.enabled_events();
+        let mut found = [0; PLACES];
+        let count = self.enabled_places(&mut found);
         if count == 0 {
             return None;
         }
-        Some(self.enabled_at(x % count))
+        let place = found[(x % u64::from(count)) as usize];
+        Some(self.event_at(place))
     }
 
-    // How many events are enabled.
-    fn enabled_events(&self) -> u64
-        ensures { result ≡ length (listed (program_of self.now.program) self.now.args (state self.now)) }
+    // Puts the places of the enabled events in order, and says how many there are.
+    fn enabled_places(&self, found: &mut [u32]) -> u32
+        requires { length found.old ≡ 10002 }
+        ensures lists { Lists (program_of self.now.program) self.now.args (state self.now) found.new result (places (program_of self.now.program)) }
+        ensures few { places (program_of self.now.program) ≤ 10002 }
     {
         let mut count = 0;
         for i in 0..self.places() {
             let fires = self.enabled(self.event_at(i));
             if fires {
+                found[count as usize] = i;
                 count += 1;
             }
         }
         count
-    }
-
-    // The enabled event at a place.
-    fn enabled_at(&self, place: u64) -> Event
-        requires { place < length (listed (program_of self.now.program) self.now.args (state self.now)) }
-        ensures place { slice_get (listed (program_of self.now.program) self.now.args (state self.now)) place ≡ Some (event_of result) }
-        ensures fires { CanFire self.now (event_of result) }
-    {
-        let mut seen = 0;
-        for i in 0..self.places() {
-            let e = self.event_at(i);
-            let fires = self.enabled(e);
-            if fires {
-                if seen == place {
-                    return e;
-                }
-                seen += 1;
-            }
-        }
-        unreachable!()
     }
 
     /// Fires an event that is enabled.

@@ -10,9 +10,9 @@ use Rattle.safl_machine.specs.declared.stage.Stage.{Stage}
 use Rattle.safl_machine.specs.Modes.{answer_of, unit_at}
 use Rattle.safl_machine.specs.Shown.{event_of}
 use Rattle.safl_machine.specs.Stages.{stage_at}
-use Rattle.safl_machine.specs.Testing.{wanted_at, is_idle, runs, is_ready, delivers_to, loops_to}
+use Rattle.safl_machine.specs.Testing.{wanted_at, is_idle, runs, is_ready, is_sent, delivers_to, loops_to}
 use Rattle.safl_machine.proofs.KeptLemmas.{finish_in, return_in, looping}
-use Rattle.safl_machine.proofs.OutcomeLemmas.{tested_as, refused_as, accept_test, accept_within, finish_test, loop_test}
+use Rattle.safl_machine.proofs.OutcomeLemmas.{tested_as, refused_as, accept_test, accept_within, finish_test, return_test, loop_test}
 use Rattle.safl_machine.proofs.machine.Machine.enabled.Goals as goal
 
 pub returns-then-k-sites : goal.returns-then-k-sites
@@ -67,11 +67,13 @@ pub returns-else-k-sites-2 : goal.returns-else-k-sites-2
 returns-else-k-sites-2 c =
     let h = c.self.invariant in
     let m = c.self.inside in
+    let C = program_of m.checked.now in
     let k = c.in-Return.k in
-    let is = c.delivers.ensures
-    ∙ (ap (λ (x : List Mode). delivers_to (unit_at x c.unit_for.result) k) c.deref-in-Return.ensures.value
-    ∙ ap (λ n. delivers_to (unit_at m.modes.items n) k) c.unit_for.ensures.unit) in
-    tested_as h c.args.self.now (Return k) (event_of c.args.e) c.delivers.result c.self.view_is (ap event_of c.in-Return.is) is
+    let is = c.returns.ensures
+    ∙ (ap (λ (x : List Mode). is_sent (stage_at c.deref-in-Return-2.result.now k) && delivers_to (unit_at x (unit_for C k)) k) c.deref-in-Return.ensures.value
+    ∙ ap (λ (x : List Stage). is_sent (stage_at x k) && delivers_to (unit_at m.modes.items (unit_for C k)) k) c.deref-in-Return-2.ensures.value) in
+    tested_as h c.args.self.now (Return k) (event_of c.args.e) c.returns.result c.self.view_is (ap event_of c.in-Return.is)
+    (return_test h k c.returns.result is)
 
 pub returns-else-h-functions : goal.returns-else-h-functions
 returns-else-h-functions c =
