@@ -9,7 +9,7 @@ use Rattle.safl_check.specs.Readiness.{answer, wanted}
 use Rattle.safl_check.specs.WellFormed.{Spans, HasWidth, IsWellFormed}
 use Rattle.safl_core.specs.Picks.{first}
 use Rattle.safl_sites.proofs.RowPrograms.{byte}
-use Rattle.safl_unit.specs.Constant.{no_choice}
+use Rattle.safl_unit.proofs.Samples.{no_choice}
 use Rattle.safl_unit.proofs.RowRuns.{done_below, shown_in}
 use Rattle.safl_unit.specs.Equations.{go, body_says, body_wants, ends, loops, starts, loads, next}
 use Rattle.safl_unit.specs.Steps.{registers_at}

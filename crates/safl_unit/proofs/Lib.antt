@@ -21,10 +21,7 @@ pub mod CoreOf
 pub mod CallsSeen
 pub mod NetRuns
 pub mod Theorem
+pub mod Samples
 pub mod RowRuns
 pub mod Rows
 pub mod EvenRow
-pub mod ConstantNet
-pub mod ConstantCells
-pub mod Constant
-pub mod ConstantSource

@@ -8,7 +8,7 @@ use Rattle.safl_check.specs.Readiness.{answer, wanted}
 use Rattle.safl_core.specs.Picks.{first}
 use Rattle.safl_unit.specs.Equations.{Choice, go, body_says, body_wants, ends, loops, starts, loads, next}
 use Rattle.safl_unit.specs.Steps.{registers_at}
-use Rattle.safl_unit.specs.Constant.{constant_program, no_choice}
+use Rattle.safl_unit.proofs.Samples.{constant_program, no_choice}
 use Rattle.safl_sites.proofs.RowPrograms.{byte, sum, nested, bound, decided}
 use Rattle.safl_unit.proofs.EvenRow.{flag, is_zero, less_one}
 use Rattle.safl_unit.proofs.RowRuns.{done_below, shown_in}

@@ -5,5 +5,3 @@ pub mod Layout
 pub mod Scheme
 pub mod Correct
 pub mod Theorem
-pub mod Constant
-pub mod Stages

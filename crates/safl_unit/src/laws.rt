@@ -1,6 +1,5 @@
 //! Laws of circuits, over the definitions alone.
 
-ghost use Rattle.safl_unit.specs.Constant.{ConstantSourcesAreCircuits, ConstantsAreCircuits, ConstantsHavePlans};
 ghost use Rattle.safl_unit.specs.Theorem.{CyclesAreEvents, SchemesAreCircuits, ServingSchemesAreCircuits};
 
 /// A netlist with the scheme of a well-formed program, whose arbiters and kept words suffice, does what the program
@@ -17,12 +16,4 @@ pub fn serving_law()
 /// The cycles of the registers are events of the call machine, from any quiet state.
 pub fn cycle_law()
     ensures { CyclesAreEvents }
-{}
-
-/// Each constant's netlist is the circuit of the program whose main is this constant, with nothing but what the
-/// plan has.
-pub fn constant_law()
-    ensures circuit { ConstantsAreCircuits }
-    ensures plan { ConstantsHavePlans }
-    ensures source { ConstantSourcesAreCircuits }
 {}
