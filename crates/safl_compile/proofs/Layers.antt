@@ -174,7 +174,7 @@ abbrev first_code : List ℕ → ℕ
 first_code [] = 0
 first_code (x ∷ xs) = x
 
-not_start : (x : List ℕ) → bytes_eq (codes "in$" ++ x) (codes "start") ≡ false
+pub not_start : (x : List ℕ) → bytes_eq (codes "in$" ++ x) (codes "start") ≡ false
 not_start x = by (bytes_eq (codes "in$" ++ x) (codes "start")) refl
   where
     by : (b : Bool) → bytes_eq (codes "in$" ++ x) (codes "start") ≡ b → b ≡ false

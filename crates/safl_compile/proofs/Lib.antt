@@ -36,3 +36,4 @@ pub mod Crossing
 pub mod Stepping
 pub mod Following
 pub mod Whole
+pub mod Arranging

@@ -3,6 +3,8 @@
 ghost use Rattle.std.specs.Prelude.{◌≤◌, length, IfOk};
 ghost use Rattle.safl_check.specs.Checked.{program_of};
 ghost use Rattle.safl_net.specs.Names.{IsTidy};
+ghost use Rattle.safl_net.specs.Whole.{IsWhole};
+ghost use Rattle.safl_net.specs.Arranged.{IsInOrder};
 ghost use Rattle.safl_unit.specs.Names.{names_of};
 ghost use Rattle.safl_unit.specs.Layout.{HasPlan};
 ghost use Rattle.safl_unit.specs.Scheme.{Scheme};
@@ -24,13 +26,16 @@ use safl_word::NoMemory;
 use std::alloc::Global;
 
 /// The netlist of a planned program: the ports, registers and named wires of the layout, with an arbiter at each unit
-/// and a kept word at each site that the plan names, and temporaries for all logic. It does what the program means, and
-/// has at most 3,000,000 signals. The error is want of memory.
+/// and a kept word at each site that the plan names, and temporaries for all logic. It does what the program means, is
+/// whole, has its inputs first, then its registers and then its wires, and has at most 3,000,000 signals. The error is
+/// want of memory.
 pub fn netlist_of(alloc: Global, p: &Planned) -> Result<Net, NoMemory>
     ensures scheme { IfOk result (λ n. Scheme (program_of p.now.program) (names_of p.now.program) (choice_of p.now) n) }
     ensures plan { IfOk result (λ n. HasPlan (program_of p.now.program) (names_of p.now.program) (choice_of p.now) n) }
     ensures circuit { IfOk result (λ n. IsCircuit (program_of p.now.program) (names_of p.now.program) (choice_of p.now) n) }
     ensures tidy { IfOk result (λ n. IsTidy n) }
+    ensures whole { IfOk result IsWhole }
+    ensures in_order { IfOk result IsInOrder }
     ensures count { IfOk result (λ n. length n.signals ≤ 3000000) }
 {
     circuit_law();

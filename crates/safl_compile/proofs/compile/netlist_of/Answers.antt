@@ -1,4 +1,4 @@
-use Rattle.std.proofs.Common.{◌≡◌, ◌+◌, ◌*◌, List, length, sym, ap, subst, arith}
+use Rattle.std.proofs.Common.{◌+◌, ◌*◌, length, sym, ap, subst, arith}
 use Rattle.safl_check.specs.Checked.{IsChecked, program_of}
 use Rattle.safl_net.specs.Netlist.{Netlist}
 use Rattle.safl_net.specs.Growth.{Grows}
@@ -9,6 +9,7 @@ use Rattle.safl_compile.proofs.Building.{builds_on}
 use Rattle.safl_compile.proofs.Keeping.{pins_kept, bank_kept, returns_kept, outcomes_kept, goes_kept, next_kept}
 use Rattle.safl_compile.proofs.Counting.{few_nodes, declared_few, room_for}
 use Rattle.safl_compile.proofs.Scheming.{finished_scheme, finished_plan, finished_count}
+use Rattle.safl_compile.proofs.Arranging.{finished_whole, finished_order}
 use Rattle.safl_compile.proofs.compile.netlist_of.Goals as goal
 
 pub returns-requires-clause-room : goal.returns-requires-clause-room
@@ -227,6 +228,23 @@ returns-clause-circuit c =
     let d = c.in_ok-declared.ensures.net in
     c.circuit_law.ensures C (names_of c.args.p.now.program) P c.finish.new.net h.formed (c.plan_law.ensures C P.arbiter P.kept c.checked-c.ensures.plan)
     (finished_scheme c.args.p.now.program h P c.controls.new.net c.finish.new.net pins c.in_ok-next.next c.in_ok-copied.copied c.signals-signals.ensures.netlist (subst (λ n. Grows n c.controls.new.net) d (builds_on (builds_on (builds_on (builds_on c.in_ok-shown.ensures.built c.in_ok-outcomes.ensures.built) (c.in_ok-goes.ensures.built)) (c.in_ok-next.ensures.built)) (c.in_ok-copied.ensures.built)).grows) c.in_ok-declared.ensures.pins (pins_kept (builds_on (builds_on (builds_on (builds_on c.in_ok-shown.ensures.built c.in_ok-outcomes.ensures.built) (c.in_ok-goes.ensures.built)) (c.in_ok-next.ensures.built)) (c.in_ok-copied.ensures.built)) c.in_ok-declared.ensures.fits) (next_kept c.in_ok-copied.ensures.built c.in_ok-next.ensures.done) c.in_ok-copied.ensures.done c.in_ok-finish.ensures.done)
+
+pub returns-clause-whole : goal.returns-clause-whole
+returns-clause-whole c =
+    let C = program_of c.args.p.now.program in
+    let D = names_of c.args.p.now.program in
+    let P = choice_of c.args.p.now in
+    let pins = c.in_ok-declared.declared.pins in
+    finished_whole C D P pins c.in_ok-next.next c.in_ok-copied.copied c.controls.new.net c.finish.new.net c.in_ok-finish.ensures.done c.signals-signals.ensures.netlist (returns-clause-scheme c)
+
+pub returns-clause-in_order : goal.returns-clause-in_order
+returns-clause-in_order c =
+    let C = program_of c.args.p.now.program in
+    let D = names_of c.args.p.now.program in
+    let P = choice_of c.args.p.now in
+    let pins = c.in_ok-declared.declared.pins in
+    let d = c.in_ok-declared.ensures.net in
+    finished_order C D P pins c.in_ok-next.next c.in_ok-copied.copied c.controls.new.net c.finish.new.net c.in_ok-finish.ensures.done (subst (λ n. Grows n c.controls.new.net) d (builds_on (builds_on (builds_on (builds_on c.in_ok-shown.ensures.built c.in_ok-outcomes.ensures.built) (c.in_ok-goes.ensures.built)) (c.in_ok-next.ensures.built)) (c.in_ok-copied.ensures.built)).grows)
 
 pub returns-clause-count : goal.returns-clause-count
 returns-clause-count c =
