@@ -16,7 +16,7 @@ use Rattle.safl_verilog.specs.Files.{Spot, Expression, Literal, Plain, Inverted,
 use Rattle.safl_verilog.specs.Faults.{at, find, where_not, passes, is_data, is_input, is_output, is_reg, is_wire, is_target, is_signal, is_none, is_plain, range_width, width_of, expression_width, operands, assigned, updated, faults, has_bit, has_ports, repeat_faults, declared_names, all_number_faults, header_faults, port_faults, all_port_faults, all_statement_faults, statement_faults, assign_faults, may_be_assigned, unfit_faults, width_faults, missing_faults}
 use Rattle.safl_verilog.specs.Netlists.{netlist, signals_of, signal_of, kind_of, register_of, driven, output_of, shown, place_of, number_of}
 use Rattle.safl_verilog.specs.Reads.{Reads}
-use Rattle.safl_verilog.specs.Laws.{Each}
+use Rattle.safl_net.specs.Arranged.{Each}
 use Rattle.safl_verilog.proofs.Distinct.{Name, Has, Distinct, each_at, each_join, each_mapped, each_of, other_name}
 use Rattle.safl_elaborate.specs.Parts.{later_faults}
 use Rattle.safl_elaborate.proofs.FileLemmas.{both_empty, parted}

@@ -2,18 +2,18 @@
 #![tactic(auto)]
 
 mod cells;
-mod driver;
-mod elaborate;
+pub mod driver;
+pub mod elaborate;
 mod laws;
 mod missing;
-mod names;
+pub mod names;
 mod numbers;
 mod ports;
-mod scope;
-mod spans;
+pub mod scope;
+pub mod spans;
 mod statements;
 
-pub use crate::elaborate::check;
+pub use crate::elaborate::{Elaborated, check};
 pub use crate::laws::reads_whole_law;
 pub use safl_vread::{VErr, VFault, VRule};
 

@@ -1,0 +1,11 @@
+pub mod SignalNames
+pub mod Orders
+pub mod Numberings
+pub mod Stages
+pub mod Suiting
+pub mod Driven
+pub mod Outputs
+pub mod DeclaredNames
+pub mod GoodNames
+pub mod NewNames
+pub mod Whole
