@@ -1,0 +1,2 @@
+mod SourceLemmas
+mod Ports

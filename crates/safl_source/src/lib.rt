@@ -1,0 +1,9 @@
+//! Sources: the checked program of a source or its first fault, and the circuit of a checked program.
+#![tactic(auto)]
+
+pub mod accept;
+pub mod circuit;
+pub mod laws;
+
+pub use crate::circuit::circuit_of;
+pub use safl_checker::CheckErr;
