@@ -1,7 +1,8 @@
 pub mod Accepting
 pub mod Telling
-pub mod ReadBack
 pub mod Reading
 pub mod Simulated
+pub mod Walked
+pub mod Ran
 pub mod Joining
 pub mod Complete

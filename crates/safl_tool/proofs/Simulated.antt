@@ -3,6 +3,7 @@ use Rattle.std.proofs.Common.{◌≡◌, ℕ, zero, suc, ◌*◌, ◌<◌, ◌�
 use Rattle.std.specs.Prelude.{IfSome}
 use Rattle.safl_word.specs.Words.{Word}
 use Rattle.safl_io.specs.Reading.{HasFile}
+use Rattle.safl_io.specs.Shelf.{Files}
 use Rattle.safl_net.specs.Netlist.{Netlist, output_place}
 use Rattle.safl_net.specs.Valuations.{Valuation, number_at, read_output}
 use Rattle.safl_run.specs.declared.done.Done.{Done}
@@ -14,16 +15,17 @@ use Rattle.safl_check.specs.WellFormed.{AreWordsOf}
 use Rattle.safl_unit.specs.Names.{Names, as_word}
 use Rattle.safl_unit.specs.Correct.{Correct}
 use Rattle.safl_tool.specs.Limits.{source_max}
-use Rattle.safl_tool.specs.Lines.{count_line, argument_line}
-use Rattle.safl_tool.specs.Sources.{IsCompiled}
+use Rattle.safl_tool.specs.Lines.{count_line, argument_line, memory_line}
+use Rattle.safl_tool.specs.Sources.{IsCompiled, IsFaulty, IsFaultLine}
 use Rattle.safl_tool.specs.Arguments.{AreRead, HaveFault}
-use Rattle.safl_tool.specs.Simulating.{IsValue, HasValue, Simulates, IsMisgiven, SimSays}
-use Rattle.safl_tool.specs.Outside.{ShelfState, SinkState}
-use Rattle.safl_tool.specs.Refusals.{RefusesSource, RefusesReading, RefusesArguments, RefusesRun, SimExplains, Explains, Prints, PrintFails}
+use Rattle.safl_tool.specs.Simulating.{IsValue, HasValue, Simulates, IsMisgiven, SimSays, IsSimLine, end_status, outcome_text}
+use Rattle.safl_tool.specs.Outside.{ShelfState, SinkState, OfFile}
+use Rattle.safl_tool.specs.Refusals.{RefusesSource, RefusesReading, RefusesArguments, RefusesRun, Explains, Prints, PrintFails}
 use Rattle.safl_tool.specs.declared.status.Status.{Status}
+use Rattle.safl_tool.specs.declared.status.Status.TheVariants as status
 use Rattle.safl_tool.specs.declared.refusal.Refusal.{Refusal}
 use Rattle.safl_tool.specs.declared.refusal.Refusal.TheVariants as refusal
-use Rattle.safl_tool.proofs.Accepting.{of_file, source_refused}
+use Rattle.safl_tool.proofs.Accepting.{of_file, memory_explains, source_explains, reading_explains, printing_explains}
 
 -- words that are read are words of the widths
 pub read_widths : (widths : List ℕ) (args : List (List ℕ)) (words : List Word) → AreRead widths args words → map (λ (w : Word). w.width) words ≡ widths
@@ -71,12 +73,13 @@ has_value : (C : Program) (D : Names) (n : Netlist) → Correct C D n → (words
 has_value C D n correct words are limit None o = tt
 has_value C D n correct words are limit (Some d) o = is_value C D n correct words are limit d o
 
+-- words that are read for a netlist's inputs are its arguments
+pub read_arguments_are : (n : Netlist) (args : List (List ℕ)) (widths : List ℕ) → widths ≡ argument_widths n.signals → (words given : List Word) → given ≡ words → AreRead widths args words → AreArguments n given
+read_arguments_are n args widths are words given e r = ap (λ l. map (λ (w : Word). w.width) l) e ∙ read_widths widths args words r ∙ are
+
 module _ (source : List ℕ) (n : Netlist) (c : IsCompiled source n) (args : List (List ℕ)) (widths : List ℕ) (are : widths ≡ argument_widths n.signals) where
   params_are : widths ≡ c.program.params c.program.main
   params_are = are ∙ c.params
-
-  pub read_arguments_are : (words given : List Word) → given ≡ words → AreRead widths args words → AreArguments n given
-  read_arguments_are words given e r = ap (λ l. map (λ (w : Word). w.width) l) e ∙ read_widths widths args words r ∙ are
 
   pub simulates : (words given : List Word) (limit : ℕ) (answer : Option Done) → length source ≤ source_max → given ≡ words → AreRead widths args words → IsOutcome n given limit answer → Simulates source args limit answer
   simulates words given limit answer small e r o =
@@ -89,81 +92,64 @@ module _ (source : List ℕ) (n : Netlist) (c : IsCompiled source n) (args : Lis
         words = words;
         small = small;
         source_of = c.source_of;
-        correct = c.correct;
+        circuit = c.circuit;
         read = p;
         outcome = q;
-        value = has_value c.program c.names n c.correct words (read_words (c.program.params c.program.main) args words p) limit answer q;
+        value = has_value c.program c.names n c.circuit.circuit.correct words (read_words (c.program.params c.program.main) args words p) limit answer q;
       }
 
   misgiven : (line : List ℕ) → length source ≤ source_max → HaveFault widths args line → IsMisgiven source args line
   misgiven line small f = record { program = c.program; names = c.names; small = small; source_of = c.source_of; fault = subst (λ l. HaveFault l args line) params_are f }
 
   pub arguments_refused : (r : Refusal) → length source ≤ source_max → RefusesArguments widths args r → RefusesRun source args r
-  arguments_refused (refusal.Source f line column) small never = absurd never
-  arguments_refused refusal.Read small never = absurd never
-  arguments_refused refusal.TooLong small never = absurd never
-  arguments_refused refusal.Write small never = absurd never
-  arguments_refused refusal.Output small never = absurd never
   arguments_refused (refusal.Count p g) small f = misgiven (count_line p g) small f
   arguments_refused (refusal.Argument i w) small f = misgiven (argument_line i w) small f
   arguments_refused refusal.NoMemory small f = tt
+  arguments_refused _ small never = absurd never
 
 pub compile_refused : (source : List ℕ) (args : List (List ℕ)) (r : Refusal) → RefusesSource source r → RefusesRun source args r
 compile_refused source args (refusal.Source f line column) h = h
-compile_refused source args refusal.Read never = absurd never
-compile_refused source args refusal.TooLong never = absurd never
-compile_refused source args refusal.Write never = absurd never
-compile_refused source args refusal.Output never = absurd never
-compile_refused source args (refusal.Count p g) never = absurd never
-compile_refused source args (refusal.Argument i w) never = absurd never
 compile_refused source args refusal.NoMemory h = tt
+compile_refused source args _ never = absurd never
+
+-- what refuses a source that was read, or its arguments, explains a command that runs it
+pub run_explains : (Says : Status → Type 0) (IsLine : Status → List ℕ → Type 0) (input : List ℕ) (holds : Option Files) (args : List (List ℕ)) (source : List ℕ) → IfSome holds (HasFile input source)
+    → Says status.NoMemory → IsLine status.NoMemory memory_line
+    → (OfFile holds input IsFaulty → Says status.SourceRefused) → ((line : List ℕ) → OfFile holds input (IsFaultLine input line) → IsLine status.SourceRefused line)
+    → (OfFile holds input (λ s. (line : List ℕ) × IsMisgiven s args line) → Says status.BadArgs) → ((line : List ℕ) → OfFile holds input (λ s. IsMisgiven s args line) → IsLine status.BadArgs line)
+    → (r : Refusal) → RefusesRun source args r → Explains Says IsLine input [] r
+run_explains Says IsLine input holds args source has memory memory_is fault fault_is bad bad_is (refusal.Source f line column) h =
+    source_explains Says IsLine input [] holds source has memory memory_is fault fault_is (refusal.Source f line column) h
+run_explains Says IsLine input holds args source has memory memory_is fault fault_is bad bad_is (refusal.Count p g) m = record {
+  says = bad (of_file holds input source (λ s. (line : List ℕ) × IsMisgiven s args line) has (count_line p g, m));
+  line = bad_is (count_line p g) (of_file holds input source (λ s. IsMisgiven s args (count_line p g)) has m);
+}
+run_explains Says IsLine input holds args source has memory memory_is fault fault_is bad bad_is (refusal.Argument i w) m = record {
+  says = bad (of_file holds input source (λ s. (line : List ℕ) × IsMisgiven s args line) has (argument_line i w, m));
+  line = bad_is (argument_line i w) (of_file holds input source (λ s. IsMisgiven s args (argument_line i w)) has m);
+}
+run_explains Says IsLine input holds args source has memory memory_is fault fault_is bad bad_is refusal.NoMemory h = memory_explains Says IsLine input [] memory memory_is
+run_explains Says IsLine input holds args source has memory memory_is fault fault_is bad bad_is _ never = absurd never
 
 module _ (old new : ShelfState) (before after : SinkState) (input : List ℕ) (limit : ℕ) (args : List (List ℕ)) where
   -- what was not read, or not run, explains the call
-  pub sim_unread : (r : Refusal) → after ≡ before → RefusesReading old new input r → SimExplains old new before after input limit args r
-  sim_unread refusal.Read same h = record { says = (h, same); line = refl }
-  sim_unread refusal.TooLong same h = record { says = (h, same); line = refl }
-  sim_unread refusal.NoMemory same h = record { says = tt; line = refl }
-  sim_unread (refusal.Source f line column) same never = absurd never
-  sim_unread refusal.Write same never = absurd never
-  sim_unread refusal.Output same never = absurd never
-  sim_unread (refusal.Count p g) same never = absurd never
-  sim_unread (refusal.Argument i w) same never = absurd never
+  pub sim_unread : (r : Refusal) → after ≡ before → RefusesReading source_max old new input r → Explains (SimSays old new before after input limit args) (IsSimLine old.holds input args) input [] r
+  sim_unread r same h =
+      reading_explains (SimSays old new before after input limit args) (IsSimLine old.holds input args) input [] source_max old new tt refl (λ rose. (rose, same)) refl (λ long. (long, same)) refl r h
 
-  pub sim_unrun : (source : List ℕ) (r : Refusal) → after ≡ before → IfSome old.holds (HasFile input source) → RefusesRun source args r → SimExplains old new before after input limit args r
-  sim_unrun source (refusal.Source f line column) same has h =
-      let e : Explains old new input [] (refusal.Source f line column) = source_refused old new input [] source (refusal.Source f line column) has h in
-      record { says = (e.says, same); line = e.line }
-  sim_unrun source refusal.Read same has never = absurd never
-  sim_unrun source refusal.TooLong same has never = absurd never
-  sim_unrun source refusal.Write same has never = absurd never
-  sim_unrun source refusal.Output same has never = absurd never
-  sim_unrun source (refusal.Count p g) same has m = record {
-    says = (of_file old.holds input source (λ s. (line : List ℕ) × IsMisgiven s args line) has (count_line p g, m), same);
-    line = of_file old.holds input source (λ s. IsMisgiven s args (count_line p g)) has m;
-  }
-  sim_unrun source (refusal.Argument i w) same has m = record {
-    says = (of_file old.holds input source (λ s. (line : List ℕ) × IsMisgiven s args line) has (argument_line i w, m), same);
-    line = of_file old.holds input source (λ s. IsMisgiven s args (argument_line i w)) has m;
-  }
-  sim_unrun source refusal.NoMemory same has h = record { says = tt; line = refl }
+  pub sim_unrun : (source : List ℕ) (r : Refusal) → after ≡ before → IfSome old.holds (HasFile input source) → RefusesRun source args r → Explains (SimSays old new before after input limit args) (IsSimLine old.holds input args) input [] r
+  sim_unrun source r same has h =
+      run_explains (SimSays old new before after input limit args) (IsSimLine old.holds input args) input old.holds args source has tt refl (λ faulty. (faulty, same)) (λ line is. is) (λ bad. (bad, same)) (λ line is. is) r h
 
   -- what was printed, or not
-  pub sim_printed : (source : List ℕ) (answer : Option Done) (s : Status) → IfSome old.holds (HasFile input source) → Simulates source args limit answer → Prints limit answer before after s → SimSays old new before after input limit args s
-  sim_printed source None s has m p =
-      subst (λ x. SimSays old new before after input limit args x) (sym p.0) (of_file old.holds input source (λ y. Simulates y args limit None) has m, p.1)
-  sim_printed source (Some d) s has m p =
-      subst (λ x. SimSays old new before after input limit args x) (sym p.0) (d, of_file old.holds input source (λ y. Simulates y args limit (Some d)) has m, p.1)
+  pub sim_printed : (source : List ℕ) (answer : Option Done) (s : Status) → IfSome old.holds (HasFile input source) → Simulates source args limit answer → s ≡ end_status answer → Prints (outcome_text limit answer) before after → SimSays old new before after input limit args s
+  sim_printed source None s has m is p =
+      subst (λ x. SimSays old new before after input limit args x) (sym is) (of_file old.holds input source (λ y. Simulates y args limit None) has m, p)
+  sim_printed source (Some d) s has m is p =
+      subst (λ x. SimSays old new before after input limit args x) (sym is) (d, of_file old.holds input source (λ y. Simulates y args limit (Some d)) has m, p)
 
-  pub sim_unprinted : (source : List ℕ) (answer : Option Done) (r : Refusal) → IfSome old.holds (HasFile input source) → Simulates source args limit answer → PrintFails limit answer before after r → SimExplains old new before after input limit args r
-  sim_unprinted source answer refusal.Output has m p = record {
-    says = (answer, of_file old.holds input source (λ y. Simulates y args limit answer) has m, p.0, p.1);
-    line = refl;
-  }
-  sim_unprinted source answer refusal.NoMemory has m p = record { says = tt; line = refl }
-  sim_unprinted source answer (refusal.Source f line column) has m never = absurd never
-  sim_unprinted source answer refusal.Read has m never = absurd never
-  sim_unprinted source answer refusal.TooLong has m never = absurd never
-  sim_unprinted source answer refusal.Write has m never = absurd never
-  sim_unprinted source answer (refusal.Count p g) has m never = absurd never
-  sim_unprinted source answer (refusal.Argument i w) has m never = absurd never
+  pub sim_unprinted : (source : List ℕ) (answer : Option Done) (r : Refusal) → IfSome old.holds (HasFile input source) → Simulates source args limit answer → PrintFails (outcome_text limit answer) before after r
+      → Explains (SimSays old new before after input limit args) (IsSimLine old.holds input args) input [] r
+  sim_unprinted source answer r has m p =
+      printing_explains (SimSays old new before after input limit args) (IsSimLine old.holds input args) input [] (outcome_text limit answer) before after tt refl
+      (λ rose part. (answer, of_file old.holds input source (λ y. Simulates y args limit answer) has m, rose, part)) refl r p

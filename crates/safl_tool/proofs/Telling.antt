@@ -1,14 +1,15 @@
 -- What was told follows from what was sent.
-use Rattle.std.proofs.Common.{◌≡◌, ℕ, List, [], ◌++◌, length, ◌⊎◌, subst, Option, Some, None, refl, sym, ap, ◌∙◌, inl, inr, arith}
+use Rattle.std.proofs.Common.{◌≡◌, ℕ, List, ◌++◌, length, ◌⊎◌, subst, Option, Some, None, refl, sym, ap, ◌∙◌, inl, inr, arith}
 use Rattle.std.proofs.lemmas.List.{take_all}
 use Rattle.safl_io.specs.Told.{TellsOn}
 use Rattle.safl_io.specs.Sink.{Sends, SendsPart}
 use Rattle.safl_io.specs.Shelf.{Files}
 use Rattle.safl_tool.specs.Commands.{Command}
-use Rattle.safl_tool.specs.Simulating.{SimSays, IsEnd}
+use Rattle.safl_tool.specs.Simulating.{IsEnd}
+use Rattle.safl_tool.specs.Walking.{IsWalkEnd}
 use Rattle.safl_tool.specs.Lines.{usage_line, memory_line}
-use Rattle.safl_tool.specs.Outside.{ShelfState, SinkState}
-use Rattle.safl_tool.specs.Answers.{BuildSays, UsageSays, IsLine, Got, Told}
+use Rattle.safl_tool.specs.Outside.{SinkState}
+use Rattle.safl_tool.specs.Answers.{UsageSays, IsLine, Got, Told}
 use Rattle.safl_tool.specs.Refusals.{Tells, sent, cut, Refuses, told, unmade, status_of, line_of}
 use Rattle.safl_tool.specs.declared.status.Status.{Status}
 use Rattle.safl_tool.specs.declared.status.Status.TheVariants as status
@@ -41,14 +42,8 @@ module _ (command : Option Command) (holds : Option Files) (input output : List 
   memory_told _ (cut p) = cut_told status.NoMemory memory_line memory p
 
   sent_told : (r : Refusal) → IsLine command holds (status_of r) (line_of r input output) → Got (line_of r input output) before after → Told command holds before after (status_of r)
-  sent_told (refusal.Source f l c) is g = (line_of (refusal.Source f l c) input output, is, g)
-  sent_told refusal.Read is g = (line_of refusal.Read input output, is, g)
-  sent_told refusal.TooLong is g = (line_of refusal.TooLong input output, is, g)
-  sent_told refusal.Write is g = (line_of refusal.Write input output, is, g)
-  sent_told refusal.Output is g = (line_of refusal.Output input output, is, g)
-  sent_told (refusal.Count p n) is g = (line_of (refusal.Count p n) input output, is, g)
-  sent_told (refusal.Argument i w) is g = (line_of (refusal.Argument i w) input output, is, g)
   sent_told refusal.NoMemory is g = cut_told status.NoMemory memory_line memory (got_part memory_line before after g)
+  sent_told r is g = (line_of r input output, is, g)
 
   refusal_tells : (r : Refusal) (s : Status) → IsLine command holds (status_of r) (line_of r input output) → Tells (status_of r) (line_of r input output) before after s → Told command holds before after s
   refusal_tells r _ is (sent g) = sent_told r is g
@@ -71,20 +66,27 @@ refused_status r input output before after s (unmade t) = by s t
     by _ (sent g) = inr refl
     by _ (cut p) = inr refl
 
-pub refusal_says : (old new : ShelfState) (input output : List ℕ) (r : Refusal) (before after : SinkState) (s : Status) → BuildSays old new input output (status_of r) → Refuses r input output before after s → BuildSays old new input output s
-refusal_says old new input output r before after s says t = elim (refused_status r input output before after s t) [
-  | inl e ↦ subst (λ x. BuildSays old new input output x) (sym e) says
-  | inr e ↦ subst (λ x. BuildSays old new input output x) (sym e) tt
+-- what a command says of the refusal's status, and of want of memory, it says of the status that is answered
+pub refusal_says : (Says : Status → Type 0) → Says status.NoMemory → (r : Refusal) (input output : List ℕ) (before after : SinkState) (s : Status) → Says (status_of r) → Refuses r input output before after s → Says s
+refusal_says Says memory r input output before after s says t = elim (refused_status r input output before after s t) [
+  | inl e ↦ subst Says (sym e) says
+  | inr e ↦ subst Says (sym e) memory
 ]
 
-pub sim_says : (old new : ShelfState) (left right : SinkState) (input : List ℕ) (limit : ℕ) (args : List (List ℕ)) (r : Refusal) (before after : SinkState) (s : Status) → SimSays old new left right input limit args (status_of r)
-    → Refuses r input [] before after s → SimSays old new left right input limit args s
-sim_says old new left right input limit args r before after s says t = elim (refused_status r input [] before after s t) [
-  | inl e ↦ subst (λ x. SimSays old new left right input limit args x) (sym e) says
-  | inr e ↦ subst (λ x. SimSays old new left right input limit args x) (sym e) tt
-]
+-- the line of a Verilog file that is refused
+pub line_told : (command : Option Command) (holds : Option Files) (before after : SinkState) (line : List ℕ) (s : Status) → IsLine command holds status.VerilogRefused line → Tells status.VerilogRefused line before after s → Told command holds before after s
+line_told command holds before after line _ is (sent g) = (line, is, g)
+line_told command holds before after line _ is (cut p) = (status.VerilogRefused, line, is, p)
+
+pub line_says : (Says : Status → Type 0) → Says status.NoMemory → (line : List ℕ) (before after : SinkState) (s : Status) → Says status.VerilogRefused → Tells status.VerilogRefused line before after s → Says s
+line_says Says memory line before after _ says (sent g) = says
+line_says Says memory line before after _ says (cut p) = memory
 
 -- nothing is told where a run ended
 pub end_told : (command : Option Command) (holds : Option Files) (before after : SinkState) (s : Status) → IsEnd s → after ≡ before → Told command holds before after s
 end_told command holds before after s (None, e) same = subst (λ x. Told command holds before after x) (sym e) same
 end_told command holds before after s (Some d, e) same = subst (λ x. Told command holds before after x) (sym e) same
+
+pub walk_end_told : (command : Option Command) (holds : Option Files) (before after : SinkState) (s : Status) → IsWalkEnd s → after ≡ before → Told command holds before after s
+walk_end_told command holds before after s (None, e) same = subst (λ x. Told command holds before after x) (sym e) same
+walk_end_told command holds before after s (Some v, e) same = subst (λ x. Told command holds before after x) (sym e) same

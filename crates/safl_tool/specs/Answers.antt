@@ -10,26 +10,29 @@ use Rattle.safl_verilog.specs.Reads.{Reads}
 use Rattle.safl_vwrite.specs.Torn.{LeavesOldOrTorn}
 use Rattle.safl_check.specs.Program.{Program}
 use Rattle.safl_unit.specs.Names.{Names}
-use Rattle.safl_unit.specs.Correct.{Correct}
-use Rattle.safl_tool.specs.Sources.{IsRefused, refused_fault}
+use Rattle.safl_source.specs.Sources.{IsSourceOf}
+use Rattle.safl_source.specs.Circuits.{IsCircuitOf}
+use Rattle.safl_tool.specs.Sources.{IsFaulty, IsFaultLine}
+use Rattle.safl_tool.specs.Checking.{CheckSays, IsCheckLine}
 use Rattle.safl_tool.specs.Simulating.{SimSays, IsSimLine}
-use Rattle.safl_tool.specs.Commands.{Command, Build, Sim}
-use Rattle.safl_tool.specs.Constants.{IsSourceOf}
+use Rattle.safl_tool.specs.Walking.{WalkSays, IsWalkLine}
+use Rattle.safl_tool.specs.Running.{RunSays, IsRunLine}
+use Rattle.safl_tool.specs.Commands.{Command, Check, Build, Sim, Walk, Run}
 use Rattle.safl_tool.specs.Limits.{source_max}
-use Rattle.safl_tool.specs.Lines.{usage_line, memory_line, read_line, write_line, long_line, source_line}
+use Rattle.safl_tool.specs.Lines.{usage_line, memory_line, read_line, write_line, long_line}
 use Rattle.safl_tool.specs.Outside.{ShelfState, SinkState, OfFile}
 use Rattle.safl_tool.specs.declared.status.Status.{Status}
 use Rattle.safl_tool.specs.declared.status.Status.TheVariants as status
 
--- the file is the Verilog text of a netlist that is correct for the source's program, and reads as that netlist
-abbrev pub IsCircuitOf : List ℕ → List ℕ → Type 0
-IsCircuitOf source text =
-    (C : Program) × (D : Names) × (n : Netlist) × IsSourceOf source C D × (text ≡ written n) × Reads text n × Correct C D n
+-- the file is the Verilog text of a netlist that is the circuit of the source's program, and reads as that netlist
+abbrev pub IsCircuitText : List ℕ → List ℕ → Type 0
+IsCircuitText source text =
+    (C : Program) × (D : Names) × (n : Netlist) × IsSourceOf source C D × (text ≡ written n) × Reads text n × IsCircuitOf C D n
 
 -- the output file is there, where the shelf tells, and is such a text
 abbrev pub Built : Option Files → Option Files → List ℕ → List ℕ → Type 0
 Built before after input output =
-    OfFile before input (λ source. (length source ≤ source_max) × IsSomeAnd after (λ files. IsSomeAnd (file_of files output) (IsCircuitOf source)))
+    OfFile before input (λ source. (length source ≤ source_max) × IsSomeAnd after (λ files. IsSomeAnd (file_of files output) (IsCircuitText source)))
 
 -- the source is accepted, and the output file is the old one, or a front of such a text: it reads as no netlist, or lacks at
 -- most its last line feed
@@ -39,7 +42,7 @@ pub record IsUnwritten (before after : Option Files) (output source : List ℕ) 
   pub names : Names
   pub net : Netlist
   pub source_of : IsSourceOf source program names
-  pub correct : Correct program names net
+  pub circuit : IsCircuitOf program names net
   pub left : TellsOn (LeavesOldOrTorn output net) before after
 
 -- What a status of `build` says, of the shelf before the call and after it:
@@ -47,7 +50,7 @@ pub record IsUnwritten (before after : Option Files) (output source : List ℕ) 
 -- read; WriteFault, that the source is accepted and the shelf failed in a write. Want of memory may come at any point.
 abbrev pub BuildSays : ShelfState → ShelfState → List ℕ → List ℕ → Status → Type 0
 BuildSays before after input output status.Ok = Built before.holds after.holds input output
-BuildSays before after input output status.SourceRefused = OfFile before.holds input IsRefused
+BuildSays before after input output status.SourceRefused = OfFile before.holds input IsFaulty
 BuildSays before after input output status.Usage = ⊥
 BuildSays before after input output status.ReadFault = Rose before.read_faults after.read_faults
 BuildSays before after input output status.WriteFault = OfFile before.holds input (IsUnwritten before.holds after.holds output) × Rose before.write_faults after.write_faults
@@ -65,14 +68,16 @@ UsageSays s = (s ≡ status.Usage) ⊎ (s ≡ status.NoMemory)
 -- `build` and words that are no command print nothing
 abbrev pub Says : Option Command → ShelfState → ShelfState → SinkState → SinkState → Status → Type 0
 Says None old new before after s = UsageSays s × (after ≡ before)
+Says (Some (Check input)) old new before after s = CheckSays old new before after input s
 Says (Some (Build input output)) old new before after s = BuildSays old new input output s × (after ≡ before)
 Says (Some (Sim input limit args)) old new before after s = SimSays old new before after input limit args s
+Says (Some (Walk input seed steps args)) old new before after s = WalkSays old new before after input seed steps args s
+Says (Some (Run input limit args)) old new before after s = RunSays old new before after input limit args s
 
 -- the line that a status of `build` sends
 abbrev pub IsBuildLine : Option Files → List ℕ → List ℕ → Status → List ℕ → Type 0
 IsBuildLine holds input output status.Ok line = ⊥
-IsBuildLine holds input output status.SourceRefused line =
-    OfFile holds input (λ source. line ≡ source_line input source refused_fault)
+IsBuildLine holds input output status.SourceRefused line = OfFile holds input (IsFaultLine input line)
 IsBuildLine holds input output status.Usage line = ⊥
 IsBuildLine holds input output status.ReadFault line = line ≡ read_line input
 IsBuildLine holds input output status.WriteFault line = line ≡ write_line output
@@ -85,8 +90,11 @@ IsBuildLine holds input output status.TooLong line = line ≡ long_line input so
 
 abbrev pub IsLine : Option Command → Option Files → Status → List ℕ → Type 0
 IsLine None holds s line = (s ≡ status.Usage) × (line ≡ usage_line)
+IsLine (Some (Check input)) holds s line = IsCheckLine holds input s line
 IsLine (Some (Build input output)) holds s line = IsBuildLine holds input output s line
 IsLine (Some (Sim input limit args)) holds s line = IsSimLine holds input args s line
+IsLine (Some (Walk input seed steps args)) holds s line = IsWalkLine holds input args s line
+IsLine (Some (Run input limit args)) holds s line = IsRunLine holds input args s line
 
 -- the whole line was sent, or the count rose and a prefix of it was
 abbrev pub Got : List ℕ → SinkState → SinkState → Type 0
@@ -108,8 +116,11 @@ Told command holds before after s = (line : List ℕ) × IsLine command holds s 
 -- the shelf holds the files that the command reads, where it tells
 abbrev pub HoldsInputs : Option Command → Option Files → Type 0
 HoldsInputs None holds = Unit {0}
+HoldsInputs (Some (Check input)) holds = OfFile holds input (λ source. Unit {0})
 HoldsInputs (Some (Build input output)) holds = OfFile holds input (λ source. Unit {0})
 HoldsInputs (Some (Sim input limit args)) holds = OfFile holds input (λ source. Unit {0})
+HoldsInputs (Some (Walk input seed steps args)) holds = OfFile holds input (λ source. Unit {0})
+HoldsInputs (Some (Run input limit args)) holds = OfFile holds input (λ text. Unit {0})
 
 -- it is asked for no name that it tells it doesn't hold
 abbrev pub SameStrays : Option Command → ShelfState → ShelfState → Type 0

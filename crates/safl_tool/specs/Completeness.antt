@@ -6,8 +6,9 @@ use Rattle.safl_io.specs.Shelf.{Files, file_of}
 use Rattle.safl_check.specs.Program.{Program}
 use Rattle.safl_check.specs.Fuel.{GivesInCalls}
 use Rattle.safl_unit.specs.Names.{Names}
-use Rattle.safl_tool.specs.Constants.{IsSourceOf}
-use Rattle.safl_tool.specs.Commands.{Command, Build, Sim}
+use Rattle.safl_source.specs.Sources.{IsSourceOf}
+use Rattle.safl_tool.specs.Running.{Finishes}
+use Rattle.safl_tool.specs.Commands.{Command, Check, Build, Sim, Walk, Run}
 use Rattle.safl_tool.specs.Limits.{source_max}
 use Rattle.safl_tool.specs.Sources.{IsAccepted}
 use Rattle.safl_tool.specs.Arguments.{AreRead}
@@ -26,8 +27,8 @@ pub record NoFault (old new : ShelfState) (before after : SinkState) : Type 0 wh
   pub writes : ¬ (Rose old.write_faults new.write_faults)
   pub prints : ¬ (Rose before.faults after.faults)
 
--- the source is accepted, the arguments are read, and main gives a value from them in so few calls that three cycles for each
--- are below the limit
+-- the source is accepted, the arguments are read, and main gives a value from them in so few calls that three cycles, or
+-- three events, for each are at most the limit
 pub record Evaluates (source : List ℕ) (args : List (List ℕ)) (limit : ℕ) : Type 0 where
   pub program : Program
   pub names : Names
@@ -45,6 +46,11 @@ IsOkOrMemory s = (s ≡ status.Ok) ⊎ (s ≡ status.NoMemory)
 
 abbrev pub Completes : Option Command → ShelfState → ShelfState → SinkState → SinkState → Status → Type 0
 Completes None old new before after s = Unit {0}
+Completes (Some (Check input)) old new before after s = HasSource old.holds input IsAccepted → NoFault old new before after → IsOkOrMemory s
 Completes (Some (Build input output)) old new before after s = HasSource old.holds input IsAccepted → NoFault old new before after → IsOkOrMemory s
 Completes (Some (Sim input limit args)) old new before after s =
     HasSource old.holds input (λ source. Evaluates source args limit) → NoFault old new before after → IsOkOrMemory s
+Completes (Some (Walk input seed steps args)) old new before after s =
+    HasSource old.holds input (λ source. Evaluates source args steps) → NoFault old new before after → IsOkOrMemory s
+Completes (Some (Run input limit args)) old new before after s =
+    HasSource old.holds input (λ text. Finishes text args limit) → NoFault old new before after → IsOkOrMemory s

@@ -1,11 +1,15 @@
 pub mod Commands
 pub mod Limits
 pub mod Lines
-pub mod Constants
 pub mod Sources
 pub mod Arguments
 pub mod Outside
+pub mod Checking
 pub mod Simulating
+pub mod Walking
+pub mod VerilogLines
+pub mod Running
+pub mod RunRefusals
 pub mod Answers
 pub mod Refusals
 pub mod Completeness

@@ -31,12 +31,23 @@ count_line params given = codes "main takes " ++ decimal params ++ codes " argum
 abbrev pub argument_line : ℕ → ℕ → List ℕ
 argument_line index width = codes "argument " ++ decimal index ++ codes " is no number of " ++ decimal width ++ codes " bits\n"
 
+-- what `check` prints: how many functions and how many call sites the program has
+abbrev pub program_lines : ℕ → ℕ → List ℕ
+program_lines functions sites = codes "functions " ++ decimal functions ++ codes "\nsites " ++ decimal sites ++ codes "\n"
+
 -- what a run prints: its result and the cycle in which it came, or that none came in so many cycles
 abbrev pub done_lines : ℕ → ℕ → List ℕ
 done_lines result cycle = codes "result " ++ decimal result ++ codes "\ncycle " ++ decimal cycle ++ codes "\n"
 
 abbrev pub late_line : ℕ → List ℕ
 late_line limit = codes "no result in " ++ decimal limit ++ codes " cycles\n"
+
+-- what a walk prints: main's result, the events and the units that were busy at most, or that no result came in so many events
+abbrev pub walk_lines : ℕ → ℕ → ℕ → List ℕ
+walk_lines result events units = codes "result " ++ decimal result ++ codes "\nevents " ++ decimal events ++ codes "\nunits " ++ decimal units ++ codes "\n"
+
+abbrev pub short_line : ℕ → List ℕ
+short_line steps = codes "no result in " ++ decimal steps ++ codes " events\n"
 
 -- one more than the line feeds before the place
 abbrev pub line_at : List ℕ → ℕ → ℕ

@@ -11,12 +11,12 @@ use Rattle.safl_run.specs.Outcomes.{IsOutcome}
 use Rattle.safl_check.specs.Program.{Program}
 use Rattle.safl_check.specs.Fuel.{GivesInCalls}
 use Rattle.safl_unit.specs.Names.{Names, as_word}
-use Rattle.safl_unit.specs.Correct.{Correct}
-use Rattle.safl_tool.specs.Constants.{IsSourceOf}
-use Rattle.safl_tool.specs.Sources.{IsRefused, refused_fault}
+use Rattle.safl_source.specs.Sources.{IsSourceOf}
+use Rattle.safl_source.specs.Circuits.{IsCircuitOf}
+use Rattle.safl_tool.specs.Sources.{IsFaulty, IsFaultLine}
 use Rattle.safl_tool.specs.Arguments.{AreRead, HaveFault}
 use Rattle.safl_tool.specs.Limits.{source_max}
-use Rattle.safl_tool.specs.Lines.{memory_line, read_line, long_line, source_line, output_line, done_lines, late_line}
+use Rattle.safl_tool.specs.Lines.{memory_line, read_line, long_line, output_line, done_lines, late_line}
 use Rattle.safl_tool.specs.Outside.{ShelfState, SinkState, OfFile}
 use Rattle.safl_tool.specs.declared.status.Status.{Status}
 use Rattle.safl_tool.specs.declared.status.Status.TheVariants as status
@@ -32,8 +32,8 @@ abbrev pub HasValue : Program → List Word → Option Done → Type 0
 HasValue C words None = Unit {0}
 HasValue C words (Some d) = IsValue C words d
 
--- the source is a program's, the arguments are read as words for main's parameters, and a netlist that is correct for the
--- program has this outcome in its run with them, in which all inputs are 0 after cycle 0
+-- the source is a program's, the arguments are read as words for main's parameters, and a netlist that is the program's circuit
+-- has this outcome in its run with them, in which all inputs are 0 after cycle 0
 pub record Simulates (source : List ℕ) (args : List (List ℕ)) (limit : ℕ) (answer : Option Done) : Type 0 where
   pub program : Program
   pub names : Names
@@ -41,7 +41,7 @@ pub record Simulates (source : List ℕ) (args : List (List ℕ)) (limit : ℕ) 
   pub words : List Word
   pub small : length source ≤ source_max
   pub source_of : IsSourceOf source program names
-  pub correct : Correct program names net
+  pub circuit : IsCircuitOf program names net
   pub read : AreRead (program.params program.main) args words
   pub outcome : IsOutcome net words limit answer
   pub value : HasValue program words answer
@@ -73,7 +73,7 @@ IsEnd s = (answer : Option Done) × (s ≡ end_status answer)
 abbrev pub SimSays : ShelfState → ShelfState → SinkState → SinkState → List ℕ → ℕ → List (List ℕ) → Status → Type 0
 SimSays old new before after input limit args status.Ok =
     (d : Done) × OfFile old.holds input (λ source. Simulates source args limit (Some d)) × TellsOn (Sends (outcome_text limit (Some d))) before.sent after.sent
-SimSays old new before after input limit args status.SourceRefused = OfFile old.holds input IsRefused × (after ≡ before)
+SimSays old new before after input limit args status.SourceRefused = OfFile old.holds input IsFaulty × (after ≡ before)
 SimSays old new before after input limit args status.Usage = ⊥
 SimSays old new before after input limit args status.ReadFault = Rose old.read_faults new.read_faults × (after ≡ before)
 SimSays old new before after input limit args status.WriteFault =
@@ -91,7 +91,7 @@ SimSays old new before after input limit args status.TooLong = OfFile old.holds 
 -- the line that a status of `sim` sends
 abbrev pub IsSimLine : Option Files → List ℕ → List (List ℕ) → Status → List ℕ → Type 0
 IsSimLine holds input args status.Ok line = ⊥
-IsSimLine holds input args status.SourceRefused line = OfFile holds input (λ source. line ≡ source_line input source refused_fault)
+IsSimLine holds input args status.SourceRefused line = OfFile holds input (IsFaultLine input line)
 IsSimLine holds input args status.Usage line = ⊥
 IsSimLine holds input args status.ReadFault line = line ≡ read_line input
 IsSimLine holds input args status.WriteFault line = line ≡ output_line

@@ -1,17 +1,21 @@
 //! What the words of the command line ask for.
 
-ghost use Rattle.std.specs.Prelude.{◌≡◌, ◌↔◌, true, IsSome, IfSome, map, string_bytes};
+ghost use Rattle.std.specs.Prelude.{◌≡◌, ◌↔◌, ◌&&◌, true, IsSome, IfSome, map, string_bytes};
 ghost use Rattle.safl_word.specs.Numerals.{value};
-ghost use Rattle.safl_tool.specs.Commands.{command_of, build_of, sim_of, is_limit, shown};
+ghost use Rattle.safl_tool.specs.Commands.{command_of, check_of, build_of, sim_of, walk_of, run_of, is_walk, is_limit, is_seed, shown};
 
 use safl_word::decimal;
 
-/// The most cycles of a run.
+/// The most cycles of a run, and events of a walk.
 pub const CYCLES_MAX: u64 = 1_000_000_000;
 
 /// A command with its words.
 #[derive(Clone, Copy)]
 pub enum Command<'a> {
+    /// Reads and checks the source of `input`.
+    Check {
+        input: &'a str,
+    },
     /// Reads a source from `input` and writes the Verilog text of its circuit to `output`.
     Build {
         input: &'a str,
@@ -23,15 +27,49 @@ pub enum Command<'a> {
         limit: u64,
         args: &'a [String],
     },
+    /// Reads a source from `input` and walks its call machine with these arguments for at most `steps` events, 1 to
+    /// `CYCLES_MAX`, by the numbers that `seed` begins.
+    Walk {
+        input: &'a str,
+        seed: u64,
+        steps: u32,
+        args: &'a [String],
+    },
+    /// Reads a Verilog file from `input` and runs its netlist for at most `limit` cycles, 1 to `CYCLES_MAX`, with these arguments.
+    Run {
+        input: &'a str,
+        limit: u64,
+        args: &'a [String],
+    },
 }
 
 /// The command that the words say, where they are one.
 pub fn read_words(words: &[String]) -> Option<Command<'_>>
     ensures { shown result ≡ command_of (map string_bytes words.now) }
 {
-    match read_build(words) {
+    match read_check(words) {
         Some(command) => Some(command),
-        None => read_sim(words),
+        None => match read_build(words) {
+            Some(command) => Some(command),
+            None => match read_sim(words) {
+                Some(command) => Some(command),
+                None => match read_walk(words) {
+                    Some(command) => Some(command),
+                    None => read_run(words),
+                },
+            },
+        },
+    }
+}
+
+fn read_check(words: &[String]) -> Option<Command<'_>>
+    ensures { shown result ≡ check_of (map string_bytes words.now) }
+{
+    match words {
+        [verb, input] if verb.as_str() == "check" && !input.is_empty() => Some(Command::Check {
+            input: input.as_str(),
+        }),
+        _ => None,
     }
 }
 
@@ -69,7 +107,68 @@ fn read_sim(words: &[String]) -> Option<Command<'_>>
     }
 }
 
-// The number of cycles that a word says.
+fn read_walk(words: &[String]) -> Option<Command<'_>>
+    ensures { shown result ≡ walk_of (map string_bytes words.now) }
+{
+    match words {
+        [verb, input, order, seed, option, steps, args @ ..]
+            if is_walk(
+                verb.as_str(),
+                input.as_str(),
+                order.as_str(),
+                option.as_str(),
+            ) => {
+            match read_turns(seed.as_bytes(), steps.as_bytes()) {
+                Some((seed, steps)) => Some(Command::Walk {
+                    input: input.as_str(),
+                    seed,
+                    steps,
+                    args,
+                }),
+                None => None,
+            }
+        }
+        _ => None,
+    }
+}
+
+fn read_run(words: &[String]) -> Option<Command<'_>>
+    ensures { shown result ≡ run_of (map string_bytes words.now) }
+{
+    match words {
+        [verb, input, option, limit, args @ ..]
+            if verb.as_str() == "run" && !input.is_empty() && option.as_str() == "--cycles" => {
+            match read_limit(limit.as_bytes()) {
+                Some(limit) => Some(Command::Run {
+                    input: input.as_str(),
+                    limit,
+                    args,
+                }),
+                None => None,
+            }
+        }
+        _ => None,
+    }
+}
+
+fn is_walk(verb: &str, input: &str, order: &str, option: &str) -> bool
+    ensures { result ≡ is_walk verb.now input.now order.now option.now }
+{
+    verb == "walk" && !input.is_empty() && order == "--order" && option == "--steps"
+}
+
+// The seed and the most events of a walk that two words say.
+fn read_turns(seed: &[u8], steps: &[u8]) -> Option<(u64, u32)>
+    ensures some { IsSome result ↔ ((is_seed seed.now && is_limit steps.now) ≡ true) }
+    ensures numbers { IfSome result (λ t. (t.0 ≡ value 10 seed.now) × (t.1 ≡ value 10 steps.now)) }
+{
+    match (decimal(seed), read_limit(steps)) {
+        (Some(seed), Some(steps)) => Some((seed, steps as u32)),
+        _ => None,
+    }
+}
+
+// The number of cycles or events that a word says.
 fn read_limit(word: &[u8]) -> Option<u64>
     ensures some { IsSome result ↔ (is_limit word.now ≡ true) }
     ensures number { IfSome result (λ n. n ≡ value 10 word.now) }

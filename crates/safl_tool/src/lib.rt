@@ -3,13 +3,17 @@
 
 mod arguments;
 mod build;
+mod check;
 mod command;
-mod constant;
+mod print;
 mod refusal;
+mod run_file;
 mod simulate;
 mod source;
 mod status;
 mod top;
+mod verilog_lines;
+mod walk;
 
 pub use crate::status::Status;
 pub use crate::top::run;

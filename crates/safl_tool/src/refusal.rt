@@ -1,15 +1,12 @@
 //! Why a command ends without its result, and the line that says so.
 
-ghost use Rattle.std.specs.Prelude.{◌≡◌, ◌++◌, ◌≤◌, length, IfOk, OnOk};
+ghost use Rattle.std.specs.Prelude.{◌≡◌, ◌++◌, IfOk, OnOk};
 ghost use Rattle.safl_tool.specs.Lines.{line_at, column_at, count_line, argument_line};
 ghost use Rattle.safl_tool.specs.Refusals.{status_of, line_of};
 
 use crate::status::Status;
 use safl_word::{Fault, NoMemory, Raw, push_decimal, push_fault};
 use std::alloc::Global;
-
-/// The most bytes of a source.
-pub const SOURCE_MAX: u64 = 1_048_576;
 
 /// Why a command ends without its result.
 #[derive(Clone, Copy, Debug, PartialEq, Eq)]
@@ -18,8 +15,8 @@ pub enum Refusal {
     Source(Fault, usize, usize),
     /// The input could not be read.
     Read,
-    /// The input is longer than the limit.
-    TooLong,
+    /// The input has more bytes than this limit.
+    TooLong(u64),
     /// The output file could not be written.
     Write,
     /// What the command prints could not be sent.
@@ -39,7 +36,7 @@ impl Refusal {
         match self {
             Refusal::Source(_, _, _) => Status::SourceRefused,
             Refusal::Read => Status::ReadFault,
-            Refusal::TooLong => Status::TooLong,
+            Refusal::TooLong(_) => Status::TooLong,
             Refusal::Write => Status::WriteFault,
             Refusal::Output => Status::WriteFault,
             Refusal::Count(_, _) => Status::BadArgs,
@@ -67,10 +64,10 @@ impl Refusal {
                 push(&mut out, b"cannot read ")?;
                 push(&mut out, input.as_bytes())?;
             }
-            Refusal::TooLong => {
+            Refusal::TooLong(limit) => {
                 push(&mut out, input.as_bytes())?;
                 push(&mut out, b" is longer than ")?;
-                push_decimal(SOURCE_MAX as Raw, &mut out)?;
+                push_decimal(Raw::from(limit), &mut out)?;
                 push(&mut out, b" bytes")?;
             }
             Refusal::Write => {
@@ -115,21 +112,21 @@ fn push_argument(out: &mut Vec<u8>, index: usize, width: u8) -> Result<(), NoMem
     Ok(())
 }
 
-/// The line of a place in a source, from 1.
+/// The line of a place in a source, from 1. Behind the source it is that of its end.
 pub fn line_number(source: &[u8], place: usize) -> usize
-    requires { place ≤ length source.now }
     ensures { result ≡ line_at source.now place }
 {
-    source[..place].iter().filter(|c| **c == b'\n').count() + 1
+    let before = &source[..place.min(source.len())];
+    before.iter().filter(|c| **c == b'\n').count() + 1
 }
 
-/// The column of a place in a source, in bytes, from 1.
+/// The column of a place in a source, in bytes, from 1. Behind the source it is that of its end.
 pub fn column_number(source: &[u8], place: usize) -> usize
-    requires { place ≤ length source.now }
     ensures { result ≡ column_at source.now place }
 {
+    let before = &source[..place.min(source.len())];
     let mut column = 1;
-    for c in &source[..place] {
+    for c in before {
         column = if *c == b'\n' { 1 } else { column + 1 };
     }
     column

@@ -1,24 +1,27 @@
 //! `sim IN --cycles L [ARG..]`: from a source to what its circuit gives.
 
-ghost use Rattle.std.specs.Prelude.{◌≡◌, ◌≤◌, ◌++◌, length, map, OnSome, OnOk, IfOk, IfErr, string_bytes};
+ghost use Rattle.std.specs.Prelude.{◌≡◌, ◌≤◌, ◌++◌, length, map, [], OnSome, OnOk, IfOk, IfErr, string_bytes};
 ghost use Rattle.safl_net.specs.Netlist.{AllSet};
 ghost use Rattle.safl_net.specs.Valuations.{IsAcyclic};
-ghost use Rattle.safl_sim.specs.Places.{resets};
+ghost use Rattle.safl_net.specs.Whole.{IsWhole};
+ghost use Rattle.safl_run.specs.Arguments.{argument_widths};
 ghost use Rattle.safl_tool.specs.Limits.{source_max};
 ghost use Rattle.safl_tool.specs.Lines.{done_lines, late_line};
 ghost use Rattle.safl_tool.specs.Outside.{OfFile};
-ghost use Rattle.safl_tool.specs.Refusals.{SimExplains, RefusesRun, Prints, PrintFails};
-ghost use Rattle.safl_tool.specs.Simulating.{SimSays, Simulates, IsEnd, end_status, outcome_text};
+ghost use Rattle.safl_tool.specs.Refusals.{Explains, RefusesArguments, RefusesRun, Prints, PrintFails};
+ghost use Rattle.safl_tool.specs.Running.{Gives};
+ghost use Rattle.safl_tool.specs.Simulating.{SimSays, IsSimLine, Simulates, IsEnd, end_status, outcome_text};
 
 use crate::arguments::read_arguments;
+use crate::print::print;
 use crate::refusal::{Refusal, push};
-use crate::source::{compile, read_source};
+use crate::source::{SOURCE_MAX, compile, read_input};
 use crate::status::Status;
-use safl_io::{OutErr, Shelf, Sink};
+use safl_io::{Shelf, Sink};
 use safl_net::Net;
-use safl_order::OrderErr;
 use safl_order::laws::loops_are_cyclic;
 use safl_order::order::order;
+use safl_order::{OrderErr, Ordered};
 use safl_run::{Done, argument_widths, run_until_done};
 use safl_sim::Sim;
 use safl_word::{NoMemory, Raw, push_decimal};
@@ -40,14 +43,15 @@ pub fn sim<S: Shelf, O: Sink>(
         (record { sent = O.sent out.old; faults = O.faults out.old }) (record { sent = O.sent out.new; faults = O.faults out.new })
         input.now limit (map string_bytes args.now) s) }
     ensures ends { IfOk result (λ s. IsEnd s) }
-    ensures refused { IfErr result (λ r. SimExplains
+    ensures refused { IfErr result (Explains (SimSays
         (record { holds = S.holds shelf.old; read_faults = S.read_faults shelf.old; write_faults = S.write_faults shelf.old; strays = S.strays shelf.old })
         (record { holds = S.holds shelf.new; read_faults = S.read_faults shelf.new; write_faults = S.write_faults shelf.new; strays = S.strays shelf.new })
         (record { sent = O.sent out.old; faults = O.faults out.old }) (record { sent = O.sent out.new; faults = O.faults out.new })
-        input.now limit (map string_bytes args.now) r) }
+        input.now limit (map string_bytes args.now))
+        (IsSimLine (S.holds shelf.old) input.now (map string_bytes args.now)) input.now []) }
     ensures no_stray { OfFile (S.holds shelf.old) input.now (λ source. Unit {0}) → OnSome (S.holds shelf.old) (S.strays shelf.new ≡ S.strays shelf.old) }
 {
-    let source = match read_source(alloc, shelf, input) {
+    let source = match read_input(alloc, shelf, input, SOURCE_MAX) {
         Ok(source) => source,
         Err(refusal) => return Err(refusal),
     };
@@ -55,7 +59,7 @@ pub fn sim<S: Shelf, O: Sink>(
         Ok(answer) => answer,
         Err(refusal) => return Err(refusal),
     };
-    match print(alloc, out, limit, answer) {
+    match print_outcome(alloc, out, limit, answer) {
         Ok(status) => Ok(status),
         Err(refusal) => Err(refusal),
     }
@@ -76,14 +80,49 @@ fn simulate(
         Ok(net) => net,
         Err(refusal) => return Err(refusal),
     };
-    let Ok(widths) = argument_widths(alloc, &net) else {
+    let Ok(ordered) = order_circuit(alloc, net) else {
+        return Err(Refusal::NoMemory);
+    };
+    match run_net(alloc, ordered, limit, args) {
+        Ok(answer) => Ok(answer),
+        Err(refusal) => Err(refusal),
+    }
+}
+
+// The circuit with its wires in an order of evaluation.
+fn order_circuit(alloc: Global, net: Net) -> Result<Ordered, NoMemory>
+    requires set { AllSet net }
+    requires acyclic { IsAcyclic net }
+    ensures { IfOk result (λ o. o.net ≡ net) }
+{
+    loops_are_cyclic();
+    match order(alloc, net) {
+        Ok(ordered) => Ok(ordered),
+        Err(OrderErr::Loop(_, _)) => unreachable!(),
+        Err(OrderErr::Unset(_, _)) => unreachable!(),
+        Err(OrderErr::NoMemory(_)) => Err(NoMemory),
+    }
+}
+
+/// What a net gives in at most `limit` cycles with the arguments.
+pub fn run_net(
+    alloc: Global,
+    ordered: Ordered,
+    limit: u64,
+    args: &[String],
+) -> Result<Option<Done>, Refusal>
+    requires { IsWhole ordered.net }
+    ensures answer { IfOk result (Gives ordered.net (map string_bytes args.now) limit) }
+    ensures refused { IfErr result (RefusesArguments (argument_widths ordered.net.signals) (map string_bytes args.now)) }
+{
+    let Ok(widths) = argument_widths(alloc, ordered.net()) else {
         return Err(Refusal::NoMemory);
     };
     let words = match read_arguments(alloc, &widths, args) {
         Ok(words) => words,
         Err(refusal) => return Err(refusal),
     };
-    let Ok(mut sim) = simulator(alloc, net) else {
+    let Ok(mut sim) = Sim::new(alloc, ordered) else {
         return Err(Refusal::NoMemory);
     };
     match run_until_done(alloc, &mut sim, &words, limit) {
@@ -92,42 +131,24 @@ fn simulate(
     }
 }
 
-// The simulator of a circuit.
-fn simulator(alloc: Global, net: Net) -> Result<Sim, NoMemory>
-    requires set { AllSet net }
-    requires acyclic { IsAcyclic net }
-    ensures { IfOk result (λ s. s ≡ record { net = net; state = resets net; values = resets net }) }
-{
-    loops_are_cyclic();
-    match order(alloc, net) {
-        Ok(ordered) => match Sim::new(alloc, ordered) {
-            Ok(sim) => Ok(sim),
-            Err(_) => Err(NoMemory),
-        },
-        Err(OrderErr::Loop(_, _)) => unreachable!(),
-        Err(OrderErr::Unset(_, _)) => unreachable!(),
-        Err(OrderErr::NoMemory(_)) => Err(NoMemory),
-    }
-}
-
-// Prints what a run gave.
-fn print<O: Sink>(
+/// Prints what a run gave.
+pub fn print_outcome<O: Sink>(
     alloc: Global,
     out: &mut O,
     limit: u64,
     answer: Option<Done>,
 ) -> Result<Status, Refusal>
-    ensures printed { IfOk result (Prints limit answer (record { sent = O.sent out.old; faults = O.faults out.old }) (record { sent = O.sent out.new; faults = O.faults out.new })) }
-    ensures refused { IfErr result (PrintFails limit answer (record { sent = O.sent out.old; faults = O.faults out.old }) (record { sent = O.sent out.new; faults = O.faults out.new })) }
+    ensures status { IfOk result (λ s. s ≡ end_status answer) }
+    ensures printed { OnOk result (Prints (outcome_text limit answer) (record { sent = O.sent out.old; faults = O.faults out.old }) (record { sent = O.sent out.new; faults = O.faults out.new })) }
+    ensures refused { IfErr result (PrintFails (outcome_text limit answer) (record { sent = O.sent out.old; faults = O.faults out.old }) (record { sent = O.sent out.new; faults = O.faults out.new })) }
 {
     let status = status_of(&answer);
     let Ok(text) = text_of(alloc, limit, &answer) else {
         return Err(Refusal::NoMemory);
     };
-    match out.put(&text) {
+    match print(out, &text) {
         Ok(()) => Ok(status),
-        Err(OutErr::Failed) => Err(Refusal::Output),
-        Err(OutErr::NoMemory) => Err(Refusal::NoMemory),
+        Err(refusal) => Err(refusal),
     }
 }
 

@@ -74,21 +74,55 @@ fn seven_is_built(rt: HostRuntime) -> Result<(), Fail> {
 }
 
 #[test]
-fn other_sources_are_refused(rt: HostRuntime) -> Result<(), Fail> {
-    let line = b"p:1:1: E02 unexpected token\n".as_slice();
-    let sources = [
-        b"fun main():8 = 7 - 2".as_slice(),
-        b"fun main():8 = y",
-        b"fun main():8 = 256",
-        b"fun f():8 = 7",
-        b"",
+fn sources_with_a_fault_are_refused(rt: HostRuntime) -> Result<(), Fail> {
+    let rows: [(&[u8], &[u8]); 7] = [
+        (b"", b"p:1:1: E15 last definition is not main\n"),
+        (b"fun main():8 = y", b"p:1:16: E08 unknown variable\n"),
+        (b"fun main():8 = 8'd256", b"p:1:16: E13 literal too large\n"),
+        (
+            b"fun main(x:8):8 = 1 + main(x)",
+            b"p:1:23: E10 own call outside tail position\n",
+        ),
+        (
+            b"fun main(x:8):8 = f(x)\nfun f(x:8):8 = x",
+            b"p:1:19: E09 function not defined above\n",
+        ),
+        (
+            b"fun main(x:8, y:4):8 = x + y",
+            b"p:1:28: E12 widths differ: 8 and 4\n",
+        ),
+        (
+            b"fun main():8 =\n  if 5 == 5 then 1 else 0",
+            b"p:2:6: E14 width not known\n",
+        ),
     ];
-    for source in sources {
+    for (source, line) in rows {
         assert_eq!(rt;
             refused(rt.alloc(), source, line)?,
             (Status::SourceRefused, true)
         );
     }
+    Ok(())
+}
+
+// Two calls of one function.
+const SHARED: &[u8] = b"fun f(x:8):8 = x + 1\nfun main(a:8):8 = f(a) + f(a + 1)";
+
+// Multiplication by shifts and sums.
+const PRODUCT: &[u8] = b"fun mul(x:8, y:8, acc:8):8 =
+  if (x==0)|(y==0) then acc
+  else mul(x<<1, y>>1, if bits(y,0,0)==1 then acc+x else acc)
+fun main(a:8, b:8):8 = mul(a, b, 0)
+";
+
+#[test]
+fn a_program_is_counted(rt: HostRuntime) -> Result<(), Fail> {
+    let mut shelf = shelf_with(rt.alloc(), SHARED)?;
+    let ended = call(rt.alloc(), &["check", "p"], &mut shelf)?;
+    assert_eq!(rt; ended.status, Status::Ok);
+    assert!(rt;
+        ended.out.bytes() == b"functions 2\nsites 2\n".as_slice() && ended.err.bytes().is_empty()
+    );
     Ok(())
 }
 
@@ -116,7 +150,7 @@ fn a_file_that_is_missing_or_too_long(rt: HostRuntime) -> Result<(), Fail> {
     Ok(())
 }
 
-// The calls of the shelf are two reads, the creation and one append, of which half is there.
+// The calls of the shelf are two reads, the creation and appends, of whose first one half is there.
 #[test]
 fn an_append_that_fails(rt: HostRuntime) -> Result<(), Fail> {
     let mut whole = shelf_with(rt.alloc(), b"fun main():8 = 7")?;
@@ -131,13 +165,13 @@ fn an_append_that_fails(rt: HostRuntime) -> Result<(), Fail> {
         whole.file("v").unwrap_or(b""),
         shelf.file("v").unwrap_or(b"none"),
     );
-    assert!(rt; text.starts_with(part) && part.len() == text.len() / 2);
+    assert!(rt; text.starts_with(part) && part.len() == text.len().min(1024) / 2);
     Ok(())
 }
 
-// Simulates the source of seven with these words behind `sim p`.
-fn simulated(alloc: Global, words: &[&str]) -> Result<Ended, Fail> {
-    let mut shelf = shelf_with(alloc, b"fun main():8 = 7")?;
+// Simulates the source with these words behind `sim p`.
+fn simulated(alloc: Global, source: &[u8], words: &[&str]) -> Result<Ended, Fail> {
+    let mut shelf = shelf_with(alloc, source)?;
     let mut all = Vec::new(alloc);
     all.push("sim")?;
     all.push("p")?;
@@ -148,35 +182,51 @@ fn simulated(alloc: Global, words: &[&str]) -> Result<Ended, Fail> {
 }
 
 #[test]
-fn seven_is_simulated(rt: HostRuntime) -> Result<(), Fail> {
-    let ended = simulated(rt.alloc(), &["--cycles", "10"])?;
-    assert_eq!(rt; ended.status, Status::Ok);
-    assert!(rt;
-        ended.out.bytes() == b"result 7\ncycle 2\n".as_slice() && ended.err.bytes().is_empty()
-    );
-    let late = simulated(rt.alloc(), &["--cycles", "2"])?;
+fn sources_are_simulated(rt: HostRuntime) -> Result<(), Fail> {
+    let rows: [(&[u8], &[&str], &[u8]); 3] = [
+        (
+            b"fun main():8 = 7",
+            &["--cycles", "10"],
+            b"result 7\ncycle 2\n",
+        ),
+        (SHARED, &["--cycles", "100", "5"], b"result 13\ncycle 6\n"),
+        (
+            PRODUCT,
+            &["--cycles", "7", "5", "3"],
+            b"result 15\ncycle 6\n",
+        ),
+    ];
+    for (source, words, lines) in rows {
+        let ended = simulated(rt.alloc(), source, words)?;
+        assert_eq!(rt; ended.status, Status::Ok);
+        assert!(rt; ended.out.bytes() == lines && ended.err.bytes().is_empty());
+    }
+    let late = simulated(rt.alloc(), PRODUCT, &["--cycles", "6", "5", "3"])?;
     assert_eq!(rt; late.status, Status::NoResult);
     assert!(rt;
-        late.out.bytes() == b"no result in 2 cycles\n".as_slice() && late.err.bytes().is_empty()
+        late.out.bytes() == b"no result in 6 cycles\n".as_slice() && late.err.bytes().is_empty()
     );
     Ok(())
 }
 
 #[test]
-fn an_argument_too_many(rt: HostRuntime) -> Result<(), Fail> {
-    let ended = simulated(rt.alloc(), &["--cycles", "10", "5"])?;
-    assert_eq!(rt; ended.status, Status::BadArgs);
+fn arguments_that_do_not_fit(rt: HostRuntime) -> Result<(), Fail> {
+    let few = simulated(rt.alloc(), PRODUCT, &["--cycles", "10", "5"])?;
+    assert_eq!(rt; few.status, Status::BadArgs);
+    assert!(rt; few.err.bytes() == b"main takes 2 arguments, 1 given\n".as_slice() && !few.printed);
+    let wide = simulated(rt.alloc(), PRODUCT, &["--cycles", "10", "5", "256"])?;
+    assert_eq!(rt; wide.status, Status::BadArgs);
     assert!(rt;
-        ended.err.bytes() == b"main takes 0 arguments, 1 given\n".as_slice() && !ended.printed
+        wide.err.bytes() == b"argument 2 is no number of 8 bits\n".as_slice() && !wide.printed
     );
     Ok(())
 }
 
 #[test]
 fn cycles_are_wanted(rt: HostRuntime) -> Result<(), Fail> {
-    assert_eq!(rt; simulated(rt.alloc(), &[])?.status, Status::Usage);
+    assert_eq!(rt; simulated(rt.alloc(), SHARED, &[])?.status, Status::Usage);
     assert_eq!(rt;
-        simulated(rt.alloc(), &["--cycles", "0"])?.status,
+        simulated(rt.alloc(), SHARED, &["--cycles", "0"])?.status,
         Status::Usage
     );
     Ok(())
@@ -195,5 +245,31 @@ fn an_output_that_fails(rt: HostRuntime) -> Result<(), Fail> {
     let status = run(alloc, &words, &mut shelf, &mut out, &mut err);
     assert_eq!(rt; status, Status::WriteFault);
     assert!(rt; err.bytes() == b"cannot write output\n".as_slice());
+    Ok(())
+}
+
+// Two callers of one function at once.
+const CALLERS: &[u8] = b"fun f(x:8):8 = x + 1
+fun g(x:8):8 = f(x)
+fun h(x:8):8 = f(x + 1)
+fun main(a:8):8 = g(a) + h(a)
+";
+
+#[test]
+fn walks_in_three_orders(rt: HostRuntime) -> Result<(), Fail> {
+    let mut shelf = shelf_with(rt.alloc(), CALLERS)?;
+    for order in ["1", "2", "3"] {
+        let words = ["walk", "p", "--order", order, "--steps", "100", "5"];
+        let ended = call(rt.alloc(), &words, &mut shelf)?;
+        assert_eq!(rt; ended.status, Status::Ok);
+        assert!(rt;
+            ended.out.bytes() == b"result 13\nevents 15\nunits 4\n".as_slice()
+                && ended.err.bytes().is_empty()
+        );
+    }
+    let words = ["walk", "p", "--order", "1", "--steps", "14", "5"];
+    let short = call(rt.alloc(), &words, &mut shelf)?;
+    assert_eq!(rt; short.status, Status::NoResult);
+    assert!(rt; short.out.bytes() == b"no result in 14 events\n".as_slice());
     Ok(())
 }

@@ -2,19 +2,27 @@
 
 ghost use Rattle.std.specs.Prelude.{◌≡◌, Some, map, string_bytes};
 ghost use Rattle.safl_tool.specs.Answers.{Says, BuildSays, Told, SameStrays};
+ghost use Rattle.safl_tool.specs.Checking.{CheckSays};
 ghost use Rattle.safl_tool.specs.Completeness.{Completes};
-ghost use Rattle.safl_tool.specs.Commands.{Build, Sim, command_of};
+ghost use Rattle.safl_tool.specs.Commands.{Check, Build, Sim, Walk, Run, command_of};
 ghost use Rattle.safl_tool.specs.Refusals.{Tells, Refuses};
+ghost use Rattle.safl_tool.specs.Running.{RunSays};
 ghost use Rattle.safl_tool.specs.Simulating.{SimSays};
+ghost use Rattle.safl_tool.specs.Walking.{WalkSays};
 
 use crate::build::build;
+use crate::check::check;
 use crate::command::{Command, read_words};
 use crate::refusal::Refusal;
+use crate::run_file::{RunErr, run_verilog};
 use crate::simulate::sim;
 use crate::status::Status;
+use crate::walk::walk_source;
+use safl_check::laws::meaning_law;
 use safl_io::{OutErr, Shelf, Sink};
+use safl_source::laws::{not_both_law, one_program_law};
+use safl_verilog::laws as verilog;
 use safl_word::NoMemory;
-use safl_word::laws::tokens_law;
 use std::alloc::Global;
 
 // The line that names the commands.
@@ -32,7 +40,9 @@ pub fn run<S: Shelf, O: Sink, E: Sink>(
     err: &mut E,
 ) -> Status
     // The cause of each status, and what `out` got. At Ok of `build IN OUT`, OUT holds the Verilog text of a netlist that is
-    // correct for IN's program; at Ok of `sim`, `out` got the value that main gives, and the cycle in which it came.
+    // the circuit of IN's program; at Ok of `check`, `out` got the numbers of IN's program; at Ok of `sim`, `out` got the value that main gives, and the cycle in which it came;
+    // at Ok of `walk`, the value, how many events there were, and how many units were busy at most; at Ok of `run`, the result
+    // of the netlist that FILE reads as, and the cycle.
     ensures says { Says (command_of (map string_bytes words.now))
         (record { holds = S.holds shelf.old; read_faults = S.read_faults shelf.old; write_faults = S.write_faults shelf.old; strays = S.strays shelf.old })
         (record { holds = S.holds shelf.new; read_faults = S.read_faults shelf.new; write_faults = S.write_faults shelf.new; strays = S.strays shelf.new })
@@ -45,13 +55,18 @@ pub fn run<S: Shelf, O: Sink, E: Sink>(
         (record { holds = S.holds shelf.old; read_faults = S.read_faults shelf.old; write_faults = S.write_faults shelf.old; strays = S.strays shelf.old })
         (record { holds = S.holds shelf.new; read_faults = S.read_faults shelf.new; write_faults = S.write_faults shelf.new; strays = S.strays shelf.new }) }
     // Of a source that is accepted, with arguments that fit, and where no fault is counted, the status is Ok or NoMemory; for
-    // `sim` where main gives a value and three times its calls are at most the cycles.
+    // `sim` and `walk` where main gives a value and three times its calls are at most the cycles, or the events; and of a file
+    // that reads as a netlist without a loop, where `done` comes in time.
     ensures complete { Completes (command_of (map string_bytes words.now))
         (record { holds = S.holds shelf.old; read_faults = S.read_faults shelf.old; write_faults = S.write_faults shelf.old; strays = S.strays shelf.old })
         (record { holds = S.holds shelf.new; read_faults = S.read_faults shelf.new; write_faults = S.write_faults shelf.new; strays = S.strays shelf.new })
         (record { sent = O.sent out.old; faults = O.faults out.old }) (record { sent = O.sent out.new; faults = O.faults out.new }) result }
 {
-    tokens_law();
+    one_program_law();
+    not_both_law();
+    meaning_law();
+    verilog::one_netlist_law();
+    verilog::not_both_law();
     dispatch(alloc, words, shelf, out, err)
 }
 
@@ -75,10 +90,46 @@ fn dispatch<S: Shelf, O: Sink, E: Sink>(
 {
     match read_words(words) {
         None => tell(err, USAGE, Status::Usage),
+        Some(Command::Check { input }) => run_check(alloc, input, shelf, out, err),
         Some(Command::Build { input, output }) => run_build(alloc, input, output, shelf, err),
         Some(Command::Sim { input, limit, args }) => {
             run_sim(alloc, input, limit, args, shelf, out, err)
         }
+        Some(
+            Command::Walk {
+                input,
+                seed,
+                steps,
+                args,
+            },
+        ) => run_walk(alloc, input, seed, steps, args, shelf, out, err),
+        Some(Command::Run { input, limit, args }) => {
+            run_netlist(alloc, input, limit, args, shelf, out, err)
+        }
+    }
+}
+
+// Checks, and sends the line of a refusal.
+fn run_check<S: Shelf, O: Sink, E: Sink>(
+    alloc: Global,
+    input: &str,
+    shelf: &mut S,
+    out: &mut O,
+    err: &mut E,
+) -> Status
+    ensures says { CheckSays
+        (record { holds = S.holds shelf.old; read_faults = S.read_faults shelf.old; write_faults = S.write_faults shelf.old; strays = S.strays shelf.old })
+        (record { holds = S.holds shelf.new; read_faults = S.read_faults shelf.new; write_faults = S.write_faults shelf.new; strays = S.strays shelf.new })
+        (record { sent = O.sent out.old; faults = O.faults out.old }) (record { sent = O.sent out.new; faults = O.faults out.new }) input.now result }
+    ensures told { Told (Some (Check input.now)) (S.holds shelf.old)
+        (record { sent = E.sent err.old; faults = E.faults err.old }) (record { sent = E.sent err.new; faults = E.faults err.new }) result }
+    ensures no_stray { SameStrays (Some (Check input.now))
+        (record { holds = S.holds shelf.old; read_faults = S.read_faults shelf.old; write_faults = S.write_faults shelf.old; strays = S.strays shelf.old })
+        (record { holds = S.holds shelf.new; read_faults = S.read_faults shelf.new; write_faults = S.write_faults shelf.new; strays = S.strays shelf.new }) }
+{
+    match check(alloc, shelf, out, input) {
+        Ok(()) => Status::Ok,
+        Err(refusal) => refuse(alloc, err, refusal, input, ""),
     }
 }
 
@@ -130,6 +181,62 @@ fn run_sim<S: Shelf, O: Sink, E: Sink>(
     match sim(alloc, shelf, out, input, limit, args) {
         Ok(status) => status,
         Err(refusal) => refuse(alloc, err, refusal, input, ""),
+    }
+}
+
+// Walks, and sends the line of a refusal.
+fn run_walk<S: Shelf, O: Sink, E: Sink>(
+    alloc: Global,
+    input: &str,
+    seed: u64,
+    steps: u32,
+    args: &[String],
+    shelf: &mut S,
+    out: &mut O,
+    err: &mut E,
+) -> Status
+    ensures says { WalkSays
+        (record { holds = S.holds shelf.old; read_faults = S.read_faults shelf.old; write_faults = S.write_faults shelf.old; strays = S.strays shelf.old })
+        (record { holds = S.holds shelf.new; read_faults = S.read_faults shelf.new; write_faults = S.write_faults shelf.new; strays = S.strays shelf.new })
+        (record { sent = O.sent out.old; faults = O.faults out.old }) (record { sent = O.sent out.new; faults = O.faults out.new })
+        input.now seed steps (map string_bytes args.now) result }
+    ensures told { Told (Some (Walk input.now seed steps (map string_bytes args.now))) (S.holds shelf.old)
+        (record { sent = E.sent err.old; faults = E.faults err.old }) (record { sent = E.sent err.new; faults = E.faults err.new }) result }
+    ensures no_stray { SameStrays (Some (Walk input.now seed steps (map string_bytes args.now)))
+        (record { holds = S.holds shelf.old; read_faults = S.read_faults shelf.old; write_faults = S.write_faults shelf.old; strays = S.strays shelf.old })
+        (record { holds = S.holds shelf.new; read_faults = S.read_faults shelf.new; write_faults = S.write_faults shelf.new; strays = S.strays shelf.new }) }
+{
+    match walk_source(alloc, shelf, out, input, seed, steps, args) {
+        Ok(status) => status,
+        Err(refusal) => refuse(alloc, err, refusal, input, ""),
+    }
+}
+
+// Runs the netlist of a Verilog file, and sends the line of a refusal.
+fn run_netlist<S: Shelf, O: Sink, E: Sink>(
+    alloc: Global,
+    input: &str,
+    limit: u64,
+    args: &[String],
+    shelf: &mut S,
+    out: &mut O,
+    err: &mut E,
+) -> Status
+    ensures says { RunSays
+        (record { holds = S.holds shelf.old; read_faults = S.read_faults shelf.old; write_faults = S.write_faults shelf.old; strays = S.strays shelf.old })
+        (record { holds = S.holds shelf.new; read_faults = S.read_faults shelf.new; write_faults = S.write_faults shelf.new; strays = S.strays shelf.new })
+        (record { sent = O.sent out.old; faults = O.faults out.old }) (record { sent = O.sent out.new; faults = O.faults out.new })
+        input.now limit (map string_bytes args.now) result }
+    ensures told { Told (Some (Run input.now limit (map string_bytes args.now))) (S.holds shelf.old)
+        (record { sent = E.sent err.old; faults = E.faults err.old }) (record { sent = E.sent err.new; faults = E.faults err.new }) result }
+    ensures no_stray { SameStrays (Some (Run input.now limit (map string_bytes args.now)))
+        (record { holds = S.holds shelf.old; read_faults = S.read_faults shelf.old; write_faults = S.write_faults shelf.old; strays = S.strays shelf.old })
+        (record { holds = S.holds shelf.new; read_faults = S.read_faults shelf.new; write_faults = S.write_faults shelf.new; strays = S.strays shelf.new }) }
+{
+    match run_verilog(alloc, shelf, out, input, limit, args) {
+        Ok(status) => status,
+        Err(RunErr::Verilog(line)) => tell(err, &line, Status::VerilogRefused),
+        Err(RunErr::Other(refusal)) => refuse(alloc, err, refusal, input, ""),
     }
 }
 

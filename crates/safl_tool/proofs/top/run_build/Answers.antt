@@ -1,4 +1,5 @@
 use Rattle.std.proofs.Common.{Some, refl}
+use Rattle.safl_tool.specs.Answers.{BuildSays}
 use Rattle.safl_tool.specs.Commands.{Build}
 use Rattle.safl_tool.specs.Outside.{ShelfState, SinkState}
 use Rattle.safl_tool.proofs.Telling.{refusal_told, refusal_says}
@@ -10,7 +11,7 @@ returns-in-Err-clause-says g c =
     let new : ShelfState = record { holds = g.S.Shelf.holds c.build.new.shelf; read_faults = g.S.Shelf.read_faults c.build.new.shelf; write_faults = g.S.Shelf.write_faults c.build.new.shelf; strays = g.S.Shelf.strays c.build.new.shelf } in
     let before : SinkState = record { sent = g.E.Sink.sent c.args.err.now; faults = g.E.Sink.faults c.args.err.now } in
     let after : SinkState = record { sent = g.E.Sink.sent c.refuse.new.err; faults = g.E.Sink.faults c.refuse.new.err } in
-    refusal_says old new c.args.input.now c.args.output.now c.in-Err.refusal before after c.refuse.result c.in-Err.ensures.refused.says c.refuse.ensures
+    refusal_says (BuildSays old new c.args.input.now c.args.output.now) tt c.in-Err.refusal c.args.input.now c.args.output.now before after c.refuse.result c.in-Err.ensures.refused.says c.refuse.ensures
 
 pub returns-in-Err-clause-told : goal.returns-in-Err-clause-told
 returns-in-Err-clause-told g c =

@@ -1,7 +1,8 @@
 use Rattle.std.proofs.Common.{[], Some, map, string_bytes, refl}
+use Rattle.safl_tool.specs.Simulating.{SimSays}
 use Rattle.safl_tool.specs.Commands.{Sim}
 use Rattle.safl_tool.specs.Outside.{ShelfState, SinkState}
-use Rattle.safl_tool.proofs.Telling.{refusal_told, sim_says, end_told}
+use Rattle.safl_tool.proofs.Telling.{refusal_told, refusal_says, end_told}
 use Rattle.safl_tool.proofs.top.run_sim.Goals as goal
 
 pub returns-in-Ok-clause-told : goal.returns-in-Ok-clause-told
@@ -17,7 +18,7 @@ returns-in-Err-clause-says g c =
     let right : SinkState = record { sent = g.O.Sink.sent c.sim.new.out; faults = g.O.Sink.faults c.sim.new.out } in
     let before : SinkState = record { sent = g.E.Sink.sent c.args.err.now; faults = g.E.Sink.faults c.args.err.now } in
     let after : SinkState = record { sent = g.E.Sink.sent c.refuse.new.err; faults = g.E.Sink.faults c.refuse.new.err } in
-    sim_says old new left right c.args.input.now c.args.limit (map string_bytes c.args.args.now) c.in-Err.refusal before after c.refuse.result c.in-Err.ensures.refused.says c.refuse.ensures
+    refusal_says (SimSays old new left right c.args.input.now c.args.limit (map string_bytes c.args.args.now)) tt c.in-Err.refusal c.args.input.now [] before after c.refuse.result c.in-Err.ensures.refused.says c.refuse.ensures
 
 pub returns-in-Err-clause-told : goal.returns-in-Err-clause-told
 returns-in-Err-clause-told g c =

@@ -1,0 +1,197 @@
+-- What a run of a Verilog file says.
+use Rattle.std.proofs.Common.{◌≡◌, ℕ, zero, suc, ◌+◌, ◌<◌, ◌≤◌, List, [], ◌∷◌, ◌++◌, map, length, drop, Option, Some, None, slice_get, slice_index_or, refl, sym, ap, subst, ◌∙◌, arith, append_assoc}
+use Rattle.std.specs.Prelude.{IfSome}
+use Rattle.safl_word.specs.Words.{Word}
+use Rattle.safl_io.specs.Reading.{HasFile}
+use Rattle.safl_net.specs.declared.cell.Sig.{Sig}
+use Rattle.safl_net.specs.Netlist.{Netlist, Signal, AllSet, IsSet}
+use Rattle.safl_net.specs.Making.{numbers, kind_at, kind_in, cell_in, name_at}
+use Rattle.safl_net.specs.Valuations.{Valuation}
+use Rattle.safl_net.specs.Runs.{GoesOn, RunFrom}
+use Rattle.safl_order.specs.Laws.{LoopsAreCyclic}
+use Rattle.safl_order.specs.Order.{operands_in, Leads, IsLoop}
+use Rattle.safl_order.specs.Order
+use Rattle.safl_verilog.specs.declared.fault.VFault.{VFault}
+use Rattle.safl_verilog.specs.Reads.{Reads, HasFault}
+use Rattle.safl_run.specs.declared.done.Done.{Done}
+use Rattle.safl_run.specs.Arguments.{argument_widths}
+use Rattle.safl_run.specs.Outcomes.{IsRun, IsDone, IsNotDone}
+use Rattle.safl_tool.specs.Limits.{verilog_max}
+use Rattle.safl_tool.specs.Lines.{count_line, argument_line}
+use Rattle.safl_tool.specs.VerilogLines.{verilog_line, loop_line, spaced, spaced_name}
+use Rattle.safl_tool.specs.Simulating.{end_status, outcome_text}
+use Rattle.safl_tool.specs.Running.{IsRunnable, RunsText, IsMisrun, IsUnrunnable, faulty, looped, RunSays, IsRunLine}
+use Rattle.safl_tool.specs.Outside.{ShelfState, SinkState}
+use Rattle.safl_tool.specs.Refusals.{RefusesReading, RefusesArguments, Explains, Prints, PrintFails}
+use Rattle.safl_tool.specs.RunRefusals.{AreKnown, TellsLine, RefusesNet, RefusesTextRun, ExplainsRun}
+use Rattle.safl_tool.specs.declared.status.Status.{Status}
+use Rattle.safl_tool.specs.declared.status.Status.TheVariants as status
+use Rattle.safl_tool.specs.declared.refusal.Refusal.{Refusal}
+use Rattle.safl_tool.specs.declared.refusal.Refusal.TheVariants as refusal
+use Rattle.safl_tool.specs.declared.run_file.RunErr.{RunErr}
+use Rattle.safl_tool.specs.declared.run_file.RunErr.TheVariants as errors
+use Rattle.safl_tool.proofs.Accepting.{of_file, memory_explains, reading_explains, printing_explains}
+
+get_below : {A : Type 0} (xs : List A) (i : ℕ) (x : A) → slice_get xs i ≡ Some x → i < length xs
+get_below [] i x e = absurd (cc)
+get_below (y ∷ ys) zero x e = omega arith
+get_below (y ∷ ys) (suc i) x e = let h = get_below ys i x e in omega (arith, h)
+
+-- each signal of a netlist in which all is set
+get_some : (gs : List Signal) (s : ℕ) → s < length gs → (g : Signal) × (slice_get gs s ≡ Some g)
+get_some [] s h = absurd (omega arith)
+get_some (g ∷ gs) zero h = (g, refl)
+get_some (g ∷ gs) (suc s) h = get_some gs s (omega (arith, h))
+
+pub set_at : (n : Netlist) (s : ℕ) → AllSet n → s < length n.signals → IsSet (kind_at n s)
+set_at n s all h = let g = get_some n.signals s h in subst IsSet (sym (ap kind_in g.1)) (all s g.0 g.1)
+
+-- the wires of a loop are signals
+reads_known : (n : Netlist) (a b : ℕ) → Order.Reads n a b → a < length n.signals
+reads_known n a b r = by (slice_get n.signals a) refl r.1
+  where
+    by : (o : Option Signal) → slice_get n.signals a ≡ o → slice_get (operands_in (cell_in (kind_in o))) r.0 ≡ Some b → a < length n.signals
+    by None q h = absurd (cc)
+    by (Some g) q h = get_below n.signals a g q
+
+leads_known : (n : Netlist) (ws : List ℕ) (t : ℕ) → Leads n ws t → (i s : ℕ) → slice_get ws i ≡ Some s → s < length n.signals
+leads_known n [] t l i s e = absurd (cc)
+leads_known n (a ∷ []) t l zero s e = let q : a ≡ s = cc in subst (λ k. k < length n.signals) q (reads_known n a t l)
+leads_known n (a ∷ []) t l (suc i) s e = absurd (cc)
+leads_known n (a ∷ (b ∷ ws)) t l zero s e = let q : a ≡ s = cc in subst (λ k. k < length n.signals) q (reads_known n a b l.0)
+leads_known n (a ∷ (b ∷ ws)) t l (suc i) s e = leads_known n (b ∷ ws) t l.1 i s e
+
+pub loop_known : (n : Netlist) (ws : List ℕ) → IsLoop n ws → AreKnown n ws
+loop_known n ws l i s e = leads_known n ws l.first l.leads i s e
+
+-- the names of wires, one after the other
+numbers_get : (xs : List Sig) (i : ℕ) (x : Sig) → slice_get xs i ≡ Some x → slice_get (numbers xs) i ≡ Some x.0
+numbers_get [] i x e = absurd (cc)
+numbers_get (y ∷ ys) zero x e = let q : y ≡ x = cc in ap (λ (k : Sig). Some k.0) q
+numbers_get (y ∷ ys) (suc i) x e = numbers_get ys i x e
+
+pub wire_known : (n : Netlist) (xs : List Sig) (i : ℕ) (x : Sig) → AreKnown n (numbers xs) → slice_get xs i ≡ Some x → x.0 < length n.signals
+wire_known n xs i x known e = known i x.0 (numbers_get xs i x e)
+
+drop_at : (xs : List Sig) (i : ℕ) (x : Sig) → slice_get xs i ≡ Some x → drop i xs ≡ x ∷ drop (i + 1) xs
+drop_at [] i x e = absurd (cc)
+drop_at (y ∷ xs) zero x e = let q : y ≡ x = cc in ap (λ k. k ∷ xs) q
+drop_at (y ∷ xs) (suc i) x e = drop_at xs i x e ∙ ap (λ k. x ∷ drop k (y ∷ xs)) (let z : suc (i + 1) ≡ suc i + 1 = omega arith in z)
+
+pub get_index : (xs : List Sig) (i : ℕ) → i < length xs → slice_get xs i ≡ Some (slice_index_or xs i (record { 0 = 0 }))
+get_index [] i h = absurd (omega (arith, h))
+get_index (x ∷ xs) zero h = refl
+get_index (x ∷ xs) (suc i) h = get_index xs i (omega (arith, h))
+
+abbrev pub names_at : Netlist → List Sig → List (List ℕ)
+names_at n xs = map (name_at n) (numbers xs)
+
+pub names_more : (n : Netlist) (xs : List Sig) (i : ℕ) (x : Sig) (out new : List ℕ) → slice_get xs i ≡ Some x → out ++ spaced (names_at n (drop i xs)) ≡ spaced (names_at n xs) → new ≡ out ++ spaced_name (name_at n x.0)
+    → new ++ spaced (names_at n (drop (i + 1) xs)) ≡ spaced (names_at n xs)
+names_more n xs i x out new e inv made =
+    ap (λ l. l ++ spaced (names_at n (drop (i + 1) xs))) made
+    ∙ append_assoc out (spaced_name (name_at n x.0)) (spaced (names_at n (drop (i + 1) xs)))
+    ∙ ap (λ l. out ++ spaced (names_at n l)) (sym (drop_at xs i x e))
+    ∙ inv
+
+drop_end : (xs : List Sig) (i : ℕ) → length xs ≤ i → drop i xs ≡ []
+drop_end [] zero h = refl
+drop_end [] (suc i) h = refl
+drop_end (x ∷ xs) zero h = absurd (omega (arith, h))
+drop_end (x ∷ xs) (suc i) h = drop_end xs i (omega (arith, h))
+
+append_none : (xs : List ℕ) → xs ++ [] ≡ xs
+append_none [] = refl
+append_none (x ∷ xs) = ap (λ l. x ∷ l) (append_none xs)
+
+pub names_all : (n : Netlist) (xs : List Sig) (i : ℕ) (out : List ℕ) → length xs ≤ i → out ++ spaced (names_at n (drop i xs)) ≡ spaced (names_at n xs) → out ≡ spaced (names_at n xs)
+names_all n xs i out h inv = sym (append_none out) ∙ ap (λ l. out ++ spaced (names_at n l)) (sym (drop_end xs i h)) ∙ inv
+
+-- what tells the line of a fault or of a loop refuses the text
+pub fault_refuses : (name text : List ℕ) (f : VFault) (r : RunErr) → length text ≤ verilog_max → HasFault text f → TellsLine (verilog_line name text f) r → RefusesNet name text r
+fault_refuses name text f (errors.Verilog line) small h t = faulty f small h t
+fault_refuses name text f (errors.Other refusal.NoMemory) small h t = tt
+fault_refuses name text f (errors.Other _) small h never = absurd never
+
+pub loop_refuses : LoopsAreCyclic → (name text : List ℕ) (n : Netlist) (ws : List ℕ) (r : RunErr) → length text ≤ verilog_max → Reads text n → IsLoop n ws → TellsLine (loop_line name (map (name_at n) ws)) r → RefusesNet name text r
+loop_refuses law name text n ws (errors.Verilog line) small h l t = looped n ws small h l (law n ws l) t
+loop_refuses law name text n ws (errors.Other refusal.NoMemory) small h l t = tt
+loop_refuses law name text n ws (errors.Other _) small h l never = absurd never
+
+pub net_refuses : (name text : List ℕ) (args : List (List ℕ)) (r : RunErr) → RefusesNet name text r → RefusesTextRun name text args r
+net_refuses name text args (errors.Verilog line) h = h
+net_refuses name text args (errors.Other refusal.NoMemory) h = tt
+net_refuses name text args (errors.Other _) never = absurd never
+
+pub arguments_refuse : (name text : List ℕ) (args : List (List ℕ)) (n : Netlist) (r : Refusal) → IsRunnable text n → RefusesArguments (argument_widths n.signals) args r → RefusesTextRun name text args (errors.Other r)
+arguments_refuse name text args n (refusal.Count p g) h f = (n, h, f)
+arguments_refuse name text args n (refusal.Argument i w) h f = (n, h, f)
+arguments_refuse name text args n refusal.NoMemory h f = tt
+arguments_refuse name text args n _ h never = absurd never
+
+module _ (old new : ShelfState) (before after : SinkState) (input : List ℕ) (limit : ℕ) (args : List (List ℕ)) where
+  -- what was not read, or not run, explains the call
+  pub run_unread : (r : Refusal) → after ≡ before → RefusesReading verilog_max old new input r → Explains (RunSays old new before after input limit args) (IsRunLine old.holds input args) input [] r
+  run_unread r same h =
+      reading_explains (RunSays old new before after input limit args) (IsRunLine old.holds input args) input [] verilog_max old new tt refl (λ rose. (rose, same)) refl (λ long. (long, same)) refl r h
+
+  pub run_unrun : (text : List ℕ) (r : RunErr) → after ≡ before → IfSome old.holds (HasFile input text) → RefusesTextRun input text args r → ExplainsRun (RunSays old new before after input limit args) (IsRunLine old.holds input args) input r
+  run_unrun text (errors.Verilog line) same has h = (
+    (of_file old.holds input text (λ t. (l : List ℕ) × IsUnrunnable input t l) has (line.items, h), same),
+    of_file old.holds input text (λ t. IsUnrunnable input t line.items) has h,
+  )
+  run_unrun text (errors.Other (refusal.Count p g)) same has h = record {
+    says = (of_file old.holds input text (λ t. (l : List ℕ) × IsMisrun t args l) has (count_line p g, h), same);
+    line = of_file old.holds input text (λ t. IsMisrun t args (count_line p g)) has h;
+  }
+  run_unrun text (errors.Other (refusal.Argument i w)) same has h = record {
+    says = (of_file old.holds input text (λ t. (l : List ℕ) × IsMisrun t args l) has (argument_line i w, h), same);
+    line = of_file old.holds input text (λ t. IsMisrun t args (argument_line i w)) has h;
+  }
+  run_unrun text (errors.Other refusal.NoMemory) same has h = memory_explains (RunSays old new before after input limit args) (IsRunLine old.holds input args) input [] tt refl
+  run_unrun text (errors.Other _) same has never = absurd never
+
+  -- what was printed, or not
+  pub run_printed : (text : List ℕ) (answer : Option Done) (s : Status) → IfSome old.holds (HasFile input text) → RunsText text args limit answer → s ≡ end_status answer → Prints (outcome_text limit answer) before after → RunSays old new before after input limit args s
+  run_printed text None s has m is p =
+      subst (λ x. RunSays old new before after input limit args x) (sym is) (of_file old.holds input text (λ y. RunsText y args limit None) has m, p)
+  run_printed text (Some d) s has m is p =
+      subst (λ x. RunSays old new before after input limit args x) (sym is) (d, of_file old.holds input text (λ y. RunsText y args limit (Some d)) has m, p)
+
+  pub run_unprinted : (text : List ℕ) (answer : Option Done) (r : Refusal) → IfSome old.holds (HasFile input text) → RunsText text args limit answer → PrintFails (outcome_text limit answer) before after r
+      → Explains (RunSays old new before after input limit args) (IsRunLine old.holds input args) input [] r
+  run_unprinted text answer r has m p =
+      printing_explains (RunSays old new before after input limit args) (IsRunLine old.holds input args) input [] (outcome_text limit answer) before after tt refl
+      (λ rose part. (answer, of_file old.holds input text (λ y. RunsText y args limit answer) has m, rose, part)) refl r p
+
+-- a front of a run is a run
+get_front : (front rest : List Valuation) (c : ℕ) (v : Valuation) → slice_get front c ≡ Some v → slice_get (front ++ rest) c ≡ Some v
+get_front [] rest c v e = absurd (cc)
+get_front (w ∷ ws) rest zero v e = e
+get_front (w ∷ ws) rest (suc c) v e = get_front ws rest c v e
+
+goes_front : (n : Netlist) (state : ℕ → ℕ) (front rest : List Valuation) → GoesOn n state (front ++ rest) → GoesOn n state front
+goes_front n state [] rest g = tt
+goes_front n state (v ∷ vs) rest g = (g.0, g.1, goes_front n _ vs rest g.2)
+
+run_front : (n : Netlist) (state : ℕ → ℕ) (args : List ℕ) (front rest : List Valuation) → RunFrom n state args (front ++ rest) → RunFrom n state args front
+run_front n state args [] rest r = tt
+run_front n state args (v ∷ vs) rest r = (r.0, r.1, r.2, goes_front n _ vs rest r.3)
+
+split_at : (vs : List Valuation) (k : ℕ) → k ≤ length vs → (front : List Valuation) × (rest : List Valuation) × (front ++ rest ≡ vs) × (length front ≡ k)
+split_at vs zero h = ([], vs, refl, refl)
+split_at [] (suc k) h = absurd (omega (arith, h))
+split_at (v ∷ vs) (suc k) h = let r = split_at vs k (omega (arith, h)) in (v ∷ r.0, r.1, ap (λ l. v ∷ l) r.2, ap suc r.3)
+
+-- done comes, or it does not
+pub done_not_done : (n : Netlist) (words : List Word) (limit : ℕ) (d : Done) → IsDone n words limit d → IsNotDone n words limit → ⊥
+done_not_done n words limit d a b =
+    let s = split_at b.run (d.cycle + 1) (let x = b.only.long in let y = a.in_time in omega (arith, x, y)) in
+    let whole : IsRun n words (s.0 ++ s.1) = subst (λ l. IsRun n words l) (sym s.2) b.only.is in
+    let front : IsRun n words s.0 = record { run = run_front n _ _ s.0 s.1 whole.run; zeros = λ c v e. whole.zeros c v (get_front s.0 s.1 (suc c) v e) } in
+    let same : s.0 ≡ a.run = a.only.alone s.0 front s.3 in
+    let here : slice_get s.0 d.cycle ≡ Some a.last = subst (λ (l : List Valuation). slice_get l d.cycle ≡ Some a.last) (sym same) a.there in
+    let there : slice_get b.run d.cycle ≡ Some a.last = subst (λ (l : List Valuation). slice_get l d.cycle ≡ Some a.last) s.2 (get_front s.0 s.1 d.cycle a.last here) in
+    let off = b.never d.cycle a.last a.in_time there in
+    let on = a.done in
+    absurd (cc)

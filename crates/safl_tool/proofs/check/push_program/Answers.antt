@@ -1,0 +1,10 @@
+use Rattle.std.proofs.Common.{◌++◌, codes, decimal, ap, ◌∙◌}
+use Rattle.safl_tool.proofs.Joining.{joined5}
+use Rattle.safl_tool.proofs.check.push_program.Goals as goal
+
+pub returns : goal.returns
+returns c =
+    joined5 c.args.text.now.items c.push.new.out.items c.push_decimal.new.out.items c.push-2.new.out.items c.push_decimal-2.new.out.items c.push-3.new.out.items
+    (codes "functions ") (decimal c.args.functions) (codes "\nsites ") (decimal c.args.sites) (codes "\n")
+    c.in_ok-push.ensures (c.in_ok-push_decimal.ensures.ok ∙ ap (λ k. c.push.new.out.items ++ decimal k) c.from.ensures) c.in_ok-push-2.ensures
+    (c.in_ok-push_decimal-2.ensures.ok ∙ ap (λ k. c.push-2.new.out.items ++ decimal k) c.from-2.ensures) c.in_ok-push-3.ensures
