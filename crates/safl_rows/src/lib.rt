@@ -2,6 +2,8 @@
 #![tactic(auto)]
 
 #[cfg(test)]
+mod builds;
+#[cfg(test)]
 mod calls;
 #[cfg(test)]
 mod checking;
@@ -12,6 +14,10 @@ mod files;
 #[cfg(test)]
 mod limits;
 #[cfg(test)]
+mod machines;
+#[cfg(test)]
 mod plans;
+#[cfg(test)]
+mod prints;
 #[cfg(test)]
 mod walks;
