@@ -18,37 +18,6 @@ say() {
     failed=$((failed + 1))
 }
 
-# The test bench of a file, with these arguments, for at most so many cycles.
-bench() {
-    python3 - "$@" <<'PYTHON'
-import re, sys
-text, cycles, args = open(sys.argv[1]).read(), int(sys.argv[2]), sys.argv[3:]
-ports = re.findall(r"^  (input|output) \[(\d+):0\] (\S+);", text, re.M)
-inputs = [(name, int(high) + 1) for kind, high, name in ports if kind == "input" and name != "start"]
-high = next(high for kind, high, name in ports if name == "result")
-wires = "".join(f"  reg [{width - 1}:0] p{i};\n" for i, (name, width) in enumerate(inputs))
-joined = "".join(f", .{name}(p{i})" for i, (name, width) in enumerate(inputs))
-given = "".join(f" p{i} = {width}'d{args[i]};" for i, (name, width) in enumerate(inputs))
-zeros = "".join(f" p{i} = 0;" for i in range(len(inputs)))
-print(f"""module bench;
-  reg clk = 0, rst = 1, start = 0;
-  wire done;
-  wire [{high}:0] result;
-{wires}  integer cycle;
-  safl circuit (.clk(clk), .rst(rst), .start(start), .done(done), .result(result){joined});
-  initial begin
-   {zeros} #1 clk = 1; #1 clk = 0; rst = 0; start = 1;{given}
-    for (cycle = 0; cycle < {cycles}; cycle = cycle + 1) begin
-      #1 if (done) begin $display("result %0d\\ncycle %0d", result, cycle); $finish; end
-      clk = 1; #1 clk = 0; start = 0;{zeros}
-    end
-    $display("no result in {cycles} cycles");
-    $finish;
-  end
-endmodule""")
-PYTHON
-}
-
 # Builds a source, and compares its file with these arguments.
 compare() {
     local source=$1
@@ -58,7 +27,7 @@ compare() {
     local wanted
     wanted=$("$program" sim "$source" --cycles 1000 "$@")
     if command -v iverilog >/dev/null && command -v python3 >/dev/null; then
-        bench "$folder/built.v" 1000 "$@" >"$folder/bench.v"
+        python3 scripts/bench.py "$folder/built.v" 1000 "$@" >"$folder/bench.v"
         iverilog -o "$folder/simulated" "$folder/bench.v" "$folder/built.v" || say "iverilog refuses $source"
         local got
         got=$(vvp -n "$folder/simulated" | grep -v 'finish called')

@@ -9,3 +9,8 @@ mod FormLemmas
 mod SiteLemmas
 mod OutcomeLemmas
 mod NamesakeLemmas
+mod ShownLemmas
+mod PartLemmas
+mod StackLemmas
+mod DismantleLemmas
+mod TestLemmas

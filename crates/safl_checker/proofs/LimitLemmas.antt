@@ -4,8 +4,8 @@ use Rattle.std.specs.Prelude.{min, nat_lt, nat_le, slice_get, codes}
 use Rattle.std.specs.Str.{bytes_eq}
 use Rattle.std.proofs.lemmas.Bool.{ltb-true, ltb-false, leb-true, le-leb}
 use Rattle.std.proofs.lemmas.Bool.Decides.{same_from_decides}
-use Rattle.std.proofs.lemmas.List.{drop_more, length-map}
-use Rattle.std.proofs.lemmas.Option.{slice_get_read, slice_get_past, slice_get-map, same_Some}
+use Rattle.std.proofs.lemmas.List.{drop_more}
+use Rattle.std.proofs.lemmas.Option.{slice_get_read, slice_get_past, slice_get-map}
 use Rattle.std.specs.Option.{option_map}
 use Rattle.safl_word.specs.declared.fault.Rule.TheVariants as rules
 use Rattle.safl_word.specs.declared.fault.Fault.{Fault}
@@ -13,10 +13,8 @@ use Rattle.safl_tree.specs.Tree.{Definition}
 use Rattle.safl_tree.specs.Shown.{shows_def, shows_defs, shows_params}
 use Rattle.safl_tree.specs.declared.tree.Param.{Param}
 use Rattle.safl_tree.specs.declared.tree.Def.{Def}
-use Rattle.safl_typing.specs.declared.expression.Expression as code
 use Rattle.safl_typing.specs.Forms.{max_params, max_bindings, max_sites, max_nodes}
 use Rattle.safl_typing.specs.Heads.{Head, sites, unit_of}
-use Rattle.safl_typing.specs.Plain.{plain}
 use Rattle.safl_typing.specs.declared.heads.Head as code_head
 use Rattle.safl_typing.specs.PlainHeads.{plain_heads, known}
 use Rattle.safl_typing.specs.Rewriting.{Expression, rewritten, nodes}
@@ -94,15 +92,8 @@ pub record IsAt (ds : List Def) (i : ℕ) (d : Def) (b : Expression) : Type 0 wh
   pub read : d ≡ get_or ds i d
   pub body : b ≡ rewritten (shows_def d).body
 
-pub body_at : (bodies : List code.Expression) (ds : List Def) (i : ℕ) (d : Def) (b : code.Expression) → map plain bodies ≡ map (λ (d : Definition). rewritten d.body) (shows_defs ds)
-    → i < length ds → d ≡ get_or ds i d → b ≡ get_or bodies i b → IsAt ds i d (plain b)
-body_at bodies ds i d b same lt is at =
-    let body : Definition → Expression = λ (d : Definition). rewritten d.body in
-    let lengths : length bodies ≡ length ds = sym (length-map bodies plain) ∙ ap length same ∙ length-map (shows_defs ds) body ∙ length-map ds shows_def in
-    let left : slice_get (map plain bodies) i ≡ Some (plain b) = slice_get-map plain bodies i ∙ ap (option_map plain) (slice_get_read bodies (length ds) i b (sym lengths) lt at) in
-    let right : slice_get (map body (shows_defs ds)) i ≡ Some (body (shows_def d)) =
-    slice_get-map body (shows_defs ds) i ∙ ap (option_map body) (slice_get-map shows_def ds i ∙ ap (option_map shows_def) (slice_get_read ds (length ds) i d refl lt is)) in
-    record { within = lt; read = is; body = same_Some (plain b) (body (shows_def d)) (sym left ∙ ap (λ (l : List Expression). slice_get l i) same ∙ right) }
+pub body_at : (ds : List Def) (i : ℕ) (d : Def) → i < length ds → d ≡ get_or ds i d → IsAt ds i d (rewritten (shows_def d).body)
+body_at ds i d lt is = record { within = lt; read = is; body = refl }
 
 abbrev pub rest_from : List Head → List Def → ℕ → ℕ → ℕ → ℕ → Option Fault
 rest_from all ds i u s n = limits_from all i u s n (shows_defs (drop i ds))
@@ -152,14 +143,15 @@ searched_next all ds i u s n d b v t m h at ev et em e q =
       nodes = w.nodes;
     }
 
--- what the code calls with parts of a definition and of what was prepared
-pub lists_of : (r : Option Fault) (d : Def) (ps : List Param) (b : Expression) → ps ≡ d.params.items
-    → r ≡ or_else (limit 2 max_params (excess max_params (map (λ p. p.place) (shows_params ps)))) (limit 3 max_bindings (long_let b)) → r ≡ list_fault (shows_def d) b
-lists_of r d ps b e h =
-    h ∙ ap (λ (l : List Param). or_else (limit 2 max_params (excess max_params (map (λ p. p.place) (shows_params l)))) (limit 3 max_bindings (long_let b))) e
+-- what the code calls with parts of a definition, and with all heads
+pub lists_of : (r : Option Fault) (d : Def) (ps : List Param) (long : Option ℕ) (b : Expression) → ps ≡ d.params.items → long ≡ long_let b
+    → r ≡ or_else (limit 2 max_params (excess max_params (map (λ p. p.place) (shows_params ps)))) (limit 3 max_bindings long) → r ≡ list_fault (shows_def d) b
+lists_of r d ps long b e l h =
+    h ∙ ap (λ (l : List Param). or_else (limit 2 max_params (excess max_params (map (λ p. p.place) (shows_params l)))) (limit 3 max_bindings long)) e
+    ∙ ap (λ (o : Option ℕ). or_else (limit 2 max_params (excess max_params (map (λ p. p.place) (shows_def d).params))) (limit 3 max_bindings o)) l
 
-pub sites_of : (hs ks : List code_head.Head) (all : List Head) (v s t : ℕ) (b : Expression) → hs ≡ ks → plain_heads ks ≡ all → t ≡ min 4001 (s + sites (known hs v) b) → t ≡ min 4001 (sites_with all v s b)
-sites_of hs ks all v s t b e p h = h ∙ ap (λ (l : List Head). min 4001 (sites_with l v s b)) (ap plain_heads e ∙ p)
+pub sites_of : (hs : List code_head.Head) (all : List Head) (v s t : ℕ) (b : Expression) → plain_heads hs ≡ all → t ≡ min 4001 (s + sites (known hs v) b) → t ≡ min 4001 (sites_with all v s b)
+sites_of hs all v s t b p h = h ∙ ap (λ (l : List Head). min 4001 (sites_with l v s b)) p
 
 -- ---- the last definition
 

@@ -4,3 +4,4 @@ pub mod Answers
 pub mod Numbered
 pub mod Laws
 pub mod Functions
+pub mod Parts

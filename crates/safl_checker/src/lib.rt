@@ -1,14 +1,19 @@
 //! The checker of whole programs: from a tree to a checked program, or to its first fault.
 #![tactic(auto)]
 
+mod dismantle;
 mod form;
 mod functions;
 mod groups;
 pub mod laws;
 mod limits;
+mod nodes;
 mod prepare;
 pub mod program;
 mod sites;
 
 pub use crate::program::check;
 pub use safl_typing::typed::CheckErr;
+
+#[cfg(test)]
+mod tests;

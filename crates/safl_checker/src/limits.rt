@@ -1,21 +1,19 @@
 //! Limits: E16 at the first place that passes one. And E15, where the last definition is not `main`.
 
-ghost use Rattle.std.specs.Prelude.{◌≡◌, ◌≤◌, length, map, nat_le};
+ghost use Rattle.std.specs.Prelude.{◌≡◌, ◌≤◌, length, map, nat_le, IfOk};
 ghost use Rattle.safl_word.specs.declared.fault.Rule.TheVariants as rules;
 ghost use Rattle.safl_tree.specs.Shown.{shows_defs, shows_params};
 ghost use Rattle.safl_typing.specs.Heads.{heads};
 ghost use Rattle.safl_typing.specs.Forms.{max_functions, max_params, max_bindings, max_sites, max_nodes};
-ghost use Rattle.safl_typing.specs.Plain.{plain};
-ghost use Rattle.safl_typing.specs.Walk.{fault_with, needs, or_else, limit, excess, long_let, limits_from, main_fault};
-ghost use Rattle.safl_checker.specs.Prepared.{IsPrepared};
+ghost use Rattle.safl_typing.specs.PlainHeads.{plain_heads};
+ghost use Rattle.safl_typing.specs.Walk.{fault_with, needs, or_else, limit, excess, limits_from, main_fault};
 
-use crate::prepare::{Prepared, next_unit};
+use crate::nodes::{BINDINGS_MAX, measure};
+use crate::prepare::next_unit;
 use safl_tree::{Def, Param};
-use safl_typing::expression::Expression;
-use safl_typing::lets::{BINDINGS_MAX, find_long_let};
-use safl_typing::measure::add_nodes;
-use safl_typing::sites::add_sites;
-use safl_word::{Fault, Rule};
+use safl_typing::heads::Heads;
+use safl_word::{Fault, NoMemory, Rule};
+use std::alloc::Global;
 
 const FUNCTIONS_MAX: usize = 1_000;
 
@@ -36,37 +34,41 @@ pub fn find_function_fault(defs: &[Def]) -> Option<Fault>
 }
 
 /// The first E16 of definitions whose number is within the limit: parameters, bindings, call sites, nodes.
-pub fn find_limit_fault(defs: &[Def], prepared: &Prepared) -> Option<Fault>
+pub fn find_limit_fault(
+    alloc: Global,
+    defs: &[Def],
+    all_heads: &Heads,
+) -> Result<Option<Fault>, NoMemory>
     requires few { length defs.now ≤ 1000 }
-    requires prepared { IsPrepared (shows_defs defs.now) prepared.now }
-    ensures { result ≡ limits_from (heads (shows_defs defs.now)) 0 0 0 0 (shows_defs defs.now) }
+    requires heads { plain_heads all_heads.now ≡ heads (shows_defs defs.now) }
+    ensures { IfOk result (λ fault. fault ≡ limits_from (heads (shows_defs defs.now)) 0 0 0 0 (shows_defs defs.now)) }
 {
     let mut unit = 0;
     let mut sites = 0;
     let mut nodes = 0;
     for (number, def) in defs.iter().enumerate() {
-        let body = &prepared.bodies[number];
-        if let Some(fault) = find_list_fault(&def.params, body) {
-            return Some(fault);
-        }
         unit = next_unit(number as u32, unit, def);
-        sites = add_sites(&prepared.heads, unit, sites, body);
-        nodes = add_nodes(nodes, body);
+        let measures = measure(alloc, all_heads, unit, sites, nodes, &def.body)?;
+        if let Some(fault) = find_list_fault(&def.params, measures.long_let) {
+            return Ok(Some(fault));
+        }
+        sites = measures.sites;
+        nodes = measures.nodes;
         if let Some(fault) = find_sum_fault(def.place, sites, nodes) {
-            return Some(fault);
+            return Ok(Some(fault));
         }
     }
-    None
+    Ok(None)
 }
 
 // Too many parameters, or too many bindings of one let.
-fn find_list_fault(params: &[Param], body: &Expression) -> Option<Fault>
-    ensures { result ≡ or_else (limit 2 max_params (excess max_params (map (λ p. p.place) (shows_params params.now)))) (limit 3 max_bindings (long_let (plain body.now))) }
+fn find_list_fault(params: &[Param], long_let: Option<u32>) -> Option<Fault>
+    ensures { result ≡ or_else (limit 2 max_params (excess max_params (map (λ p. p.place) (shows_params params.now)))) (limit 3 max_bindings long_let) }
 {
     if let Some(param) = params.get(PARAMS_MAX) {
         return Some(past_limit(param.place, 2, PARAMS_MAX as u32));
     }
-    let place = find_long_let(body)?;
+    let place = long_let?;
     Some(past_limit(place, 3, BINDINGS_MAX as u32))
 }
 

@@ -23,14 +23,25 @@ pub struct Prepared {
     pub bodies: Vec<Expression>,
 }
 
-/// The heads and bodies of at most 1,000 definitions.
-pub fn prepare(alloc: Global, defs: &[Def]) -> Result<Prepared, NoMemory>
+/// The heads of at most 1,000 definitions.
+pub fn heads_of(alloc: Global, defs: &[Def]) -> Result<Heads, NoMemory>
     requires { length defs.now ≤ 1000 }
+    ensures { IfOk result (λ all. plain_heads all ≡ heads (shows_defs defs.now)) }
+{
+    let list = make_heads(alloc, defs)?;
+    Ok(Heads::new(alloc, list)?)
+}
+
+/// The bodies of definitions, beside their heads.
+pub fn prepare(alloc: Global, defs: &[Def], all_heads: Heads) -> Result<Prepared, NoMemory>
+    requires { plain_heads all_heads ≡ heads (shows_defs defs.now) }
     ensures { IfOk result (IsPrepared (shows_defs defs.now)) }
 {
-    let heads = Heads::new(alloc, make_heads(alloc, defs)?)?;
     let bodies = rewrite_bodies(alloc, defs)?;
-    Ok(Prepared { heads, bodies })
+    Ok(Prepared {
+        heads: all_heads,
+        bodies,
+    })
 }
 
 /// The group of the definition of this number, where that of the definition before it is `unit`.

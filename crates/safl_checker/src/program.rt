@@ -9,9 +9,10 @@ ghost use Rattle.safl_typing.specs.Walk.{limits, functions_from};
 ghost use Rattle.safl_checker.specs.Answers.{RefusesProgram};
 ghost use Rattle.safl_checker.specs.Prepared.{IsPrepared};
 
+use crate::dismantle::dismantle;
 use crate::functions::check_functions;
 use crate::limits::{find_function_fault, find_limit_fault, find_main_fault};
-use crate::prepare::{Prepared, prepare};
+use crate::prepare::{Prepared, heads_of, prepare};
 use crate::sites::sites_of;
 use safl_check::{Checked, Function};
 use safl_tree::Def;
@@ -27,13 +28,24 @@ pub fn check(alloc: Global, program: Program) -> Result<Checked, CheckErr>
     ensures form { IfOk result (λ c. IsFormOf (shows_program program) (shown c)) }
     ensures refused { IfErr result (RefusesProgram (shows_program program)) }
 {
-    let defs = program.defs.as_slice();
+    let Program { defs } = program;
+    let answer = check_defs(alloc, defs.as_slice());
+    dismantle(alloc, defs);
+    answer
+}
+
+// The checked program of definitions.
+fn check_defs(alloc: Global, defs: &[Def]) -> Result<Checked, CheckErr>
+    requires { IsFormedProgram (shows_defs defs.now) }
+    ensures form { IfOk result (λ c. IsFormOf (shows_defs defs.now) (shown c)) }
+    ensures refused { IfErr result (RefusesProgram (shows_defs defs.now)) }
+{
     let prepared = prepare_within(alloc, defs)?;
     let functions = check_functions(alloc, defs, &prepared)?;
     checked_of(alloc, defs, functions)
 }
 
-// What is known of definitions that pass no limit.
+// What is known of definitions that pass no limit. Limits come first: what follows them recurses.
 fn prepare_within(alloc: Global, defs: &[Def]) -> Result<Prepared, CheckErr>
     ensures prepared { IfOk result (IsPrepared (shows_defs defs.now)) }
     ensures within { OnOk result (limits (shows_defs defs.now) ≡ None) }
@@ -42,11 +54,11 @@ fn prepare_within(alloc: Global, defs: &[Def]) -> Result<Prepared, CheckErr>
     if let Some(fault) = find_function_fault(defs) {
         return Err(CheckErr::Refused(fault));
     }
-    let prepared = prepare(alloc, defs)?;
-    if let Some(fault) = find_limit_fault(defs, &prepared) {
+    let heads = heads_of(alloc, defs)?;
+    if let Some(fault) = find_limit_fault(alloc, defs, &heads)? {
         return Err(CheckErr::Refused(fault));
     }
-    Ok(prepared)
+    Ok(prepare(alloc, defs, heads)?)
 }
 
 // The program of checked functions, whose last one is `main`.

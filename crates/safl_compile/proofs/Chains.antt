@@ -11,16 +11,16 @@ use Rattle.safl_net.specs.Growth.{Val, Wired, words}
 use Rattle.safl_net.proofs.Growth.{wired_before}
 use Rattle.safl_lower.specs.Bits.{on}
 use Rattle.safl_lower.specs.Entries.{gate}
-use Rattle.safl_compile.specs.declared.parts.Load.{Load}
+use Rattle.safl_gates.specs.declared.loads.Load.{Load}
+use Rattle.safl_gates.specs.Sources.{IsSource, AreSources, Builds}
+use Rattle.safl_gates.specs.Tables.{EachAt, load_in, sig_in, taken, taken_in, taken_at, taken_from, on_in, on_from, FitsIn, SomeFit, IsBitIn, BitsFit}
+use Rattle.safl_gates.proofs.Cells.{sources_length}
+use Rattle.safl_gates.proofs.Joining.{or_false}
+use Rattle.safl_gates.proofs.Building.{sources_kept}
 use Rattle.safl_compile.specs.declared.parts.Outcomes.{Outcomes}
-use Rattle.safl_compile.specs.Sources.{IsSource, AreSources, Builds}
-use Rattle.safl_compile.specs.Tables.{EachAt, load_in, sig_in, taken, taken_in, taken_at, taken_from, on_in, on_from, FitsIn, SomeFit, IsBitIn, BitsFit}
 use Rattle.safl_compile.specs.Stages.{OutcomesFit}
 use Rattle.safl_compile.specs.Edges.{one_below, bit_of, operands_in, IsBare, ShowsBits, ShowsLoads}
 use Rattle.safl_compile.proofs.Tables.{each_none, each_push}
-use Rattle.safl_compile.proofs.Cells.{sources_length}
-use Rattle.safl_compile.proofs.Joining.{or_false}
-use Rattle.safl_compile.proofs.Building.{sources_kept}
 
 -- ---- nothing is there
 

@@ -7,18 +7,19 @@ use Rattle.safl_net.specs.Netlist.{Netlist}
 use Rattle.safl_net.specs.Growth.{Val, Wired}
 use Rattle.safl_lower.specs.Bits.{on}
 use Rattle.safl_unit.specs.Equations.{Registers, Inputs, Choice, want}
+use Rattle.safl_gates.specs.declared.loads.Load.{Load}
+use Rattle.safl_gates.specs.Sources.{IsSource, Builds}
+use Rattle.safl_gates.specs.Tables.{pin, load_bit, bit_or, load_in, taken_in, one_word, FitsIn}
+use Rattle.safl_gates.proofs.Building.{source_kept}
+use Rattle.safl_gates.proofs.Kept.{maybe_load_kept}
 use Rattle.safl_compile.specs.declared.parts.Pins.{Pins}
-use Rattle.safl_compile.specs.declared.parts.Load.{Load}
 use Rattle.safl_compile.specs.declared.parts.Returns.{Returns}
 use Rattle.safl_compile.specs.declared.parts.Outcomes.{Outcomes}
 use Rattle.safl_compile.specs.declared.parts.Controls.{Controls}
-use Rattle.safl_compile.specs.Sources.{IsSource, Builds}
-use Rattle.safl_compile.specs.Tables.{pin, load_bit, bit_or, load_in, taken_in, one_word, FitsIn}
 use Rattle.safl_compile.specs.Cycles.{Cycle}
 use Rattle.safl_compile.specs.Stages.{HasReturns, HasOutcomes, HasGoes}
 use Rattle.safl_compile.specs.Finished.{HasControls}
-use Rattle.safl_compile.proofs.Building.{source_kept}
-use Rattle.safl_compile.proofs.Keeping.{cycle_before, maybe_load_kept}
+use Rattle.safl_compile.proofs.Keeping.{cycle_before}
 use Rattle.safl_compile.proofs.Tables.{pin_is}
 use Rattle.safl_compile.proofs.Granting.{gated, want_shown}
 use Rattle.safl_compile.proofs.Sites.{port_there}

@@ -13,9 +13,9 @@ use Rattle.safl_lower.specs.Typing as typed
 use Rattle.safl_unit.specs.Equations.{Choice}
 use Rattle.safl_unit.specs.Names.{names_of}
 use Rattle.safl_unit.specs.Layout.{lines, site_lines, unit_lines, function_wires, site_wires, layout_inputs, layout_registers, layout_wires}
+use Rattle.safl_gates.specs.Sources.{HasRoom}
 use Rattle.safl_compile.specs.Stages.{body_nodes}
 use Rattle.safl_net.specs.Netlist.{Netlist}
-use Rattle.safl_compile.specs.Sources.{HasRoom}
 use Rattle.safl_compile.specs.Finished.{input_line, open_register, open_wire, declared_signals, declared_net}
 use Rattle.safl_compile.proofs.Declaring.{map_long, param_lines_long, take_next, take_whole}
 use Rattle.safl_compile.proofs.Pinning.{few_below, few_sites, body_wires_count, few_calls}

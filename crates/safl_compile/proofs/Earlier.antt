@@ -6,7 +6,7 @@ use Rattle.safl_net.specs.declared.cell.Sig.{Sig}
 use Rattle.safl_net.specs.Netlist.{Netlist}
 use Rattle.safl_net.specs.Growth.{Val}
 use Rattle.std.proofs.lemmas.Option.{slice_get_read}
-use Rattle.safl_compile.specs.Tables.{on_from, BitsFit}
+use Rattle.safl_gates.specs.Tables.{on_from, BitsFit}
 use Rattle.safl_compile.specs.Edges.{one_below, turn, came, earlier, rival, ShowsBits}
 
 pub same_truth : (a b : Bool) → (a ≡ true → b ≡ true) → (b ≡ true → a ≡ true) → a ≡ b

@@ -16,21 +16,21 @@ use Rattle.safl_net.proofs.Saying.{says_on, says_output}
 use Rattle.safl_unit.specs.Equations.{Choice, many}
 use Rattle.safl_unit.specs.Names.{Names, names_of, of_function, of_site, of_param}
 use Rattle.safl_unit.specs.Layout.{named, layout_inputs, layout_registers, layout_wires}
+use Rattle.safl_gates.specs.Sources.{IsSource, AreSources}
+use Rattle.safl_gates.specs.Tables.{pin, EachAt}
+use Rattle.safl_gates.proofs.Cells.{sources_length}
 use Rattle.safl_compile.specs.declared.parts.UnitPins.{UnitPins}
 use Rattle.safl_compile.specs.declared.parts.MemberPins.{MemberPins}
 use Rattle.safl_compile.specs.declared.parts.SitePins.{SitePins}
 use Rattle.safl_compile.specs.declared.parts.Bank.{Bank}
 use Rattle.safl_compile.specs.declared.parts.Pins.{Pins}
 use Rattle.safl_compile.specs.declared.parts.Controls.{Controls}
-use Rattle.safl_compile.specs.Sources.{IsSource, AreSources}
-use Rattle.safl_compile.specs.Tables.{pin, EachAt}
 use Rattle.safl_compile.specs.Cycles.{BankFits}
 use Rattle.safl_compile.specs.Ties.{Tie, line_of, sig_of, ties, tied, unit_ties, member_ties, function_ties, call_registers, site_ties, register_ties, want_wire, body_ties, call_ties, wire_ties}
 use Rattle.safl_compile.specs.Finished.{input_line, open_register, open_wire, set_register, set_wire, declared_net, ArePins, ControlsFit, Finishes}
 use Rattle.safl_compile.specs.Setting.{with_kinds, next_kind, copy_kind, Takes, IsSet}
 use Rattle.safl_compile.proofs.Declaring.{map_long, map_get}
 use Rattle.safl_compile.proofs.Tables.{get_front}
-use Rattle.safl_compile.proofs.Cells.{sources_length}
 use Rattle.safl_compile.proofs.Lining.{register_lines, there}
 use Rattle.safl_compile.proofs.Listing.{wire_lines, bodies_long, calls_long}
 use Rattle.safl_compile.proofs.Setting.{kinded, takes_kept, kinds_list, kinds_long, kinds_outputs, registers_set, wires_set, IsOpen, settles_nexts, settles_copies, says_nexts, says_copies, tidy_kinds}

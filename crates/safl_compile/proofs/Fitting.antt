@@ -12,11 +12,11 @@ use Rattle.safl_net.proofs.Settling.{steady_by}
 use Rattle.safl_unit.specs.Equations.{Choice, many}
 use Rattle.safl_unit.specs.Names.{Names, names_of, of_function, of_site, of_param}
 use Rattle.safl_unit.specs.Layout.{named, layout_inputs, layout_registers, layout_wires}
+use Rattle.safl_gates.specs.Sources.{IsSource, AreSources}
 use Rattle.safl_compile.specs.declared.parts.UnitPins.{UnitPins}
 use Rattle.safl_compile.specs.declared.parts.MemberPins.{MemberPins}
 use Rattle.safl_compile.specs.declared.parts.SitePins.{SitePins}
 use Rattle.safl_compile.specs.declared.parts.Pins.{Pins}
-use Rattle.safl_compile.specs.Sources.{IsSource, AreSources}
 use Rattle.safl_compile.specs.Cycles.{UnitFits, MemberFits, SiteFits, PinsFit}
 use Rattle.safl_compile.specs.Ties.{Tie, line_of, tied, ties, numbered, unit_ties, member_ties, function_ties, call_registers, site_ties, register_ties}
 use Rattle.safl_compile.specs.Finished.{input_line, open_register, open_wire, declared_net, ArePins}

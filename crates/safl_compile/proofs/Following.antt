@@ -5,10 +5,10 @@ use Rattle.safl_check.specs.Program.{Program, unit_for}
 use Rattle.safl_check.specs.Readiness.{or_else}
 use Rattle.safl_net.specs.Growth.{Val, words}
 use Rattle.safl_unit.specs.Equations.{Registers, Inputs, Choice, many, ret, go, ends, starts, loads, loop_words, clears, starts_it, starts_other, or_word, next}
+use Rattle.safl_gates.specs.Tables.{one_word}
 use Rattle.safl_compile.specs.declared.parts.UnitPins.{UnitPins}
 use Rattle.safl_compile.specs.declared.parts.MemberPins.{MemberPins}
 use Rattle.safl_compile.specs.declared.parts.SitePins.{SitePins}
-use Rattle.safl_compile.specs.Tables.{one_word}
 use Rattle.safl_compile.specs.Cycles.{UnitShows, MemberShows, SiteShows}
 use Rattle.safl_compile.proofs.Crossing.{some_word}
 use Rattle.safl_compile.specs.Steps.{UnitStep, MemberStep, SiteStep}

@@ -12,13 +12,13 @@ use Rattle.safl_lower.specs.Bits.{on}
 use Rattle.safl_lower.specs.Entries.{gate}
 use Rattle.safl_lower.proofs.Kept.{same}
 use Rattle.safl_unit.specs.Equations.{Registers, Inputs, Choice, want, wants_at, go}
+use Rattle.safl_gates.specs.declared.loads.Load.{Load}
+use Rattle.safl_gates.specs.Sources.{IsSource, Builds}
+use Rattle.safl_gates.specs.Tables.{EachAt, BitsFit, IsBitIn, taken_at, taken_in, on_from, on_in, pin}
+use Rattle.safl_gates.proofs.Building.{source_kept}
 use Rattle.safl_compile.specs.declared.parts.Pins.{Pins}
-use Rattle.safl_compile.specs.declared.parts.Load.{Load}
-use Rattle.safl_compile.specs.Sources.{IsSource, Builds}
-use Rattle.safl_compile.specs.Tables.{EachAt, BitsFit, IsBitIn, taken_at, taken_in, on_from, on_in, pin}
 use Rattle.safl_compile.specs.Cycles.{InEachCycle}
 use Rattle.safl_compile.specs.Stages.{called, HasGoes}
-use Rattle.safl_compile.proofs.Building.{source_kept}
 use Rattle.safl_compile.proofs.Keeping.{cycle_before}
 use Rattle.safl_compile.proofs.Sites.{one_more, longer}
 use Rattle.safl_compile.proofs.Tables.{pin_get}

@@ -1,5 +1,5 @@
 -- What is known of a net is known of what is built on it.
-use Rattle.std.proofs.Common.{ℕ, List, Option, Some, None, Bool, slice_get}
+use Rattle.std.proofs.Common.{ℕ, List, Option, Bool, slice_get}
 use Rattle.safl_check.specs.Program.{Program}
 use Rattle.safl_net.specs.declared.cell.Sig.{Sig}
 use Rattle.safl_net.specs.Netlist.{Netlist}
@@ -7,44 +7,25 @@ use Rattle.safl_net.specs.Growth.{Val}
 use Rattle.safl_net.proofs.Growth.{wired_before}
 use Rattle.safl_lower.specs.declared.parts.SitePorts.{SitePorts}
 use Rattle.safl_unit.specs.Equations.{Registers, Inputs, Choice}
+use Rattle.safl_gates.specs.declared.loads.Load.{Load}
+use Rattle.safl_gates.specs.Sources.{Builds}
+use Rattle.safl_gates.specs.Tables.{load_in}
+use Rattle.safl_gates.proofs.Building.{source_kept, sources_kept}
+use Rattle.safl_gates.proofs.Kept.{load_kept, maybe_load_kept, some_kept, bits_kept}
 use Rattle.safl_compile.specs.declared.parts.UnitPins.{UnitPins}
 use Rattle.safl_compile.specs.declared.parts.MemberPins.{MemberPins}
 use Rattle.safl_compile.specs.declared.parts.SitePins.{SitePins}
 use Rattle.safl_compile.specs.declared.parts.Bank.{Bank}
 use Rattle.safl_compile.specs.declared.parts.Pins.{Pins}
-use Rattle.safl_compile.specs.declared.parts.Load.{Load}
 use Rattle.safl_compile.specs.declared.parts.Returns.{Returns}
 use Rattle.safl_compile.specs.declared.parts.Outcomes.{Outcomes}
 use Rattle.safl_compile.specs.declared.parts.Controls.{Controls}
-use Rattle.safl_compile.specs.Sources.{Builds}
-use Rattle.safl_compile.specs.Tables.{load_in, sig_in, LoadFits, FitsIn, LoadsFit, SomeFit, IsBitIn, BitsFit}
 use Rattle.safl_compile.specs.Cycles.{UnitFits, MemberFits, SiteFits, BankFits, PinsFit, Cycle, InEachCycle}
 use Rattle.safl_compile.specs.Stages.{PortFits, HasReturns, HasOutcomes, HasGoes, HasEnds, HasLoads, HasBits, HasNext}
 use Rattle.safl_compile.specs.Finished.{ControlsFit, HasControls}
-use Rattle.safl_compile.proofs.Building.{source_kept, sources_kept}
 
 module _ {a b : Netlist} {most : ℕ} (h : Builds a b most) where
   -- ---- widths and sources
-
-  pub load_kept : {l : Load} {ws : List ℕ} → LoadFits a l ws → LoadFits b l ws
-  load_kept q = record { bit = source_kept h q.bit; words = sources_kept h q.words }
-
-  pub maybe_load_kept : (o : Option Load) (ws : List ℕ) → FitsIn a o ws → FitsIn b o ws
-  maybe_load_kept None ws q = tt
-  maybe_load_kept (Some l) ws q = load_kept q
-
-  pub loads_kept : (xs : List Load) (ws : ℕ → List ℕ) → LoadsFit a xs ws → LoadsFit b xs ws
-  loads_kept xs ws q = λ i l e. load_kept (q i l e)
-
-  pub some_kept : (xs : List (Option Load)) (ws : ℕ → List ℕ) → SomeFit a xs ws → SomeFit b xs ws
-  some_kept xs ws q = λ i. maybe_load_kept (load_in (slice_get xs i)) (ws i) (q i)
-
-  pub maybe_bit_kept : (o : Option Sig) → IsBitIn a o → IsBitIn b o
-  maybe_bit_kept None q = tt
-  maybe_bit_kept (Some s) q = source_kept h q
-
-  pub bits_kept : (xs : List (Option Sig)) → BitsFit a xs → BitsFit b xs
-  bits_kept xs q = λ i. maybe_bit_kept (sig_in (slice_get xs i)) (q i)
 
   pub port_kept : {p : SitePorts} {w : ℕ} → PortFits a p w → PortFits b p w
   port_kept q = record { sent = source_kept h q.sent; returned = source_kept h q.returned; value = source_kept h q.value }
@@ -98,9 +79,9 @@ module _ {a b : Netlist} {most : ℕ} (h : Builds a b most) where
       ends_length = q.fits.ends_length;
       loops_length = q.fits.loops_length;
       wants_length = q.fits.wants_length;
-      ends = λ f l e. load_kept (q.fits.ends f l e);
-      loops = some_kept o.loops.items C.params q.fits.loops;
-      wants = λ k l e. load_kept (q.fits.wants k l e);
+      ends = λ f l e. load_kept h (q.fits.ends f l e);
+      loops = some_kept h o.loops.items C.params q.fits.loops;
+      wants = λ k l e. load_kept h (q.fits.wants k l e);
     };
     shows = λ v r i c. q.shows v r i (cycle_before c);
   }
@@ -109,13 +90,13 @@ module _ {a b : Netlist} {most : ℕ} (h : Builds a b most) where
   goes_kept q = record { count = q.count; fits = λ k l. source_kept h (q.fits k l); shows = λ v r i c. q.shows v r i (cycle_before c) }
 
   pub ends_kept : {C : Program} {P : Choice} {p : Pins} {all : List (Option Load)} → HasEnds C P a p all → HasEnds C P b p all
-  ends_kept {C} {P} {p} {all} q = record { count = q.count; fits = λ u. maybe_load_kept (load_in (slice_get all u)) _ (q.fits u); shows = λ v r i c. q.shows v r i (cycle_before c) }
+  ends_kept {C} {P} {p} {all} q = record { count = q.count; fits = λ u. maybe_load_kept h (load_in (slice_get all u)) _ (q.fits u); shows = λ v r i c. q.shows v r i (cycle_before c) }
 
   pub all_loads_kept : {C : Program} {P : Choice} {p : Pins} {all : List (Option Load)} → HasLoads C P a p all → HasLoads C P b p all
-  all_loads_kept {C} {P} {p} {all} q = record { count = q.count; fits = some_kept all C.params q.fits; shows = λ v r i c. q.shows v r i (cycle_before c) }
+  all_loads_kept {C} {P} {p} {all} q = record { count = q.count; fits = some_kept h all C.params q.fits; shows = λ v r i c. q.shows v r i (cycle_before c) }
 
   pub tests_kept : (C : Program) (P : Choice) (p : Pins) (bits : List (Option Sig)) (test : Registers → Inputs → ℕ → Bool) → HasBits C P a p bits test → HasBits C P b p bits test
-  tests_kept C P p bits test q = record { count = q.count; fits = bits_kept bits q.fits; shows = λ v r i c. q.shows v r i (cycle_before c) }
+  tests_kept C P p bits test q = record { count = q.count; fits = bits_kept h bits q.fits; shows = λ v r i c. q.shows v r i (cycle_before c) }
 
   pub next_kept : {C : Program} {P : Choice} {p : Pins} {r : Bank} → HasNext C P a p r → HasNext C P b p r
   next_kept q = record { fits = bank_kept q.fits; shows = λ v r i c. q.shows v r i (cycle_before c) }

@@ -1,12 +1,9 @@
-pub mod Building
 pub mod Keeping
 pub mod Tables
 pub mod Groups
 pub mod Declaring
-pub mod Cells
 pub mod Pinning
 pub mod Ordering
-pub mod Joining
 pub mod Declared
 pub mod Members
 pub mod Lining

@@ -7,11 +7,11 @@ use Rattle.safl_net.specs.declared.cell.Sig.{Sig}
 use Rattle.safl_unit.specs.Equations.{Choice, many}
 use Rattle.safl_unit.specs.Names.{Names, names_of, of_function, of_param}
 use Rattle.safl_unit.specs.Layout.{Line, lines, unit_lines, site_lines, layout_registers}
+use Rattle.safl_gates.specs.Tables.{EachAt}
 use Rattle.safl_compile.specs.declared.parts.UnitPins.{UnitPins}
 use Rattle.safl_compile.specs.declared.parts.MemberPins.{MemberPins}
 use Rattle.safl_compile.specs.declared.parts.SitePins.{SitePins}
 use Rattle.safl_compile.specs.declared.parts.Bank.{Bank}
-use Rattle.safl_compile.specs.Tables.{EachAt}
 use Rattle.safl_compile.specs.Ties.{Tie, line_of, ties, tied, unit_ties, member_ties, function_ties, call_registers, site_ties, register_ties}
 use Rattle.safl_compile.specs.Declaring.{unit_head, at_line, argument_lines, function_lines}
 use Rattle.safl_compile.proofs.Declaring.{map_more, param_lines_long}

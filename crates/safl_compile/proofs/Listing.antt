@@ -9,12 +9,12 @@ use Rattle.safl_net.specs.declared.cell.Sig.{Sig}
 use Rattle.safl_unit.specs.Equations.{Choice, many}
 use Rattle.safl_unit.specs.Names.{Names, names_of, of_function, of_site, of_param}
 use Rattle.safl_unit.specs.Layout.{Line, lines, function_wires, site_wires, layout_wires}
+use Rattle.safl_gates.specs.Tables.{pin}
 use Rattle.safl_compile.specs.declared.parts.UnitPins.{UnitPins}
 use Rattle.safl_compile.specs.declared.parts.MemberPins.{MemberPins}
 use Rattle.safl_compile.specs.declared.parts.SitePins.{SitePins}
 use Rattle.safl_compile.specs.declared.parts.Bank.{Bank}
 use Rattle.safl_compile.specs.declared.parts.Controls.{Controls}
-use Rattle.safl_compile.specs.Tables.{pin}
 use Rattle.safl_compile.specs.Ties.{Tie, line_of, sig_of, ties, tied, unit_ties, member_ties, function_ties, call_registers, site_ties, register_ties, want_wire, body_ties, call_ties, wire_ties}
 use Rattle.safl_compile.specs.Declaring.{argument_lines}
 use Rattle.safl_compile.specs.Setting.{at_ties, own_ties}

@@ -30,15 +30,15 @@ use Rattle.safl_lower.specs.Lowering.{back_of, sent_of, port_of, returned_word, 
 use Rattle.safl_lower.specs.Bodies.{IsBody, CanLower, Bodies}
 use Rattle.safl_lower.proofs.FromProgram.{one_width}
 use Rattle.safl_unit.specs.Equations.{Registers, Choice, on_wires, path, body_says, body_wants, end_word, goes_to, loop_from}
+use Rattle.safl_gates.specs.Sources.{IsSource, AreSources, Builds, HasRoom}
+use Rattle.safl_gates.specs.Tables.{LoadFits}
+use Rattle.safl_gates.proofs.Building.{builds_on, builds_within, sources_kept}
 use Rattle.safl_compile.specs.declared.parts.Returns.{Returns}
 use Rattle.safl_compile.specs.declared.parts.MemberPins.{MemberPins}
 use Rattle.safl_compile.specs.declared.parts.Pins.{Pins}
-use Rattle.safl_compile.specs.Sources.{IsSource, AreSources, Builds, HasRoom}
-use Rattle.safl_compile.specs.Tables.{LoadFits}
 use Rattle.safl_compile.specs.Cycles.{PinsFit, InEachCycle}
 use Rattle.safl_compile.specs.Stages.{PortFits, ReturnsFit, ReturnsShow, HasReturns}
 use Rattle.safl_compile.specs.Outcomes.{ArePorts, row_load, BodySources, BodyShows, HasBody}
-use Rattle.safl_compile.proofs.Building.{builds_on, builds_within, sources_kept}
 use Rattle.safl_compile.proofs.Keeping.{returns_kept, cycle_before}
 
 -- ---- the sites of a body

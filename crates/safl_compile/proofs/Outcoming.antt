@@ -15,16 +15,17 @@ use Rattle.safl_lower.specs.Bits.{on}
 use Rattle.safl_lower.specs.Entries.{gate}
 use Rattle.safl_lower.specs.Rows.{given}
 use Rattle.safl_unit.specs.Equations.{Registers, Inputs, Choice, end_word, body_wants, body_says, goes_to, loop_from}
-use Rattle.safl_compile.specs.declared.parts.Load.{Load}
+use Rattle.safl_gates.specs.declared.loads.Load.{Load}
+use Rattle.safl_gates.specs.Sources.{IsSource, AreSources, Builds}
+use Rattle.safl_gates.specs.Tables.{EachAt, taken, taken_in, taken_at, taken_from, load_in, one_word, FitsIn, LoadFits, LoadsFit, SomeFit}
+use Rattle.safl_gates.proofs.Kept.{loads_kept}
+use Rattle.safl_gates.proofs.Cells.{one_source}
 use Rattle.safl_compile.specs.declared.parts.Pins.{Pins}
 use Rattle.safl_compile.specs.declared.parts.Outcomes.{Outcomes}
-use Rattle.safl_compile.specs.Sources.{IsSource, AreSources, Builds}
-use Rattle.safl_compile.specs.Tables.{EachAt, taken, taken_in, taken_at, taken_from, load_in, one_word, FitsIn, LoadFits, LoadsFit, SomeFit}
 use Rattle.safl_compile.specs.Cycles.{PinsFit, Cycle, InEachCycle}
 use Rattle.safl_compile.specs.Stages.{called, HasOutcomes}
 use Rattle.safl_compile.specs.Outcomes.{row_load, BodyShows, HasBody, AddsRows, JoinsRows}
-use Rattle.safl_compile.proofs.Keeping.{loads_kept, cycle_before}
-use Rattle.safl_compile.proofs.Cells.{one_source}
+use Rattle.safl_compile.proofs.Keeping.{cycle_before}
 use Rattle.safl_compile.proofs.Tables.{each_none, each_push}
 use Rattle.safl_compile.proofs.Rows.{or_nothing, adds_each}
 use Rattle.safl_compile.proofs.Lowered.{side, first_site_least}

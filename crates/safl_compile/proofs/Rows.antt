@@ -11,12 +11,12 @@ use Rattle.safl_lower.specs.Entries.{gate}
 use Rattle.safl_net.specs.Netlist.{Netlist}
 use Rattle.safl_lower.specs.Rows.{given, Untaken, tail_cost}
 use Rattle.safl_lower.specs.Typing.{nodes}
-use Rattle.safl_compile.specs.declared.parts.Load.{Load}
-use Rattle.safl_compile.specs.Sources.{IsSource, AreSources, Builds}
-use Rattle.safl_compile.specs.Tables.{EachAt, taken_from, LoadFits}
+use Rattle.safl_gates.specs.declared.loads.Load.{Load}
+use Rattle.safl_gates.specs.Sources.{IsSource, AreSources, Builds}
+use Rattle.safl_gates.specs.Tables.{EachAt, taken_from, LoadFits}
+use Rattle.safl_gates.proofs.Building.{source_kept, sources_kept}
 use Rattle.safl_compile.specs.Stages.{body_nodes}
 use Rattle.safl_compile.specs.Outcomes.{row_load, IsRow, AddsRows, JoinsRows}
-use Rattle.safl_compile.proofs.Building.{source_kept, sources_kept}
 use Rattle.safl_compile.proofs.Tables.{each_push}
 
 -- ---- counts

@@ -19,17 +19,17 @@ use Rattle.safl_unit.specs.Equations.{Registers, Inputs, Choice, next}
 use Rattle.safl_unit.specs.Names.{Names, names_of, of_function, of_site, registers_now, registers_next, input_now}
 use Rattle.safl_unit.specs.Layout.{Line, lines, site_wires, each_line, input_kind, register_kind, wire_kind, output_lines, layout_inputs, layout_registers, layout_wires, layout_outputs, temporaries, IsCopy, HasPlan}
 use Rattle.safl_unit.specs.Scheme.{Agree, Wires, Scheme}
+use Rattle.safl_gates.specs.Tables.{pin}
+use Rattle.safl_gates.proofs.Cells.{sources_length}
 use Rattle.safl_compile.specs.declared.parts.Bank.{Bank}
 use Rattle.safl_compile.specs.declared.parts.Pins.{Pins}
 use Rattle.safl_compile.specs.declared.parts.Controls.{Controls}
-use Rattle.safl_compile.specs.Tables.{pin}
 use Rattle.safl_compile.specs.Cycles.{PinsFit, Cycle}
 use Rattle.safl_compile.specs.Stages.{HasNext}
 use Rattle.safl_compile.specs.Ties.{Tie, line_of, sig_of, numbered, ties, register_ties, want_wire, body_ties, call_ties, wire_ties}
 use Rattle.safl_compile.specs.Finished.{input_line, open_register, open_wire, set_register, set_wire, declared_signals, declared_net, ArePins, HasControls, Finishes}
 use Rattle.safl_compile.proofs.Declaring.{map_long, map_get, params_long}
 use Rattle.safl_compile.proofs.Tables.{get_front}
-use Rattle.safl_compile.proofs.Cells.{sources_length}
 use Rattle.safl_compile.proofs.Members.{Among, among_left, among_right, among_ties, among_cond}
 use Rattle.safl_compile.proofs.Lining.{IsFull, register_lines}
 use Rattle.safl_compile.proofs.Listing.{wire_lines, bodies_long, calls_long}

@@ -6,6 +6,9 @@ use Rattle.safl_net.specs.Growth.{Val}
 use Rattle.safl_lower.specs.Bits.{on}
 use Rattle.safl_lower.specs.Entries.{gate}
 use Rattle.safl_unit.specs.Equations.{Registers, Choice, ret, on_wires, word_on}
+use Rattle.safl_gates.specs.Sources.{IsSource, Builds}
+use Rattle.safl_gates.specs.Tables.{EachAt, pin}
+use Rattle.safl_gates.proofs.Building.{source_kept}
 use Rattle.safl_compile.specs.declared.parts.UnitPins.{UnitPins}
 use Rattle.safl_compile.specs.declared.parts.SitePins.{SitePins}
 use Rattle.safl_compile.specs.declared.returns.SiteReturn.{SiteReturn}
@@ -14,11 +17,8 @@ use Rattle.safl_net.specs.Growth.{Wired}
 use Rattle.safl_lower.specs.Lowering.{returned_word, was_sent}
 use Rattle.safl_compile.specs.declared.parts.Pins.{Pins}
 use Rattle.safl_compile.specs.declared.parts.Returns.{Returns}
-use Rattle.safl_compile.specs.Sources.{IsSource, Builds}
-use Rattle.safl_compile.specs.Tables.{EachAt, pin}
 use Rattle.safl_compile.specs.Cycles.{UnitShows, SiteShows, InEachCycle}
 use Rattle.safl_compile.specs.Stages.{PortFits, HasReturns}
-use Rattle.safl_compile.proofs.Building.{source_kept}
 use Rattle.safl_compile.proofs.Keeping.{port_kept, cycle_before}
 use Rattle.safl_compile.proofs.Tables.{each_push, pin_get}
 use Rattle.safl_compile.specs.Returning.{SiteShown}

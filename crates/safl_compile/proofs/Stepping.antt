@@ -9,16 +9,16 @@ use Rattle.safl_word.specs.Words.{Word}
 use Rattle.safl_lower.specs.Bits.{on}
 use Rattle.safl_unit.specs.Equations.{Choice, many, or_word}
 use Rattle.safl_net.proofs.Growth.{wired_before}
+use Rattle.safl_gates.specs.declared.loads.Load.{Load}
+use Rattle.safl_gates.specs.Sources.{IsSource, AreSources, Builds}
+use Rattle.safl_gates.specs.Tables.{EachAt, pin, load_in, sig_in, taken_in, taken_from, on_in, on_from}
+use Rattle.safl_gates.proofs.Joining.{words_show}
 use Rattle.safl_compile.specs.declared.parts.UnitPins.{UnitPins}
 use Rattle.safl_compile.specs.declared.parts.MemberPins.{MemberPins}
 use Rattle.safl_compile.specs.declared.parts.SitePins.{SitePins}
-use Rattle.safl_compile.specs.declared.parts.Load.{Load}
-use Rattle.safl_compile.specs.Sources.{IsSource, AreSources, Builds}
-use Rattle.safl_compile.specs.Tables.{EachAt, pin, load_in, sig_in, taken_in, taken_from, on_in, on_from}
 use Rattle.safl_compile.specs.Cycles.{UnitFits, MemberFits, SiteFits}
 use Rattle.safl_compile.specs.Steps.{UnitStep, MemberStep, SiteStep, UnitsNext, MembersNext, SitesNext}
 use Rattle.safl_compile.proofs.Keeping.{unit_kept, member_kept, site_kept}
-use Rattle.safl_compile.proofs.Joining.{words_show}
 use Rattle.safl_compile.proofs.Sites.{first_only}
 use Rattle.safl_compile.proofs.Tables.{each_none, each_push}
 

@@ -11,11 +11,11 @@ use Rattle.safl_net.specs.Growth.{Val, words}
 use Rattle.safl_unit.specs.Equations.{Registers, Choice, many}
 use Rattle.safl_unit.specs.Names.{Names, names_of, of_function, of_site, of_param, is_unit, is_site, as_word, as_words, view}
 use Rattle.safl_unit.specs.Layout.{named}
+use Rattle.safl_gates.specs.Tables.{EachAt}
 use Rattle.safl_compile.specs.declared.parts.UnitPins.{UnitPins}
 use Rattle.safl_compile.specs.declared.parts.MemberPins.{MemberPins}
 use Rattle.safl_compile.specs.declared.parts.SitePins.{SitePins}
 use Rattle.safl_compile.specs.declared.parts.Bank.{Bank}
-use Rattle.safl_compile.specs.Tables.{EachAt}
 use Rattle.safl_compile.specs.Cycles.{UnitShows, MemberShows, SiteShows, BankShows}
 use Rattle.safl_compile.specs.Ties.{Tie, tied, ties, unit_ties, member_ties, function_ties, call_registers, site_ties, register_ties}
 use Rattle.safl_compile.proofs.Declaring.{params_long}

@@ -8,20 +8,20 @@ use Rattle.safl_net.specs.Netlist.{Netlist}
 use Rattle.safl_lower.specs.Bits.{on}
 use Rattle.safl_net.proofs.Growth.{wired_before}
 use Rattle.safl_unit.specs.Equations.{Choice, starts, clears, starts_it, starts_other}
+use Rattle.safl_gates.specs.declared.loads.Load.{Load}
+use Rattle.safl_gates.specs.Tables.{pin, taken_from, on_from}
+use Rattle.safl_gates.specs.Sources.{Builds}
 use Rattle.safl_compile.specs.declared.parts.Pins.{Pins}
 use Rattle.safl_compile.specs.declared.parts.Bank.{Bank}
 use Rattle.safl_compile.specs.declared.parts.UnitPins.{UnitPins}
 use Rattle.safl_compile.specs.declared.parts.MemberPins.{MemberPins}
-use Rattle.safl_compile.specs.declared.parts.Load.{Load}
 use Rattle.safl_compile.specs.declared.parts.Returns.{Returns}
 use Rattle.safl_compile.specs.declared.parts.Outcomes.{Outcomes}
 use Rattle.safl_compile.specs.declared.events.Events.{Events}
-use Rattle.safl_compile.specs.Tables.{pin, taken_from, on_from}
 use Rattle.safl_compile.specs.Cycles.{PinsFit, UnitShows}
 use Rattle.safl_compile.specs.Stages.{HasReturns, HasOutcomes, HasGoes, HasNext}
 use Rattle.safl_compile.specs.Steps.{UnitsNext, MembersNext, SitesNext}
 use Rattle.safl_compile.specs.Coming.{HasEvents, EventsFit}
-use Rattle.safl_compile.specs.Sources.{Builds}
 use Rattle.safl_compile.proofs.Keeping.{unit_kept, member_kept, ends_kept, all_loads_kept, tests_kept}
 use Rattle.safl_compile.proofs.Sites.{port_there}
 use Rattle.safl_compile.proofs.Following.{unit_follows, member_follows, site_follows}

@@ -13,11 +13,11 @@ use Rattle.safl_unit.specs.Equations.{Registers, Inputs, Choice, want, wants_at,
 use Rattle.safl_core.specs.Picks.{first}
 use Rattle.safl_unit.specs.Names.{Names, of_function, of_site, bit}
 use Rattle.safl_unit.specs.Scheme.{Wires}
+use Rattle.safl_gates.specs.Sources.{IsSource}
+use Rattle.safl_gates.specs.Tables.{pin}
 use Rattle.safl_compile.specs.declared.parts.UnitPins.{UnitPins}
 use Rattle.safl_compile.specs.declared.parts.Pins.{Pins}
 use Rattle.safl_compile.specs.declared.parts.Controls.{Controls}
-use Rattle.safl_compile.specs.Sources.{IsSource}
-use Rattle.safl_compile.specs.Tables.{pin}
 use Rattle.safl_compile.specs.Cycles.{PinsFit, Cycle}
 use Rattle.safl_compile.specs.Finished.{HasControls}
 

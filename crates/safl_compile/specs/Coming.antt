@@ -3,9 +3,9 @@ use Rattle.std.specs.Prelude.{◌≡◌, [], ◌∷◌, length}
 use Rattle.safl_check.specs.Program.{Program}
 use Rattle.safl_net.specs.Netlist.{Netlist}
 use Rattle.safl_unit.specs.Equations.{Choice}
+use Rattle.safl_gates.specs.Tables.{SomeFit, BitsFit}
 use Rattle.safl_compile.specs.declared.parts.Pins.{Pins}
 use Rattle.safl_compile.specs.declared.events.Events.{Events}
-use Rattle.safl_compile.specs.Tables.{SomeFit, BitsFit}
 use Rattle.safl_compile.specs.Stages.{HasEnds, HasLoads, HasStarts, HasClears, HasEntries, HasRivals}
 
 pub record HasEvents (C : Program) (P : Choice) (n : Netlist) (p : Pins) (e : Events) : Type 0 where

@@ -6,13 +6,13 @@ use Rattle.safl_net.specs.Growth.{Val, words, Wired}
 use Rattle.safl_lower.specs.Bits.{on}
 use Rattle.safl_sites.specs.Planned.{PlannedProgram, arbiter_of, kept_of}
 use Rattle.safl_unit.specs.Equations.{Registers, Inputs, Choice, many}
+use Rattle.safl_gates.specs.Sources.{IsSource, AreSources}
+use Rattle.safl_gates.specs.Tables.{EachAt}
 use Rattle.safl_compile.specs.declared.parts.UnitPins.{UnitPins}
 use Rattle.safl_compile.specs.declared.parts.MemberPins.{MemberPins}
 use Rattle.safl_compile.specs.declared.parts.SitePins.{SitePins}
 use Rattle.safl_compile.specs.declared.parts.Bank.{Bank}
 use Rattle.safl_compile.specs.declared.parts.Pins.{Pins}
-use Rattle.safl_compile.specs.Sources.{IsSource, AreSources}
-use Rattle.safl_compile.specs.Tables.{EachAt}
 
 -- the arbiters and the kept words of a plan
 abbrev pub choice_of : PlannedProgram → Choice

@@ -5,10 +5,10 @@ use Rattle.safl_net.specs.Netlist.{Netlist, Signal}
 use Rattle.safl_unit.specs.Equations.{Choice, many}
 use Rattle.safl_unit.specs.Names.{Names, of_function, of_param, of_site}
 use Rattle.safl_unit.specs.Layout.{Line, lines, named, site_lines}
+use Rattle.safl_gates.specs.Tables.{EachAt}
 use Rattle.safl_compile.specs.declared.parts.UnitPins.{UnitPins}
 use Rattle.safl_compile.specs.declared.parts.MemberPins.{MemberPins}
 use Rattle.safl_compile.specs.declared.parts.SitePins.{SitePins}
-use Rattle.safl_compile.specs.Tables.{EachAt}
 use Rattle.safl_compile.specs.Ties.{sig_of, numbered, unit_ties, member_ties, function_ties, site_ties, call_registers, ties}
 
 -- a net with more signals

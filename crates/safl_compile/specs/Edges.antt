@@ -5,8 +5,8 @@ use Rattle.safl_check.specs.Program.{Program}
 use Rattle.safl_net.specs.declared.cell.Sig.{Sig}
 use Rattle.safl_net.specs.Netlist.{Netlist}
 use Rattle.safl_net.specs.Growth.{Val, Wired, words}
-use Rattle.safl_compile.specs.declared.parts.Load.{Load}
-use Rattle.safl_compile.specs.Tables.{EachAt, taken_from, on_from, SomeFit, BitsFit}
+use Rattle.safl_gates.specs.declared.loads.Load.{Load}
+use Rattle.safl_gates.specs.Tables.{EachAt, taken_from, on_from, SomeFit, BitsFit}
 
 -- it holds of a number below n
 unfoldable pub one_below : (ℕ → Bool) → ℕ → Bool

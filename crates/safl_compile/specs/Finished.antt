@@ -9,12 +9,12 @@ use Rattle.safl_lower.specs.Bits.{on}
 use Rattle.safl_unit.specs.Equations.{Choice, many, end_word, loop_words, want, ret, go}
 use Rattle.safl_unit.specs.Names.{Names}
 use Rattle.safl_unit.specs.Layout.{Line, layout_inputs, layout_registers, layout_wires}
+use Rattle.safl_gates.specs.Sources.{IsSource}
+use Rattle.safl_gates.specs.Tables.{pin, EachAt}
 use Rattle.safl_compile.specs.declared.parts.UnitPins.{UnitPins}
 use Rattle.safl_compile.specs.declared.parts.Bank.{Bank}
 use Rattle.safl_compile.specs.declared.parts.Pins.{Pins}
 use Rattle.safl_compile.specs.declared.parts.Controls.{Controls}
-use Rattle.safl_compile.specs.Sources.{IsSource}
-use Rattle.safl_compile.specs.Tables.{pin, EachAt}
 use Rattle.safl_compile.specs.Cycles.{InEachCycle}
 use Rattle.safl_compile.specs.Ties.{Tie, sig_of, numbered, register_ties, wire_ties}
 

@@ -1,5 +1,3 @@
-pub mod Sources
-pub mod Tables
 pub mod Cycles
 pub mod Stages
 pub mod Ties

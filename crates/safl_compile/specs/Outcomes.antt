@@ -14,10 +14,10 @@ use Rattle.safl_lower.specs.Entries.{gate}
 use Rattle.safl_lower.specs.Rows.{given, Untaken, tail_cost}
 use Rattle.safl_lower.specs.Typing.{nodes}
 use Rattle.safl_unit.specs.Equations.{Registers, Choice, end_word, body_wants, loop_from}
-use Rattle.safl_compile.specs.declared.parts.Load.{Load}
+use Rattle.safl_gates.specs.declared.loads.Load.{Load}
+use Rattle.safl_gates.specs.Sources.{IsSource}
+use Rattle.safl_gates.specs.Tables.{EachAt, taken_from, LoadFits}
 use Rattle.safl_compile.specs.declared.parts.Pins.{Pins}
-use Rattle.safl_compile.specs.Sources.{IsSource}
-use Rattle.safl_compile.specs.Tables.{EachAt, taken_from, LoadFits}
 use Rattle.safl_compile.specs.Cycles.{InEachCycle}
 
 -- the ports of f's body: those of its own sites, and the group of its function

@@ -10,13 +10,13 @@ use Rattle.safl_lower.specs.Bits.{on}
 use Rattle.safl_lower.specs.Typing.{nodes}
 use Rattle.safl_lower.specs.Lowering.{returned_word, was_sent}
 use Rattle.safl_unit.specs.Equations.{Registers, Inputs, Choice, ret, on_wires, body_wants, end_word, loop_words, go, ends, loads, starts, clears, starts_it, starts_other, next}
+use Rattle.safl_gates.specs.declared.loads.Load.{Load}
+use Rattle.safl_gates.specs.Sources.{IsSource}
+use Rattle.safl_gates.specs.Tables.{pin, taken_at, taken_from, on_from, one_word, LoadsFit, SomeFit, BitsFit}
 use Rattle.safl_compile.specs.declared.parts.Bank.{Bank}
 use Rattle.safl_compile.specs.declared.parts.Pins.{Pins}
-use Rattle.safl_compile.specs.declared.parts.Load.{Load}
 use Rattle.safl_compile.specs.declared.parts.Returns.{Returns}
 use Rattle.safl_compile.specs.declared.parts.Outcomes.{Outcomes}
-use Rattle.safl_compile.specs.Sources.{IsSource}
-use Rattle.safl_compile.specs.Tables.{pin, taken_at, taken_from, on_from, one_word, LoadsFit, SomeFit, BitsFit}
 use Rattle.safl_compile.specs.Cycles.{BankFits, BankShows, InEachCycle}
 
 -- ---- what the sites show

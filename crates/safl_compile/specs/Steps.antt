@@ -7,11 +7,11 @@ use Rattle.safl_net.specs.Netlist.{Netlist}
 use Rattle.safl_net.specs.Growth.{Val, Wired, words}
 use Rattle.safl_lower.specs.Bits.{on}
 use Rattle.safl_unit.specs.Equations.{Choice, many, or_word}
-use Rattle.safl_compile.specs.declared.parts.Load.{Load}
+use Rattle.safl_gates.specs.declared.loads.Load.{Load}
+use Rattle.safl_gates.specs.Tables.{EachAt, pin, taken_from, on_from}
 use Rattle.safl_compile.specs.declared.parts.UnitPins.{UnitPins}
 use Rattle.safl_compile.specs.declared.parts.MemberPins.{MemberPins}
 use Rattle.safl_compile.specs.declared.parts.SitePins.{SitePins}
-use Rattle.safl_compile.specs.Tables.{EachAt, pin, taken_from, on_from}
 use Rattle.safl_compile.specs.Cycles.{UnitFits, MemberFits, SiteFits}
 
 -- of a unit, by the word with which it ends, and whether it starts

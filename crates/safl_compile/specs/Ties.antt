@@ -5,12 +5,12 @@ use Rattle.safl_net.specs.declared.cell.Sig.{Sig}
 use Rattle.safl_unit.specs.Equations.{Choice, many}
 use Rattle.safl_unit.specs.Names.{Names, of_function, of_site, of_param}
 use Rattle.safl_unit.specs.Layout.{Line, lines, named, site_wires}
+use Rattle.safl_gates.specs.Tables.{pin}
 use Rattle.safl_compile.specs.declared.parts.UnitPins.{UnitPins}
 use Rattle.safl_compile.specs.declared.parts.MemberPins.{MemberPins}
 use Rattle.safl_compile.specs.declared.parts.SitePins.{SitePins}
 use Rattle.safl_compile.specs.declared.parts.Bank.{Bank}
 use Rattle.safl_compile.specs.declared.parts.Controls.{Controls}
-use Rattle.safl_compile.specs.Tables.{pin}
 
 -- a line and the signal that is tied to it
 abbrev pub Tie : Type 0

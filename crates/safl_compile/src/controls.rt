@@ -3,14 +3,15 @@
 ghost use Rattle.std.specs.Prelude.{◌≡◌, map, IfOk, OnOk};
 ghost use Rattle.safl_check.specs.Checked.{program_of};
 ghost use Rattle.safl_net.specs.Names.{IsTidy};
-ghost use Rattle.safl_compile.specs.Sources.{Builds, HasRoom};
-ghost use Rattle.safl_compile.specs.Tables.{load_bit, bit_or};
+ghost use Rattle.safl_gates.specs.Sources.{Builds, HasRoom};
+ghost use Rattle.safl_gates.specs.Tables.{load_bit, bit_or};
 ghost use Rattle.safl_compile.specs.Cycles.{choice_of, PinsFit};
 ghost use Rattle.safl_compile.specs.Stages.{HasReturns, HasOutcomes, HasGoes};
 ghost use Rattle.safl_compile.specs.Finished.{HasControls};
 
-use crate::gates::zero;
-use crate::parts::{Controls, Load, Outcomes, Pins, Returns};
+use crate::parts::{Controls, Outcomes, Pins, Returns};
+use safl_gates::gates::zero;
+use safl_gates::loads::Load;
 use safl_net::{Net, Sig};
 use safl_sites::Planned;
 use safl_word::NoMemory;

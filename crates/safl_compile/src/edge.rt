@@ -8,14 +8,14 @@ ghost use Rattle.safl_net.specs.Growth.{Val, Wired};
 ghost use Rattle.safl_lower.specs.Bits.{on};
 ghost use Rattle.safl_lower.specs.Entries.{gate};
 ghost use Rattle.safl_core.specs.Picks.{first};
-ghost use Rattle.safl_compile.specs.Sources.{IsSource, Builds, HasRoom};
-ghost use Rattle.safl_compile.specs.Tables.{pin, taken_at, taken_from, on_in, on_from, IsBitIn, BitsFit, SomeFit};
+ghost use Rattle.safl_gates.specs.Sources.{IsSource, Builds, HasRoom};
+ghost use Rattle.safl_gates.specs.Tables.{pin, taken_at, taken_from, on_in, on_from, IsBitIn, BitsFit, SomeFit};
 ghost use Rattle.safl_compile.specs.Stages.{OutcomesFit};
 ghost use Rattle.safl_compile.specs.Edges.{one_below, bit_of, operands_in, IsBare, ShowsBits, ShowsLoads};
 
-use crate::loads::{add_bit, add_load};
 use crate::names::main_function;
-use crate::parts::{Load, Outcomes};
+use crate::parts::Outcomes;
+use safl_gates::loads::{Load, add_bit, add_load};
 use safl_net::{Net, Sig};
 use safl_sites::Planned;
 use safl_word::NoMemory;

@@ -3,16 +3,17 @@
 ghost use Rattle.std.specs.Prelude.{◌≡◌, ℕ, suc, ◌+◌, ◌*◌, ◌≤◌, length, IfOk, OnOk};
 ghost use Rattle.safl_check.specs.Checked.{program_of};
 ghost use Rattle.safl_net.specs.Names.{IsTidy};
-ghost use Rattle.safl_compile.specs.Sources.{IsSource, Builds, HasRoom};
-ghost use Rattle.safl_compile.specs.Tables.{pin};
+ghost use Rattle.safl_gates.specs.Sources.{IsSource, Builds, HasRoom};
+ghost use Rattle.safl_gates.specs.Tables.{pin};
 ghost use Rattle.safl_compile.specs.declared.parts.Pins.{Pins};
 ghost use Rattle.safl_compile.specs.Cycles.{choice_of};
 ghost use Rattle.safl_compile.specs.Stages.{OutcomesFit, HasOutcomes, HasGoes};
 ghost use Rattle.safl_compile.specs.Coming.{HasEvents};
 
 use crate::edge::{function_entries, function_loads, unit_clears, unit_ends, unit_starts};
-use crate::parts::{Load, Outcomes};
+use crate::parts::Outcomes;
 use crate::rivals::function_rivals;
+use safl_gates::loads::Load;
 use safl_net::{Net, Sig};
 use safl_sites::Planned;
 use safl_word::NoMemory;

@@ -5,14 +5,14 @@ ghost use Rattle.safl_check.specs.Checked.{program_of};
 ghost use Rattle.safl_net.specs.Names.{IsTidy};
 ghost use Rattle.safl_net.specs.Growth.{Val, Wired};
 ghost use Rattle.safl_lower.specs.Bits.{on};
-ghost use Rattle.safl_compile.specs.Sources.{IsSource, Builds, HasRoom};
-ghost use Rattle.safl_compile.specs.Tables.{EachAt, IsBitIn, BitsFit, on_in, on_from};
+ghost use Rattle.safl_gates.specs.Sources.{IsSource, Builds, HasRoom};
+ghost use Rattle.safl_gates.specs.Tables.{EachAt, IsBitIn, BitsFit, on_in, on_from};
 ghost use Rattle.safl_compile.specs.Cycles.{choice_of, PinsFit};
 ghost use Rattle.safl_compile.specs.Stages.{HasOutcomes, HasGoes};
 
-use crate::gates::{and_none, both, inverse};
-use crate::loads::add_bit;
 use crate::parts::{Outcomes, Pins};
+use safl_gates::gates::{and_none, both, inverse};
+use safl_gates::loads::add_bit;
 use safl_net::{Net, Sig};
 use safl_sites::Planned;
 use safl_word::NoMemory;

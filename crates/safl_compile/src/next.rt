@@ -5,15 +5,15 @@ ghost use Rattle.safl_net.specs.Names.{IsTidy};
 ghost use Rattle.safl_net.specs.Growth.{Val, Wired};
 ghost use Rattle.safl_lower.specs.Bits.{on};
 ghost use Rattle.safl_unit.specs.Equations.{or_word};
-ghost use Rattle.safl_compile.specs.Sources.{IsSource, Builds, HasRoom};
-ghost use Rattle.safl_compile.specs.Tables.{taken_in, on_in, FitsIn, IsBitIn};
+ghost use Rattle.safl_gates.specs.Sources.{IsSource, Builds, HasRoom};
+ghost use Rattle.safl_gates.specs.Tables.{taken_in, on_in, FitsIn, IsBitIn};
 ghost use Rattle.safl_compile.specs.Cycles.{UnitFits, MemberFits, SiteFits};
 ghost use Rattle.safl_compile.specs.Steps.{UnitStep, MemberStep, SiteStep};
 
 use crate::edge::load_bit;
-use crate::gates::{and_none, either, mux, or_some, zero};
-use crate::loads::load_words;
-use crate::parts::{Load, MemberPins, SitePins, UnitPins};
+use crate::parts::{MemberPins, SitePins, UnitPins};
+use safl_gates::gates::{and_none, either, mux, or_some, zero};
+use safl_gates::loads::{Load, load_words};
 use safl_net::{Net, Sig};
 use std::alloc::{AllocError, Global};
 

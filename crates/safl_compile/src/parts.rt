@@ -1,5 +1,6 @@
 //! The signals of a circuit, by what they stand for.
 
+use safl_gates::loads::Load;
 use safl_lower::SitePorts;
 use safl_net::Sig;
 
@@ -52,13 +53,6 @@ pub struct Pins {
 pub struct Returns {
     pub ret: Vec<Sig>,
     pub ports: Vec<SitePorts>,
-}
-
-/// Words that are taken where a bit is 1.
-#[derive(Drop)]
-pub struct Load {
-    pub bit: Sig,
-    pub words: Vec<Sig>,
 }
 
 /// What the bodies come to.

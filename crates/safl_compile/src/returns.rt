@@ -5,13 +5,13 @@ ghost use Rattle.safl_check.specs.Checked.{program_of};
 ghost use Rattle.safl_net.specs.Names.{IsTidy};
 ghost use Rattle.safl_net.specs.Growth.{Val, Wired};
 ghost use Rattle.safl_lower.specs.Bits.{on};
-ghost use Rattle.safl_compile.specs.Sources.{IsSource, Builds, HasRoom};
+ghost use Rattle.safl_gates.specs.Sources.{IsSource, Builds, HasRoom};
 ghost use Rattle.safl_compile.specs.Cycles.{choice_of, UnitFits, SiteFits, PinsFit};
 ghost use Rattle.safl_compile.specs.Stages.{PortFits, HasReturns};
 ghost use Rattle.safl_compile.specs.Returning.{SiteShown};
 
-use crate::gates::{both, either, inverse, mux};
 use crate::parts::{Pins, Returns, SitePins, UnitPins};
+use safl_gates::gates::{both, either, inverse, mux};
 use safl_lower::SitePorts;
 use safl_net::{Net, Sig};
 use safl_sites::Planned;

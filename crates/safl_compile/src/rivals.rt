@@ -4,8 +4,8 @@ ghost use Rattle.std.specs.Prelude.{◌≡◌, ℕ, ◌*◌, ◌<◌, ◌==◌, 
 ghost use Rattle.safl_check.specs.Checked.{program_of};
 ghost use Rattle.safl_net.specs.Names.{IsTidy};
 ghost use Rattle.safl_net.specs.Growth.{Val, Wired};
-ghost use Rattle.safl_compile.specs.Sources.{Builds, HasRoom};
-ghost use Rattle.safl_compile.specs.Tables.{on_in, on_from, IsBitIn, BitsFit};
+ghost use Rattle.safl_gates.specs.Sources.{Builds, HasRoom};
+ghost use Rattle.safl_gates.specs.Tables.{on_in, on_from, IsBitIn, BitsFit};
 ghost use Rattle.safl_compile.specs.Edges.{one_below, turn, earlier, rival, ShowsBits, ShowsBelow};
 
 use crate::edge::{add_some, function_count, no_bits, unit_of};

@@ -1,8 +1,6 @@
 -- What the calls for the parts of a term require.
 use Rattle.std.proofs.Common.{◌≡◌, ℕ, zero, suc, ◌+◌, ◌-◌, ◌<◌, Bool, false, List, [], ◌∷◌, ◌++◌, length, Some, slice_get, refl, sym, ap, subst, ◌∙◌, arith}
-use Rattle.std.proofs.lemmas.Nat.{pow_pos}
 use Rattle.safl_word.specs.declared.primitive.Primitive.{Primitive}
-use Rattle.safl_word.specs.Words.{IsWord}
 use Rattle.safl_word.specs.Primitives.{result_width}
 use Rattle.safl_check.specs.Program.{Program}
 use Rattle.safl_check.specs.Terms.{Term, Var, Op, If, Let, Call, Loop, Terms, Nil, Cons}
@@ -39,19 +37,22 @@ module _ {P : Ports} {slots : List Sig} {path : Sig} {n0 : Netlist} where
   pub test_shape : {c a b : Term} {n1 : Netlist} {o0 o1 : Out} {test : Lowered} → Lowerable n0 P slots path (If c a b) → Lowers P slots path n0 n1 o0 o1 test c → Shaped n1 test 1
   test_shape h hc = hc.shape h.owner false h.env 1 h.setting (test_typed h.typed)
 
+  pub test_bit : {c a b : Term} {n1 : Netlist} {o0 o1 : Out} {test : Lowered} → Lowerable n0 P slots path (If c a b) → Lowers P slots path n0 n1 o0 o1 test c → BitAt n1 test.value
+  test_bit h hc = (hc.shape h.owner false h.env 1 h.setting (test_typed h.typed)).width (hc.ever h.owner h.env 1 (test_typed h.typed))
+
   pub path_kept : {t : Term} {n1 : Netlist} → Lowerable n0 P slots path t → Grows n0 n1 → BitAt n1 path
   path_kept h g = width_kept g path.0 1 h.setting.path_bit
 
-  pub able_yes : {c a b : Term} {n1 n2 : Netlist} {o0 o1 : Out} {test : Lowered} {py pn : Sig} → Lowerable n0 P slots path (If c a b) → Lowers P slots path n0 n1 o0 o1 test c → Branches path n1 n2 test py pn → Lowerable n2 P slots py a
+  pub able_yes : {c a b : Term} {n1 n2 : Netlist} {o0 o1 : Out} {test : Lowered} {py pn : Sig} → Lowerable n0 P slots path (If c a b) → Lowers P slots path n0 n1 o0 o1 test c → Branches path n1 n2 test a b py pn → Lowerable n2 P slots py a
   able_yes {c} {a} {b} h hc hp = record { owner = h.owner; tail = h.tail; env = h.env; width = h.width; setting = setting_on (grows_on hc.grows hp.grows) h.setting hp.yes_bit; typed = yes_typed h.typed; room = let r = h.room in let i = hc.count in let j = hp.count in omega arith }
 
-  pub yes_shape : {c a b : Term} {n1 n2 n3 : Netlist} {o0 o1 o2 : Out} {test yes : Lowered} {py pn : Sig} → (h : Lowerable n0 P slots path (If c a b)) → Lowers P slots path n0 n1 o0 o1 test c → Branches path n1 n2 test py pn → Lowers P slots py n2 n3 o1 o2 yes a → Shaped n3 yes h.width
+  pub yes_shape : {c a b : Term} {n1 n2 n3 : Netlist} {o0 o1 o2 : Out} {test yes : Lowered} {py pn : Sig} → (h : Lowerable n0 P slots path (If c a b)) → Lowers P slots path n0 n1 o0 o1 test c → Branches path n1 n2 test a b py pn → Lowers P slots py n2 n3 o1 o2 yes a → Shaped n3 yes h.width
   yes_shape h hc hp ha = ha.shape h.owner h.tail h.env h.width (setting_on (grows_on hc.grows hp.grows) h.setting hp.yes_bit) (yes_typed h.typed)
 
-  pub able_no : {c a b : Term} {n1 n2 n3 : Netlist} {o0 o1 o2 : Out} {test yes : Lowered} {py pn : Sig} → Lowerable n0 P slots path (If c a b) → Lowers P slots path n0 n1 o0 o1 test c → Branches path n1 n2 test py pn → Lowers P slots py n2 n3 o1 o2 yes a → Lowerable n3 P slots pn b
+  pub able_no : {c a b : Term} {n1 n2 n3 : Netlist} {o0 o1 o2 : Out} {test yes : Lowered} {py pn : Sig} → Lowerable n0 P slots path (If c a b) → Lowers P slots path n0 n1 o0 o1 test c → Branches path n1 n2 test a b py pn → Lowers P slots py n2 n3 o1 o2 yes a → Lowerable n3 P slots pn b
   able_no {c} {a} {b} {pn = pn} h hc hp ha = record { owner = h.owner; tail = h.tail; env = h.env; width = h.width; setting = setting_on (grows_on hc.grows (grows_on hp.grows ha.grows)) h.setting (width_kept ha.grows pn.0 1 hp.no_bit); typed = no_typed h.typed; room = let r = h.room in let i = hc.count in let j = hp.count in let k = ha.count in omega arith }
 
-  pub no_shape : {c a b : Term} {n1 n2 n3 n4 : Netlist} {o0 o1 o2 o3 : Out} {test yes no : Lowered} {py pn : Sig} → (h : Lowerable n0 P slots path (If c a b)) → Lowers P slots path n0 n1 o0 o1 test c → Branches path n1 n2 test py pn → Lowers P slots py n2 n3 o1 o2 yes a → Lowers P slots pn n3 n4 o2 o3 no b → Shaped n4 no h.width
+  pub no_shape : {c a b : Term} {n1 n2 n3 n4 : Netlist} {o0 o1 o2 o3 : Out} {test yes no : Lowered} {py pn : Sig} → (h : Lowerable n0 P slots path (If c a b)) → Lowers P slots path n0 n1 o0 o1 test c → Branches path n1 n2 test a b py pn → Lowers P slots py n2 n3 o1 o2 yes a → Lowers P slots pn n3 n4 o2 o3 no b → Shaped n4 no h.width
   no_shape {pn = pn} h hc hp ha hb = hb.shape h.owner h.tail h.env h.width (setting_on (grows_on hc.grows (grows_on hp.grows ha.grows)) h.setting (width_kept ha.grows pn.0 1 hp.no_bit)) (no_typed h.typed)
 
   pub able_bound : {bs : Terms} {b : Term} → Lowerable n0 P slots path (Let bs b) → LowerableAll n0 P slots path bs
@@ -112,18 +113,13 @@ module _ {P : Ports} {slots : List Sig} {path : Sig} {n0 : Netlist} where
       let place : P.first_site + (k - P.first_site) ≡ k = omega (arith, first, from, low) in
       let wide : F.program.result (F.program.callee (P.first_site + (k - P.first_site))) ≡ w = ap (λ (i : ℕ). F.program.result (F.program.callee i)) place ∙ ap F.program.result t.spans.1 ∙ t.width.1 in
       let q = sited_kept g h.port w (subst (Sited n0 h.port) wide (s.sites_sized (k - P.first_site) h.port h.at)) in
-      subst (λ (x : Lowered). Shaped n1 x w) (sym h.is) (record { ready = q.returned; width = q.value })
+      subst (λ (x : Lowered). Shaped n1 x w) (sym h.is) (record { ready = q.returned; width = λ ever. q.value })
 
   pub able_next : {g : ℕ} {ts : Terms} → Lowerable n0 P slots path (Loop g ts) → LowerableAll n0 P slots path ts
   able_next {g} {ts} h = record { owner = h.owner; env = h.env; widths = h.owner.program.params g; setting = h.setting; typed = next_typed h.typed; room = let r = h.room in omega arith }
 
   pub next_ready : {g : ℕ} {ts : Terms} {n1 : Netlist} {o0 o1 : Out} {all : LoweredAll} → Lowerable n0 P slots path (Loop g ts) → LowersAll P slots path n0 n1 o0 o1 all ts → ReadyAt n1 all.ready
   next_ready {g} h hs = (hs.shape h.owner h.env (h.owner.program.params g) h.setting (next_typed h.typed)).ready
-
--- ---- the width of a tail call
-
-pub wide_enough : {n : Netlist} {P : Ports} {slots : List Sig} {path : Sig} {t : Term} → Lowerable n P slots path t → IsWord (record { width = P.width; bits = 0 })
-wide_enough {P = P} h = record { some = h.setting.some; bounded = h.setting.most; fits = pow_pos P.width }
 
 -- ---- the next of a list of terms
 

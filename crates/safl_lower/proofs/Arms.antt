@@ -43,21 +43,29 @@ abbrev pub sel : Bool → Word → Answer → Type 0
 sel r w a = gate r (Some w) ≡ word_of a
 
 -- value
-pub if_value : (r : Bool) (w : Word) (c a b : Answer) (ra rb : Bool) (wa wb : Word) → gate r (Some w) ≡ word_of c → gate ra (Some wa) ≡ word_of a → gate rb (Some wb) ≡ word_of b
-    → gate (r && cond (w.bits == 1) ra rb) (Some (cond (w.bits == 1) wa wb)) ≡ word_of (select c NotYet a b)
-if_value true w (Ready x) a b ra rb wa wb e f g = by (w.bits == 1) ∙ ap word_of (sym (choose_is w a b)) ∙ ap (λ (y : Word). word_of (choose y a b)) (some_word e)
+pub if_value : (r : Bool) (w : Word) (c a b : Answer) (x y : Option Word) → gate r (Some w) ≡ word_of c → x ≡ word_of a → y ≡ word_of b
+    → gate r (cond (w.bits == 1) x y) ≡ word_of (select c NotYet a b)
+if_value true w (Ready u) a b x y e f g = by (w.bits == 1) ∙ ap word_of (sym (choose_is w a b)) ∙ ap (λ (z : Word). word_of (choose z a b)) (some_word e)
   where
     some_word : {x y : Word} → Some x ≡ Some y → x ≡ y
     some_word e = cc
 
-    by : (t : Bool) → gate (cond t ra rb) (Some (cond t wa wb)) ≡ word_of (cond t a b)
+    by : (t : Bool) → cond t x y ≡ word_of (cond t a b)
     by true = f
     by false = g
-if_value true w (LoopTo h vs) a b ra rb wa wb e f g = absurd (cc)
-if_value true w NotYet a b ra rb wa wb e f g = absurd (cc)
-if_value false w (Ready x) a b ra rb wa wb e f g = absurd (cc)
-if_value false w (LoopTo h vs) a b ra rb wa wb e f g = refl
-if_value false w NotYet a b ra rb wa wb e f g = refl
+if_value true w (LoopTo h vs) a b x y e f g = absurd (cc)
+if_value true w NotYet a b x y e f g = absurd (cc)
+if_value false w (Ready u) a b x y e f g = absurd (cc)
+if_value false w (LoopTo h vs) a b x y e f g = refl
+if_value false w NotYet a b x y e f g = refl
+
+-- where a choice is ready, it has the word of the branch that is selected
+pub chosen : (t c y n r : Bool) (wy wn w : Word) → r ≡ (t && cond c y n) → (cond c y n ≡ true → w ≡ cond c wy wn) → gate r (Some w) ≡ gate t (cond c (gate y (Some wy)) (gate n (Some wn)))
+chosen false c y n r wy wn w e h = ap (λ (b : Bool). gate b (Some w)) e
+chosen true true true n r wy wn w e h = ap (λ (b : Bool). gate b (Some w)) e ∙ ap (λ (x : Word). Some x) (h refl)
+chosen true true false n r wy wn w e h = ap (λ (b : Bool). gate b (Some w)) e
+chosen true false y true r wy wn w e h = ap (λ (b : Bool). gate b (Some w)) e ∙ ap (λ (x : Word). Some x) (h refl)
+chosen true false y false r wy wn w e h = ap (λ (b : Bool). gate b (Some w)) e
 
 -- wants (and tail calls) below the two paths
 pub if_wants : {A : Type 0} (p q r : Bool) (w : Word) (c : Answer) (x y : Option A) → gate r (Some w) ≡ word_of c

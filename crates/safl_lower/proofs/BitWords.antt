@@ -77,3 +77,8 @@ mux_width w = ap (λ (b : Bool). cond b (Some w) None) (same w)
 pub mux_value : {E : Type 0} (m : Netlist) (r : Result Sig E) (c a b : Sig) → IfOk r (λ s. (v : Val) → Wired m v → v s.0 ≡ choose (v c.0) (v a.0) (v b.0)) → IfOk r (λ s. (v : Val) → Wired m v → v s.0 ≡ cond (on v c) (v a.0) (v b.0))
 mux_value m (Ok s) c a b h = λ v w. h v w ∙ choose_is (v c.0) (v a.0) (v b.0)
 mux_value m (Err e) c a b h = tt
+
+-- a gate of one bit and of another that is turned
+pub with_not : {E : Type 0} (f : Bool → Bool → Bool) (n m : Netlist) (r : Result Sig E) (a b turned : Sig) → Grows n m → ((v : Val) → Wired n v → on v turned ≡ not (on v b)) → IfOk r (λ s. (v : Val) → Wired m v → on v s ≡ f (on v a) (on v turned)) → IfOk r (λ s. (v : Val) → Wired m v → on v s ≡ f (on v a) (not (on v b)))
+with_not f n m (Ok s) a b turned g t h = λ v w. h v w ∙ ap (f (on v a)) (t v (wired_before g w))
+with_not f n m (Err e) a b turned g t h = tt

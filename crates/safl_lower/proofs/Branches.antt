@@ -1,5 +1,5 @@
 -- The circuit of a branch and of a let from the circuits of its parts.
-use Rattle.std.proofs.Common.{◌≡◌, ℕ, ◌+◌, ◌≤◌, List, [], ◌∷◌, ◌++◌, map, length, Option, Some, None, Bool, true, false, not, ◌&&◌, cond, ◌==◌, refl, sym, ap, subst, ◌∙◌, arith}
+use Rattle.std.proofs.Common.{◌≡◌, ℕ, ◌+◌, ◌≤◌, List, [], ◌∷◌, ◌++◌, map, length, Option, Some, None, Bool, true, false, not, ◌&&◌, cond, ◌==◌, ◌⊎◌, ◌↔◌, refl, sym, ap, subst, ◌∙◌, ⊎_elim, inr, arith}
 use Rattle.safl_word.specs.Words.{Word}
 use Rattle.safl_check.specs.Terms.{Term, If, Let, Terms}
 use Rattle.safl_check.specs.Readiness.{Answer, Ready, LoopTo, NotYet, word_of, select, with_all, or_else, answer, answers, wanted, wanted_in}
@@ -9,38 +9,47 @@ use Rattle.safl_net.specs.Growth.{Val, words, Wired, Grows}
 use Rattle.safl_net.proofs.Growth.{grows_on, wired_before, width_kept, sized_kept}
 use Rattle.safl_net.specs.Settled.{AreSteady, SettlesOn}
 use Rattle.safl_net.proofs.Settling.{steady_grown, are_steady_grown, are_steady_more}
+use Rattle.safl_lower.specs.declared.parts.Readiness.{Readiness}
+use Rattle.safl_lower.specs.declared.parts.Readiness.TheVariants.{Never}
 use Rattle.safl_lower.specs.declared.parts.Ports.{Ports}
 use Rattle.safl_lower.specs.declared.parts.Lowered.{Lowered}
 use Rattle.safl_lower.specs.declared.parts.LoweredAll.{LoweredAll}
 use Rattle.safl_lower.specs.declared.parts.Out.{Out}
 use Rattle.safl_lower.specs.declared.parts.TailCall.{TailCall}
 use Rattle.safl_lower.specs.Bits.{on, is_ready, BitAt, ReadyAt}
-use Rattle.safl_lower.specs.Typing.{sites_of, sites_in, tails_of}
+use Rattle.safl_lower.specs.Typing.{sites_of, sites_in, tails_of, holds_calls}
 use Rattle.safl_lower.specs.Entries.{gate, asked, went, Told, site_of, member_of, cost}
-use Rattle.safl_lower.specs.Lowering.{back_of, sent_of, goes_of, Shaped, Lowers, LowersAll}
-use Rattle.safl_lower.proofs.Arms.{or_assoc, gate_or, if_value, if_wants, let_value, let_wants}
+use Rattle.safl_lower.specs.Lowering.{back_of, sent_of, shown, goes_of, Shaped, Lowers, LowersAll}
+use Rattle.safl_lower.proofs.Arms.{or_assoc, gate_or, gate_none, if_value, if_wants, let_value, let_wants}
 use Rattle.safl_lower.specs.Steady.{listed, results}
 use Rattle.safl_lower.proofs.Steadying.{sites_grown, out_grown}
 use Rattle.safl_lower.proofs.Kept.{shaped_kept, setting_on, setting_below}
 use Rattle.safl_lower.proofs.Typing.{test_typed, yes_typed, no_typed, bound_typed, body_typed}
+use Rattle.safl_lower.proofs.Quiet.{no_wants, no_going}
 use Rattle.safl_lower.proofs.Gathered.{words_more, stays, and_true, pick_ap, no_goes, more_twice, out_kept, told_by, told_more, never_is, gate_is_none, if_first, if_second, let_second, between_same}
 
 -- ---- an if
 
-if_asked : {A : Type 0} (p q r : Bool) (w : Word) (pc : Answer) (py pn : Bool) (x0 x1 x2 x3 wc wa wb : Option A)
-    → gate r (Some w) ≡ word_of pc → py ≡ ((p && r) && (w.bits == 1)) → pn ≡ ((p && r) && not (w.bits == 1))
-    → x1 ≡ or_else x0 (gate (p && q) wc) → x2 ≡ or_else x1 (gate (py && q) wa) → x3 ≡ or_else x2 (gate (pn && q) wb)
+-- a branch that holds no calls gives none, whatever its path is
+any_path : {A : Type 0} (h x y : Bool) (o : Option A) → (h ≡ true → x ≡ y) → (h ≡ false → o ≡ None) → gate x o ≡ gate y o
+any_path true x y o e f = ap (λ (b : Bool). gate b o) (e refl)
+any_path false x y o e f = ap (gate x) (f refl) ∙ gate_none x ∙ sym (ap (gate y) (f refl) ∙ gate_none y)
+
+any_asked : {A : Type 0} (h x y q : Bool) (o a b : Option A) → (h ≡ true → x ≡ y) → (h ≡ false → o ≡ None) → b ≡ or_else a (gate (x && q) o) → b ≡ or_else a (gate (y && q) o)
+any_asked h x y q o a b e f g = g ∙ ap (or_else a) (any_path h (x && q) (y && q) o (λ t. ap (λ (z : Bool). z && q) (e t)) f)
+
+if_asked : {A : Type 0} (p q r : Bool) (w : Word) (pc : Answer) (x0 x1 x2 x3 wc wa wb : Option A)
+    → gate r (Some w) ≡ word_of pc
+    → x1 ≡ or_else x0 (gate (p && q) wc) → x2 ≡ or_else x1 (gate (((p && r) && (w.bits == 1)) && q) wa) → x3 ≡ or_else x2 (gate (((p && r) && not (w.bits == 1)) && q) wb)
     → x3 ≡ or_else x0 (gate (p && q) (or_else wc (select pc None wa wb)))
-if_asked p q r w pc py pn x0 x1 x2 x3 wc wa wb e y n e1 e2 e3 =
-    let ga = gate (py && q) wa in
-    let gb = gate (pn && q) wb in
+if_asked p q r w pc x0 x1 x2 x3 wc wa wb e e1 e2 e3 =
+    let ga = gate (((p && r) && (w.bits == 1)) && q) wa in
+    let gb = gate (((p && r) && not (w.bits == 1)) && q) wb in
     let gc = gate (p && q) wc in
     e3 ∙ ap (λ (x : Option _). or_else x gb) e2 ∙ or_assoc x1 ga gb
     ∙ ap (λ (x : Option _). or_else x (or_else ga gb)) e1 ∙ or_assoc x0 gc (or_else ga gb)
     ∙ ap (λ (x : Option _). or_else x0 (or_else gc x))
-    (ap (λ (b : Bool). or_else (gate (b && q) wa) gb) y
-    ∙ ap (λ (b : Bool). or_else (gate (((p && r) && (w.bits == 1)) && q) wa) (gate (b && q) wb)) n
-    ∙ if_wants p q r w pc wa wb e)
+    (if_wants p q r w pc wa wb e)
     ∙ ap (or_else x0) (sym (gate_or (p && q) wc (select pc None wa wb)))
 
 goes_select : (x y z : Answer) → goes_of (select x NotYet y z) ≡ select x None (goes_of y) (goes_of z)
@@ -51,25 +60,25 @@ goes_select NotYet y z = refl
 without : {A : Type 0} (x y z : Option A) (p : Bool) → x ≡ or_else y (gate p z) → x ≡ or_else y (gate (p && true) z)
 without x y z p e = e ∙ ap (λ (b : Bool). or_else y (gate b z)) (sym (and_true p))
 
-pub record Branches (path : Sig) (n m : Netlist) (test : Lowered) (yes no : Sig) : Type 0 where
+pub record Branches (path : Sig) (n m : Netlist) (test : Lowered) (a b : Term) (yes no : Sig) : Type 0 where
   pub grows : Grows n m
   pub count : length m.signals ≤ length n.signals + 4
   pub yes_bit : BitAt m yes
   pub no_bit : BitAt m no
-  pub yes_on : (v : Val) → Wired m v → on v yes ≡ ((on v path && is_ready v test.ready) && on v test.value)
-  pub no_on : (v : Val) → Wired m v → on v no ≡ ((on v path && is_ready v test.ready) && not (on v test.value))
+  pub yes_on : holds_calls a ≡ true → (v : Val) → Wired m v → on v yes ≡ ((on v path && is_ready v test.ready) && on v test.value)
+  pub no_on : holds_calls b ≡ true → (v : Val) → Wired m v → on v no ≡ ((on v path && is_ready v test.ready) && not (on v test.value))
   pub settled : AreSteady n (path ∷ results test) → SettlesOn n m (yes ∷ no ∷ [])
 
 pub record Chosen (n m : Netlist) (test yes no r : Lowered) : Type 0 where
   pub grows : Grows n m
   pub count : length m.signals ≤ length n.signals + 5
   pub shape : (w : ℕ) → Shaped n yes w → Shaped n no w → Shaped m r w
-  pub value : (v : Val) → Wired m v → v r.value.0 ≡ cond (on v test.value) (v yes.value.0) (v no.value.0)
-  pub ready : (v : Val) → Wired m v → is_ready v r.ready ≡ (is_ready v test.ready && cond (on v test.value) (is_ready v yes.ready) (is_ready v no.ready))
+  pub value : (v : Val) → Wired m v → shown v r ≡ gate (is_ready v test.ready) (cond (on v test.value) (shown v yes) (shown v no))
+  pub never : r.ready ≡ Never → (test.ready ≡ Never) ⊎ ((yes.ready ≡ Never) × (no.ready ≡ Never))
   pub settled : AreSteady n (results test) → AreSteady n (results yes) → AreSteady n (results no) → SettlesOn n m (results r)
 
 pub lowers_if : {P : Ports} {slots : List Sig} {path py pn : Sig} {n0 n1 n2 n3 n4 n5 : Netlist} {o0 o1 o2 o3 : Out} {test yes no r : Lowered} {c a b : Term}
-    → Lowers P slots path n0 n1 o0 o1 test c → Branches path n1 n2 test py pn → Lowers P slots py n2 n3 o1 o2 yes a → Lowers P slots pn n3 n4 o2 o3 no b → Chosen n4 n5 test yes no r
+    → Lowers P slots path n0 n1 o0 o1 test c → Branches path n1 n2 test a b py pn → Lowers P slots py n2 n3 o1 o2 yes a → Lowers P slots pn n3 n4 o2 o3 no b → Chosen n4 n5 test yes no r
     → Lowers P slots path n0 n5 o0 o3 r (If c a b)
 unfolding answer wanted
 lowers_if {P} {slots} {path} {py} {pn} {n0} {n1} {n2} {n3} {n4} {n5} {o0} {o1} {o2} {o3} {test} {yes} {no} {r} {c} {a} {b} hc hp ha hb hr = record {
@@ -102,13 +111,15 @@ lowers_if {P} {slots} {path} {py} {pn} {n0} {n1} {n2} {n3} {n4} {n5} {o0} {o1} {
       let pc = answer back env c in
       let ga = goes_of (answer back env a) in
       let gb = goes_of (answer back env b) in
+      let yes_path = (on v path && is_ready v test.ready) && on v test.value in
+      let no_path = (on v path && is_ready v test.ready) && not (on v test.value) in
       let all = gate (on v path) (select pc None ga gb) in
       subst (Told v (hc.more ++ (ha.more ++ hb.more))) (ap (gate (on v path)) (sym (goes_select pc (answer back env a) (answer back env b))))
       (told_more v hc.more (ha.more ++ hb.more) all
       (told_by v hc.more (gate (on v path) (goes_of pc)) all (λ z q. never_is z (gate (on v path) (goes_of pc)) (gate_is_none (on v path) (goes_of pc) (no_goes back c env (test_typed t))) q) (hc.told F false scope 1 (test_typed t) v w1))
       (told_more v ha.more hb.more all
-      (told_by v ha.more (gate (on v py) ga) all (λ z q. if_first (on v path) (is_ready v test.ready) (v test.value.0) pc ga gb (on v py) (on v pn) z (hc.value v w1) (hp.yes_on v w2) (hp.no_on v w2) q) (ha.told F tail scope w (yes_typed t) v w3))
-      (told_by v hb.more (gate (on v pn) gb) all (λ z q. if_second (on v path) (is_ready v test.ready) (v test.value.0) pc ga gb (on v py) (on v pn) z (hc.value v w1) (hp.yes_on v w2) (hp.no_on v w2) q) (hb.told F tail scope w (no_typed t) v w4))));
+      (told_by v ha.more (gate (on v py) ga) all (λ z q. if_first (on v path) (is_ready v test.ready) (v test.value.0) pc ga gb z (hc.value v w1) (q ∙ any_path (holds_calls a) (on v py) yes_path ga (λ x. hp.yes_on x v w2) (no_going back a env))) (ha.told F tail scope w (yes_typed t) v w3))
+      (told_by v hb.more (gate (on v pn) gb) all (λ z q. if_second (on v path) (is_ready v test.ready) (v test.value.0) pc ga gb z (hc.value v w1) (q ∙ any_path (holds_calls b) (on v pn) no_path gb (λ x. hp.no_on x v w2) (no_going back b env))) (hb.told F tail scope w (no_typed t) v w4))));
   sites = more_twice (map site_of o0.wants.items) (map site_of o1.wants.items) (map site_of o3.wants.items) (sites_of c) (sites_of a ++ sites_of b) hc.sites (more_twice (map site_of o1.wants.items) (map site_of o2.wants.items) (map site_of o3.wants.items) (sites_of a) (sites_of b) ha.sites hb.sites);
   fits = λ F tail env w s t x.
       let s2 = setting_on (grows_on hc.grows hp.grows) s hp.yes_bit in
@@ -126,9 +137,11 @@ lowers_if {P} {slots} {path} {py} {pn} {n0} {n1} {n2} {n3} {n4} {n5} {o0} {o1} {
       let w1 = wired_before hp.grows (wired_before ha.grows w3) in
       let back = back_of v P in
       let env = words v slots in
-      ap (λ (x : Bool). gate x (Some (v r.value.0))) (hr.ready v w5)
-      ∙ ap (λ (x : Word). gate (is_ready v test.ready && cond (on v test.value) (is_ready v yes.ready) (is_ready v no.ready)) (Some x)) (hr.value v w5)
-      ∙ if_value (is_ready v test.ready) (v test.value.0) (answer back env c) (answer back env a) (answer back env b) (is_ready v yes.ready) (is_ready v no.ready) (v yes.value.0) (v no.value.0) (hc.value v w1) (ha.value v w3) (hb.value v w4);
+      hr.value v w5 ∙ if_value (is_ready v test.ready) (v test.value.0) (answer back env c) (answer back env a) (answer back env b) (shown v yes) (shown v no) (hc.value v w1) (ha.value v w3) (hb.value v w4);
+  ever = λ F env w t no. ⊎_elim (hc.ever F env 1 (test_typed t)) (λ x. ha.ever F env w (yes_typed t) x.0) (hr.never no);
+  wide = λ F tail env w s t no.
+      let s2 = setting_on (grows_on hc.grows hp.grows) s hp.yes_bit in
+      ⊎_elim (λ x. absurd (hc.ever F env 1 (test_typed t) x)) (λ x. ha.wide F tail env w s2 (yes_typed t) x.0) (hr.never no);
   wants = λ F tail scope w t v w5 k.
       let w4 = wired_before hr.grows w5 in
       let w3 = wired_before hb.grows w4 in
@@ -136,8 +149,12 @@ lowers_if {P} {slots} {path} {py} {pn} {n0} {n1} {n2} {n3} {n4} {n5} {o0} {o1} {
       let w1 = wired_before hp.grows w2 in
       let back = back_of v P in
       let env = words v slots in
-      if_asked (on v path) (not (sent_of v P k)) (is_ready v test.ready) (v test.value.0) (answer back env c) (on v py) (on v pn) (asked v o0.wants.items k) (asked v o1.wants.items k) (asked v o2.wants.items k) (asked v o3.wants.items k) (wanted back env c k) (wanted back env a k) (wanted back env b k)
-      (hc.value v w1) (hp.yes_on v w2) (hp.no_on v w2) (hc.wants F false scope 1 (test_typed t) v w1 k) (ha.wants F tail scope w (yes_typed t) v w3 k) (hb.wants F tail scope w (no_typed t) v w4 k);
+      let unsent = not (sent_of v P k) in
+      let reached = on v path && is_ready v test.ready in
+      if_asked (on v path) unsent (is_ready v test.ready) (v test.value.0) (answer back env c) (asked v o0.wants.items k) (asked v o1.wants.items k) (asked v o2.wants.items k) (asked v o3.wants.items k) (wanted back env c k) (wanted back env a k) (wanted back env b k)
+      (hc.value v w1) (hc.wants F false scope 1 (test_typed t) v w1 k)
+      (any_asked (holds_calls a) (on v py) (reached && on v test.value) unsent (wanted back env a k) (asked v o1.wants.items k) (asked v o2.wants.items k) (λ x. hp.yes_on x v w2) (no_wants back a env k) (ha.wants F tail scope w (yes_typed t) v w3 k))
+      (any_asked (holds_calls b) (on v pn) (reached && not (on v test.value)) unsent (wanted back env b k) (asked v o2.wants.items k) (asked v o3.wants.items k) (λ x. hp.no_on x v w2) (no_wants back b env k) (hb.wants F tail scope w (no_typed t) v w4 k));
   loops = λ F tail scope w t v w5.
       let w4 = wired_before hr.grows w5 in
       let w3 = wired_before hb.grows w4 in
@@ -147,8 +164,16 @@ lowers_if {P} {slots} {path} {py} {pn} {n0} {n1} {n2} {n3} {n4} {n5} {o0} {o1} {
       let env = words v slots in
       let pc = answer back env c in
       let x0 = went v o0.loops.items in
-      if_asked (on v path) true (is_ready v test.ready) (v test.value.0) pc (on v py) (on v pn) x0 (went v o1.loops.items) (went v o2.loops.items) (went v o3.loops.items) (goes_of pc) (goes_of (answer back env a)) (goes_of (answer back env b))
-      (hc.value v w1) (hp.yes_on v w2) (hp.no_on v w2) (without (went v o1.loops.items) x0 (goes_of pc) (on v path) (hc.loops F false scope 1 (test_typed t) v w1)) (without (went v o2.loops.items) (went v o1.loops.items) (goes_of (answer back env a)) (on v py) (ha.loops F tail scope w (yes_typed t) v w3)) (without (went v o3.loops.items) (went v o2.loops.items) (goes_of (answer back env b)) (on v pn) (hb.loops F tail scope w (no_typed t) v w4))
+      let ga = goes_of (answer back env a) in
+      let gb = goes_of (answer back env b) in
+      let x1 = went v o1.loops.items in
+      let x2 = went v o2.loops.items in
+      let x3 = went v o3.loops.items in
+      let reached = on v path && is_ready v test.ready in
+      if_asked (on v path) true (is_ready v test.ready) (v test.value.0) pc x0 x1 x2 x3 (goes_of pc) ga gb
+      (hc.value v w1) (without x1 x0 (goes_of pc) (on v path) (hc.loops F false scope 1 (test_typed t) v w1))
+      (any_asked (holds_calls a) (on v py) (reached && on v test.value) true ga x1 x2 (λ x. hp.yes_on x v w2) (no_going back a env) (without x2 x1 ga (on v py) (ha.loops F tail scope w (yes_typed t) v w3)))
+      (any_asked (holds_calls b) (on v pn) (reached && not (on v test.value)) true gb x2 x3 (λ x. hp.no_on x v w2) (no_going back b env) (without x3 x2 gb (on v pn) (hb.loops F tail scope w (no_typed t) v w4)))
       ∙ ap (λ (u : Bool). or_else x0 (gate u (or_else (goes_of pc) (select pc None (goes_of (answer back env a)) (goes_of (answer back env b)))))) (and_true (on v path))
       ∙ ap (λ (o : Option (ℕ × List Word)). or_else x0 (gate (on v path) (or_else o (select pc None (goes_of (answer back env a)) (goes_of (answer back env b)))))) (no_goes back c env (test_typed t))
       ∙ ap (λ (o : Option (ℕ × List Word)). or_else x0 (gate (on v path) o)) (sym (goes_select pc (answer back env a) (answer back env b)));
@@ -170,21 +195,22 @@ let_asked p q r i ws o go x0 x1 x2 wb w e f g e1 e2 =
     (ap (λ (b : Bool). gate (b && q) w) f ∙ ap (λ (x : Option _). gate ((p && r) && q) x) g ∙ let_wants p q r ws o go e)
     ∙ ap (or_else x0) (sym (gate_or (p && q) wb (with_all o None go)))
 
-pub record Inner (path : Sig) (n m : Netlist) (ready : Option Sig) (inner : Sig) : Type 0 where
+pub record Inner (path : Sig) (n m : Netlist) (ready : Readiness) (inner : Sig) : Type 0 where
   pub grows : Grows n m
   pub count : length m.signals ≤ length n.signals + 1
   pub bit : BitAt m inner
   pub is : (v : Val) → Wired m v → on v inner ≡ (on v path && is_ready v ready)
   pub settled : AreSteady n (path ∷ listed ready) → SettlesOn n m (inner ∷ [])
 
-pub record Both (n m : Netlist) (q r s : Option Sig) : Type 0 where
+pub record Both (n m : Netlist) (q r s : Readiness) : Type 0 where
   pub grows : Grows n m
   pub count : length m.signals ≤ length n.signals + 1
   pub bit : ReadyAt m s
   pub is : (v : Val) → Wired m v → is_ready v s ≡ (is_ready v q && is_ready v r)
+  pub never : (s ≡ Never) ↔ ((q ≡ Never) ⊎ (r ≡ Never))
   pub settled : AreSteady n (listed q) → AreSteady n (listed r) → SettlesOn n m (listed s)
 
-pub lowers_let : {P : Ports} {slots : List Sig} {path inner : Sig} {n0 n1 n2 n3 n4 : Netlist} {o0 o1 o2 : Out} {bound : LoweredAll} {body : Lowered} {ready : Option Sig} {bs : Terms} {b : Term}
+pub lowers_let : {P : Ports} {slots : List Sig} {path inner : Sig} {n0 n1 n2 n3 n4 : Netlist} {o0 o1 o2 : Out} {bound : LoweredAll} {body : Lowered} {ready : Readiness} {bs : Terms} {b : Term}
     → LowersAll P slots path n0 n1 o0 o1 bound bs → Inner path n1 n2 bound.ready inner → Lowers P (slots ++ bound.values.items) inner n2 n3 o1 o2 body b → Both n3 n4 bound.ready body.ready ready
     → Lowers P slots path n0 n4 o0 o2 (record { ready = ready; value = body.value }) (Let bs b)
 unfolding answer wanted
@@ -231,7 +257,12 @@ lowers_let {P} {slots} {path} {inner} {n0} {n1} {n2} {n3} {n4} {o0} {o1} {o2} {b
   shape = λ F tail env w s t.
       let a = hs.shape F env t.width.0 s (bound_typed t) in
       let k = setting_below bound.values.items t.width.0 (grows_on hs.grows hi.grows) s hi.bit (sized_kept hi.grows bound.values.items t.width.0 a.widths) in
-      record { ready = hr.bit; width = width_kept hr.grows body.value.0 w (hb.shape F tail (env ++ t.width.0) w k (body_typed t)).width };
+      record { ready = hr.bit; width = λ ever. width_kept hr.grows body.value.0 w ((hb.shape F tail (env ++ t.width.0) w k (body_typed t)).width (λ no. ever (hr.never.1 (inr no)))) };
+  ever = λ F env w t no. ⊎_elim (hs.ever F env t.width.0 (bound_typed t)) (hb.ever F (env ++ t.width.0) w (body_typed t)) (hr.never.0 no);
+  wide = λ F tail env w s t no.
+      let a = hs.shape F env t.width.0 s (bound_typed t) in
+      let k = setting_below bound.values.items t.width.0 (grows_on hs.grows hi.grows) s hi.bit (sized_kept hi.grows bound.values.items t.width.0 a.widths) in
+      ⊎_elim (λ x. absurd (hs.ever F env t.width.0 (bound_typed t) x)) (hb.wide F tail (env ++ t.width.0) w k (body_typed t)) (hr.never.0 no);
   value = λ v w4.
       let w3 = wired_before hr.grows w4 in
       let w1 = wired_before hi.grows (wired_before hb.grows w3) in

@@ -14,12 +14,14 @@ use Rattle.safl_net.specs.Growth.{Val, words, Wired, Sized, Grows}
 use Rattle.safl_net.proofs.Growth.{grows_on, wired_before}
 use Rattle.safl_net.specs.Settled.{AreSteady, SettlesOn}
 use Rattle.safl_net.proofs.Settling.{steady_grown}
+use Rattle.safl_lower.specs.declared.parts.Readiness.{Readiness}
+use Rattle.safl_lower.specs.declared.parts.Readiness.TheVariants.{Never, When}
 use Rattle.safl_lower.specs.declared.parts.Ports.{Ports}
 use Rattle.safl_lower.specs.declared.parts.Lowered.{Lowered}
 use Rattle.safl_lower.specs.declared.parts.LoweredAll.{LoweredAll}
 use Rattle.safl_lower.specs.declared.parts.Out.{Out}
 use Rattle.safl_lower.specs.declared.parts.TailCall.{TailCall}
-use Rattle.safl_lower.specs.Bits.{on, is_ready}
+use Rattle.safl_lower.specs.Bits.{on, is_ready, ReadyAt}
 use Rattle.safl_lower.specs.Typing.{Owner, Typed, sites_in}
 use Rattle.safl_lower.specs.Entries.{gate, asked, went, site_of, member_of, Between, WantsFit, LoopsFit, cost}
 use Rattle.safl_lower.specs.Lowering.{returned_word, back_of, sent_of, open_at, shown, gathered, goes_of, Setting, Shaped, Lowers, LowersAll, Shows, goes_with, Enters, Leaves}
@@ -36,16 +38,16 @@ goes_call (Some w) = refl
 
 -- ---- no site below the term's is wanted
 
-select_none : {A : Type 0} (c : Answer) (x y : Option A) → x ≡ None → y ≡ None → select c None x y ≡ None
+pub select_none : {A : Type 0} (c : Answer) (x y : Option A) → x ≡ None → y ≡ None → select c None x y ≡ None
 select_none (Ready u) x y e f = pick_none u.bits x y e f
 select_none (LoopTo h vs) x y e f = refl
 select_none NotYet x y e f = refl
 
-with_none : {A : Type 0} (o : Option (List Word)) (go : List Word → Option A) → ((vs : List Word) → go vs ≡ None) → with_all o None go ≡ None
+pub with_none : {A : Type 0} (o : Option (List Word)) (go : List Word → Option A) → ((vs : List Word) → go vs ≡ None) → with_all o None go ≡ None
 with_none None go h = refl
 with_none (Some vs) go h = h vs
 
-both_none : {A : Type 0} (x y : Option A) → x ≡ None → y ≡ None → or_else x y ≡ None
+pub both_none : {A : Type 0} (x y : Option A) → x ≡ None → y ≡ None → or_else x y ≡ None
 both_none x y e f = ap (λ (z : Option _). or_else z y) e ∙ f
 
 mutual
@@ -78,6 +80,9 @@ own_last true x y h = ap (λ (z : Option _). or_else z x) (h refl)
 own_last false x y h = or_none y
 
 -- ---- a call
+
+when_ever : {A : Type 0} (s : Sig) → When s ≡ Never → A
+when_ever s e = cc
 
 shown_call : (o : Option Word) → o ≡ word_of (ready_from o)
 shown_call None = refl
@@ -124,6 +129,8 @@ lowers_call {P} {slots} {path} {n0} {n1} {n2} {o0} {o1} {o2} {all} {f} {k} {ts} 
   grows = grows_on hs.grows ha.grows;
   count = let i = hs.count in let j = ha.count in omega arith;
   shape = λ F tail env w s t. x F tail env w s t;
+  ever = λ F env w t no. when_ever ha.given.port.returned (sym (ap (λ (y : Lowered). y.ready) ha.given.is) ∙ no);
+  wide = λ F tail env w s t no. when_ever ha.given.port.returned (sym (ap (λ (y : Lowered). y.ready) ha.given.is) ∙ no);
   value = λ v h.
       ap (shown v) ha.given.is ∙ sym (ap (returned_word v) ha.given.at) ∙ shown_call (back_of v P k);
   wants = λ F tail scope w t v h j.
@@ -156,18 +163,17 @@ never_shown : (h : ℕ) (o : Option (List Word)) → None ≡ word_of (loop_to h
 never_shown h None = refl
 never_shown h (Some vs) = refl
 
-pub record Gone (P : Ports) (path : Sig) (n m : Netlist) (o p : Out) (h : ℕ) (all : LoweredAll) (r : Lowered) : Type 0 where
+pub record Gone (path : Sig) (n m : Netlist) (o p : Out) (h : ℕ) (all : LoweredAll) (r : Lowered) : Type 0 where
   pub grows : Grows n m
-  pub count : length m.signals ≤ length n.signals + 3
-  pub shape : Shaped m r P.width
+  pub count : length m.signals ≤ length n.signals + 1
   pub entry : Leaves m o.loops.items p.loops.items path h all
-  pub never : (v : Val) → Wired m v → is_ready v r.ready ≡ false
+  pub never : r.ready ≡ Never
   pub wants : p.wants.items ≡ o.wants.items
   pub loops : (v : Val) → Wired m v → went v p.loops.items ≡ or_else (went v o.loops.items) (gate (on v path) (goes_with h (gathered v all)))
   pub settled : AreSteady n (path ∷ listed all.ready) → AreSteady n all.values.items → OutSteady n o → SettlesOn n m (results r) × OutSteady m p
 
 pub lowers_loop : {P : Ports} {slots : List Sig} {path : Sig} {n0 n1 n2 : Netlist} {o0 o1 o2 : Out} {all : LoweredAll} {h : ℕ} {ts : Terms} {r : Lowered}
-    → LowersAll P slots path n0 n1 o0 o1 all ts → Gone P path n1 n2 o1 o2 h all r
+    → LowersAll P slots path n0 n1 o0 o1 all ts → Gone path n1 n2 o1 o2 h all r
     → Lowers P slots path n0 n2 o0 o2 r (Loop h ts)
 unfolding answer wanted
 lowers_loop {P} {slots} {path} {n0} {n1} {n2} {o0} {o1} {o2} {all} {h} {ts} {r} hs hg = record {
@@ -197,8 +203,10 @@ lowers_loop {P} {slots} {path} {n0} {n1} {n2} {o0} {o1} {o2} {all} {h} {ts} {r} 
       };
   grows = grows_on hs.grows hg.grows;
   count = let i = hs.count in let j = hg.count in omega arith;
-  shape = λ F tail env w s t. record { ready = hg.shape.ready; width = hg.shape.width ∙ ap (λ (k : ℕ). Some k) (sym (s.members h t.width.2 t.spans.1).2 ∙ t.width.1) };
-  value = λ v q. ap (λ (b : Bool). gate b (Some (v r.value.0))) (hg.never v q) ∙ never_shown h (answers (back_of v P) (words v slots) ts);
+  shape = λ F tail env w s t. record { ready = subst (ReadyAt n2) (sym hg.never) tt; width = λ ever. absurd (ever hg.never) };
+  ever = λ F env w t. false_true t.spans.0;
+  wide = λ F tail env w s t no. sym t.width.1 ∙ (s.members h t.width.2 t.spans.1).2;
+  value = λ v q. ap (λ (y : Readiness). gate (is_ready v y) (Some (v r.value.0))) hg.never ∙ never_shown h (answers (back_of v P) (words v slots) ts);
   wants = λ F tail env w t v q k. ap (λ l. asked v l k) hg.wants ∙ hs.wants F env (F.program.params h) (next_typed t) v (wired_before hg.grows q) k;
   loops = λ F tail env w t v q.
       let w1 = wired_before hg.grows q in

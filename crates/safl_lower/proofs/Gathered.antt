@@ -126,10 +126,9 @@ pub gate_is_none : {A : Type 0} (p : Bool) (x : Option A) → x ≡ None → gat
 gate_is_none true x e = e
 gate_is_none false x e = refl
 
-pub if_first : {A : Type 0} (p r : Bool) (w : Word) (c : Answer) (x y : Option A) (pa pb : Bool) (z : A) → gate r (Some w) ≡ word_of c → pa ≡ ((p && r) && (w.bits == 1)) → pb ≡ ((p && r) && not (w.bits == 1))
-    → Some z ≡ gate pa x → Some z ≡ gate p (select c None x y)
-if_first p r w c x y pa pb z e f g h =
-    ap (λ (o : Option _). or_else o (gate (((p && r) && not (w.bits == 1)) && true) y)) (h ∙ ap (λ (b : Bool). gate b x) (f ∙ sym (and_true _)))
+pub if_first : {A : Type 0} (p r : Bool) (w : Word) (c : Answer) (x y : Option A) (z : A) → gate r (Some w) ≡ word_of c → Some z ≡ gate ((p && r) && (w.bits == 1)) x → Some z ≡ gate p (select c None x y)
+if_first p r w c x y z e h =
+    ap (λ (o : Option _). or_else o (gate (((p && r) && not (w.bits == 1)) && true) y)) (h ∙ ap (λ (b : Bool). gate b x) (sym (and_true _)))
     ∙ if_wants p true r w c x y e ∙ ap (λ (b : Bool). gate b (select c None x y)) (and_true p)
 
 off_other : {A : Type 0} (s t : Bool) (y x : Option A) (z : A) → Some z ≡ gate (s && not t) y → gate (s && t) x ≡ None
@@ -137,10 +136,8 @@ off_other true true y x z h = absurd (cc)
 off_other true false y x z h = refl
 off_other false t y x z h = refl
 
-pub if_second : {A : Type 0} (p r : Bool) (w : Word) (c : Answer) (x y : Option A) (pa pb : Bool) (z : A) → gate r (Some w) ≡ word_of c → pa ≡ ((p && r) && (w.bits == 1)) → pb ≡ ((p && r) && not (w.bits == 1))
-    → Some z ≡ gate pb y → Some z ≡ gate p (select c None x y)
-if_second p r w c x y pa pb z e f g h =
-    let k = h ∙ ap (λ (b : Bool). gate b y) g in
+pub if_second : {A : Type 0} (p r : Bool) (w : Word) (c : Answer) (x y : Option A) (z : A) → gate r (Some w) ≡ word_of c → Some z ≡ gate ((p && r) && not (w.bits == 1)) y → Some z ≡ gate p (select c None x y)
+if_second p r w c x y z e k =
     k ∙ ap (λ (b : Bool). gate b y) (sym (and_true _))
     ∙ ap (λ (o : Option _). or_else o (gate (((p && r) && not (w.bits == 1)) && true) y)) (sym (ap (λ (b : Bool). gate b x) (and_true _) ∙ off_other (p && r) (w.bits == 1) y x z k))
     ∙ if_wants p true r w c x y e ∙ ap (λ (b : Bool). gate b (select c None x y)) (and_true p)

@@ -1,5 +1,5 @@
 -- What stays as the net grows, and one more call or tail call.
-use Rattle.std.proofs.Common.{◌≡◌, ℕ, T, ◌+◌, List, [], ◌∷◌, ◌++◌, Option, Some, None, Bool, true, false, ◌&&◌, cond, ◌==◌, Result, Ok, Err, IfOk, OnOk, length, slice_get, refl, sym, ap, ◌∙◌}
+use Rattle.std.proofs.Common.{◌≡◌, ℕ, T, ◌+◌, List, [], ◌∷◌, ◌++◌, Option, Some, None, Bool, true, false, ◌&&◌, ◌==◌, Result, Ok, Err, IfOk, OnOk, length, slice_get, refl, sym, ap, ◌∙◌}
 use Rattle.std.proofs.Math.Dec.{eqb_refl}
 use Rattle.safl_word.specs.Words.{Word}
 use Rattle.safl_check.specs.Readiness.{or_else}
@@ -9,6 +9,8 @@ use Rattle.safl_net.specs.Netlist.{Netlist, Signal, Wire, Cell}
 use Rattle.safl_net.specs.Making.{with_signal, temporary, kind_in, kind_at}
 use Rattle.safl_net.specs.Growth.{Val, Sized, Grows}
 use Rattle.safl_net.proofs.Growth.{get_kept, get_new, width_kept, sized_kept, sized_more}
+use Rattle.safl_lower.specs.declared.parts.Readiness.{Readiness}
+use Rattle.safl_lower.specs.declared.parts.Readiness.TheVariants.{Always, Never, When}
 use Rattle.safl_lower.specs.declared.parts.SitePorts.{SitePorts}
 use Rattle.safl_lower.specs.declared.parts.Ports.{Ports}
 use Rattle.safl_lower.specs.declared.parts.Want.{Want}
@@ -21,25 +23,20 @@ use Rattle.safl_lower.specs.Entries.{gate, asks, asked, goes, went}
 use Rattle.safl_lower.specs.Lowering.{Sited, Setting, Shaped, ShapedAll, goes_with}
 use Rattle.safl_lower.proofs.Arms.{or_none, or_assoc}
 
-pub ready_kept : {a b : Netlist} → Grows a b → (r : Option Sig) → ReadyAt a r → ReadyAt b r
-ready_kept g None h = tt
-ready_kept g (Some s) h = width_kept g s.0 1 h
+pub ready_kept : {a b : Netlist} → Grows a b → (r : Readiness) → ReadyAt a r → ReadyAt b r
+ready_kept g Always h = tt
+ready_kept g Never h = tt
+ready_kept g (When s) h = width_kept g s.0 1 h
+
+-- always and never are two
+pub apart : {A : Type 0} → Always ≡ Never → A
+apart e = cc
 
 pub shaped_kept : {a b : Netlist} → Grows a b → (r : Lowered) (w : ℕ) → Shaped a r w → Shaped b r w
-shaped_kept g r w h = record { ready = ready_kept g r.ready h.ready; width = width_kept g r.value.0 w h.width }
+shaped_kept g r w h = record { ready = ready_kept g r.ready h.ready; width = λ ever. width_kept g r.value.0 w (h.width ever) }
 
 pub shaped_all_kept : {a b : Netlist} → Grows a b → (r : LoweredAll) (ws : List ℕ) → ShapedAll a r ws → ShapedAll b r ws
 shaped_all_kept g r ws h = record { ready = ready_kept g r.ready h.ready; widths = sized_kept g r.values.items ws h.widths }
-
-pub swap_and : (a b : Bool) → (a && b) ≡ (b && a)
-swap_and true true = refl
-swap_and true false = refl
-swap_and false true = refl
-swap_and false false = refl
-
-pub mux_on : (t : Bool) (x a b : Word) → x ≡ cond t a b → (x.bits == 1) ≡ cond t (a.bits == 1) (b.bits == 1)
-mux_on true x a b e = ap (λ (w : Word). w.bits == 1) e
-mux_on false x a b e = ap (λ (w : Word). w.bits == 1) e
 
 true_from : (b : Bool) → T b → b ≡ true
 true_from true h = refl

@@ -11,6 +11,7 @@ use Rattle.safl_net.specs.Growth.{Val, words, Wired, width_at, Sized, Grows}
 use Rattle.safl_net.proofs.Growth.{grows_on, grows_none, wired_before}
 use Rattle.safl_net.specs.Settled.{AreSteady, SettlesOn}
 use Rattle.safl_net.proofs.Settling.{are_steady_grown, steady_at}
+use Rattle.safl_lower.specs.declared.parts.Readiness.TheVariants.{Always}
 use Rattle.safl_lower.specs.declared.parts.Ports.{Ports}
 use Rattle.safl_lower.specs.declared.parts.LoweredAll.{LoweredAll}
 use Rattle.safl_lower.specs.declared.parts.Out.{Out}
@@ -19,7 +20,7 @@ use Rattle.safl_lower.specs.Entries.{gate, asked, went, site_of, member_of, cost
 use Rattle.safl_lower.specs.Lowering.{back_of, goes_of, Lowers, LowersAll}
 use Rattle.safl_lower.specs.Steady.{listed}
 use Rattle.safl_lower.proofs.Steadying.{out_grown}
-use Rattle.safl_lower.proofs.Kept.{ready_kept}
+use Rattle.safl_lower.proofs.Kept.{ready_kept, apart}
 use Rattle.safl_lower.proofs.Typing.{parts_typed}
 use Rattle.safl_lower.proofs.Gathered.{stays, stays_by, no_more, out_kept, told_by, never_is, between_same}
 
@@ -27,7 +28,7 @@ use Rattle.safl_lower.proofs.Gathered.{stays, stays_by, no_more, out_kept, told_
 
 pub lowers_const : {P : Ports} {slots : List Sig} {path s : Sig} {n0 n1 : Netlist} {o : Out} {w : Word}
     → Grows n0 n1 → length n1.signals ≤ length n0.signals + 1 → width_at n1 s.0 ≡ Some w.width → ((v : Val) → Wired n1 v → v s.0 ≡ w) → SettlesOn n0 n1 (s ∷ [])
-    → Lowers P slots path n0 n1 o o (record { ready = None; value = s }) (Const w)
+    → Lowers P slots path n0 n1 o o (record { ready = Always; value = s }) (Const w)
 unfolding answer wanted
 lowers_const {P} {slots} {path} {s} {n0} {n1} {o} {w} g c x y st = record {
   tails = λ F tail env n t. no_more (map member_of o.loops.items);
@@ -42,7 +43,9 @@ lowers_const {P} {slots} {path} {s} {n0} {n1} {o} {w} g c x y st = record {
   fits = λ F tail env n s t x. out_kept g x;
   grows = g;
   count = omega arith;
-  shape = λ F tail env n h t. record { ready = tt; width = x ∙ ap (λ (k : ℕ). Some k) t.width.1 };
+  shape = λ F tail env n h t. record { ready = tt; width = λ ever. x ∙ ap (λ (k : ℕ). Some k) t.width.1 };
+  ever = λ F env n t no. apart no;
+  wide = λ F tail env n h t no. apart no;
   value = λ v h. ap (λ (u : Word). Some u) (y v h);
   wants = λ F tail env n t v h k. stays (asked v o.wants.items k) _;
   loops = λ F tail env n t v h. stays (went v o.loops.items) _;
@@ -70,7 +73,7 @@ slot_word v (a ∷ slots) zero s e = let g : s ≡ a = cc in ap (λ (y : Sig). v
 slot_word v (a ∷ slots) (suc i) s e = slot_word v slots i s e
 
 pub lowers_var : {P : Ports} {slots : List Sig} {path s : Sig} {n : Netlist} {o : Out} {i : ℕ} → slice_get slots i ≡ Some s
-    → Lowers P slots path n n o o (record { ready = None; value = s }) (Var i)
+    → Lowers P slots path n n o o (record { ready = Always; value = s }) (Var i)
 unfolding answer wanted
 lowers_var {P} {slots} {path} {s} {n} {o} {i} e = record {
   tails = λ F tail env n t. no_more (map member_of o.loops.items);
@@ -85,7 +88,9 @@ lowers_var {P} {slots} {path} {s} {n} {o} {i} e = record {
   fits = λ F tail env w s t x. x;
   grows = grows_none n;
   count = omega arith;
-  shape = λ F tail env w h t. record { ready = tt; width = slot_width n slots env i w s h.slots_sized t.width e };
+  shape = λ F tail env w h t. record { ready = tt; width = λ ever. slot_width n slots env i w s h.slots_sized t.width e };
+  ever = λ F env w t no. apart no;
+  wide = λ F tail env w h t no. apart no;
   value = λ v h. ap (λ (u : Word). Some u) (slot_word v slots i s e);
   wants = λ F tail env n t v h k. stays (asked v o.wants.items k) _;
   loops = λ F tail env w t v h. stays (went v o.loops.items) _;
@@ -93,7 +98,7 @@ lowers_var {P} {slots} {path} {s} {n} {o} {i} e = record {
 
 -- ---- an operator
 
-goes_op : (p : Primitive) (o : Option (List Word)) → goes_of (apply_to p o) ≡ None
+pub goes_op : (p : Primitive) (o : Option (List Word)) → goes_of (apply_to p o) ≡ None
 goes_op p None = refl
 goes_op p (Some vs) = refl
 
@@ -127,7 +132,9 @@ lowers_op {P} {slots} {path} {s} {n0} {n1} {n2} {o0} {o1} {all} {p} {ts} hs g c 
   count = let i = hs.count in omega arith;
   shape = λ F tail env w h t.
       let a = hs.shape F env t.width.0 h (parts_typed t) in
-      record { ready = ready_kept g all.ready a.ready; width = x t.width.0 w a.widths t.width.2 };
+      record { ready = ready_kept g all.ready a.ready; width = λ ever. x t.width.0 w a.widths t.width.2 };
+  ever = λ F env w t. hs.ever F env t.width.0 (parts_typed t);
+  wide = λ F tail env w h t no. absurd (hs.ever F env t.width.0 (parts_typed t) no);
   value = λ v h.
       ap (λ (u : Word). gate (is_ready v all.ready) (Some u)) (y v h)
       ∙ applied p (is_ready v all.ready) (words v all.values.items) (answers (back_of v P) (words v slots) ts) (hs.value v (wired_before g h));

@@ -3,9 +3,10 @@ pub mod Typing
 pub mod Kept
 pub mod Steadying
 pub mod Gathered
-pub mod Branches
 pub mod Leaves
 pub mod Calls
+pub mod Quiet
+pub mod Branches
 pub mod Lists
 pub mod Able
 pub mod Trees

@@ -1,5 +1,5 @@
 -- The circuits of a list of terms.
-use Rattle.std.proofs.Common.{◌≡◌, ℕ, ◌+◌, List, [], ◌∷◌, ◌++◌, map, length, Option, Some, None, Bool, false, ◌&&◌, refl, sym, ap, subst, ◌∙◌, arith, append_assoc, length-append}
+use Rattle.std.proofs.Common.{◌≡◌, ℕ, ◌+◌, List, [], ◌∷◌, ◌++◌, map, length, Option, Some, None, Bool, false, ◌&&◌, refl, sym, ap, subst, ◌∙◌, arith, append_assoc, length-append, ⊎_elim}
 use Rattle.safl_check.specs.Program.{Program}
 use Rattle.safl_check.specs.WellFormed.{Spans, SpansAll, HasWidth, HaveWidths}
 use Rattle.safl_check.proofs.Places.{fits_le, fits_all_le}
@@ -13,6 +13,8 @@ use Rattle.safl_net.specs.Growth.{words, Sized}
 use Rattle.safl_net.proofs.Growth.{grows_on, grows_none, wired_before, width_kept, sized_kept, sized_more}
 use Rattle.safl_net.specs.Settled.{AreSteady}
 use Rattle.safl_net.proofs.Settling.{steady_grown, are_steady_grown, are_steady_more}
+use Rattle.safl_lower.specs.declared.parts.Readiness.{Readiness}
+use Rattle.safl_lower.specs.declared.parts.Readiness.TheVariants.{Always}
 use Rattle.safl_lower.specs.declared.parts.Ports.{Ports}
 use Rattle.safl_lower.specs.declared.parts.Lowered.{Lowered}
 use Rattle.safl_lower.specs.declared.parts.LoweredAll.{LoweredAll}
@@ -24,7 +26,7 @@ use Rattle.safl_lower.specs.Lowering.{back_of, open_at, shown, goes_of, ShapedAl
 use Rattle.safl_lower.proofs.Arms.{or_assoc, or_none, gate_or, and_then, join}
 use Rattle.safl_lower.specs.Steady.{listed}
 use Rattle.safl_lower.proofs.Steadying.{sites_grown, out_grown}
-use Rattle.safl_lower.proofs.Kept.{setting_kept}
+use Rattle.safl_lower.proofs.Kept.{setting_kept, apart}
 use Rattle.safl_lower.proofs.Gathered.{words_more, stays, stays_by, no_goes, no_more, more_twice, out_kept, told_by, told_more, gate_is_none, some_nodes}
 
 -- ---- lists of terms
@@ -101,14 +103,14 @@ last_typed F env ts t ws h =
       last = record { low = s.0; high = h.high; from = let u = h.from in omega (arith, a, u); upto = h.upto; spans = s.2; width = w.4 };
     }
 
-none_shape : (F : Owner) (env ws : List ℕ) (n : Netlist) (r : LoweredAll) → r.ready ≡ None → r.values.items ≡ [] → HaveWidths F.program env Nil ws → ShapedAll n r ws
+none_shape : (F : Owner) (env ws : List ℕ) (n : Netlist) (r : LoweredAll) → r.ready ≡ Always → r.values.items ≡ [] → HaveWidths F.program env Nil ws → ShapedAll n r ws
 none_shape F env [] n r e f t = record { ready = subst (ReadyAt n) (sym e) tt; widths = subst (λ (l : List Sig). Sized n l []) (sym f) tt }
 none_shape F env (w ∷ ws) n r e f t = absurd t
 
-pub lowers_none : {P : Ports} {slots : List Sig} {path : Sig} {n : Netlist} {o : Out} {r : LoweredAll} → r.ready ≡ None → r.values.items ≡ [] → LowersAll P slots path n n o o r Nil
+pub lowers_none : {P : Ports} {slots : List Sig} {path : Sig} {n : Netlist} {o : Out} {r : LoweredAll} → r.ready ≡ Always → r.values.items ≡ [] → LowersAll P slots path n n o o r Nil
 unfolding answer wanted
 lowers_none {P} {slots} {path} {n} {o} {r} e f = record {
-  settled = λ p h k. (record { net = λ q. q; signals = subst (λ (q : Option Sig). AreSteady n (listed q)) (sym e) tt }, subst (AreSteady n) (sym f) tt, k);
+  settled = λ p h k. (record { net = λ q. q; signals = subst (λ (q : Readiness). AreSteady n (listed q)) (sym e) tt }, subst (AreSteady n) (sym f) tt, k);
   quiet = λ F env ws t. refl;
   long = let k = ap length f in omega (arith, k);
   more = [];
@@ -119,7 +121,8 @@ lowers_none {P} {slots} {path} {n} {o} {r} e f = record {
   grows = grows_none n;
   count = omega arith;
   shape = λ F env ws s t. none_shape F env ws n r e f t.widths;
-  value = λ v h. ap (λ (q : Option Sig). gate (is_ready v q) (Some (words v r.values.items))) e ∙ ap (λ (l : List Sig). Some (words v l)) f;
+  ever = λ F env ws t no. apart (sym e ∙ no);
+  value = λ v h. ap (λ (q : Readiness). gate (is_ready v q) (Some (words v r.values.items))) e ∙ ap (λ (l : List Sig). Some (words v l)) f;
   wants = λ F env ws t v h k. stays (asked v o.wants.items k) _;
   loops = λ F env ws t v h. refl;
 }
@@ -159,8 +162,9 @@ lowers_more {P} {slots} {path} {n0} {n1} {n2} {n3} {o0} {o1} {o2} {r} {s} {one} 
       record {
         ready = hb.bit;
         widths = subst (λ (xs : List Sig). Sized n3 xs ws) (sym e) (subst (λ (us : List ℕ). Sized n3 (r.values.items ++ one.value ∷ []) us) (sym l.is)
-            (sized_more n3 r.values.items (one.value ∷ []) l.front (l.width ∷ []) (sized_kept g r.values.items l.front a.widths) (width_kept hb.grows one.value.0 l.width b.width, tt)));
+            (sized_more n3 r.values.items (one.value ∷ []) l.front (l.width ∷ []) (sized_kept g r.values.items l.front a.widths) (width_kept hb.grows one.value.0 l.width (b.width (ht.ever F env l.width l.last)), tt)));
       };
+  ever = λ F env ws ty no. let l = last_typed F env ts t ws ty in ⊎_elim (hs.ever F env l.front l.typed) (ht.ever F env l.width l.last) (hb.never.0 no);
   value = λ v w3.
       let w2 = wired_before hb.grows w3 in
       let w1 = wired_before ht.grows w2 in

@@ -1,5 +1,5 @@
 -- What the tail calls to one member come to, and one more of them.
-use Rattle.std.proofs.Common.{Vec, Global, T, nat_eq, ◌⊎◌, inl, inr, slice_set, ◌≡◌, ℕ, zero, suc, ◌+◌, ◌≤◌, List, [], ◌∷◌, ◌++◌, take, length, Option, Some, None, Bool, true, false, ◌&&◌, cond, ◌==◌, slice_get, refl, sym, ap, subst, ◌∙◌, arith, add-one}
+use Rattle.std.proofs.Common.{Vec, Global, T, nat_eq, ◌⊎◌, inl, inr, slice_set, ◌≡◌, ℕ, zero, suc, ◌+◌, ◌≤◌, List, [], ◌∷◌, ◌++◌, take, length, Option, Some, None, Bool, true, false, ◌&&◌, ◌||◌, cond, ◌==◌, slice_get, refl, sym, ap, subst, ◌∙◌, arith, add-one}
 use Rattle.std.proofs.Math.Facts.{eqb_yes}
 use Rattle.safl_word.specs.Words.{Word}
 use Rattle.safl_check.specs.Readiness.{or_else}
@@ -15,7 +15,7 @@ use Rattle.safl_lower.specs.Entries.{gate, went, Told}
 use Rattle.safl_lower.specs.Rows.{given, taken_to, to_member, RowFits, Row, RowAt, Adds}
 use Rattle.safl_lower.proofs.Steadying.{rows_grown, rows_set, args_at}
 use Rattle.safl_lower.proofs.Arms.{or_none}
-use Rattle.safl_lower.proofs.Kept.{same, mux_on}
+use Rattle.safl_lower.proofs.Kept.{same}
 use Rattle.safl_lower.proofs.Laid.{given_off}
 use Rattle.safl_lower.proofs.Gathered.{words_more}
 
@@ -99,7 +99,7 @@ take_all (x ∷ xs) (suc i) h = ap (λ (l : List _). x ∷ l) (take_all xs i (om
 
 -- ---- one more tail call to a member
 
-pub merge_row : (t k both : Bool) (own a row : List Word) → both ≡ cond t t k → row ≡ cond t own a → gate both (Some row) ≡ or_else (gate t (Some own)) (gate k (Some a))
+pub merge_row : (t k both : Bool) (own a row : List Word) → both ≡ (t || k) → row ≡ cond t own a → gate both (Some row) ≡ or_else (gate t (Some own)) (gate k (Some a))
 merge_row true k both own a row e f = ap (λ (b : Bool). gate b (Some row)) e ∙ ap (λ (l : List Word). Some l) f
 merge_row false k both own a row e f = ap (λ (b : Bool). gate b (Some row)) e ∙ ap (λ (l : List Word). gate k (Some l)) f
 
@@ -136,14 +136,14 @@ first_added n z l place bits args e at q = record {
 }
 
 pub next_added : (n m k : Netlist) (z l both : Sig) (place : ℕ) (a row : Vec Sig Global) (bits : List Sig) (args : List (Vec Sig Global)) (e : TailCall) → slice_get bits place ≡ Some l → slice_get args place ≡ Some a → nat_eq l.0 z.0 ≡ false
-    → Grows n m → Grows m k → width_at m both.0 ≡ Some 1 → ((v : Val) → Wired m v → v both.0 ≡ cond (on v e.taken) (v e.taken.0) (v l.0))
+    → Grows n m → Grows m k → width_at m both.0 ≡ Some 1 → ((v : Val) → Wired m v → on v both ≡ (on v e.taken || on v l))
     → ((ws : List ℕ) → Sized n e.args.items ws → Sized n a.items ws → Sized k row.items ws) → ((v : Val) → Wired k v → words v row.items ≡ cond (on v e.taken) (words v e.args.items) (words v a.items))
-    → (AreSteady n (e.taken ∷ e.taken ∷ l ∷ []) → SettlesOn n m (both ∷ [])) → (AreSteady m (e.taken ∷ e.args.items) → AreSteady m a.items → SettlesOn m k row.items) → length row.items ≡ length e.args.items
+    → (AreSteady n (e.taken ∷ l ∷ []) → SettlesOn n m (both ∷ [])) → (AreSteady m (e.taken ∷ e.args.items) → AreSteady m a.items → SettlesOn m k row.items) → length row.items ≡ length e.args.items
     → Adds n k z place bits (slice_set bits place both) args (slice_set args place row) e
-next_added n m k z l both place a row bits args e at rt q g h b val siz told muxed filled long = record {
+next_added n m k z l both place a row bits args e at rt q g h b val siz told joined filled long = record {
   long = long;
   settled = λ s r.
-      let x = muxed (s.0, (s.0, (steady_at n bits place l r.bits at, tt))) in
+      let x = joined (s.0, (steady_at n bits place l r.bits at, tt)) in
       let y = filled (are_steady_grown g (e.taken ∷ e.args.items) s) (are_steady_grown g a.items (args_at n args place a r.args rt)) in
       (λ q. y.net (x.net q), rows_set k bits args place both row (rows_grown (grows_on g h) bits args r) (steady_grown h both.0 x.signals.0) y.signals);
   bit = both;
@@ -152,7 +152,7 @@ next_added n m k z l both place a row bits args e at rt q g h b val siz told mux
   args_is = refl;
   fits = λ ws f o. by ws f o;
   told = λ v w off.
-      merge_row (on v e.taken) (on v l) (on v both) (words v e.args.items) (words v a.items) (words v row.items) (mux_on (on v e.taken) (v both.0) (v e.taken.0) (v l.0) (val v (wired_before h w))) (told v w)
+      merge_row (on v e.taken) (on v l) (on v both) (words v e.args.items) (words v a.items) (words v row.items) (val v (wired_before h w)) (told v w)
       ∙ ap (or_else (gate (on v e.taken) (Some (words v e.args.items)))) (sym (ap (λ (o : Option Sig). given v o (slice_get args place)) at ∙ ap (given v (Some l)) rt));
 }
   where

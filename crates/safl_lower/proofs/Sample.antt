@@ -1,4 +1,4 @@
--- The example can be lowered.
+-- The examples can be lowered.
 use Rattle.std.proofs.Common.{◌≡◌, ℕ, zero, suc, ◌+◌, ◌<◌, ◌≤◌, List, [], ◌∷◌, length, Some, true, slice_get, refl, sym, ap, subst, ◌∙◌, arith}
 use Rattle.safl_check.specs.Terms.{Term}
 use Rattle.safl_net.specs.Netlist.{Netlist, Signal}
@@ -9,7 +9,7 @@ use Rattle.safl_lower.specs.declared.parts.Ports.{Ports}
 use Rattle.safl_lower.specs.Typing.{Owner}
 use Rattle.safl_lower.specs.Lowering.{Sited}
 use Rattle.safl_lower.specs.Bodies.{IsBody, CanLower}
-use Rattle.safl_lower.specs.Sample.{either, sample, two_inputs}
+use Rattle.safl_lower.specs.Sample.{either, repeating, sample, two_inputs}
 
 pub tidy_inputs : (n : Netlist) → n ≡ two_inputs → IsTidy n
 tidy_inputs n e = subst IsTidy (sym e) (record { signals = λ s g f t. by s g f t; outputs = λ i o f. absurd (cc) })
@@ -72,5 +72,56 @@ can_lower n P t e f sites first members member wide =
         most = omega (arith, wide);
       };
       body = main_body;
+      room = omega (arith, size);
+    })
+
+-- ---- a body with no sites
+
+lone_owner : Owner
+lone_owner = record { program = sample; function = 2; first = 1; last = 1 }
+
+lone_body : IsBody lone_owner (8 ∷ []) repeating 8
+unfolding lone_owner
+lone_body = record {
+  typed = record {
+    low = 1;
+    high = 1;
+    from = omega arith;
+    upto = omega arith;
+    spans = (1, 1, (1, refl, (1, refl, refl)), refl, (refl, refl, (1, refl, refl)));
+    width = ((8 ∷ 8 ∷ [], (refl, ((record { some = omega arith; bounded = omega arith; fits = omega arith }, refl), tt)), refl), refl, ((refl, tt), refl, omega arith));
+  };
+  from = refl;
+  upto = refl;
+}
+
+no_port : {A : Type 0} (ps : List SitePorts) (i : ℕ) (p : SitePorts) → ps ≡ [] → slice_get ps i ≡ Some p → A
+no_port ps i p e f = by (ap (λ (l : List SitePorts). slice_get l i) (sym e) ∙ f)
+  where
+    by : {A : Type 0} → slice_get [] i ≡ Some p → A
+    by g = cc
+
+pub can_repeat : (n : Netlist) (P : Ports) (t : Term) → n ≡ two_inputs → t ≡ repeating → P.sites.items ≡ [] → P.first_site ≡ 1 → P.members ≡ 1 → P.first_member ≡ 2 → P.width ≡ 8 → CanLower n P (record { 0 = 1 } ∷ []) (record { 0 = 0 }) t
+unfolding lone_owner
+can_repeat n P t e f sites first members member wide =
+    let bit : width_at n 0 ≡ Some 1 = subst (λ (m : Netlist). width_at m 0 ≡ Some 1) (sym e) refl in
+    let word : width_at n 1 ≡ Some 8 = subst (λ (m : Netlist). width_at m 1 ≡ Some 8) (sym e) refl in
+    let none = ap length sites in
+    let size = ap (λ (m : Netlist). length m.signals) e in
+    subst (CanLower n P (record { 0 = 1 } ∷ []) (record { 0 = 0 })) (sym f) (record {
+      owner = lone_owner;
+      env = 8 ∷ [];
+      width = 8;
+      setting = record {
+        path_bit = bit;
+        slots_sized = (word, tt);
+        first = first;
+        last = omega (arith, first, none);
+        sites_sized = λ i p g. no_port P.sites.items i p sites g;
+        members = λ h l u. (omega (arith, member, u), omega (arith, member, members, u), sym wide);
+        some = omega (arith, wide);
+        most = omega (arith, wide);
+      };
+      body = lone_body;
       room = omega (arith, size);
     })

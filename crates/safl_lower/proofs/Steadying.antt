@@ -83,3 +83,12 @@ reads_none n m (Err e) h = tt
 pub prefixed : {E : Type 0} (n k m : Netlist) (r : Result Sig E) (z a : Sig) → Grows n k → SettlesOn n k (z ∷ []) → IfOk r (λ s. AreSteady k (z ∷ a ∷ []) → SettlesOn k m (s ∷ [])) → IfOk r (λ s. AreSteady n (a ∷ []) → SettlesOn n m (s ∷ []))
 prefixed n k m (Ok s) z a g c h = λ x. let y = h (c.signals.0, are_steady_grown g (a ∷ []) x) in record { net = λ q. y.net (c.net q); signals = y.signals }
 prefixed n k m (Err e) z a g c h = tt
+
+-- ---- a gate of a signal and of another that a gate makes
+
+pub followed : {E : Type 0} (n m k : Netlist) (r : Result Sig E) (a b made : Sig) → Grows n m → (AreSteady n (b ∷ []) → SettlesOn n m (made ∷ [])) → IfOk r (λ s. AreSteady m (a ∷ made ∷ []) → SettlesOn m k (s ∷ [])) → IfOk r (λ s. AreSteady n (a ∷ b ∷ []) → SettlesOn n k (s ∷ []))
+followed n m k (Ok s) a b made g first second = λ h.
+    let x = first h.1 in
+    let y = second (steady_grown g a.0 h.0, x.signals) in
+    record { net = λ q. y.net (x.net q); signals = y.signals }
+followed n m k (Err e) a b made g first second = tt

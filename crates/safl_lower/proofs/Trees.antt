@@ -1,11 +1,12 @@
 -- A list of terms of the code, term by term, as a plain list.
-use Rattle.std.proofs.Common.{◌≡◌, ℕ, zero, suc, ◌+◌, ◌*◌, ◌<◌, List, [], ◌∷◌, take, drop, Some, slice_get, ap, ◌∙◌, arith, add-one}
+use Rattle.std.proofs.Common.{◌≡◌, ℕ, zero, suc, ◌+◌, ◌*◌, ◌<◌, List, [], ◌∷◌, take, drop, Some, slice_get, Bool, true, false, ◌||◌, refl, ap, ◌∙◌, arith, add-one}
 use Rattle.safl_check.specs.Terms as plain
 use Rattle.safl_check.specs.declared.term.Term.{Term}
 use Rattle.safl_check.specs.Tree.{tree, forest}
-use Rattle.safl_lower.specs.Typing.{nodes, nodes_in}
+use Rattle.safl_lower.specs.Typing.{nodes, nodes_in, holds_calls, hold_calls}
 use Rattle.safl_lower.proofs.Lists.{end}
 use Rattle.safl_lower.proofs.Able.{joined}
+use Rattle.safl_lower.proofs.Quiet.{or_off}
 
 take_next : (ts : List Term) (i : ℕ) (x : Term) → slice_get ts i ≡ Some x → forest (take (suc i) ts) ≡ end (forest (take i ts)) (tree x)
 take_next [] i x e = absurd (cc)
@@ -24,3 +25,25 @@ pub smaller_at : (ts : List Term) (i : ℕ) (x : Term) → slice_get ts i ≡ So
 smaller_at [] i x e = absurd (cc)
 smaller_at (t ∷ ts) zero x e = let g : t ≡ x = cc in let h = ap (λ (y : Term). nodes (tree y)) g in omega (arith, h)
 smaller_at (t ∷ ts) (suc i) x e = let h = smaller_at ts i x e in omega (arith, h)
+
+-- ---- calls in a list
+
+or_on : (a b : Bool) → b ≡ true → (a || b) ≡ true
+or_on true b e = refl
+or_on false b e = e
+
+one_holds : (ts : plain.Terms) (t : plain.Term) (us : plain.Terms) → holds_calls t ≡ true → hold_calls (joined ts (plain.Cons t us)) ≡ true
+one_holds plain.Nil t us e = ap (λ (b : Bool). b || hold_calls us) e
+one_holds (plain.Cons x ts) t us e = or_on (holds_calls x) (hold_calls (joined ts (plain.Cons t us))) (one_holds ts t us e)
+
+none_hold : (ts : plain.Terms) (t : plain.Term) → hold_calls ts ≡ false → holds_calls t ≡ false → hold_calls (end ts t) ≡ false
+none_hold plain.Nil t e f = ap (λ (b : Bool). b || false) f
+none_hold (plain.Cons x ts) t e f =
+    let h = or_off (holds_calls x) (hold_calls ts) e in
+    ap (λ (b : Bool). b || hold_calls (end ts t)) h.0 ∙ none_hold ts t h.1 f
+
+pub holds_at : (ts : List Term) (i : ℕ) (x : Term) → slice_get ts i ≡ Some x → holds_calls (tree x) ≡ true → hold_calls (forest ts) ≡ true
+holds_at ts i x e h = ap hold_calls (forest_at ts i x e) ∙ one_holds (forest (take i ts)) (tree x) (forest (drop (suc i) ts)) h
+
+pub none_so_far : (ts : List Term) (i : ℕ) (x : Term) → slice_get ts i ≡ Some x → hold_calls (forest (take i ts)) ≡ false → holds_calls (tree x) ≡ false → hold_calls (forest (take (i + 1) ts)) ≡ false
+none_so_far ts i x e h k = ap hold_calls (forest_more ts i x e) ∙ none_hold (forest (take i ts)) (tree x) h k

@@ -1,5 +1,5 @@
 -- What the circuit of a term gives, under each valuation that the net allows.
-use Rattle.std.specs.Prelude.{◌≡◌, ℕ, ◌+◌, ◌-◌, ◌*◌, ◌<◌, ◌≤◌, List, [], ◌∷◌, ◌++◌, map, length, Option, Some, None, Bool, false, not, ◌&&◌, slice_get}
+use Rattle.std.specs.Prelude.{◌≡◌, ◌≢◌, ℕ, ◌+◌, ◌-◌, ◌*◌, ◌<◌, ◌≤◌, List, [], ◌∷◌, ◌++◌, map, length, Option, Some, None, Bool, false, not, ◌&&◌, slice_get}
 use Rattle.safl_word.specs.Words.{Word, max_width}
 use Rattle.safl_check.specs.Terms.{Term, Terms}
 use Rattle.safl_check.specs.Readiness.{Answer, Ready, LoopTo, NotYet, word_of, or_else, answer, answers, wanted, wanted_in}
@@ -9,6 +9,7 @@ use Rattle.safl_net.specs.Growth.{Val, words, Wired, width_at, Sized, Grows}
 use Rattle.safl_net.specs.Settled.{AreSteady, SettlesOn}
 use Rattle.safl_lower.specs.declared.parts.SitePorts.{SitePorts}
 use Rattle.safl_lower.specs.declared.parts.Ports.{Ports}
+use Rattle.safl_lower.specs.declared.parts.Readiness.TheVariants.{Never, When}
 use Rattle.safl_lower.specs.declared.parts.Lowered.{Lowered}
 use Rattle.safl_lower.specs.declared.parts.LoweredAll.{LoweredAll}
 use Rattle.safl_lower.specs.declared.parts.TailCall.{TailCall}
@@ -103,9 +104,10 @@ pub record LowerableAll (n : Netlist) (P : Ports) (slots : List Sig) (path : Sig
 
 -- ---- what is there then
 
+-- the readiness is a bit, if it has one, and the value has this width, if it ever is ready
 pub record Shaped (n : Netlist) (r : Lowered) (w : ℕ) : Type 0 where
   pub ready : ReadyAt n r.ready
-  pub width : width_at n r.value.0 ≡ Some w
+  pub width : r.ready ≢ Never → width_at n r.value.0 ≡ Some w
 
 pub record ShapedAll (n : Netlist) (r : LoweredAll) (ws : List ℕ) : Type 0 where
   pub ready : ReadyAt n r.ready
@@ -116,6 +118,9 @@ pub record Lowers (P : Ports) (slots : List Sig) (path : Sig) (old new : Netlist
   pub grows : Grows old new
   pub count : length new.signals + 4 ≤ length old.signals + 31 * nodes t
   pub shape : (F : Owner) (tail : Bool) (env : List ℕ) (w : ℕ) → Setting old F P slots env path → Typed F tail env t w → Shaped new r w
+  -- outside tail position it may be ready, and a term that never is has the width of its group's results
+  pub ever : (F : Owner) (env : List ℕ) (w : ℕ) → Typed F false env t w → r.ready ≢ Never
+  pub wide : (F : Owner) (tail : Bool) (env : List ℕ) (w : ℕ) → Setting old F P slots env path → Typed F tail env t w → r.ready ≡ Never → w ≡ P.width
   -- it is ready where the term is, with the term's word
   pub value : (v : Val) → Wired new v → shown v r ≡ word_of (answer (back_of v P) (words v slots) t)
   -- each site that wasn't sent is wanted where the term has its path and wants it, with the same words
@@ -141,6 +146,7 @@ pub record LowersAll (P : Ports) (slots : List Sig) (path : Sig) (old new : Netl
   pub grows : Grows old new
   pub count : length new.signals ≤ length old.signals + 31 * nodes_in ts
   pub shape : (F : Owner) (env : List ℕ) (ws : List ℕ) → Setting old F P slots env path → TypedAll F env ts ws → ShapedAll new r ws
+  pub ever : (F : Owner) (env : List ℕ) (ws : List ℕ) → TypedAll F env ts ws → r.ready ≢ Never
   pub value : (v : Val) → Wired new v → gathered v r ≡ answers (back_of v P) (words v slots) ts
   pub wants : (F : Owner) (env : List ℕ) (ws : List ℕ) → TypedAll F env ts ws → (v : Val) → Wired new v → (k : ℕ) → asked v p.wants.items k ≡ or_else (asked v o.wants.items k) (gate (open_at v P path k) (wanted_in (back_of v P) (words v slots) ts k))
   pub loops : (F : Owner) (env : List ℕ) (ws : List ℕ) → TypedAll F env ts ws → (v : Val) → Wired new v → went v p.loops.items ≡ went v o.loops.items
@@ -159,7 +165,7 @@ pub record LowersAll (P : Ports) (slots : List Sig) (path : Sig) (old new : Netl
 pub record Shows (P : Ports) (k : ℕ) (r : Lowered) : Type 0 where
   pub port : SitePorts
   pub at : port_of P k ≡ Some port
-  pub is : r ≡ record { ready = Some port.returned; value = port.value }
+  pub is : r ≡ record { ready = When port.returned; value = port.value }
 
 abbrev pub goes_with : ℕ → Option (List Word) → Option (ℕ × List Word)
 goes_with h None = None

@@ -1,13 +1,22 @@
--- An example: a main that calls one of two functions, and a net with a bit and a word for all its ports.
+-- Examples: a main that calls one of two functions, a body that goes on to itself, and a net with a bit and a word for
+-- all their ports.
 use Rattle.std.specs.Prelude.{ℕ, zero, suc, [], ◌∷◌, codes}
 use Rattle.safl_word.specs.declared.primitive.Primitive.TheVariants.{Eq}
 use Rattle.safl_check.specs.Program.{Program}
-use Rattle.safl_check.specs.Terms.{Term, Const, Var, Op, If, Call, Nil, Cons}
+use Rattle.safl_check.specs.Terms.{Term, Const, Var, Op, If, Call, Loop, Nil, Cons}
 use Rattle.safl_net.specs.Netlist.{Netlist, Input}
+
+-- a == 0
+abbrev pub is_zero : Term
+is_zero = Op Eq (Cons (Var 0) (Cons (Const (record { width = 8; bits = 0 })) Nil))
 
 -- if a == 0 then f(a) else g(a)
 abbrev pub either : Term
-either = If (Op Eq (Cons (Var 0) (Cons (Const (record { width = 8; bits = 0 })) Nil))) (Call 0 1 (Cons (Var 0) Nil)) (Call 1 2 (Cons (Var 0) Nil))
+either = If is_zero (Call 0 1 (Cons (Var 0) Nil)) (Call 1 2 (Cons (Var 0) Nil))
+
+-- if a == 0 then a else loop(a), in the body of function 2
+abbrev pub repeating : Term
+repeating = If is_zero (Var 0) (Loop 2 (Cons (Var 0) Nil))
 
 abbrev pub sample_body : ℕ → Term
 sample_body (suc (suc zero)) = either

@@ -1,20 +1,23 @@
 -- Steady signals: inputs, registers and wires with cells. What the circuit of a body reads and what it gives.
-use Rattle.std.specs.Prelude.{Vec, ◌≡◌, ℕ, List, [], ◌∷◌, Option, Some, None, slice_get}
+use Rattle.std.specs.Prelude.{Vec, ◌≡◌, ℕ, List, [], ◌∷◌, Some, slice_get}
 use Rattle.std.specs.Global.{Global}
 use Rattle.safl_net.specs.declared.cell.Sig.{Sig}
 use Rattle.safl_net.specs.Netlist.{Netlist}
 use Rattle.safl_net.specs.Settled.{IsSteady, AreSteady}
 use Rattle.safl_lower.specs.declared.parts.SitePorts.{SitePorts}
 use Rattle.safl_lower.specs.declared.parts.Ports.{Ports}
+use Rattle.safl_lower.specs.declared.parts.Readiness.{Readiness}
+use Rattle.safl_lower.specs.declared.parts.Readiness.TheVariants.{Always, Never, When}
 use Rattle.safl_lower.specs.declared.parts.Lowered.{Lowered}
 use Rattle.safl_lower.specs.declared.parts.Want.{Want}
 use Rattle.safl_lower.specs.declared.parts.TailCall.{TailCall}
 use Rattle.safl_lower.specs.declared.parts.Out.{Out}
 
 -- the bit, where there is one
-abbrev pub listed : Option Sig → List Sig
-listed None = []
-listed (Some s) = s ∷ []
+abbrev pub listed : Readiness → List Sig
+listed Always = []
+listed Never = []
+listed (When s) = s ∷ []
 
 -- the signals of a result
 abbrev pub results : Lowered → List Sig

@@ -1,5 +1,5 @@
 -- What a term is in the body of a function.
-use Rattle.std.specs.Prelude.{ℕ, ◌+◌, ◌≤◌, List, [], ◌∷◌, ◌++◌, Bool}
+use Rattle.std.specs.Prelude.{ℕ, ◌+◌, ◌≤◌, List, [], ◌∷◌, ◌++◌, Bool, true, false, ◌||◌}
 use Rattle.safl_check.specs.Program.{Program}
 use Rattle.safl_check.specs.Terms.{Term, Const, Var, Op, If, Let, Call, Loop, Terms, Nil, Cons}
 use Rattle.safl_check.specs.WellFormed.{Spans, SpansAll, HasWidth, HaveWidths}
@@ -68,3 +68,18 @@ tails_of (If c a b) = tails_of a ++ tails_of b
 tails_of (Let bs b) = tails_of b
 tails_of (Call f k ts) = []
 tails_of (Loop h ts) = h ∷ []
+
+abbrev mutual
+  -- a call or a tail call stands somewhere in the term
+  pub holds_calls : Term → Bool
+  holds_calls (Const w) = false
+  holds_calls (Var i) = false
+  holds_calls (Op p ts) = hold_calls ts
+  holds_calls (If c a b) = holds_calls c || holds_calls a || holds_calls b
+  holds_calls (Let bs b) = hold_calls bs || holds_calls b
+  holds_calls (Call f k ts) = true
+  holds_calls (Loop h ts) = true
+
+  pub hold_calls : Terms → Bool
+  hold_calls Nil = false
+  hold_calls (Cons t ts) = holds_calls t || hold_calls ts

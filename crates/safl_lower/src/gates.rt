@@ -1,13 +1,12 @@
-//! Cells: gates over bits, and readiness where most terms are always ready.
+//! Cells: gates over bits and words.
 
-ghost use Rattle.std.specs.Prelude.{◌≡◌, ℕ, ◌+◌, ◌<◌, ◌≤◌, ◌&&◌, List, [], ◌∷◌, not, cond, length, Some, None, IfOk, OnOk};
+ghost use Rattle.std.specs.Prelude.{◌≡◌, ℕ, ◌+◌, ◌<◌, ◌≤◌, ◌&&◌, ◌||◌, List, [], ◌∷◌, not, cond, length, Some, None, IfOk, OnOk};
 ghost use Rattle.safl_word.specs.Primitives.{apply_prim, bit_of, result_width};
 ghost use Rattle.safl_net.specs.Names.{IsTidy};
 ghost use Rattle.safl_net.specs.Widths.{prim_width};
 ghost use Rattle.safl_net.specs.Growth.{Val, words, Wired, width_at, Sized, Grows};
 ghost use Rattle.safl_net.specs.Settled.{AreSteady, SettlesOn};
-ghost use Rattle.safl_lower.specs.Steady.{listed};
-ghost use Rattle.safl_lower.specs.Bits.{on, is_ready, BitAt, ReadyAt, IsConstant};
+ghost use Rattle.safl_lower.specs.Bits.{on, BitAt, IsConstant};
 
 use safl_net::{Net, Op, Sig};
 use safl_word::{Primitive, Word};
@@ -108,58 +107,52 @@ pub fn bit(net: &mut Net, one: bool) -> Result<Sig, AllocError>
     }
 }
 
-/// The bit that is 1 where the first is and the other is ready.
-pub fn and_ready(net: &mut Net, a: Sig, r: Option<Sig>) -> Result<Sig, AllocError>
+/// The bit that is 1 where one of both is.
+pub fn or_bit(net: &mut Net, a: Sig, b: Sig) -> Result<Sig, AllocError>
     requires tidy { IsTidy net.old }
     requires first { BitAt net.old a }
-    requires second { ReadyAt net.old r }
+    requires second { BitAt net.old b }
     requires room { length net.old.signals < 4294967295 }
     ensures tidy { IsTidy net.new }
     ensures grows { Grows net.old net.new }
     ensures count { length net.new.signals ≤ length net.old.signals + 1 }
     ensures width { IfOk result (λ s. BitAt net.new s) }
-    ensures value { IfOk result (λ s. (v : Val) → Wired net.new v → on v s ≡ (on v a && is_ready v r)) }
-    ensures settled { IfOk result (λ s. AreSteady net.old (a ∷ listed r) → SettlesOn net.old net.new (s ∷ [])) }
+    ensures value { IfOk result (λ s. (v : Val) → Wired net.new v → on v s ≡ (on v a || on v b)) }
+    ensures settled { IfOk result (λ s. AreSteady net.old (a ∷ b ∷ []) → SettlesOn net.old net.new (s ∷ [])) }
 {
-    match r {
-        None => Ok(a),
-        Some(b) => and_bit(net, a, b),
-    }
+    operate(net, Primitive::Or, &[a, b])
 }
 
-/// Ready where both are.
-pub fn both_ready(net: &mut Net, q: Option<Sig>, r: Option<Sig>) -> Result<Option<Sig>, AllocError>
+/// The bit that is 1 where the first is and the second isn't.
+pub fn and_not(net: &mut Net, a: Sig, b: Sig) -> Result<Sig, AllocError>
     requires tidy { IsTidy net.old }
-    requires first { ReadyAt net.old q }
-    requires second { ReadyAt net.old r }
-    requires room { length net.old.signals < 4294967295 }
+    requires first { BitAt net.old a }
+    requires second { BitAt net.old b }
+    requires room { length net.old.signals + 1 < 4294967295 }
     ensures tidy { IsTidy net.new }
     ensures grows { Grows net.old net.new }
-    ensures count { length net.new.signals ≤ length net.old.signals + 1 }
-    ensures width { IfOk result (λ s. ReadyAt net.new s) }
-    ensures value { IfOk result (λ s. (v : Val) → Wired net.new v → is_ready v s ≡ (is_ready v q && is_ready v r)) }
-    ensures settled { IfOk result (λ s. AreSteady net.old (listed q) → AreSteady net.old (listed r) → SettlesOn net.old net.new (listed s)) }
-{
-    match q {
-        None => Ok(r),
-        Some(a) => Ok(Some(and_ready(net, a, r)?)),
-    }
-}
-
-/// A bit that is 1 where it is ready.
-pub fn ready_bit(net: &mut Net, r: Option<Sig>) -> Result<Sig, AllocError>
-    requires tidy { IsTidy net.old }
-    requires ready { ReadyAt net.old r }
-    requires room { length net.old.signals < 4294967295 }
-    ensures tidy { IsTidy net.new }
-    ensures grows { Grows net.old net.new }
-    ensures count { length net.new.signals ≤ length net.old.signals + 1 }
+    ensures count { length net.new.signals ≤ length net.old.signals + 2 }
     ensures width { IfOk result (λ s. BitAt net.new s) }
-    ensures value { IfOk result (λ s. (v : Val) → Wired net.new v → on v s ≡ is_ready v r) }
-    ensures settled { IfOk result (λ s. AreSteady net.old (listed r) → SettlesOn net.old net.new (s ∷ [])) }
+    ensures value { IfOk result (λ s. (v : Val) → Wired net.new v → on v s ≡ (on v a && not (on v b))) }
+    ensures settled { IfOk result (λ s. AreSteady net.old (a ∷ b ∷ []) → SettlesOn net.old net.new (s ∷ [])) }
 {
-    match r {
-        None => bit(net, true),
-        Some(s) => Ok(s),
-    }
+    let otherwise = not_bit(net, b)?;
+    and_bit(net, a, otherwise)
+}
+
+/// The bit that is 1 where the first is or the second isn't.
+pub fn or_not(net: &mut Net, a: Sig, b: Sig) -> Result<Sig, AllocError>
+    requires tidy { IsTidy net.old }
+    requires first { BitAt net.old a }
+    requires second { BitAt net.old b }
+    requires room { length net.old.signals + 1 < 4294967295 }
+    ensures tidy { IsTidy net.new }
+    ensures grows { Grows net.old net.new }
+    ensures count { length net.new.signals ≤ length net.old.signals + 2 }
+    ensures width { IfOk result (λ s. BitAt net.new s) }
+    ensures value { IfOk result (λ s. (v : Val) → Wired net.new v → on v s ≡ (on v a || not (on v b))) }
+    ensures settled { IfOk result (λ s. AreSteady net.old (a ∷ b ∷ []) → SettlesOn net.old net.new (s ∷ [])) }
+{
+    let otherwise = not_bit(net, b)?;
+    or_bit(net, a, otherwise)
 }

@@ -1,20 +1,23 @@
 //! What a branch, a call and a tail call add to the circuits of their parts.
 
-ghost use Rattle.std.specs.Prelude.{◌≡◌, ◌==◌, false, ℕ, ◌+◌, ◌<◌, ◌≤◌, ◌&&◌, List, [], ◌∷◌, not, cond, length, Some, None, IfOk, OnOk};
-ghost use Rattle.safl_word.specs.Words.{max_width};
+ghost use Rattle.std.specs.Prelude.{◌≡◌, ◌≢◌, ◌⊎◌, ◌==◌, true, ℕ, ◌+◌, ◌<◌, ◌≤◌, ◌&&◌, List, [], ◌∷◌, not, cond, length, Some, IfOk, OnOk};
 ghost use Rattle.safl_check.specs.Readiness.{or_else};
+ghost use Rattle.safl_check.specs.Tree.{tree};
 ghost use Rattle.safl_net.specs.Names.{IsTidy};
 ghost use Rattle.safl_net.specs.Growth.{Val, Wired, width_at, Grows};
 ghost use Rattle.safl_net.specs.Settled.{AreSteady, SettlesOn};
 ghost use Rattle.safl_lower.specs.Steady.{listed, results, SitesSteady, OutSteady};
 ghost use Rattle.safl_lower.specs.Bits.{on, is_ready, BitAt, ReadyAt};
 ghost use Rattle.safl_lower.specs.Entries.{gate, asked, went};
-ghost use Rattle.safl_lower.specs.Lowering.{open_at, gathered, goes_with, HasPorts, Shaped, Shows, Enters, Leaves};
+ghost use Rattle.safl_lower.specs.Typing.{holds_calls};
+ghost use Rattle.safl_lower.specs.Lowering.{open_at, shown, gathered, goes_with, HasPorts, Shaped, Shows, Enters, Leaves};
 
-use crate::gates::{and_bit, and_ready, bit, constant, mux, not_bit, ready_bit};
-use crate::parts::{Lowered, LoweredAll, Out, Ports, TailCall, Want};
+use crate::gates::{and_bit, and_not, mux, not_bit};
+use crate::holding::holds_calls;
+use crate::parts::{Lowered, LoweredAll, Out, Ports, Readiness, TailCall, Want};
+use crate::ready::{and_ready, both_ready, either_ready};
+use safl_check::Term;
 use safl_net::{Net, Sig};
-use safl_word::Word;
 use std::alloc::AllocError;
 
 /// The paths of two branches.
@@ -24,25 +27,50 @@ pub struct Paths {
     pub no: Sig,
 }
 
-/// The paths of the branches of a test: where the test has its path and is ready, one of them by its word.
-pub fn branch_paths(net: &mut Net, path: Sig, test: Lowered) -> Result<Paths, AllocError>
+/// The paths of the branches of a test: where the test has its path and is ready, one of them by its word. A branch
+/// that holds no calls asks for nothing: it keeps the test's path, which needs no gates.
+pub fn branch_paths(
+    net: &mut Net,
+    path: Sig,
+    test: Lowered,
+    yes: &Term,
+    no: &Term,
+) -> Result<Paths, AllocError>
     requires tidy { IsTidy net.old }
     requires path { BitAt net.old path }
-    requires test { Shaped net.old test 1 }
+    requires ready { ReadyAt net.old test.ready }
+    requires test { BitAt net.old test.value }
     requires room { length net.old.signals + 4 < 4294967295 }
     ensures tidy { IsTidy net.new }
     ensures grows { Grows net.old net.new }
     ensures count { length net.new.signals ≤ length net.old.signals + 4 }
     ensures widths { IfOk result (λ p. BitAt net.new p.yes × BitAt net.new p.no) }
-    ensures yes { IfOk result (λ p. (v : Val) → Wired net.new v → on v p.yes ≡ ((on v path && is_ready v test.ready) && on v test.value)) }
-    ensures no { IfOk result (λ p. (v : Val) → Wired net.new v → on v p.no ≡ ((on v path && is_ready v test.ready) && not (on v test.value))) }
+    ensures yes { IfOk result (λ p. holds_calls (tree yes.now) ≡ true → (v : Val) → Wired net.new v → on v p.yes ≡ ((on v path && is_ready v test.ready) && on v test.value)) }
+    ensures no { IfOk result (λ p. holds_calls (tree no.now) ≡ true → (v : Val) → Wired net.new v → on v p.no ≡ ((on v path && is_ready v test.ready) && not (on v test.value))) }
     ensures settled { IfOk result (λ p. AreSteady net.old (path ∷ results test) → SettlesOn net.old net.new (p.yes ∷ p.no ∷ [])) }
 {
-    let reached = and_ready(net, path, test.ready)?;
-    let yes = and_bit(net, reached, test.value)?;
-    let otherwise = not_bit(net, test.value)?;
-    let no = and_bit(net, reached, otherwise)?;
-    Ok(Paths { yes, no })
+    match (holds_calls(yes), holds_calls(no)) {
+        (false, false) => Ok(Paths {
+            yes: path,
+            no: path,
+        }),
+        (true, false) => {
+            let reached = and_ready(net, path, test.ready)?;
+            let yes = and_bit(net, reached, test.value)?;
+            Ok(Paths { yes, no: path })
+        }
+        (false, true) => {
+            let reached = and_ready(net, path, test.ready)?;
+            let no = and_not(net, reached, test.value)?;
+            Ok(Paths { yes: path, no })
+        }
+        (true, true) => {
+            let reached = and_ready(net, path, test.ready)?;
+            let yes = and_bit(net, reached, test.value)?;
+            let no = and_not(net, reached, test.value)?;
+            Ok(Paths { yes, no })
+        }
+    }
 }
 
 /// The value and the readiness of a choice.
@@ -53,48 +81,42 @@ pub fn choose(
     no: Lowered,
 ) -> Result<Lowered, AllocError>
     requires tidy { IsTidy net.old }
-    requires test { Shaped net.old test 1 }
+    requires ready { ReadyAt net.old test.ready }
+    requires test { BitAt net.old test.value }
     requires branches { (w : ℕ) × Shaped net.old yes w × Shaped net.old no w }
     requires room { length net.old.signals + 5 < 4294967295 }
     ensures tidy { IsTidy net.new }
     ensures grows { Grows net.old net.new }
     ensures count { length net.new.signals ≤ length net.old.signals + 5 }
     ensures shape { (w : ℕ) → Shaped net.old yes w → Shaped net.old no w → IfOk result (λ r. Shaped net.new r w) }
-    ensures value { IfOk result (λ r. (v : Val) → Wired net.new v → v r.value.0 ≡ cond (on v test.value) (v yes.value.0) (v no.value.0)) }
-    ensures ready { IfOk result (λ r. (v : Val) → Wired net.new v → is_ready v r.ready ≡ (is_ready v test.ready && cond (on v test.value) (is_ready v yes.ready) (is_ready v no.ready))) }
+    ensures value { IfOk result (λ r. (v : Val) → Wired net.new v → shown v r ≡ gate (is_ready v test.ready) (cond (on v test.value) (shown v yes) (shown v no))) }
+    ensures never { IfOk result (λ r. r.ready ≡ Readiness.Never → (test.ready ≡ Readiness.Never) ⊎ ((yes.ready ≡ Readiness.Never) × (no.ready ≡ Readiness.Never))) }
     ensures settled { IfOk result (λ r. AreSteady net.old (results test) → AreSteady net.old (results yes) → AreSteady net.old (results no) → SettlesOn net.old net.new (results r)) }
 {
-    let value = mux(net, test.value, yes.value, no.value)?;
-    let ready = choose_ready(net, test, yes.ready, no.ready)?;
+    let value = choose_value(net, test.value, yes, no)?;
+    let selected = either_ready(net, test.value, yes.ready, no.ready)?;
+    let ready = both_ready(net, test.ready, selected)?;
     Ok(Lowered { ready, value })
 }
 
-// The readiness of a choice: the test is, and the branch that it selects.
-fn choose_ready(
-    net: &mut Net,
-    test: Lowered,
-    yes: Option<Sig>,
-    no: Option<Sig>,
-) -> Result<Option<Sig>, AllocError>
+// The value of a choice: that of the branch that the bit selects, where it is ready.
+fn choose_value(net: &mut Net, c: Sig, yes: Lowered, no: Lowered) -> Result<Sig, AllocError>
     requires tidy { IsTidy net.old }
-    requires test { Shaped net.old test 1 }
-    requires yes { ReadyAt net.old yes }
-    requires no { ReadyAt net.old no }
-    requires room { length net.old.signals + 4 < 4294967295 }
+    requires test { BitAt net.old c }
+    requires branches { (w : ℕ) × Shaped net.old yes w × Shaped net.old no w }
+    requires room { length net.old.signals < 4294967295 }
     ensures tidy { IsTidy net.new }
     ensures grows { Grows net.old net.new }
-    ensures count { length net.new.signals ≤ length net.old.signals + 4 }
-    ensures shape { IfOk result (λ r. ReadyAt net.new r) }
-    ensures ready { IfOk result (λ r. (v : Val) → Wired net.new v → is_ready v r ≡ (is_ready v test.ready && cond (on v test.value) (is_ready v yes) (is_ready v no))) }
-    ensures settled { IfOk result (λ r. AreSteady net.old (results test) → AreSteady net.old (listed yes) → AreSteady net.old (listed no) → SettlesOn net.old net.new (listed r)) }
+    ensures count { length net.new.signals ≤ length net.old.signals + 1 }
+    ensures width { (w : ℕ) → Shaped net.old yes w → Shaped net.old no w → IfOk result (λ s. ((yes.ready ≡ Readiness.Never) × (no.ready ≡ Readiness.Never) → ⊥) → width_at net.new s.0 ≡ Some w) }
+    ensures value { IfOk result (λ s. (v : Val) → Wired net.new v → cond (on v c) (is_ready v yes.ready) (is_ready v no.ready) ≡ true → v s.0 ≡ cond (on v c) (v yes.value.0) (v no.value.0)) }
+    ensures settled { IfOk result (λ s. AreSteady net.old (c ∷ yes.value ∷ no.value ∷ []) → SettlesOn net.old net.new (s ∷ [])) }
 {
-    if yes.is_none() && no.is_none() {
-        return Ok(test.ready);
+    match (yes.ready, no.ready) {
+        (Readiness::Never, _) => Ok(no.value),
+        (_, Readiness::Never) => Ok(yes.value),
+        _ => mux(net, c, yes.value, no.value),
     }
-    let yes = ready_bit(net, yes)?;
-    let no = ready_bit(net, no)?;
-    let chosen = mux(net, test.value, yes, no)?;
-    Ok(Some(and_ready(net, chosen, test.ready)?))
 }
 
 /// A call: its want, which is its path where its arguments are ready and it wasn't sent, and what its site
@@ -131,64 +153,40 @@ pub fn ask(
         args: all.values,
     })?;
     Ok(Lowered {
-        ready: Some(port.returned),
+        ready: Readiness::When(port.returned),
         value: port.value,
     })
 }
 
-/// A tail call, which is never ready.
+/// A tail call, which never is ready. Nothing reads its value.
 pub fn go_on(
     net: &mut Net,
     out: &mut Out,
-    width: u8,
     path: Sig,
     member: u32,
     all: LoweredAll,
 ) -> Result<Lowered, AllocError>
     requires tidy { IsTidy net.old }
-    requires some { 1 ≤ width }
-    requires most { width ≤ max_width }
     requires path { BitAt net.old path }
     requires all { ReadyAt net.old all.ready }
-    requires room { length net.old.signals + 3 < 4294967295 }
+    requires room { length net.old.signals < 4294967295 }
     ensures tidy { IsTidy net.new }
     ensures grows { Grows net.old net.new }
-    ensures count { length net.new.signals ≤ length net.old.signals + 3 }
-    ensures shape { IfOk result (λ r. Shaped net.new r width) }
-    ensures never { IfOk result (λ r. (v : Val) → Wired net.new v → is_ready v r.ready ≡ false) }
+    ensures count { length net.new.signals ≤ length net.old.signals + 1 }
+    ensures never { IfOk result (λ r. r.ready ≡ Readiness.Never) }
     ensures entry { IfOk result (λ _. Leaves net.new out.old.loops.items out.new.loops.items path member all) }
     ensures wants { OnOk result (out.new.wants.items ≡ out.old.wants.items) }
     ensures loops { IfOk result (λ r. (v : Val) → Wired net.new v → went v out.new.loops.items ≡ or_else (went v out.old.loops.items) (gate (on v path) (goes_with member (gathered v all)))) }
     ensures settled { IfOk result (λ r. AreSteady net.old (path ∷ listed all.ready) → AreSteady net.old all.values.items → OutSteady net.old out.old → SettlesOn net.old net.new (results r) × OutSteady net.new out.new) }
 {
     let taken = and_ready(net, path, all.ready)?;
-    let never = bit(net, false)?;
-    let value = no_value(net, width)?;
     out.loops.push(TailCall {
         member,
         taken,
         args: all.values,
     })?;
     Ok(Lowered {
-        ready: Some(never),
-        value,
+        ready: Readiness::Never,
+        value: path,
     })
-}
-
-// What stands for the value of a tail call, which nothing reads.
-fn no_value(net: &mut Net, width: u8) -> Result<Sig, AllocError>
-    requires tidy { IsTidy net.old }
-    requires some { 1 ≤ width }
-    requires most { width ≤ max_width }
-    requires room { length net.old.signals < 4294967295 }
-    ensures tidy { IsTidy net.new }
-    ensures grows { Grows net.old net.new }
-    ensures count { length net.new.signals ≤ length net.old.signals + 1 }
-    ensures width { IfOk result (λ s. width_at net.new s.0 ≡ Some width) }
-    ensures settled { IfOk result (λ s. SettlesOn net.old net.new (s ∷ [])) }
-{
-    match Word::new(width, 0) {
-        Some(word) => constant(net, word),
-        None => unreachable!(),
-    }
 }

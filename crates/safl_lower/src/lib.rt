@@ -3,10 +3,12 @@
 
 mod body;
 pub mod gates;
+mod holding;
 mod joins;
 mod merge;
 pub mod parts;
 mod primitives;
+mod ready;
 mod spread;
 mod terms;
 #[cfg(test)]

@@ -9,7 +9,7 @@ ghost use Rattle.safl_lower.specs.Typing.{Owner};
 ghost use Rattle.safl_lower.specs.Entries.{Between, member_of, LoopsFit, cost};
 ghost use Rattle.safl_lower.specs.Rows.{RowAt, Adds, Merged};
 
-use crate::gates::mux;
+use crate::gates::{mux, or_bit};
 use crate::parts::{Rows, TailCall};
 use safl_net::{Net, Sig};
 use std::alloc::{AllocError, Global};
@@ -79,7 +79,7 @@ fn add_call(
         return Ok(());
     }
     let known = bits[place];
-    let both = mux(net, taken, taken, known)?;
+    let both = or_bit(net, taken, known)?;
     let row = mux_all(alloc, net, taken, &own, &args[place])?;
     bits[place] = both;
     args[place] = row;

@@ -39,17 +39,25 @@ pub struct Body {
     pub zero: Sig,
 }
 
-/// A term's readiness, where none is always, and its value.
+/// Where a term is ready: always, as an operator on constants; never, as a tail call; or where a bit is 1.
+#[derive(Clone, Copy)]
+pub enum Readiness {
+    Always,
+    Never,
+    When(Sig),
+}
+
+/// A term's readiness, and its value. Where the term never is ready, the value is any signal, of any width.
 #[derive(Clone, Copy)]
 pub struct Lowered {
-    pub ready: Option<Sig>,
+    pub ready: Readiness,
     pub value: Sig,
 }
 
 /// The same of a list of terms: all are ready, and their values.
 #[derive(Drop)]
 pub struct LoweredAll {
-    pub ready: Option<Sig>,
+    pub ready: Readiness,
     pub values: Vec<Sig>,
 }
 

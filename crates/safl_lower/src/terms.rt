@@ -6,10 +6,11 @@ ghost use Rattle.safl_net.specs.Names.{IsTidy};
 ghost use Rattle.safl_net.specs.Growth.{Grows};
 ghost use Rattle.safl_lower.specs.Lowering.{Lowerable, LowerableAll, Lowers, LowersAll};
 
-use crate::gates::{and_ready, both_ready, constant};
+use crate::gates::constant;
 use crate::joins::{ask, branch_paths, choose, go_on};
-use crate::parts::{Lowered, LoweredAll, Out, Ports};
+use crate::parts::{Lowered, LoweredAll, Out, Ports, Readiness};
 use crate::primitives::apply;
+use crate::ready::{and_ready, both_ready};
 use safl_check::Term;
 use safl_net::{Net, Sig};
 use std::alloc::{AllocError, Global};
@@ -35,15 +36,18 @@ pub fn lower_term(
     match t {
         Term::Const(w) => {
             let value = constant(net, *w)?;
-            Ok(Lowered { ready: None, value })
+            Ok(Lowered {
+                ready: Readiness::Always,
+                value,
+            })
         }
         Term::Var(i) => Ok(Lowered {
-            ready: None,
+            ready: Readiness::Always,
             value: slots[*i as usize],
         }),
         Term::If(c, a, b) => {
             let test = lower_term(alloc, net, out, slots, ports, path, c)?;
-            let paths = branch_paths(net, path, test)?;
+            let paths = branch_paths(net, path, test, a, b)?;
             let yes = lower_term(alloc, net, out, slots, ports, paths.yes, a)?;
             let no = lower_term(alloc, net, out, slots, ports, paths.no, b)?;
             choose(net, test, yes, no)
@@ -75,7 +79,7 @@ pub fn lower_term(
         }
         Term::Loop(h, ts) => {
             let all = lower_all(alloc, net, out, slots, ports, path, ts)?;
-            go_on(net, out, ports.width, path, *h, all)
+            go_on(net, out, path, *h, all)
         }
     }
 }
@@ -99,7 +103,7 @@ fn lower_all(
     ensures done { IfOk result (λ r. LowersAll ports.now slots.old.items path net.old net.new out.old out.new r (forest ts.now)) }
 {
     let mut values = Vec::new(alloc);
-    let mut ready = None;
+    let mut ready = Readiness::Always;
     for t in ts {
         let one = lower_term(alloc, net, out, slots, ports, path, t)?;
         ready = both_ready(net, ready, one.ready)?;

@@ -7,21 +7,34 @@ use std::test::Fail;
 
 const SHARED: &[u8] = b"fun f(x:8):8 = x + 1\nfun main(a:8):8 = f(a) + f(a + 1)";
 
-// A source, and how many registers its file declares.
-static REGISTERS: [(&[u8], usize); 5] = [
-    (SHARED, 14),
-    (b"fun f(x:8):8 = x + 1\nfun main(a:8):8 = f(f(a))", 12),
+// A source, how many registers its file declares, and how many bits they have.
+static REGISTERS: [(&[u8], usize, u32); 7] = [
+    (SHARED, 14, 56),
+    (b"fun f(x:8):8 = x + 1\nfun main(a:8):8 = f(f(a))", 12, 40),
     (
         b"fun f(x:8):8 = x + 1\nfun main(a:8):8 = let x = f(a) in f(x) + x",
         13,
+        48,
     ),
     (
         b"fun f(x:8):8 = x + 1\nfun g(x:8):8 = f(x)\nfun h(x:8):8 = f(x + 1)\nfun main(a:8):8 = g(a) + h(a)",
         26,
+        96,
     ),
     (
         b"fun even(x:8):1 = if x == 0 then 1 else odd(x - 1)\nand odd(x:8):1 = if x == 0 then 0 else even(x - 1)\nfun main(a:8):1 = even(a)",
         13,
+        34,
+    ),
+    (
+        b"fun f0(x:16, y:16):16 = let p = x ^ y, q = x & 15 in p + q\nfun main(a:16, b:16):16 = f0(a, b)",
+        12,
+        102,
+    ),
+    (
+        b"fun f0(x:16, y:16):16 = let p = x ^ y, q = x & 15 in p + q\nfun f1(x:16, y:16):16 = if y == 0 then x else f1(x + 12, y >> 1)\nfun main(a:16, b:16):16 = f1(a, b)",
+        17,
+        152,
     ),
 ];
 
@@ -32,14 +45,30 @@ fn count(text: &[u8], piece: &[u8]) -> usize {
         .count()
 }
 
+// The bits of the registers that a file declares.
+fn register_bits(text: &str) -> u32 {
+    let mut bits: u32 = 0;
+    for line in text.lines() {
+        let declared = line.strip_prefix("  reg [").unwrap_or("");
+        let high = declared.split_once(':').map(|parts| parts.0).unwrap_or("");
+        bits = bits.saturating_add(
+            high.parse::<u32>()
+                .map(|n| n.saturating_add(1))
+                .unwrap_or(0),
+        );
+    }
+    bits
+}
+
 #[test]
 fn registers_are_declared(rt: HostRuntime) -> Result<(), Fail> {
-    for (source, registers) in &REGISTERS {
+    for (source, registers, bits) in &REGISTERS {
         let mut shelf = shelf_with(rt.alloc(), source)?;
         let ended = call(rt.alloc(), &["build", "p", "v"], &mut shelf)?;
         assert_eq!(rt; ended.status, Status::Ok);
         let text = shelf.file("v").unwrap_or(b"");
         assert_eq!(rt; count(text, b"\n  reg ["), *registers);
+        assert_eq!(rt; register_bits(str::from_utf8(text).unwrap_or("")), *bits);
     }
     Ok(())
 }

@@ -3,6 +3,7 @@
 //! The answers were worked out by a program in Python that was written from the rules of the language and of its circuits.
 
 use crate::calls::{call, call_with, shelf_with};
+use crate::files::spread;
 use safl_tool::Status;
 use std::test::Fail;
 
@@ -181,6 +182,21 @@ fn written_files_are_run(rt: HostRuntime) -> Result<(), Fail> {
         let words = ["run", "v", "--cycles", "100"];
         let ended = call_with(rt.alloc(), &words, args, &mut shelf)?;
         assert_eq!(rt; ended.status, Status::Ok);
+        assert!(rt; ended.out.bytes() == *printed && ended.err.bytes().is_empty());
+    }
+    Ok(())
+}
+
+#[test]
+fn blanks_of_written_files_do_not_count(rt: HostRuntime) -> Result<(), Fail> {
+    for (source, args, printed) in &RESULTS {
+        let mut shelf = shelf_with(rt.alloc(), source)?;
+        let built = call(rt.alloc(), &["build", "p", "v"], &mut shelf)?;
+        assert_eq!(rt; built.status, Status::Ok);
+        let text = spread(rt.alloc(), shelf.file("v").unwrap_or(b""))?;
+        let mut other = shelf_with(rt.alloc(), &text)?;
+        let words = ["run", "p", "--cycles", "100"];
+        let ended = call_with(rt.alloc(), &words, args, &mut other)?;
         assert!(rt; ended.out.bytes() == *printed && ended.err.bytes().is_empty());
     }
     Ok(())

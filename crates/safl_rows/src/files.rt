@@ -5,8 +5,8 @@ use safl_tool::Status;
 use std::alloc::{AllocError, Global};
 use std::test::Fail;
 
-// Counts to 9, whatever its inputs are.
-const COUNTER: &[u8] = b"module m (clk, rst, start, done, result);
+/// Counts to 9, whatever its inputs are.
+pub const COUNTER: &str = "module m (clk, rst, start, done, result);
 input clk; input rst; input start; output done; output [3:0] result;
 reg [3:0] c$q; wire [3:0] n$0; wire [3:0] n$1; wire n$2; wire [3:0] n$3;
 assign n$0 = 4'd1; assign n$1 = c$q + n$0; assign n$3 = 4'd9;
@@ -40,10 +40,10 @@ fn run_for(alloc: Global, text: &[u8], cycles: &str) -> Result<Ended, Fail> {
 
 #[test]
 fn a_counter_is_run(rt: HostRuntime) -> Result<(), Fail> {
-    let ended = run_for(rt.alloc(), COUNTER, "20")?;
+    let ended = run_for(rt.alloc(), COUNTER.as_bytes(), "20")?;
     assert_eq!(rt; ended.status, Status::Ok);
     assert!(rt; ended.out.bytes() == b"result 9\ncycle 9\n".as_slice());
-    let late = run_for(rt.alloc(), COUNTER, "9")?;
+    let late = run_for(rt.alloc(), COUNTER.as_bytes(), "9")?;
     assert_eq!(rt; late.status, Status::NoResult);
     assert!(rt; late.out.bytes() == b"no result in 9 cycles\n".as_slice());
     Ok(())
@@ -67,7 +67,7 @@ fn wires_loop(rt: HostRuntime) -> Result<(), Fail> {
 
 #[test]
 fn a_file_takes_no_arguments(rt: HostRuntime) -> Result<(), Fail> {
-    let mut shelf = shelf_with(rt.alloc(), COUNTER)?;
+    let mut shelf = shelf_with(rt.alloc(), COUNTER.as_bytes())?;
     let words = ["run", "p", "--cycles", "20"];
     let ended = call_with(rt.alloc(), &words, "1", &mut shelf)?;
     assert_eq!(rt; ended.status, Status::BadArgs);
@@ -77,15 +77,15 @@ fn a_file_takes_no_arguments(rt: HostRuntime) -> Result<(), Fail> {
 
 #[test]
 fn a_file_is_missing(rt: HostRuntime) -> Result<(), Fail> {
-    let mut shelf = shelf_with(rt.alloc(), COUNTER)?;
+    let mut shelf = shelf_with(rt.alloc(), COUNTER.as_bytes())?;
     let ended = call(rt.alloc(), &["run", "q", "--cycles", "5"], &mut shelf)?;
     assert_eq!(rt; ended.status, Status::ReadFault);
     assert!(rt; ended.err.bytes() == b"cannot read q\n".as_slice());
     Ok(())
 }
 
-// The text with two line feeds and a comment in place of each run of blanks.
-fn spread(alloc: Global, text: &[u8]) -> Result<Vec<u8>, AllocError> {
+/// The text with two line feeds and a comment in place of each run of blanks.
+pub fn spread(alloc: Global, text: &[u8]) -> Result<Vec<u8>, AllocError> {
     let mut out = Vec::new(alloc);
     let mut blank = false;
     for byte in text {
@@ -103,7 +103,7 @@ fn spread(alloc: Global, text: &[u8]) -> Result<Vec<u8>, AllocError> {
 
 #[test]
 fn blanks_and_comments_do_not_count(rt: HostRuntime) -> Result<(), Fail> {
-    let text = spread(rt.alloc(), COUNTER)?;
+    let text = spread(rt.alloc(), COUNTER.as_bytes())?;
     let ended = run_for(rt.alloc(), &text, "20")?;
     assert_eq!(rt; ended.status, Status::Ok);
     assert!(rt; ended.out.bytes() == b"result 9\ncycle 9\n".as_slice());

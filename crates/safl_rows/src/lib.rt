@@ -16,8 +16,14 @@ mod limits;
 #[cfg(test)]
 mod machines;
 #[cfg(test)]
+mod meanings;
+#[cfg(test)]
+mod nets;
+#[cfg(test)]
 mod plans;
 #[cfg(test)]
 mod prints;
 #[cfg(test)]
 mod walks;
+#[cfg(test)]
+mod wrong_files;

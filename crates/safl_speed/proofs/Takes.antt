@@ -1,10 +1,9 @@
 -- A net of one input takes one word.
-use Rattle.std.proofs.Common.{◌≡◌, ℕ, zero, suc, ◌+◌, ◌<◌, List, [], ◌∷◌, ◌++◌, map, length, Some, None, slice_get, refl, sym, ap, subst, ◌∙◌, arith}
-use Rattle.safl_word.specs.Words.{Word}
+use Rattle.std.proofs.Common.{◌≡◌, ℕ, suc, List, [], ◌∷◌, ◌++◌, map, slice_get, refl, sym, ap, ◌∙◌}
 use Rattle.safl_net.specs.Netlist.{Netlist, Signal, Kind, Input, Reg, Wire, width_in, width_of}
 use Rattle.safl_net.specs.Growth.{HasCell, AreTemps, Grows}
 use Rattle.safl_net.specs.Making.{with_signal}
-use Rattle.safl_sim.specs.Places.{with_input, inputs_from, inputs_of, AreInputs}
+use Rattle.safl_sim.specs.Places.{with_input, inputs_from, inputs_of}
 use Rattle.safl_speed.specs.Mixed.{TakesOne}
 
 no_input : (k : Kind) (i : ℕ) (is : List ℕ) → HasCell k → with_input k i is ≡ is

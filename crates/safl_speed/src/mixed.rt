@@ -1,72 +1,49 @@
-//! Nets of wires mixed over the operators.
+//! Nets of wires mixed over all operations.
 
-ghost use Rattle.std.specs.Prelude.{◌≡◌, ℕ, ◌+◌, ◌<◌, ◌≤◌, [], ◌∷◌, length, Some, IfOk, OnOk};
+ghost use Rattle.std.specs.Prelude.{◌≡◌, ◌+◌, ◌*◌, ◌<◌, ◌≤◌, length, IfOk, OnOk};
 ghost use Rattle.safl_net.specs.Names.{IsTidy};
-ghost use Rattle.safl_net.specs.Widths.{op_width};
 ghost use Rattle.safl_net.specs.Growth.{Grows};
-ghost use Rattle.safl_sim.specs.Places.{AreInputs};
 ghost use Rattle.safl_speed.specs.Mixed.{Has, TakesOne};
 
-use safl_net::{Net, Op, Sig};
+use crate::turns::{Ends, TURN_MAX, spread, turn};
+use safl_net::{Net, Sig};
 use safl_order::order::order;
 use safl_sim::Sim;
-use safl_word::{Primitive, Raw, Word};
+use safl_word::Raw;
 use std::alloc::{AllocError, Global};
 
-// An operator on two words of one width, which gives a word of it.
-fn operator(i: u32) -> Primitive
-    ensures { (w : ℕ) → op_width (Op.Apply result) (w ∷ w ∷ []) ≡ Some w }
-{
-    match i % 8 {
-        0 => Primitive::Mul,
-        1 => Primitive::Add,
-        2 => Primitive::And,
-        3 => Primitive::Sub,
-        4 => Primitive::Xor,
-        5 => Primitive::Shl,
-        6 => Primitive::Or,
-        _ => Primitive::Shr,
-    }
+/// The wires of a net, and the exclusive or of what its last wire showed.
+#[derive(Clone, Copy)]
+pub struct Shown {
+    pub wires: u32,
+    pub bits: Raw,
 }
 
-// A wire of an operator on two signals of the width.
-fn wire(net: &mut Net, p: Primitive, width: u8, a: Sig, b: Sig) -> Result<Sig, AllocError>
-    requires gives { op_width (Op.Apply p) (width ∷ width ∷ []) ≡ Some width }
-    requires tidy { IsTidy net.old }
-    requires first { Has net.old width a }
-    requires second { Has net.old width b }
-    requires room { length net.old.signals < 4294967295 }
-    ensures grows { Grows net.old net.new }
-    ensures tidy { IsTidy net.new }
-    ensures more { length net.new.signals ≤ length net.old.signals + 1 }
-    ensures has { IfOk result (Has net.new width) }
-{
-    net.temp(Op::Apply(p), &[a, b])
-}
-
-// So many wires, each on the two before it.
-fn chain(net: &mut Net, width: u8, input: Sig, count: u32) -> Result<Sig, AllocError>
+// So many turns.
+fn chain(net: &mut Net, width: u8, input: Sig, turns: u32) -> Result<Sig, AllocError>
+    requires wide { 8 ≤ width }
+    requires most { width ≤ 128 }
     requires tidy { IsTidy net.old }
     requires has { Has net.old width input }
-    requires room { length net.old.signals + count < 4294967295 }
-    ensures grows { Grows net.old net.new }
+    requires room { length net.old.signals + TURN_MAX * turns < 4294967295 }
+    ensures grows { OnOk result (Grows net.old net.new) }
     ensures has { IfOk result (Has net.new width) }
 {
-    let mut last = input;
-    let mut other = input;
-    'wires: for i in 0..count {
-        let next = wire(net, operator(i), width, last, other)?;
-        other = last;
-        last = next;
+    let mut ends = Ends {
+        last: input,
+        other: input,
+    };
+    'turns: for i in 0..turns {
+        ends = turn(net, width, i, input, ends)?;
     }
-    Ok(last)
+    Ok(ends.last)
 }
 
-// A net of one input and so many wires, with its last wire.
-fn mixed(alloc: Global, width: u8, wires: u32) -> Result<(Net, Sig), AllocError>
-    requires some { 1 ≤ width }
+// A net of one input and so many turns, with its last wire.
+fn mixed(alloc: Global, width: u8, turns: u32) -> Result<(Net, Sig), AllocError>
+    requires wide { 8 ≤ width }
     requires most { width ≤ 128 }
-    requires few { wires < 4000000 }
+    requires few { turns < 700000000 }
     ensures takes { IfOk result (λ r. TakesOne r.0 width) }
     ensures last { IfOk result (λ r. r.1.0 < length r.0.signals) }
 {
@@ -74,28 +51,28 @@ fn mixed(alloc: Global, width: u8, wires: u32) -> Result<(Net, Sig), AllocError>
     let Ok(input) = net.input("x", width) else {
         return Err(AllocError);
     };
-    let last = chain(&mut net, width, input, wires)?;
+    let last = chain(&mut net, width, input, turns)?;
     Ok((net, last))
 }
 
-/// The exclusive or of what the last wire of a mixed net shows in so many cycles.
-pub fn run(alloc: Global, width: u8, wires: u32, ticks: u32) -> Result<Raw, AllocError>
-    requires some { 1 ≤ width }
+/// Runs a net of so many turns for so many cycles. Widths are from 8 to 128 bits.
+pub fn run(alloc: Global, width: u8, turns: u32, ticks: u32) -> Result<Shown, AllocError>
+    requires wide { 8 ≤ width }
     requires most { width ≤ 128 }
-    requires few { wires < 4000000 }
+    requires few { turns < 700000000 }
 {
-    let (net, last) = mixed(alloc, width, wires)?;
+    let (net, last) = mixed(alloc, width, turns)?;
+    let wires = net.signals().saturating_sub(1);
     let Ok(ordered) = order(alloc, net) else {
         return Err(AllocError);
     };
     let Ok(mut sim) = Sim::new(alloc, ordered) else {
         return Err(AllocError);
     };
-    let mut shown = 0;
+    let mut bits = 0;
     'ticks: for i in 0..ticks {
-        let word = Word::from_low_bits(width, Raw::from(i));
-        sim.tick(&[word]);
-        shown ^= sim.value(last).bits();
+        sim.tick(&[spread(width, i)]);
+        bits ^= sim.value(last).bits();
     }
-    Ok(shown)
+    Ok(Shown { wires, bits })
 }

@@ -2,7 +2,7 @@
 use Rattle.std.proofs.Common.{◌≡◌, ℕ, zero, suc, ◌+◌, ◌<◌, arith, drop, get_or, drop-cons, List, [], ◌∷◌, ◌++◌, length, take, Bool, true, false, refl, sym, ap, ◌∙◌}
 use Rattle.std.specs.Prelude.{◌&&◌, min}
 use Rattle.safl_typing.specs.declared.expression.Expression as code
-use Rattle.safl_typing.specs.Rewriting.{Expressions, shape, takes_width, flexible, all_flexible, nodes, nodes_in, nodes_bound}
+use Rattle.safl_typing.specs.Rewriting.{Expressions, shape, takes_width, flexible, all_flexible}
 use Rattle.safl_word.specs.declared.primitive.Primitive.{Primitive}
 use Rattle.safl_typing.specs.Heads.{Known, sites, sites_in, sites_bound}
 use Rattle.safl_typing.specs.declared.expression.Bound.{Bound}
@@ -23,10 +23,6 @@ flexible_next es i e lt is q h = h ∙ ap (λ (l : List code.Expression). all_fl
 pub flexible_not : (es : List code.Expression) (i : ℕ) (e : code.Expression) → i < length es → e ≡ get_or es i e → flexible (plain e) ≡ false → all_flexible (plain_all es) ≡ all_flexible (plain_all (drop i es)) → all_flexible (plain_all es) ≡ false
 flexible_not es i e lt is q h = h ∙ ap (λ (l : List code.Expression). all_flexible (plain_all l)) (front es i e lt is) ∙ flexible_cons e (drop (i + 1) es) false q
 
-nodes_end : (xs : List code.Expression) (x : code.Expression) → nodes_in (plain_all (xs ++ x ∷ [])) ≡ nodes_in (plain_all xs) + nodes (plain x)
-nodes_end [] x = omega arith
-nodes_end (y ∷ ys) x = omega (arith, nodes_end ys x)
-
 upto : (es : List code.Expression) (i : ℕ) (e : code.Expression) → i < length es → e ≡ get_or es i e → take (i + 1) es ≡ take i es ++ e ∷ []
 upto [] i e lt is = absurd (omega (arith, lt))
 upto (y ∷ ys) zero e lt is = ap (λ (z : code.Expression). z ∷ []) (sym is)
@@ -34,26 +30,12 @@ upto (y ∷ ys) (suc i) e lt is =
     let s : suc i + 1 ≡ suc (i + 1) = omega arith in
     ap (λ (j : ℕ). take j (y ∷ ys)) s ∙ ap (λ (l : List code.Expression). y ∷ l) (upto ys i e (omega (arith, lt)) is)
 
-pub nodes_next : (es : List code.Expression) (i : ℕ) (e : code.Expression) (counted total next : ℕ) → i < length es → e ≡ get_or es i e → total ≡ min 50001 (counted + nodes_in (plain_all (take i es))) → next ≡ min 50001 (total + nodes (plain e)) → next ≡ min 50001 (counted + nodes_in (plain_all (take (i + 1) es)))
-nodes_next es i e counted total next lt is h q =
-    let s : nodes_in (plain_all (take (i + 1) es)) ≡ nodes_in (plain_all (take i es)) + nodes (plain e) = ap (λ (l : List code.Expression). nodes_in (plain_all l)) (upto es i e lt is) ∙ nodes_end (take i es) e in
-    omega (arith, h, q, s)
-
-bound_end : (xs : List Bound) (x : Bound) → nodes_bound (plain_bindings (xs ++ x ∷ [])) ≡ nodes_bound (plain_bindings xs) + nodes (plain x.value)
-bound_end [] x = omega arith
-bound_end (y ∷ ys) x = omega (arith, bound_end ys x)
-
 bound_upto : (es : List Bound) (i : ℕ) (e : Bound) → i < length es → e ≡ get_or es i e → take (i + 1) es ≡ take i es ++ e ∷ []
 bound_upto [] i e lt is = absurd (omega (arith, lt))
 bound_upto (y ∷ ys) zero e lt is = ap (λ (z : Bound). z ∷ []) (sym is)
 bound_upto (y ∷ ys) (suc i) e lt is =
     let s : suc i + 1 ≡ suc (i + 1) = omega arith in
     ap (λ (j : ℕ). take j (y ∷ ys)) s ∙ ap (λ (l : List Bound). y ∷ l) (bound_upto ys i e (omega (arith, lt)) is)
-
-pub bound_next : (es : List Bound) (i : ℕ) (e : Bound) (counted total next : ℕ) → i < length es → e ≡ get_or es i e → total ≡ min 50001 (counted + nodes_bound (plain_bindings (take i es))) → next ≡ min 50001 (total + nodes (plain e.value)) → next ≡ min 50001 (counted + nodes_bound (plain_bindings (take (i + 1) es)))
-bound_next es i e counted total next lt is h q =
-    let s : nodes_bound (plain_bindings (take (i + 1) es)) ≡ nodes_bound (plain_bindings (take i es)) + nodes (plain e.value) = ap (λ (l : List Bound). nodes_bound (plain_bindings l)) (bound_upto es i e lt is) ∙ bound_end (take i es) e in
-    omega (arith, h, q, s)
 
 and_true : (a b : Bool) → a ≡ true → (a && b) ≡ b
 and_true true b e = refl

@@ -4,7 +4,6 @@
 pub mod expression;
 pub mod heads;
 pub mod laws;
-pub mod lets;
 pub mod measure;
 mod parts;
 mod repeats;

@@ -1,11 +1,11 @@
-//! What is told of an expression before it is checked: whether it is flexible, and how many nodes it has.
+//! What is told of an expression before it is checked: whether it is flexible, and what its operator asks.
 
-ghost use Rattle.std.specs.Prelude.{◌≡◌, ◌+◌, ◌≤◌, ◌&&◌, min};
-ghost use Rattle.safl_typing.specs.Rewriting.{shape, takes_width, flexible, all_flexible, nodes, nodes_in, nodes_bound};
-ghost use Rattle.safl_typing.specs.Plain.{plain, plain_all, plain_bindings};
+ghost use Rattle.std.specs.Prelude.{◌≡◌, ◌&&◌};
+ghost use Rattle.safl_typing.specs.Rewriting.{shape, takes_width, flexible, all_flexible};
+ghost use Rattle.safl_typing.specs.Plain.{plain, plain_all};
 ghost use Rattle.safl_typing.specs.PlainTyped.{plain_shape};
 
-use crate::expression::{Bound, Expression};
+use crate::expression::Expression;
 use safl_word::Primitive;
 
 /// Whether an expression takes any width: a number, or what is made of flexible parts alone.
@@ -68,69 +68,6 @@ fn has_operands_width(operator: Primitive) -> bool
         Primitive::Cat => false,
         Primitive::Bits(_, _) => false,
         Primitive::Ext(_) => false,
-    }
-}
-
-/// The most nodes that are counted: one more than a program may have.
-pub const NODES_COUNTED: u32 = 50_001;
-
-/// Adds the nodes of an expression to those that were counted, up to the most.
-#[cycle(nodes)]
-pub fn add_nodes(counted: u32, e: &Expression) -> u32
-    requires { counted ≤ 50001 }
-    ensures { result ≡ min 50001 (counted + nodes (plain e.now)) }
-{
-    let counted = add_node(counted);
-    match e {
-        Expression::Number(_, _) => counted,
-        Expression::Sized(_, _, _) => counted,
-        Expression::Variable(_, _) => counted,
-        Expression::Choice(_, condition, first, second) => {
-            let counted = add_nodes(counted, condition);
-            let counted = add_nodes(counted, first);
-            add_nodes(counted, second)
-        }
-        Expression::Binding(_, bound, body) => {
-            let counted = add_bound_nodes(counted, bound);
-            add_nodes(counted, body)
-        }
-        Expression::Applied(_, _, operands) => add_all_nodes(counted, operands),
-        Expression::Called(_, _, arguments) => add_all_nodes(counted, arguments),
-    }
-}
-
-#[cycle(nodes)]
-fn add_all_nodes(counted: u32, es: &[Expression]) -> u32
-    requires { counted ≤ 50001 }
-    ensures { result ≡ min 50001 (counted + nodes_in (plain_all es.now)) }
-{
-    let mut total = counted;
-    for e in es {
-        total = add_nodes(total, e);
-    }
-    total
-}
-
-#[cycle(nodes)]
-fn add_bound_nodes(counted: u32, bound: &[Bound]) -> u32
-    requires { counted ≤ 50001 }
-    ensures { result ≡ min 50001 (counted + nodes_bound (plain_bindings bound.now)) }
-{
-    let mut total = counted;
-    for b in bound {
-        total = add_nodes(total, &b.value);
-    }
-    total
-}
-
-fn add_node(counted: u32) -> u32
-    requires { counted ≤ 50001 }
-    ensures { result ≡ min 50001 (counted + 1) }
-{
-    if counted < NODES_COUNTED {
-        counted + 1
-    } else {
-        counted
     }
 }
 

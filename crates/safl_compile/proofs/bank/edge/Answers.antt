@@ -1,10 +1,11 @@
 use Rattle.std.proofs.Common.{◌+◌, ◌*◌, List, sym, subst, arith}
 use Rattle.safl_check.specs.Checked.{program_of}
 use Rattle.safl_net.specs.declared.cell.Sig.{Sig}
+use Rattle.safl_gates.proofs.Building.{builds_on, builds_within}
+use Rattle.safl_gates.proofs.Kept.{bits_kept}
 use Rattle.safl_compile.specs.Cycles.{choice_of}
 use Rattle.safl_compile.specs.Stages.{HasGoes}
-use Rattle.safl_compile.proofs.Building.{builds_on, builds_within}
-use Rattle.safl_compile.proofs.Keeping.{bits_kept, pins_kept, returns_kept, outcomes_kept, goes_kept}
+use Rattle.safl_compile.proofs.Keeping.{pins_kept, returns_kept, outcomes_kept, goes_kept}
 use Rattle.safl_compile.proofs.Whole.{events_kept, events_fit, units_next_kept, members_next_kept, has_next}
 use Rattle.safl_compile.proofs.bank.edge.Goals as goal
 

@@ -5,20 +5,21 @@ use Rattle.safl_check.specs.Program.{Program, arity}
 use Rattle.safl_net.specs.declared.cell.Sig.{Sig}
 use Rattle.safl_net.specs.Netlist.{Netlist}
 use Rattle.safl_unit.specs.Equations.{many}
-use Rattle.safl_compile.specs.declared.parts.Load.{Load}
+use Rattle.safl_gates.specs.declared.loads.Load.{Load}
+use Rattle.safl_gates.specs.Sources.{Builds}
+use Rattle.safl_gates.specs.Tables.{load_in, sig_in, taken_in, on_in, FitsIn, IsBitIn}
+use Rattle.safl_gates.proofs.Building.{builds_same, builds_on, builds_within}
+use Rattle.safl_gates.proofs.Kept.{maybe_load_kept, maybe_bit_kept}
+use Rattle.safl_gates.proofs.Cells.{sources_length}
 use Rattle.safl_compile.specs.declared.parts.MemberPins.{MemberPins}
 use Rattle.safl_compile.specs.declared.parts.Pins.{Pins}
 use Rattle.safl_compile.specs.declared.parts.Outcomes.{Outcomes}
 use Rattle.safl_compile.specs.declared.events.Events.{Events}
-use Rattle.safl_compile.specs.Sources.{Builds}
-use Rattle.safl_compile.specs.Tables.{load_in, sig_in, taken_in, on_in, FitsIn, IsBitIn}
 use Rattle.safl_compile.specs.Cycles.{PinsFit, MemberFits}
 use Rattle.safl_compile.specs.Stages.{OutcomesFit}
 use Rattle.safl_compile.specs.Coming.{EventsFit}
 use Rattle.safl_compile.specs.Steps.{MemberStep, MembersNext}
-use Rattle.safl_compile.proofs.Building.{builds_same, builds_on, builds_within}
-use Rattle.safl_compile.proofs.Keeping.{maybe_load_kept, maybe_bit_kept, member_kept}
-use Rattle.safl_compile.proofs.Cells.{sources_length}
+use Rattle.safl_compile.proofs.Keeping.{member_kept}
 use Rattle.safl_compile.proofs.Stepping.{no_members, more_members}
 use Rattle.safl_compile.proofs.bank.next_members.Goals as goal
 

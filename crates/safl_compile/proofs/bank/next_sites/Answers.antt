@@ -5,17 +5,18 @@ use Rattle.safl_check.specs.Program.{Program}
 use Rattle.safl_net.specs.declared.cell.Sig.{Sig}
 use Rattle.safl_net.specs.Netlist.{Netlist}
 use Rattle.safl_lower.specs.Bits.{on}
+use Rattle.safl_gates.specs.Sources.{IsSource, Builds}
+use Rattle.safl_gates.specs.Tables.{pin, sig_in, on_in, IsBitIn, BitsFit}
+use Rattle.safl_gates.proofs.Building.{builds_same, builds_on, builds_within, source_kept}
+use Rattle.safl_gates.proofs.Kept.{maybe_bit_kept}
 use Rattle.safl_compile.specs.declared.parts.UnitPins.{UnitPins}
 use Rattle.safl_compile.specs.declared.parts.SitePins.{SitePins}
 use Rattle.safl_compile.specs.declared.parts.Pins.{Pins}
 use Rattle.safl_compile.specs.declared.parts.Returns.{Returns}
-use Rattle.safl_compile.specs.Sources.{IsSource, Builds}
-use Rattle.safl_compile.specs.Tables.{pin, sig_in, on_in, IsBitIn, BitsFit}
 use Rattle.safl_compile.specs.Cycles.{choice_of, SiteFits, PinsFit}
 use Rattle.safl_compile.specs.Stages.{ReturnsFit}
 use Rattle.safl_compile.specs.Steps.{SiteStep, SitesNext}
-use Rattle.safl_compile.proofs.Building.{builds_same, builds_on, builds_within, source_kept}
-use Rattle.safl_compile.proofs.Keeping.{maybe_bit_kept, site_kept}
+use Rattle.safl_compile.proofs.Keeping.{site_kept}
 use Rattle.safl_compile.proofs.Tables.{pin_is}
 use Rattle.safl_compile.proofs.Stepping.{no_sites, more_sites}
 use Rattle.safl_compile.proofs.bank.next_sites.Goals as goal

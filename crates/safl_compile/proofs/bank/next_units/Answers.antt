@@ -2,11 +2,12 @@ use Rattle.std.proofs.Common.{◌≡◌, ℕ, ◌+◌, ◌*◌, [], ◌∷◌, l
 use Rattle.std.proofs.lemmas.Option.{slice_get_read}
 use Rattle.safl_check.specs.Checked.{program_of}
 use Rattle.safl_net.specs.declared.cell.Sig.{Sig}
-use Rattle.safl_compile.specs.declared.parts.Load.{Load}
-use Rattle.safl_compile.specs.Tables.{load_in, sig_in, FitsIn, IsBitIn}
+use Rattle.safl_gates.specs.declared.loads.Load.{Load}
+use Rattle.safl_gates.specs.Tables.{load_in, sig_in, FitsIn, IsBitIn}
+use Rattle.safl_gates.proofs.Building.{builds_same, builds_on, builds_within}
+use Rattle.safl_gates.proofs.Kept.{maybe_load_kept, maybe_bit_kept}
 use Rattle.safl_compile.specs.Steps.{UnitsNext}
-use Rattle.safl_compile.proofs.Building.{builds_same, builds_on, builds_within}
-use Rattle.safl_compile.proofs.Keeping.{maybe_load_kept, maybe_bit_kept, unit_kept}
+use Rattle.safl_compile.proofs.Keeping.{unit_kept}
 use Rattle.safl_compile.proofs.Stepping.{no_units, more_units}
 use Rattle.safl_compile.proofs.bank.next_units.Goals as goal
 

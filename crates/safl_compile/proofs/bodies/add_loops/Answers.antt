@@ -6,8 +6,8 @@ use Rattle.safl_net.specs.Growth.{words}
 use Rattle.safl_net.proofs.Growth.{wired_before}
 use Rattle.safl_lower.specs.Bits.{on}
 use Rattle.safl_lower.specs.Entries.{gate}
-use Rattle.safl_compile.specs.Tables.{taken_from}
-use Rattle.safl_compile.proofs.Building.{builds_on, builds_within}
+use Rattle.safl_gates.specs.Tables.{taken_from}
+use Rattle.safl_gates.proofs.Building.{builds_on, builds_within}
 use Rattle.safl_compile.proofs.Rows.{tail_more, tail_upto, more_joined, row_given, cost_is}
 use Rattle.safl_compile.proofs.bodies.add_loops.Goals as goal
 

@@ -2,8 +2,8 @@ use Rattle.std.proofs.Common.{◌≡◌, ℕ, ◌+◌, List, length, take}
 use Rattle.safl_net.specs.Names.{IsTidy}
 use Rattle.safl_net.specs.Growth.{Val, Wired}
 use Rattle.safl_lower.specs.Rows.{tail_cost}
-use Rattle.safl_compile.specs.Sources.{Builds}
-use Rattle.safl_compile.specs.Tables.{SomeFit}
+use Rattle.safl_gates.specs.Sources.{Builds}
+use Rattle.safl_gates.specs.Tables.{SomeFit}
 use Rattle.safl_compile.specs.Outcomes.{RowsHave, JoinsRows}
 use Rattle.safl_compile.proofs.bodies.add_loops.Given as goal
 

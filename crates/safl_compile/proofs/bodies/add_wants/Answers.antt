@@ -1,6 +1,6 @@
 use Rattle.std.proofs.Common.{[], ◌∷◌, length, length-append, refl, ap, ◌∙◌, arith}
 use Rattle.std.proofs.lemmas.Option.{slice_get_read}
-use Rattle.safl_compile.specs.declared.parts.Load.{Load}
+use Rattle.safl_gates.specs.declared.loads.Load.{Load}
 use Rattle.safl_compile.proofs.Rows.{more_rows}
 use Rattle.safl_compile.proofs.bodies.add_wants.Goals as goal
 

@@ -6,8 +6,8 @@ use Rattle.safl_net.specs.Netlist.{Netlist}
 use Rattle.safl_net.specs.Growth.{Val, Wired}
 use Rattle.safl_lower.specs.Bits.{on}
 use Rattle.safl_unit.specs.Equations.{Choice, many, path}
+use Rattle.safl_gates.specs.Sources.{Builds}
 use Rattle.safl_compile.specs.declared.parts.Pins.{Pins}
-use Rattle.safl_compile.specs.Sources.{Builds}
 use Rattle.safl_compile.specs.Cycles.{InEachCycle}
 use Rattle.safl_compile.proofs.Keeping.{cycle_before}
 use Rattle.safl_compile.proofs.bodies.body_path.Goals as goal

@@ -1,10 +1,11 @@
 use Rattle.std.proofs.Common.{◌≡◌, ◌+◌, ◌<◌, length, refl, subst, sym, ap, ◌∙◌, arith}
 use Rattle.safl_check.specs.Checked.{CheckedProgram, IsChecked, program_of}
+use Rattle.safl_gates.proofs.Building.{builds_same, builds_on, builds_within}
+use Rattle.safl_gates.proofs.Kept.{some_kept}
 use Rattle.safl_compile.specs.declared.parts.Outcomes.{Outcomes}
 use Rattle.safl_compile.specs.Cycles.{choice_of}
 use Rattle.safl_compile.specs.Outcomes.{RowsHave, JoinsRows}
-use Rattle.safl_compile.proofs.Building.{builds_same, builds_on, builds_within}
-use Rattle.safl_compile.proofs.Keeping.{pins_kept, returns_kept, some_kept}
+use Rattle.safl_compile.proofs.Keeping.{pins_kept, returns_kept}
 use Rattle.safl_compile.proofs.Rows.{nodes_within, nodes_next}
 use Rattle.safl_compile.proofs.Outcoming.{none_outcomes, next_outcomes, all_outcomes}
 use Rattle.safl_compile.proofs.bodies.lower_bodies.Goals as goal

@@ -3,9 +3,9 @@ use Rattle.safl_check.specs.Checked.{IsChecked, program_of}
 use Rattle.safl_net.specs.Netlist.{Netlist}
 use Rattle.safl_net.specs.Growth.{Grows}
 use Rattle.safl_unit.specs.Names.{names_of}
+use Rattle.safl_gates.proofs.Building.{builds_on}
 use Rattle.safl_compile.specs.Cycles.{choice_of}
 use Rattle.safl_compile.specs.Stages.{body_nodes, HasGoes}
-use Rattle.safl_compile.proofs.Building.{builds_on}
 use Rattle.safl_compile.proofs.Keeping.{pins_kept, bank_kept, returns_kept, outcomes_kept, goes_kept, next_kept}
 use Rattle.safl_compile.proofs.Counting.{few_nodes, declared_few, room_for}
 use Rattle.safl_compile.proofs.Scheming.{finished_scheme, finished_plan, finished_count}

@@ -1,7 +1,7 @@
 use Rattle.std.proofs.Common.{List, Option, map, ap, ◌∙◌}
 use Rattle.safl_check.specs.Checked.{program_of}
-use Rattle.safl_compile.specs.declared.parts.Load.{Load}
-use Rattle.safl_compile.specs.Tables.{load_bit, bit_or}
+use Rattle.safl_gates.specs.declared.loads.Load.{Load}
+use Rattle.safl_gates.specs.Tables.{load_bit, bit_or}
 use Rattle.safl_compile.specs.Cycles.{choice_of}
 use Rattle.safl_compile.proofs.Controlling.{has_controls}
 use Rattle.safl_compile.proofs.controls.controls.Goals as goal

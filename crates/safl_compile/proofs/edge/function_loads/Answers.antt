@@ -5,9 +5,9 @@ use Rattle.safl_net.specs.declared.cell.Sig.{Sig}
 use Rattle.safl_net.specs.Growth.{Val}
 use Rattle.safl_lower.specs.Bits.{on}
 use Rattle.safl_lower.specs.Entries.{gate}
-use Rattle.safl_compile.specs.Tables.{pin}
+use Rattle.safl_gates.specs.Tables.{pin}
+use Rattle.safl_gates.proofs.Building.{builds_same, builds_on, builds_within, source_kept}
 use Rattle.safl_compile.specs.Edges.{IsBare, operands_in, ShowsLoads}
-use Rattle.safl_compile.proofs.Building.{builds_same, builds_on, builds_within, source_kept}
 use Rattle.safl_compile.proofs.Chains.{bare_loads, start_loads, more_loads, operands_fit, want_there, want_shown}
 use Rattle.safl_compile.proofs.edge.function_loads.Goals as goal
 

@@ -4,8 +4,8 @@ use Rattle.safl_core.specs.Picks.{first}
 use Rattle.safl_net.specs.Names.{IsTidy}
 use Rattle.safl_lower.specs.Bits.{on}
 use Rattle.safl_lower.specs.Entries.{gate}
-use Rattle.safl_compile.specs.Sources.{Builds}
-use Rattle.safl_compile.specs.Tables.{pin}
+use Rattle.safl_gates.specs.Sources.{Builds}
+use Rattle.safl_gates.specs.Tables.{pin}
 use Rattle.safl_compile.specs.Edges.{operands_in, ShowsLoads}
 use Rattle.safl_compile.proofs.edge.function_loads.Given as goal
 

@@ -4,9 +4,9 @@ use Rattle.safl_core.specs.Picks.{first}
 use Rattle.safl_net.specs.declared.cell.Sig.{Sig}
 use Rattle.safl_net.specs.Growth.{Val}
 use Rattle.safl_lower.specs.Entries.{gate}
-use Rattle.safl_compile.specs.Tables.{taken_at}
+use Rattle.safl_gates.specs.Tables.{taken_at}
+use Rattle.safl_gates.proofs.Building.{builds_same, builds_on, builds_within, source_kept}
 use Rattle.safl_compile.specs.Edges.{IsBare, ShowsLoads}
-use Rattle.safl_compile.proofs.Building.{builds_same, builds_on, builds_within, source_kept}
 use Rattle.safl_compile.proofs.Chains.{bare_loads, start_loads, more_loads, operands_fit, end_there, end_shown}
 use Rattle.safl_compile.proofs.edge.unit_ends.Goals as goal
 

@@ -3,8 +3,8 @@ use Rattle.safl_check.specs.Checked.{program_of}
 use Rattle.safl_core.specs.Picks.{first}
 use Rattle.safl_net.specs.Names.{IsTidy}
 use Rattle.safl_lower.specs.Entries.{gate}
-use Rattle.safl_compile.specs.Sources.{Builds}
-use Rattle.safl_compile.specs.Tables.{taken_at}
+use Rattle.safl_gates.specs.Sources.{Builds}
+use Rattle.safl_gates.specs.Tables.{taken_at}
 use Rattle.safl_compile.specs.Edges.{ShowsLoads}
 use Rattle.safl_compile.proofs.edge.unit_ends.Given as goal
 

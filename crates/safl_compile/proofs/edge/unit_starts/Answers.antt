@@ -3,9 +3,9 @@ use Rattle.safl_check.specs.Checked.{program_of}
 use Rattle.safl_check.specs.Program.{unit_for}
 use Rattle.safl_net.specs.Growth.{Val}
 use Rattle.safl_lower.specs.Bits.{on}
-use Rattle.safl_compile.specs.Tables.{pin}
+use Rattle.safl_gates.specs.Tables.{pin}
+use Rattle.safl_gates.proofs.Building.{builds_same, builds_on, builds_within, source_kept}
 use Rattle.safl_compile.specs.Edges.{IsBare, one_below, ShowsBits}
-use Rattle.safl_compile.proofs.Building.{builds_same, builds_on, builds_within, source_kept}
 use Rattle.safl_compile.proofs.Chains.{bare_bits, start_bits, more_bits}
 use Rattle.safl_compile.proofs.edge.unit_starts.Goals as goal
 

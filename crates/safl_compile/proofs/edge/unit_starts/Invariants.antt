@@ -3,8 +3,8 @@ use Rattle.safl_check.specs.Checked.{program_of}
 use Rattle.safl_check.specs.Program.{unit_for}
 use Rattle.safl_net.specs.Names.{IsTidy}
 use Rattle.safl_lower.specs.Bits.{on}
-use Rattle.safl_compile.specs.Sources.{Builds}
-use Rattle.safl_compile.specs.Tables.{pin}
+use Rattle.safl_gates.specs.Sources.{Builds}
+use Rattle.safl_gates.specs.Tables.{pin}
 use Rattle.safl_compile.specs.Edges.{one_below, ShowsBits}
 use Rattle.safl_compile.proofs.edge.unit_starts.Given as goal
 

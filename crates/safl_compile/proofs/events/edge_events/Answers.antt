@@ -1,8 +1,9 @@
 use Rattle.std.proofs.Common.{ℕ, ◌+◌, ◌*◌, [], ◌∷◌, is_some, arith}
 use Rattle.safl_check.specs.Checked.{program_of}
+use Rattle.safl_gates.proofs.Building.{builds_on, builds_within, source_kept}
+use Rattle.safl_gates.proofs.Kept.{some_kept}
 use Rattle.safl_compile.specs.Cycles.{choice_of}
-use Rattle.safl_compile.proofs.Building.{builds_on, builds_within, source_kept}
-use Rattle.safl_compile.proofs.Keeping.{some_kept, outcomes_kept, goes_kept, ends_kept, all_loads_kept, tests_kept}
+use Rattle.safl_compile.proofs.Keeping.{outcomes_kept, goes_kept, ends_kept, all_loads_kept, tests_kept}
 use Rattle.safl_unit.specs.Equations.{starts, clears, starts_it}
 use Rattle.safl_compile.proofs.Crossing.{outcomes_fit_kept, has_ends, has_loads, has_starts, has_clears, has_entries, has_rivals}
 use Rattle.safl_compile.proofs.events.edge_events.Goals as goal

@@ -1,7 +1,7 @@
 use Rattle.std.proofs.Common.{◌<◌, length, subst, ◌∙◌, arith}
 use Rattle.safl_check.specs.Checked.{IsChecked, program_of}
+use Rattle.safl_gates.proofs.Cells.{sources_length}
 use Rattle.safl_compile.specs.Cycles.{choice_of}
-use Rattle.safl_compile.proofs.Cells.{sources_length}
 use Rattle.safl_compile.proofs.Finishing.{first_wire_is, all_long, nexts_long, copies_long, registers_take, wires_take, all_set, all_tidy}
 use Rattle.safl_compile.proofs.finish.set_all.Goals as goal
 

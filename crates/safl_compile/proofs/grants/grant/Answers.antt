@@ -1,8 +1,8 @@
 use Rattle.std.proofs.Common.{Bool, ◌&&◌, not, ap, ◌∙◌}
 use Rattle.safl_net.proofs.Growth.{wired_before}
 use Rattle.safl_lower.specs.Bits.{on}
-use Rattle.safl_compile.specs.Tables.{on_in}
-use Rattle.safl_compile.proofs.Building.{builds_on}
+use Rattle.safl_gates.specs.Tables.{on_in}
+use Rattle.safl_gates.proofs.Building.{builds_on}
 use Rattle.safl_compile.proofs.Granting.{both_shown, on_ok}
 use Rattle.safl_compile.proofs.grants.grant.Goals as goal
 

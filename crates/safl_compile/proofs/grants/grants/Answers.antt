@@ -2,9 +2,9 @@ use Rattle.std.proofs.Common.{◌≡◌, ℕ, suc, ◌+◌, ◌*◌, Bool, ◌&&
 use Rattle.safl_check.specs.Checked.{CheckedProgram, program_of}
 use Rattle.safl_check.specs.Program.{unit_for}
 use Rattle.safl_lower.specs.Bits.{on}
-use Rattle.safl_compile.specs.Tables.{on_from}
+use Rattle.safl_gates.specs.Tables.{on_from}
+use Rattle.safl_gates.proofs.Building.{builds_on, builds_within}
 use Rattle.safl_compile.specs.Cycles.{choice_of}
-use Rattle.safl_compile.proofs.Building.{builds_on, builds_within}
 use Rattle.safl_compile.proofs.Keeping.{pins_kept, outcomes_kept}
 use Rattle.safl_compile.proofs.Indexing.{unit_at, site_at, main_at, place_within}
 use Rattle.safl_compile.proofs.Granting.{Granted, none_granted, more_granted, all_granted, want_shown}

@@ -1,6 +1,6 @@
 use Rattle.std.proofs.Common.{not}
 use Rattle.safl_lower.specs.Bits.{on}
-use Rattle.safl_compile.proofs.Building.{builds_on}
+use Rattle.safl_gates.proofs.Building.{builds_on}
 use Rattle.safl_compile.proofs.Granting.{both_shown, on_ok}
 use Rattle.safl_compile.proofs.grants.main_grant.Goals as goal
 

@@ -1,6 +1,6 @@
 use Rattle.std.proofs.Common.{◌≡◌, List, [], ◌∷◌, None, Option, length, length-append, refl, sym, subst, ap, arith}
 use Rattle.safl_net.specs.declared.cell.Sig.{Sig}
-use Rattle.safl_compile.specs.Tables.{EachAt}
+use Rattle.safl_gates.specs.Tables.{EachAt}
 use Rattle.safl_compile.proofs.Tables.{each_none, each_push}
 use Rattle.safl_compile.proofs.grants.no_bits.Goals as goal
 

@@ -1,5 +1,5 @@
 use Rattle.std.proofs.Common.{◌≡◌, None, length}
-use Rattle.safl_compile.specs.Tables.{EachAt}
+use Rattle.safl_gates.specs.Tables.{EachAt}
 use Rattle.safl_compile.proofs.grants.no_bits.Given as goal
 
 abbrev pub invariant-loop-i : goal.invariant-loop-i

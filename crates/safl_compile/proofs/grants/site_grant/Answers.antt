@@ -3,8 +3,8 @@ use Rattle.std.proofs.lemmas.Option.{slice_get_read}
 use Rattle.safl_net.specs.declared.cell.Sig.{Sig}
 use Rattle.safl_net.proofs.Growth.{wired_before}
 use Rattle.safl_lower.specs.Bits.{on}
-use Rattle.safl_compile.specs.Tables.{on_in, on_from, sig_in}
-use Rattle.safl_compile.proofs.Building.{builds_on, source_kept}
+use Rattle.safl_gates.specs.Tables.{on_in, on_from, sig_in}
+use Rattle.safl_gates.proofs.Building.{builds_on, source_kept}
 use Rattle.safl_compile.proofs.grants.site_grant.Goals as goal
 
 pub returns-clause-built : goal.returns-clause-built

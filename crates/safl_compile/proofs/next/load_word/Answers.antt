@@ -1,4 +1,4 @@
-use Rattle.safl_compile.proofs.Joining.{first_fits}
+use Rattle.safl_gates.proofs.Joining.{first_fits}
 use Rattle.safl_compile.proofs.Stepping.{only_word, load_word_value}
 use Rattle.safl_compile.proofs.next.load_word.Goals as goal
 

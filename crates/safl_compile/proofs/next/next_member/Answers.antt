@@ -4,11 +4,11 @@ use Rattle.safl_net.specs.Growth.{words}
 use Rattle.safl_net.proofs.Growth.{wired_before}
 use Rattle.safl_unit.specs.Equations.{or_word}
 use Rattle.safl_word.specs.Words.{Word}
-use Rattle.safl_compile.specs.Sources.{AreSources}
-use Rattle.safl_compile.specs.Tables.{taken_in}
-use Rattle.safl_compile.proofs.Building.{builds_on, builds_within, source_kept, sources_kept}
-use Rattle.safl_compile.proofs.Keeping.{maybe_load_kept}
-use Rattle.safl_compile.proofs.Joining.{as_many}
+use Rattle.safl_gates.specs.Sources.{AreSources}
+use Rattle.safl_gates.specs.Tables.{taken_in}
+use Rattle.safl_gates.proofs.Building.{builds_on, builds_within, source_kept, sources_kept}
+use Rattle.safl_gates.proofs.Kept.{maybe_load_kept}
+use Rattle.safl_gates.proofs.Joining.{as_many}
 use Rattle.safl_compile.proofs.next.next_member.Goals as goal
 
 pub next_at-requires-clause-at : goal.next_at-requires-clause-at

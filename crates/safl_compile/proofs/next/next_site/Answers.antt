@@ -1,6 +1,6 @@
 use Rattle.safl_net.proofs.Growth.{wired_before}
-use Rattle.safl_compile.proofs.Building.{builds_on, source_kept}
-use Rattle.safl_compile.proofs.Keeping.{maybe_bit_kept}
+use Rattle.safl_gates.proofs.Building.{builds_on, source_kept}
+use Rattle.safl_gates.proofs.Kept.{maybe_bit_kept}
 use Rattle.safl_compile.proofs.next.next_site.Goals as goal
 
 pub next_bit-requires-clause-now : goal.next_bit-requires-clause-now

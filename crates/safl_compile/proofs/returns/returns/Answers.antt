@@ -1,8 +1,8 @@
 use Rattle.std.proofs.Common.{◌≡◌, ℕ, suc, Bool, ◌+◌, ◌*◌, refl, sym, ap, subst, ◌∙◌, add-one, arith}
 use Rattle.safl_check.specs.Checked.{CheckedProgram, program_of}
+use Rattle.safl_gates.proofs.Building.{builds_same, builds_on, builds_within}
 use Rattle.safl_compile.specs.Returning.{SiteShown}
 use Rattle.safl_compile.specs.Cycles.{choice_of}
-use Rattle.safl_compile.proofs.Building.{builds_same, builds_on, builds_within}
 use Rattle.safl_compile.proofs.Keeping.{pins_kept}
 use Rattle.safl_compile.proofs.Indexing.{unit_at, site_at}
 use Rattle.safl_compile.proofs.Sites.{SoFar, none_so_far, more_so_far, all_returns}

@@ -1,7 +1,7 @@
 use Rattle.std.proofs.Common.{◌*◌}
 use Rattle.safl_check.specs.Checked.{program_of}
 use Rattle.safl_net.specs.Names.{IsTidy}
-use Rattle.safl_compile.specs.Sources.{Builds}
+use Rattle.safl_gates.specs.Sources.{Builds}
 use Rattle.safl_compile.specs.Cycles.{choice_of}
 use Rattle.safl_compile.proofs.Sites.{SoFar}
 use Rattle.safl_compile.proofs.returns.returns.Given as goal

@@ -3,10 +3,10 @@ use Rattle.safl_check.specs.Checked.{program_of}
 use Rattle.safl_net.specs.declared.cell.Sig.{Sig}
 use Rattle.safl_net.specs.Growth.{Val}
 use Rattle.safl_net.proofs.Growth.{wired_before}
-use Rattle.safl_compile.specs.Tables.{sig_in, on_in, on_from, IsBitIn}
+use Rattle.safl_gates.specs.Tables.{sig_in, on_in, on_from, IsBitIn}
+use Rattle.safl_gates.proofs.Building.{builds_same, builds_on, builds_within}
+use Rattle.safl_gates.proofs.Kept.{maybe_bit_kept}
 use Rattle.safl_compile.specs.Edges.{IsBare, one_below, turn, earlier, ShowsBits}
-use Rattle.safl_compile.proofs.Building.{builds_same, builds_on, builds_within}
-use Rattle.safl_compile.proofs.Keeping.{maybe_bit_kept}
 use Rattle.safl_compile.proofs.Chains.{bare_bits, start_bits, more_bits}
 use Rattle.safl_compile.proofs.Earlier.{chain_says, entry_there}
 use Rattle.safl_compile.proofs.rivals.add_earlier.Goals as goal

@@ -1,8 +1,8 @@
 use Rattle.std.proofs.Common.{◌*◌, ◌||◌}
 use Rattle.safl_check.specs.Checked.{program_of}
 use Rattle.safl_net.specs.Names.{IsTidy}
-use Rattle.safl_compile.specs.Sources.{Builds}
-use Rattle.safl_compile.specs.Tables.{on_from}
+use Rattle.safl_gates.specs.Sources.{Builds}
+use Rattle.safl_gates.specs.Tables.{on_from}
 use Rattle.safl_compile.specs.Edges.{one_below, earlier, ShowsBits}
 use Rattle.safl_compile.proofs.Earlier.{chain_says}
 use Rattle.safl_compile.proofs.rivals.add_earlier.Given as goal

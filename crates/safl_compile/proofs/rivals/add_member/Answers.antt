@@ -1,9 +1,9 @@
 use Rattle.std.proofs.Common.{◌==◌, ◌&&◌, ◌||◌, Option, sym, subst, ap, ◌∙◌}
 use Rattle.safl_net.specs.declared.cell.Sig.{Sig}
 use Rattle.safl_net.proofs.Growth.{wired_before}
-use Rattle.safl_compile.specs.Tables.{sig_in, on_in, on_from, IsBitIn}
-use Rattle.safl_compile.proofs.Building.{builds_on}
-use Rattle.safl_compile.proofs.Keeping.{bits_kept, maybe_bit_kept}
+use Rattle.safl_gates.specs.Tables.{sig_in, on_in, on_from, IsBitIn}
+use Rattle.safl_gates.proofs.Building.{builds_on}
+use Rattle.safl_gates.proofs.Kept.{bits_kept, maybe_bit_kept}
 use Rattle.safl_compile.proofs.Earlier.{entry_there}
 use Rattle.safl_compile.proofs.rivals.add_member.Goals as goal
 

@@ -1,10 +1,10 @@
 use Rattle.std.proofs.Common.{ℕ, ◌*◌, ◌||◌, Bool, true, false, subst, ap, ◌∙◌, arith}
 use Rattle.safl_check.specs.Checked.{program_of}
 use Rattle.safl_net.proofs.Growth.{wired_before}
-use Rattle.safl_compile.specs.Tables.{on_from}
+use Rattle.safl_gates.specs.Tables.{on_from}
+use Rattle.safl_gates.proofs.Building.{builds_on, builds_within}
+use Rattle.safl_gates.proofs.Kept.{bits_kept}
 use Rattle.safl_compile.specs.Edges.{IsBare, one_below, earlier}
-use Rattle.safl_compile.proofs.Building.{builds_on, builds_within}
-use Rattle.safl_compile.proofs.Keeping.{bits_kept}
 use Rattle.safl_compile.proofs.Chains.{bare_bits}
 use Rattle.safl_compile.proofs.Earlier.{rivals_are, table_is}
 use Rattle.safl_compile.proofs.rivals.function_rivals.Goals as goal

@@ -13,8 +13,8 @@ returns-then-eq-clause-added c =
     let at = slice_get_read c.args.bits.now.items (length c.args.bits.now.items) c.args.place c.index.result.now refl c.requires.bits c.index.ensures in
     first_added c.args.net.now c.args.zero c.index.result.now c.args.place c.args.bits.now.items c.args.args.now.items c.args.call at (sym c.if-eq.ensures)
 
-pub mux-requires-clause-branches : goal.mux-requires-clause-branches
-mux-requires-clause-branches c =
+pub or_bit-requires-clause-second : goal.or_bit-requires-clause-second
+or_bit-requires-clause-second c =
     let n = c.args.bits.now.items in
     let at = slice_get_read n (length n) c.args.place c.index.result.now refl c.requires.bits c.index.ensures in
     let at2 = slice_get_read n (length n) c.args.place c.index-known.result.now refl c.requires.bits c.index-known.ensures in
@@ -24,7 +24,7 @@ mux-requires-clause-branches c =
     let rt = slice_get-get_or c.args.args.now.items c.args.place d c.requires.args in
     let a = get_or c.args.args.now.items c.args.place d in
     let r = not_first c.args.net.now c.args.zero c.index-known.result.now a.items c.args.call.args.items (row_here c.args.net.now c.args.zero c.index-known.result.now a c.args.call.args.items (slice_get n c.args.place) (slice_get c.args.args.now.items c.args.place) at2 rt c.requires.row) q in
-    (1, c.requires.taken, r.row.bit)
+    r.row.bit
 
 pub mux_all-requires-clause-test : goal.mux_all-requires-clause-test
 mux_all-requires-clause-test c = width_kept c.in_ok-both.ensures.grows c.args.call.taken.0 1 c.requires.taken
@@ -41,8 +41,8 @@ mux_all-requires-clause-branches c =
     let r = not_first c.args.net.now c.args.zero c.index-known.result.now a.items c.args.call.args.items (row_here c.args.net.now c.args.zero c.index-known.result.now a c.args.call.args.items (slice_get n c.args.place) (slice_get c.args.args.now.items c.args.place) at2 rt c.requires.row) q in
     let g = c.in_ok-both.ensures.grows in (
       r.widths,
-      subst (λ (x : List Sig). Sized c.mux.new.net x r.widths) (sym c.deref.ensures.value) (sized_kept g c.args.call.args.items r.widths r.own_sized),
-      subst (λ (x : List Sig). Sized c.mux.new.net x r.widths) (sym c.deref-2.ensures.value) (sized_kept g a.items r.widths r.row.sized),
+      subst (λ (x : List Sig). Sized c.or_bit.new.net x r.widths) (sym c.deref.ensures.value) (sized_kept g c.args.call.args.items r.widths r.own_sized),
+      subst (λ (x : List Sig). Sized c.or_bit.new.net x r.widths) (sym c.deref-2.ensures.value) (sized_kept g a.items r.widths r.row.sized),
     )
 
 pub returns-clause-added : goal.returns-clause-added
@@ -57,16 +57,16 @@ returns-clause-added c =
     let r = not_first c.args.net.now c.args.zero c.index-known.result.now a.items c.args.call.args.items (row_here c.args.net.now c.args.zero c.index-known.result.now a c.args.call.args.items (slice_get n c.args.place) (slice_get c.args.args.now.items c.args.place) at2 rt c.requires.row) q in
     let b = c.in_ok-both.ensures in
     let w = c.in_ok-row.ensures in
-    next_added c.args.net.now c.mux.new.net c.mux_all.new.net c.args.zero c.index-known.result.now c.in_ok-both.both c.args.place a c.in_ok-row.row n c.args.args.now.items c.args.call at2 rt q b.grows w.grows (b.width 1 c.requires.taken r.row.bit) b.value
-    (λ ws s t. w.width ws (subst (λ (x : List Sig). Sized c.mux.new.net x ws) (sym c.deref.ensures.value) (sized_kept b.grows c.args.call.args.items ws s)) (subst (λ (x : List Sig). Sized c.mux.new.net x ws) (sym c.deref-2.ensures.value) (sized_kept b.grows a.items ws t)))
+    next_added c.args.net.now c.or_bit.new.net c.mux_all.new.net c.args.zero c.index-known.result.now c.in_ok-both.both c.args.place a c.in_ok-row.row n c.args.args.now.items c.args.call at2 rt q b.grows w.grows b.width b.value
+    (λ ws s t. w.width ws (subst (λ (x : List Sig). Sized c.or_bit.new.net x ws) (sym c.deref.ensures.value) (sized_kept b.grows c.args.call.args.items ws s)) (subst (λ (x : List Sig). Sized c.or_bit.new.net x ws) (sym c.deref-2.ensures.value) (sized_kept b.grows a.items ws t)))
     (λ v h. w.value v h ∙ ap (λ (x : List Sig). cond (on v c.args.call.taken) (words v x) (words v c.deref-2.result.now)) c.deref.ensures.value ∙ ap (λ (x : List Sig). cond (on v c.args.call.taken) (words v c.args.call.args.items) (words v x)) c.deref-2.ensures.value)
     b.settled
-    (λ h t. w.settled (h.0, subst (AreSteady c.mux.new.net) (sym c.deref.ensures.value) h.1) (subst (AreSteady c.mux.new.net) (sym c.deref-2.ensures.value) t))
-    (as_long c.mux_all.new.net c.in_ok-row.row.items r.widths (w.width r.widths (subst (λ (x : List Sig). Sized c.mux.new.net x r.widths) (sym c.deref.ensures.value) (sized_kept b.grows c.args.call.args.items r.widths r.own_sized)) (subst (λ (x : List Sig). Sized c.mux.new.net x r.widths) (sym c.deref-2.ensures.value) (sized_kept b.grows a.items r.widths r.row.sized)))
+    (λ h t. w.settled (h.0, subst (AreSteady c.or_bit.new.net) (sym c.deref.ensures.value) h.1) (subst (AreSteady c.or_bit.new.net) (sym c.deref-2.ensures.value) t))
+    (as_long c.mux_all.new.net c.in_ok-row.row.items r.widths (w.width r.widths (subst (λ (x : List Sig). Sized c.or_bit.new.net x r.widths) (sym c.deref.ensures.value) (sized_kept b.grows c.args.call.args.items r.widths r.own_sized)) (subst (λ (x : List Sig). Sized c.or_bit.new.net x r.widths) (sym c.deref-2.ensures.value) (sized_kept b.grows a.items r.widths r.row.sized)))
     ∙ sym (as_long c.args.net.now c.args.call.args.items r.widths r.own_sized))
 
 pub returns-clause-grows : goal.returns-clause-grows
-returns-clause-grows c = grows_on c.mux.ensures.grows c.mux_all.ensures.grows
+returns-clause-grows c = grows_on c.or_bit.ensures.grows c.mux_all.ensures.grows
 
 pub returns-in_err-row-clause-grows : goal.returns-in_err-row-clause-grows
-returns-in_err-row-clause-grows c = grows_on c.mux.ensures.grows c.mux_all.ensures.grows
+returns-in_err-row-clause-grows c = grows_on c.or_bit.ensures.grows c.mux_all.ensures.grows

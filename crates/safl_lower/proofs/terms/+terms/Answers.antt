@@ -1,15 +1,16 @@
-use Rattle.std.proofs.Common.{rules, ◌≡◌, ℕ, ◌+◌, ◌*◌, ◌<◌, List, [], ◌∷◌, ◌++◌, length, drop, suc, Some, None, refl, sym, ap, subst, ◌∙◌, arith}
+use Rattle.std.proofs.Common.{rules, ◌≡◌, ℕ, ◌+◌, ◌*◌, ◌<◌, List, [], ◌∷◌, ◌++◌, length, drop, suc, Some, true, refl, sym, ap, subst, ◌∙◌, arith}
 use Rattle.std.proofs.lemmas.Option.{slice_get_read}
 use Rattle.safl_word.specs.Primitives.{apply_prim, result_width}
 use Rattle.safl_net.specs.declared.cell.Sig.{Sig}
 use Rattle.safl_net.specs.Growth.{words, Sized}
-use Rattle.safl_net.proofs.Growth.{grows_on}
+use Rattle.safl_net.proofs.Growth.{grows_on, width_kept}
 use Rattle.safl_net.specs.Settled.{AreSteady, SettlesOn}
 use Rattle.safl_check.specs.declared.term.Term as declared
 use Rattle.safl_check.specs.Terms.{Term, Terms, Cons}
 use Rattle.safl_check.specs.Tree.{tree, forest}
 use Rattle.safl_check.proofs.TreeLemmas.{tree-Op, tree-Loop, tree-Call, tree-Let}
-use Rattle.safl_lower.specs.Typing.{nodes, nodes_in}
+use Rattle.safl_lower.specs.declared.parts.Readiness.TheVariants.{Always}
+use Rattle.safl_lower.specs.Typing.{nodes, nodes_in, holds_calls}
 use Rattle.safl_lower.specs.Lowering.{Lowerable, LowerableAll, Lowers, LowersAll}
 use Rattle.safl_lower.proofs.Kept.{ready_kept, shaped_kept}
 use Rattle.safl_lower.proofs.Branches.{Branches, Inner, lowers_let}
@@ -20,6 +21,10 @@ use Rattle.safl_lower.proofs.Members.{take_all}
 use Rattle.safl_lower.proofs.Trees.{forest_more, forest_at, smaller_at}
 use Rattle.safl_lower.proofs.Walk.{renamed, renamed_all, done_if, done_call, done_loop}
 use Rattle.safl_lower.proofs.terms.+terms.Goals as goal
+
+-- the same of another name of a term
+same_holds : {x y : declared.Term} → x ≡ y → holds_calls (tree y) ≡ true → holds_calls (tree x) ≡ true
+same_holds e h = ap (λ (z : declared.Term). holds_calls (tree z)) e ∙ h
 
 -- ---- a list of terms
 
@@ -63,7 +68,7 @@ lower_all-loop-t-preserved t c =
       lowered = subst (λ (x : Terms). LowersAll c.args.ports.now c.args.slots.now.items c.args.path c.args.net.now c.both_ready.new.net c.args.out.now c.lower_term.new.out (record { ready = c.in_ok-ready.ready; values = c.push.new.self }) x)
           (sym (forest_more c.args.ts.now c.loop-t.t-index c.t-item.result at))
           (lowers_more c.loop-t.invariant.lowered (renamed c.loop-t.invariant.same refl c.in_ok-one.ensures.done)
-          (record { grows = c.in_ok-ready.ensures.grows; count = c.in_ok-ready.ensures.count; bit = c.in_ok-ready.ensures.width; is = c.in_ok-ready.ensures.value; settled = c.in_ok-ready.ensures.settled })
+          (record { grows = c.in_ok-ready.ensures.grows; count = c.in_ok-ready.ensures.count; bit = c.in_ok-ready.ensures.width; is = c.in_ok-ready.ensures.value; never = c.in_ok-ready.ensures.never; settled = c.in_ok-ready.ensures.settled })
           c.in_ok-push.ensures.items);
       same = c.in_ok-one.ensures.slots ∙ c.loop-t.invariant.same;
     }
@@ -79,7 +84,7 @@ lower_all-returns-clause-done t c =
 pub lower_term-returns-in_ok-value-in-Const-clause-done : goal.lower_term-returns-in_ok-value-in-Const-clause-done
 lower_term-returns-in_ok-value-in-Const-clause-done t c =
     let h = c.in_ok-value-in-Const.ensures in
-    subst (λ (x : Term). Lowers c.args.ports.now c.args.slots.now.items c.args.path c.args.net.now c.constant.new.net c.args.out.now c.args.out.now (record { ready = None; value = c.in_ok-value-in-Const.value }) x) (sym (ap tree c.in-Const.is))
+    subst (λ (x : Term). Lowers c.args.ports.now c.args.slots.now.items c.args.path c.args.net.now c.constant.new.net c.args.out.now c.args.out.now (record { ready = Always; value = c.in_ok-value-in-Const.value }) x) (sym (ap tree c.in-Const.is))
     (lowers_const h.grows h.count h.width h.value h.settled)
 
 pub lower_term-index-requires : goal.lower_term-index-requires
@@ -91,7 +96,7 @@ pub lower_term-returns-in-Var-clause-done : goal.lower_term-returns-in-Var-claus
 lower_term-returns-in-Var-clause-done t c =
     let a = Able.able_var (subst (λ (x : Term). Lowerable c.args.net.now c.args.ports.now c.args.slots.now.items c.args.path x) (ap tree c.in-Var.is) c.requires.able) in
     let at = slice_get_read c.args.slots.now.items (length c.args.slots.now.items) c.in-Var.i c.index.result.now refl a c.index.ensures in
-    subst (λ (x : Term). Lowers c.args.ports.now c.args.slots.now.items c.args.path c.args.net.now c.args.net.now c.args.out.now c.args.out.now (record { ready = None; value = c.index.result.now }) x) (sym (ap tree c.in-Var.is))
+    subst (λ (x : Term). Lowers c.args.ports.now c.args.slots.now.items c.args.path c.args.net.now c.args.net.now c.args.out.now c.args.out.now (record { ready = Always; value = c.index.result.now }) x) (sym (ap tree c.in-Var.is))
     (lowers_var at)
 
 -- ---- an operator
@@ -202,7 +207,7 @@ lower_term-returns-in_ok-all-in-Loop-clause-done t c =
     let e = ap tree c.in-Loop.is ∙ tree-Loop c.in-Loop.h c.in-Loop.ts in
     let hs = renamed_all refl c.deref-in-Loop.ensures.value c.in_ok-all-in-Loop.ensures.done in
     let h = c.go_on.ensures in
-    done_loop c.go_on.new.out c.go_on.result e hs h.grows h.count h.shape h.never h.entry h.wants h.loops h.settled
+    done_loop c.go_on.new.out c.go_on.result e hs h.grows h.count h.never h.entry h.wants h.loops h.settled
 
 -- ---- an if
 
@@ -218,12 +223,17 @@ pub lower_term-branch_paths-requires-clause-path : goal.lower_term-branch_paths-
 lower_term-branch_paths-requires-clause-path t c =
     Able.path_kept c.requires.able c.lower_term.ensures.kept
 
+pub lower_term-branch_paths-requires-clause-ready : goal.lower_term-branch_paths-requires-clause-ready
+lower_term-branch_paths-requires-clause-ready t c =
+    let e = ap tree c.in-If.is in
+    let a = subst (λ (x : Term). Lowerable c.args.net.now c.args.ports.now c.args.slots.now.items c.args.path x) e c.requires.able in
+    (Able.test_shape a (renamed refl c.deref.ensures c.in_ok-test-in-If.ensures.done)).ready
+
 pub lower_term-branch_paths-requires-clause-test : goal.lower_term-branch_paths-requires-clause-test
 lower_term-branch_paths-requires-clause-test t c =
     let e = ap tree c.in-If.is in
     let a = subst (λ (x : Term). Lowerable c.args.net.now c.args.ports.now c.args.slots.now.items c.args.path x) e c.requires.able in
-    let hc = renamed refl c.deref.ensures c.in_ok-test-in-If.ensures.done in
-    Able.test_shape a hc
+    Able.test_bit a (renamed refl c.deref.ensures c.in_ok-test-in-If.ensures.done)
 
 pub lower_term-lower_term-requires-in-If : goal.lower_term-lower_term-requires-in-If
 lower_term-lower_term-requires-in-If t c =
@@ -231,9 +241,9 @@ lower_term-lower_term-requires-in-If t c =
     let a = subst (λ (x : Term). Lowerable c.args.net.now c.args.ports.now c.args.slots.now.items c.args.path x) e c.requires.able in
     let hc = renamed refl c.deref.ensures c.in_ok-test-in-If.ensures.done in
     let p = c.in_ok-paths-in-If.ensures in
-    let hp : Branches c.args.path c.lower_term.new.net c.branch_paths.new.net c.in_ok-test-in-If.test c.in_ok-paths-in-If.paths.yes c.in_ok-paths-in-If.paths.no = record { grows = p.grows; count = p.count; yes_bit = p.widths.0; no_bit = p.widths.1; yes_on = p.yes; no_on = p.no; settled = p.settled } in
-    let smaller : 2 * nodes (tree c.deref-in-If.result.now) < 2 * nodes (tree c.args.t.now) = omega (arith, ap nodes e, ap (λ (x : declared.Term). nodes (tree x)) c.deref-in-If.ensures) in
-    let ok : Lowerable c.branch_paths.new.net c.args.ports.now c.lower_term.new.slots.items c.in_ok-paths-in-If.paths.yes (tree c.deref-in-If.result.now) = subst (λ (x : declared.Term). Lowerable c.branch_paths.new.net c.args.ports.now c.lower_term.new.slots.items c.in_ok-paths-in-If.paths.yes (tree x)) (sym c.deref-in-If.ensures)
+    let hp : Branches c.args.path c.lower_term.new.net c.branch_paths.new.net c.in_ok-test-in-If.test (tree c.in-If.a.value) (tree c.in-If.b.value) c.in_ok-paths-in-If.paths.yes c.in_ok-paths-in-If.paths.no = record { grows = p.grows; count = p.count; yes_bit = p.widths.0; no_bit = p.widths.1; yes_on = λ h. p.yes (same_holds c.deref-in-If.ensures h); no_on = λ h. p.no (same_holds c.deref-in-If-2.ensures h); settled = p.settled } in
+    let smaller : 2 * nodes (tree c.deref-in-If-3.result.now) < 2 * nodes (tree c.args.t.now) = omega (arith, ap nodes e, ap (λ (x : declared.Term). nodes (tree x)) c.deref-in-If-3.ensures) in
+    let ok : Lowerable c.branch_paths.new.net c.args.ports.now c.lower_term.new.slots.items c.in_ok-paths-in-If.paths.yes (tree c.deref-in-If-3.result.now) = subst (λ (x : declared.Term). Lowerable c.branch_paths.new.net c.args.ports.now c.lower_term.new.slots.items c.in_ok-paths-in-If.paths.yes (tree x)) (sym c.deref-in-If-3.ensures)
     (subst (λ (s : List Sig). Lowerable c.branch_paths.new.net c.args.ports.now s c.in_ok-paths-in-If.paths.yes (tree c.in-If.a.value)) (sym c.in_ok-test-in-If.ensures.slots) (Able.able_yes a hc hp)) in
     search rules
 
@@ -243,26 +253,27 @@ lower_term-lower_term-requires-in-If-2 t c =
     let a = subst (λ (x : Term). Lowerable c.args.net.now c.args.ports.now c.args.slots.now.items c.args.path x) e c.requires.able in
     let hc = renamed refl c.deref.ensures c.in_ok-test-in-If.ensures.done in
     let p = c.in_ok-paths-in-If.ensures in
-    let hp : Branches c.args.path c.lower_term.new.net c.branch_paths.new.net c.in_ok-test-in-If.test c.in_ok-paths-in-If.paths.yes c.in_ok-paths-in-If.paths.no = record { grows = p.grows; count = p.count; yes_bit = p.widths.0; no_bit = p.widths.1; yes_on = p.yes; no_on = p.no; settled = p.settled } in
+    let hp : Branches c.args.path c.lower_term.new.net c.branch_paths.new.net c.in_ok-test-in-If.test (tree c.in-If.a.value) (tree c.in-If.b.value) c.in_ok-paths-in-If.paths.yes c.in_ok-paths-in-If.paths.no = record { grows = p.grows; count = p.count; yes_bit = p.widths.0; no_bit = p.widths.1; yes_on = λ h. p.yes (same_holds c.deref-in-If.ensures h); no_on = λ h. p.no (same_holds c.deref-in-If-2.ensures h); settled = p.settled } in
     let s1 = c.in_ok-test-in-If.ensures.slots in
-    let ha = renamed s1 c.deref-in-If.ensures c.in_ok-yes-in-If.ensures.done in
-    let smaller : 2 * nodes (tree c.deref-in-If-2.result.now) < 2 * nodes (tree c.args.t.now) = omega (arith, ap nodes e, ap (λ (x : declared.Term). nodes (tree x)) c.deref-in-If-2.ensures) in
-    let ok : Lowerable c.lower_term-in-If.new.net c.args.ports.now c.lower_term-in-If.new.slots.items c.in_ok-paths-in-If.paths.no (tree c.deref-in-If-2.result.now) = subst (λ (x : declared.Term). Lowerable c.lower_term-in-If.new.net c.args.ports.now c.lower_term-in-If.new.slots.items c.in_ok-paths-in-If.paths.no (tree x)) (sym c.deref-in-If-2.ensures)
+    let ha = renamed s1 c.deref-in-If-3.ensures c.in_ok-yes-in-If.ensures.done in
+    let smaller : 2 * nodes (tree c.deref-in-If-4.result.now) < 2 * nodes (tree c.args.t.now) = omega (arith, ap nodes e, ap (λ (x : declared.Term). nodes (tree x)) c.deref-in-If-4.ensures) in
+    let ok : Lowerable c.lower_term-in-If.new.net c.args.ports.now c.lower_term-in-If.new.slots.items c.in_ok-paths-in-If.paths.no (tree c.deref-in-If-4.result.now) = subst (λ (x : declared.Term). Lowerable c.lower_term-in-If.new.net c.args.ports.now c.lower_term-in-If.new.slots.items c.in_ok-paths-in-If.paths.no (tree x)) (sym c.deref-in-If-4.ensures)
     (subst (λ (s : List Sig). Lowerable c.lower_term-in-If.new.net c.args.ports.now s c.in_ok-paths-in-If.paths.no (tree c.in-If.b.value)) (sym (c.in_ok-yes-in-If.ensures.slots ∙ s1)) (Able.able_no a hc hp ha)) in
     search rules
+
+pub lower_term-choose-requires-clause-ready : goal.lower_term-choose-requires-clause-ready
+lower_term-choose-requires-clause-ready t c =
+    let e = ap tree c.in-If.is in
+    let a = subst (λ (x : Term). Lowerable c.args.net.now c.args.ports.now c.args.slots.now.items c.args.path x) e c.requires.able in
+    let hc = renamed refl c.deref.ensures c.in_ok-test-in-If.ensures.done in
+    ready_kept (grows_on c.branch_paths.ensures.grows (grows_on c.lower_term-in-If.ensures.kept c.lower_term-in-If-2.ensures.kept)) c.in_ok-test-in-If.test.ready (Able.test_shape a hc).ready
 
 pub lower_term-choose-requires-clause-test : goal.lower_term-choose-requires-clause-test
 lower_term-choose-requires-clause-test t c =
     let e = ap tree c.in-If.is in
     let a = subst (λ (x : Term). Lowerable c.args.net.now c.args.ports.now c.args.slots.now.items c.args.path x) e c.requires.able in
     let hc = renamed refl c.deref.ensures c.in_ok-test-in-If.ensures.done in
-    let p = c.in_ok-paths-in-If.ensures in
-    let hp : Branches c.args.path c.lower_term.new.net c.branch_paths.new.net c.in_ok-test-in-If.test c.in_ok-paths-in-If.paths.yes c.in_ok-paths-in-If.paths.no = record { grows = p.grows; count = p.count; yes_bit = p.widths.0; no_bit = p.widths.1; yes_on = p.yes; no_on = p.no; settled = p.settled } in
-    let s1 = c.in_ok-test-in-If.ensures.slots in
-    let ha = renamed s1 c.deref-in-If.ensures c.in_ok-yes-in-If.ensures.done in
-    let s2 = c.in_ok-yes-in-If.ensures.slots ∙ s1 in
-    let hb = renamed s2 c.deref-in-If-2.ensures c.in_ok-no-in-If.ensures.done in
-    shaped_kept (grows_on hp.grows (grows_on ha.grows hb.grows)) c.in_ok-test-in-If.test 1 (Able.test_shape a hc)
+    width_kept (grows_on c.branch_paths.ensures.grows (grows_on c.lower_term-in-If.ensures.kept c.lower_term-in-If-2.ensures.kept)) c.in_ok-test-in-If.test.value.0 1 (Able.test_bit a hc)
 
 pub lower_term-choose-requires-clause-branches : goal.lower_term-choose-requires-clause-branches
 lower_term-choose-requires-clause-branches t c =
@@ -270,11 +281,11 @@ lower_term-choose-requires-clause-branches t c =
     let a = subst (λ (x : Term). Lowerable c.args.net.now c.args.ports.now c.args.slots.now.items c.args.path x) e c.requires.able in
     let hc = renamed refl c.deref.ensures c.in_ok-test-in-If.ensures.done in
     let p = c.in_ok-paths-in-If.ensures in
-    let hp : Branches c.args.path c.lower_term.new.net c.branch_paths.new.net c.in_ok-test-in-If.test c.in_ok-paths-in-If.paths.yes c.in_ok-paths-in-If.paths.no = record { grows = p.grows; count = p.count; yes_bit = p.widths.0; no_bit = p.widths.1; yes_on = p.yes; no_on = p.no; settled = p.settled } in
+    let hp : Branches c.args.path c.lower_term.new.net c.branch_paths.new.net c.in_ok-test-in-If.test (tree c.in-If.a.value) (tree c.in-If.b.value) c.in_ok-paths-in-If.paths.yes c.in_ok-paths-in-If.paths.no = record { grows = p.grows; count = p.count; yes_bit = p.widths.0; no_bit = p.widths.1; yes_on = λ h. p.yes (same_holds c.deref-in-If.ensures h); no_on = λ h. p.no (same_holds c.deref-in-If-2.ensures h); settled = p.settled } in
     let s1 = c.in_ok-test-in-If.ensures.slots in
-    let ha = renamed s1 c.deref-in-If.ensures c.in_ok-yes-in-If.ensures.done in
+    let ha = renamed s1 c.deref-in-If-3.ensures c.in_ok-yes-in-If.ensures.done in
     let s2 = c.in_ok-yes-in-If.ensures.slots ∙ s1 in
-    let hb = renamed s2 c.deref-in-If-2.ensures c.in_ok-no-in-If.ensures.done in
+    let hb = renamed s2 c.deref-in-If-4.ensures c.in_ok-no-in-If.ensures.done in
     (a.width, shaped_kept hb.grows c.in_ok-yes-in-If.yes a.width (Able.yes_shape a hc hp ha), Able.no_shape a hc hp ha hb)
 
 pub lower_term-choose-requires-clause-room : goal.lower_term-choose-requires-clause-room
@@ -283,11 +294,11 @@ lower_term-choose-requires-clause-room t c =
     let a = subst (λ (x : Term). Lowerable c.args.net.now c.args.ports.now c.args.slots.now.items c.args.path x) e c.requires.able in
     let hc = renamed refl c.deref.ensures c.in_ok-test-in-If.ensures.done in
     let p = c.in_ok-paths-in-If.ensures in
-    let hp : Branches c.args.path c.lower_term.new.net c.branch_paths.new.net c.in_ok-test-in-If.test c.in_ok-paths-in-If.paths.yes c.in_ok-paths-in-If.paths.no = record { grows = p.grows; count = p.count; yes_bit = p.widths.0; no_bit = p.widths.1; yes_on = p.yes; no_on = p.no; settled = p.settled } in
+    let hp : Branches c.args.path c.lower_term.new.net c.branch_paths.new.net c.in_ok-test-in-If.test (tree c.in-If.a.value) (tree c.in-If.b.value) c.in_ok-paths-in-If.paths.yes c.in_ok-paths-in-If.paths.no = record { grows = p.grows; count = p.count; yes_bit = p.widths.0; no_bit = p.widths.1; yes_on = λ h. p.yes (same_holds c.deref-in-If.ensures h); no_on = λ h. p.no (same_holds c.deref-in-If-2.ensures h); settled = p.settled } in
     let s1 = c.in_ok-test-in-If.ensures.slots in
-    let ha = renamed s1 c.deref-in-If.ensures c.in_ok-yes-in-If.ensures.done in
+    let ha = renamed s1 c.deref-in-If-3.ensures c.in_ok-yes-in-If.ensures.done in
     let s2 = c.in_ok-yes-in-If.ensures.slots ∙ s1 in
-    let hb = renamed s2 c.deref-in-If-2.ensures c.in_ok-no-in-If.ensures.done in
+    let hb = renamed s2 c.deref-in-If-4.ensures c.in_ok-no-in-If.ensures.done in
     let r = a.room in
     let k = hc.count in
     let l = hp.count in
@@ -300,13 +311,13 @@ lower_term-returns-in_ok-no-in-If-clause-done t c =
     let e = ap tree c.in-If.is in
     let hc = renamed refl c.deref.ensures c.in_ok-test-in-If.ensures.done in
     let p = c.in_ok-paths-in-If.ensures in
-    let hp : Branches c.args.path c.lower_term.new.net c.branch_paths.new.net c.in_ok-test-in-If.test c.in_ok-paths-in-If.paths.yes c.in_ok-paths-in-If.paths.no = record { grows = p.grows; count = p.count; yes_bit = p.widths.0; no_bit = p.widths.1; yes_on = p.yes; no_on = p.no; settled = p.settled } in
+    let hp : Branches c.args.path c.lower_term.new.net c.branch_paths.new.net c.in_ok-test-in-If.test (tree c.in-If.a.value) (tree c.in-If.b.value) c.in_ok-paths-in-If.paths.yes c.in_ok-paths-in-If.paths.no = record { grows = p.grows; count = p.count; yes_bit = p.widths.0; no_bit = p.widths.1; yes_on = λ h. p.yes (same_holds c.deref-in-If.ensures h); no_on = λ h. p.no (same_holds c.deref-in-If-2.ensures h); settled = p.settled } in
     let s1 = c.in_ok-test-in-If.ensures.slots in
-    let ha = renamed s1 c.deref-in-If.ensures c.in_ok-yes-in-If.ensures.done in
+    let ha = renamed s1 c.deref-in-If-3.ensures c.in_ok-yes-in-If.ensures.done in
     let s2 = c.in_ok-yes-in-If.ensures.slots ∙ s1 in
-    let hb = renamed s2 c.deref-in-If-2.ensures c.in_ok-no-in-If.ensures.done in
+    let hb = renamed s2 c.deref-in-If-4.ensures c.in_ok-no-in-If.ensures.done in
     let h = c.choose.ensures in
-    done_if c.choose.result e hc hp ha hb h.grows h.count h.shape h.value h.ready h.settled
+    done_if c.choose.result e hc hp ha hb h.grows h.count h.shape h.value h.never h.settled
 
 -- ---- a let
 
@@ -394,7 +405,7 @@ lower_term-returns-in_ok-ready-in-Let-clause-done t c =
     let hb = renamed s3 c.deref-in-Let-3.ensures c.in_ok-body-in-Let.ensures.done in
     let b = c.in_ok-ready-in-Let.ensures in
     subst (λ (x : Term). Lowers c.args.ports.now c.args.slots.now.items c.args.path c.args.net.now c.both_ready.new.net c.args.out.now c.lower_term-in-Let.new.out (record { ready = c.in_ok-ready-in-Let.ready; value = c.in_ok-body-in-Let.body.value }) x) (sym e)
-    (lowers_let hs hi hb (record { grows = b.grows; count = b.count; bit = b.width; is = b.value; settled = b.settled }))
+    (lowers_let hs hi hb (record { grows = b.grows; count = b.count; bit = b.width; is = b.value; never = b.never; settled = b.settled }))
 
 -- ---- the net grows
 

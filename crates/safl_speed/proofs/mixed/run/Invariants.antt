@@ -1,4 +1,4 @@
-use Rattle.std.proofs.Common.{◌≡◌, ◌<◌, length}
+use Rattle.std.proofs.Common.{◌<◌, length}
 use Rattle.safl_speed.specs.Mixed.{TakesOne}
 use Rattle.safl_speed.proofs.mixed.run.Given as goal
 

@@ -1,0 +1,20 @@
+use Rattle.std.proofs.Common.{List, length, ap, arith}
+use Rattle.safl_net.specs.declared.cell.Sig.{Sig}
+use Rattle.safl_gates.proofs.Building.{builds_within}
+use Rattle.safl_gates.proofs.Joining.{first_fits, as_many}
+use Rattle.safl_gates.proofs.loads.load_words.Goals as goal
+
+pub mux_all-requires-clause-room : goal.mux_all-requires-clause-room
+mux_all-requires-clause-room c =
+    let b = c.requires.fits in
+    let e = as_many (first_fits c.in-Some.is b.1).words b.2 in
+    let d = ap (λ (xs : List Sig). length xs) c.deref.ensures.value in
+    let r = c.requires.room in
+    omega (arith, e, d, r)
+
+pub returns-in-Some-clause-built : goal.returns-in-Some-clause-built
+returns-in-Some-clause-built c =
+    let b = c.requires.fits in
+    let e = as_many (first_fits c.in-Some.is b.1).words b.2 in
+    let d = ap (λ (xs : List Sig). length xs) c.deref.ensures.value in
+    builds_within (length c.args.operands.now) c.mux_all.ensures.built (omega (arith, e, d))

@@ -1,0 +1,121 @@
+//! Bits and words by number, to which those of one number after another are joined: of several the first counts.
+
+ghost use Rattle.std.specs.Prelude.{◌≡◌, ℕ, ◌+◌, ◌<◌, ◌==◌, ◌&&◌, ◌||◌, List, Some, length, IfOk, OnOk};
+ghost use Rattle.safl_check.specs.Readiness.{or_else};
+ghost use Rattle.safl_net.specs.Names.{IsTidy};
+ghost use Rattle.safl_net.specs.Growth.{Val, words, Wired};
+ghost use Rattle.safl_lower.specs.Bits.{on};
+ghost use Rattle.safl_lower.specs.Entries.{gate};
+ghost use Rattle.safl_unit.specs.Equations.{or_word};
+ghost use Rattle.safl_gates.specs.Sources.{IsSource, AreSources, Builds, HasRoom};
+ghost use Rattle.safl_gates.specs.Tables.{taken, taken_in, taken_from, on_from, LoadFits, FitsIn, SomeFit, BitsFit};
+
+use crate::gates::{either, mux_all, or_some};
+use safl_net::{Net, Sig};
+use std::alloc::{AllocError, Global};
+
+/// Words that are taken where a bit is 1.
+#[derive(Drop)]
+pub struct Load {
+    pub bit: Sig,
+    pub words: Vec<Sig>,
+}
+
+/// Joins a bit to that of a number.
+pub fn add_bit(
+    net: &mut Net,
+    bits: &mut Vec<Option<Sig>>,
+    place: usize,
+    bit: Sig,
+) -> Result<(), AllocError>
+    requires tidy { IsTidy net.old }
+    requires place { place < length bits.old.items }
+    requires fits { BitsFit net.old bits.old.items }
+    requires bit { IsSource net.old bit 1 }
+    requires room { HasRoom net.old 1 }
+    ensures tidy { IsTidy net.new }
+    ensures built { Builds net.old net.new 1 }
+    ensures count { length bits.new.items ≡ length bits.old.items }
+    ensures fits { OnOk result (BitsFit net.new bits.new.items) }
+    ensures shows { OnOk result ((v : Val) → Wired net.new v → (i : ℕ) → on_from v bits.new.items i ≡ (on_from v bits.old.items i || ((i == place) && on v bit))) }
+{
+    let joined = or_some(net, bits[place], bit)?;
+    bits[place] = Some(joined);
+    Ok(())
+}
+
+/// Joins a load to that of a number: the earlier one wins.
+pub fn add_load(
+    alloc: Global,
+    net: &mut Net,
+    loads: &mut Vec<Option<Load>>,
+    place: usize,
+    bit: Sig,
+    operands: &[Sig],
+) -> Result<(), AllocError>
+    requires tidy { IsTidy net.old }
+    requires place { place < length loads.old.items }
+    requires fits { (ws : ℕ → List ℕ) × SomeFit net.old loads.old.items ws × AreSources net.old operands.now (ws place) }
+    requires bit { IsSource net.old bit 1 }
+    requires room { HasRoom net.old (1 + length operands.now) }
+    ensures tidy { IsTidy net.new }
+    ensures built { Builds net.old net.new (1 + length operands.now) }
+    ensures count { length loads.new.items ≡ length loads.old.items }
+    ensures fits { (ws : ℕ → List ℕ) → SomeFit net.old loads.old.items ws → AreSources net.old operands.now (ws place) → OnOk result (SomeFit net.new loads.new.items ws) }
+    ensures shows { OnOk result ((v : Val) → Wired net.new v → (i : ℕ) → taken_from v loads.new.items i ≡ or_else (taken_from v loads.old.items i) (gate ((i == place) && on v bit) (Some (words v operands.now)))) }
+{
+    let joined = joined(alloc, net, &loads[place], bit, operands)?;
+    loads[place] = Some(joined);
+    Ok(())
+}
+
+// A load with another behind it.
+fn joined(
+    alloc: Global,
+    net: &mut Net,
+    load: &Option<Load>,
+    bit: Sig,
+    operands: &[Sig],
+) -> Result<Load, AllocError>
+    requires tidy { IsTidy net.old }
+    requires fits { (ws : List ℕ) × FitsIn net.old load.now ws × AreSources net.old operands.now ws }
+    requires bit { IsSource net.old bit 1 }
+    requires room { HasRoom net.old (1 + length operands.now) }
+    ensures tidy { IsTidy net.new }
+    ensures built { Builds net.old net.new (1 + length operands.now) }
+    ensures fits { (ws : List ℕ) → FitsIn net.old load.now ws → AreSources net.old operands.now ws → IfOk result (λ l. LoadFits net.new l ws) }
+    ensures shows { IfOk result (λ l. (v : Val) → Wired net.new v → taken v l ≡ or_else (taken_in v load.now) (gate (on v bit) (Some (words v operands.now)))) }
+{
+    match load {
+        None => {
+            let words = Vec::from_slice(alloc, operands)?;
+            Ok(Load { bit, words })
+        }
+        Some(first) => {
+            let any = either(net, first.bit, bit)?;
+            let words = mux_all(alloc, net, first.bit, &first.words, operands)?;
+            Ok(Load { bit: any, words })
+        }
+    }
+}
+
+/// The words of a load where it is there and is taken, or else these.
+pub fn load_words(
+    alloc: Global,
+    net: &mut Net,
+    load: &Option<Load>,
+    operands: &[Sig],
+) -> Result<Vec<Sig>, AllocError>
+    requires tidy { IsTidy net.old }
+    requires fits { (ws : List ℕ) × FitsIn net.old load.now ws × AreSources net.old operands.now ws }
+    requires room { HasRoom net.old (length operands.now) }
+    ensures tidy { IsTidy net.new }
+    ensures built { Builds net.old net.new (length operands.now) }
+    ensures fits { (ws : List ℕ) → FitsIn net.old load.now ws → AreSources net.old operands.now ws → IfOk result (λ xs. AreSources net.new xs.items ws) }
+    ensures shows { IfOk result (λ xs. (v : Val) → Wired net.new v → words v xs.items ≡ or_word (taken_in v load.now) (words v operands.now)) }
+{
+    match load {
+        None => Vec::from_slice(alloc, operands),
+        Some(first) => mux_all(alloc, net, first.bit, &first.words, operands),
+    }
+}

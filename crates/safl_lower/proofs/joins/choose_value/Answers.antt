@@ -1,0 +1,25 @@
+use Rattle.std.proofs.Common.{◌≡◌, true, Some, cond, Result, Ok, Err, IfOk}
+use Rattle.safl_net.specs.declared.cell.Sig.{Sig}
+use Rattle.safl_net.specs.Growth.{Val, Wired, width_at}
+use Rattle.safl_lower.specs.declared.parts.Readiness.TheVariants.{Never}
+use Rattle.safl_lower.specs.Bits.{on, is_ready}
+use Rattle.safl_lower.proofs.joins.choose_value.Goals as goal
+
+-- what holds without a premise
+weaker : {E : Type 0} (r : Result Sig E) (P Q : Sig → Type 0) → ((s : Sig) → P s → Q s) → IfOk r P → IfOk r Q
+weaker (Ok s) P Q f h = f s h
+weaker (Err e) P Q f h = tt
+
+pub returns-in_default : goal.returns-in_default
+returns-in_default c =
+    let e = c.mux.ensures in
+    let r = c.mux.result in
+    let m = c.mux.new.net in
+    record {
+      tidy = e.tidy;
+      grows = e.grows;
+      count = e.count;
+      width = λ w y n. weaker r (λ s. width_at m s.0 ≡ Some w) (λ s. ((c.args.yes.ready ≡ Never) × (c.args.no.ready ≡ Never) → ⊥) → width_at m s.0 ≡ Some w) (λ s h k. h) (e.width w (y.width c.in_default.not-Never-0) (n.width c.in_default.not-Never-1));
+      value = weaker r (λ s. (v : Val) → Wired m v → v s.0 ≡ cond (on v c.args.c) (v c.args.yes.value.0) (v c.args.no.value.0)) (λ s. (v : Val) → Wired m v → cond (on v c.args.c) (is_ready v c.args.yes.ready) (is_ready v c.args.no.ready) ≡ true → v s.0 ≡ cond (on v c.args.c) (v c.args.yes.value.0) (v c.args.no.value.0)) (λ s h v w k. h v w) e.value;
+      settled = e.settled;
+    }

@@ -1,0 +1,36 @@
+//! Which terms hold calls.
+
+ghost use Rattle.std.specs.Prelude.{◌≡◌};
+ghost use Rattle.safl_check.specs.Tree.{tree, forest};
+ghost use Rattle.safl_lower.specs.Typing.{holds_calls, hold_calls};
+
+use safl_check::Term;
+
+/// Whether a call or a tail call stands somewhere in the term.
+#[cycle(holding)]
+pub fn holds_calls(t: &Term) -> bool
+    ensures { result ≡ holds_calls (tree t.now) }
+{
+    match t {
+        Term::Const(_) => false,
+        Term::Var(_) => false,
+        Term::If(c, a, b) => holds_calls(c) || holds_calls(a) || holds_calls(b),
+        Term::Let(_, ts, b) => hold_calls(ts) || holds_calls(b),
+        Term::Op(_, ts) => hold_calls(ts),
+        Term::Call(_, _, _) => true,
+        Term::Loop(_, _) => true,
+    }
+}
+
+// Whether one of the terms does.
+#[cycle(holding)]
+fn hold_calls(ts: &[Term]) -> bool
+    ensures { result ≡ hold_calls (forest ts.now) }
+{
+    for t in ts {
+        if holds_calls(t) {
+            return true;
+        }
+    }
+    false
+}

@@ -1,0 +1,36 @@
+#!/usr/bin/env python3
+"""Prints a test bench of a Verilog file, with these arguments, for at most so many cycles: bench.py FILE CYCLES [ARG..]"""
+import re
+import sys
+
+
+def bench(text, cycles, args):
+    ports = re.findall(r"^  (input|output) \[(\d+):0\] (\S+);", text, re.M)
+    inputs = [(name, int(high) + 1) for kind, high, name in ports if kind == "input" and name != "start"]
+    high = next(high for kind, high, name in ports if name == "result")
+    wires = "".join(f"  reg [{width - 1}:0] p{i};\n" for i, (name, width) in enumerate(inputs))
+    joined = "".join(f", .{name}(p{i})" for i, (name, width) in enumerate(inputs))
+    given = "".join(f" p{i} = {width}'d{args[i]};" for i, (name, width) in enumerate(inputs))
+    zeros = "".join(f" p{i} = 0;" for i in range(len(inputs)))
+    return f"""module bench;
+  reg clk = 0, rst = 1, start = 0;
+  wire done;
+  wire [{high}:0] result;
+{wires}  integer cycle;
+  safl circuit (.clk(clk), .rst(rst), .start(start), .done(done), .result(result){joined});
+  initial begin
+   {zeros} #1 clk = 1; #1 clk = 0; rst = 0; start = 1;{given}
+    for (cycle = 0; cycle < {cycles}; cycle = cycle + 1) begin
+      #1 if (done) begin $display("result %0d\\ncycle %0d", result, cycle); $finish; end
+      clk = 1; #1 clk = 0; start = 0;{zeros}
+    end
+    $display("no result in {cycles} cycles");
+    $finish;
+  end
+endmodule
+"""
+
+
+if __name__ == "__main__":
+    with open(sys.argv[1]) as file:
+        print(bench(file.read(), int(sys.argv[2]), sys.argv[3:]), end="")
