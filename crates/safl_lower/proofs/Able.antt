@@ -61,7 +61,7 @@ module _ {P : Ports} {slots : List Sig} {path : Sig} {n0 : Netlist} where
   pub bound_shape : {bs : Terms} {b : Term} {n1 : Netlist} {o0 o1 : Out} {bound : LoweredAll} → Lowerable n0 P slots path (Let bs b) → LowersAll P slots path n0 n1 o0 o1 bound bs → ReadyAt n1 bound.ready
   bound_shape h hs = (hs.shape h.owner h.env h.typed.width.0 h.setting (bound_typed h.typed)).ready
 
-  pub able_inner : {bs : Terms} {b : Term} {n1 n2 : Netlist} {o0 o1 : Out} {bound : LoweredAll} {inner : Sig} → Lowerable n0 P slots path (Let bs b) → LowersAll P slots path n0 n1 o0 o1 bound bs → Inner path n1 n2 bound.ready inner → Lowerable n2 P (slots ++ bound.values.items) inner b
+  pub able_inner : {bs : Terms} {b : Term} {n1 n2 : Netlist} {o0 o1 : Out} {bound : LoweredAll} {inner : Sig} → Lowerable n0 P slots path (Let bs b) → LowersAll P slots path n0 n1 o0 o1 bound bs → Inner path n1 n2 b bound.ready inner → Lowerable n2 P (slots ++ bound.values.items) inner b
   able_inner {bs} {b} {n1} {n2} {bound = bound} h hs hi =
       let ws = h.typed.width.0 in
       let a = hs.shape h.owner h.env ws h.setting (bound_typed h.typed) in
@@ -75,7 +75,7 @@ module _ {P : Ports} {slots : List Sig} {path : Sig} {n0 : Netlist} where
         room = let r = h.room in let i = hs.count in let j = hi.count in omega arith;
       }
 
-  pub body_shape : {bs : Terms} {b : Term} {n1 n2 n3 : Netlist} {o0 o1 o2 : Out} {bound : LoweredAll} {inner : Sig} {body : Lowered} → (h : Lowerable n0 P slots path (Let bs b)) → LowersAll P slots path n0 n1 o0 o1 bound bs → Inner path n1 n2 bound.ready inner → Lowers P (slots ++ bound.values.items) inner n2 n3 o1 o2 body b → Shaped n3 body h.width
+  pub body_shape : {bs : Terms} {b : Term} {n1 n2 n3 : Netlist} {o0 o1 o2 : Out} {bound : LoweredAll} {inner : Sig} {body : Lowered} → (h : Lowerable n0 P slots path (Let bs b)) → LowersAll P slots path n0 n1 o0 o1 bound bs → Inner path n1 n2 b bound.ready inner → Lowers P (slots ++ bound.values.items) inner n2 n3 o1 o2 body b → Shaped n3 body h.width
   unfolding able_inner
   body_shape h hs hi hb = let k = able_inner h hs hi in hb.shape h.owner h.tail (h.env ++ h.typed.width.0) h.width k.setting (body_typed h.typed)
 

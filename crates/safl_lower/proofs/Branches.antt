@@ -185,21 +185,21 @@ goes_with_all : (o : Option (List Word)) (go : List Word → Answer) → goes_of
 goes_with_all None go = refl
 goes_with_all (Some vs) go = refl
 
-let_asked : {A : Type 0} (p q r i : Bool) (ws : List Word) (o : Option (List Word)) (go : List Word → Option A) (x0 x1 x2 wb w : Option A)
-    → gate r (Some ws) ≡ o → i ≡ (p && r) → w ≡ go ws
-    → x1 ≡ or_else x0 (gate (p && q) wb) → x2 ≡ or_else x1 (gate (i && q) w)
+let_asked : {A : Type 0} (p q r : Bool) (ws : List Word) (o : Option (List Word)) (go : List Word → Option A) (x0 x1 x2 wb w : Option A)
+    → gate r (Some ws) ≡ o → w ≡ go ws
+    → x1 ≡ or_else x0 (gate (p && q) wb) → x2 ≡ or_else x1 (gate ((p && r) && q) w)
     → x2 ≡ or_else x0 (gate (p && q) (or_else wb (with_all o None go)))
-let_asked p q r i ws o go x0 x1 x2 wb w e f g e1 e2 =
-    e2 ∙ ap (λ (x : Option _). or_else x (gate (i && q) w)) e1 ∙ or_assoc x0 (gate (p && q) wb) (gate (i && q) w)
-    ∙ ap (λ (x : Option _). or_else x0 (or_else (gate (p && q) wb) x))
-    (ap (λ (b : Bool). gate (b && q) w) f ∙ ap (λ (x : Option _). gate ((p && r) && q) x) g ∙ let_wants p q r ws o go e)
+let_asked p q r ws o go x0 x1 x2 wb w e g e1 e2 =
+    let gw = gate ((p && r) && q) w in
+    e2 ∙ ap (λ (x : Option _). or_else x gw) e1 ∙ or_assoc x0 (gate (p && q) wb) gw
+    ∙ ap (λ (x : Option _). or_else x0 (or_else (gate (p && q) wb) x)) (ap (gate ((p && r) && q)) g ∙ let_wants p q r ws o go e)
     ∙ ap (or_else x0) (sym (gate_or (p && q) wb (with_all o None go)))
 
-pub record Inner (path : Sig) (n m : Netlist) (ready : Readiness) (inner : Sig) : Type 0 where
+pub record Inner (path : Sig) (n m : Netlist) (b : Term) (ready : Readiness) (inner : Sig) : Type 0 where
   pub grows : Grows n m
   pub count : length m.signals ≤ length n.signals + 1
   pub bit : BitAt m inner
-  pub is : (v : Val) → Wired m v → on v inner ≡ (on v path && is_ready v ready)
+  pub is : holds_calls b ≡ true → (v : Val) → Wired m v → on v inner ≡ (on v path && is_ready v ready)
   pub settled : AreSteady n (path ∷ listed ready) → SettlesOn n m (inner ∷ [])
 
 pub record Both (n m : Netlist) (q r s : Readiness) : Type 0 where
@@ -211,7 +211,7 @@ pub record Both (n m : Netlist) (q r s : Readiness) : Type 0 where
   pub settled : AreSteady n (listed q) → AreSteady n (listed r) → SettlesOn n m (listed s)
 
 pub lowers_let : {P : Ports} {slots : List Sig} {path inner : Sig} {n0 n1 n2 n3 n4 : Netlist} {o0 o1 o2 : Out} {bound : LoweredAll} {body : Lowered} {ready : Readiness} {bs : Terms} {b : Term}
-    → LowersAll P slots path n0 n1 o0 o1 bound bs → Inner path n1 n2 bound.ready inner → Lowers P (slots ++ bound.values.items) inner n2 n3 o1 o2 body b → Both n3 n4 bound.ready body.ready ready
+    → LowersAll P slots path n0 n1 o0 o1 bound bs → Inner path n1 n2 b bound.ready inner → Lowers P (slots ++ bound.values.items) inner n2 n3 o1 o2 body b → Both n3 n4 bound.ready body.ready ready
     → Lowers P slots path n0 n4 o0 o2 (record { ready = ready; value = body.value }) (Let bs b)
 unfolding answer wanted
 lowers_let {P} {slots} {path} {inner} {n0} {n1} {n2} {n3} {n4} {o0} {o1} {o2} {bound} {body} {ready} {bs} {b} hs hi hb hr = record {
@@ -246,7 +246,7 @@ lowers_let {P} {slots} {path} {inner} {n0} {n1} {n2} {n3} {n4} {o0} {o1} {o2} {b
       subst (Told v (hs.more ++ hb.more)) (ap (gate (on v path)) (sym (goes_with_all o (λ vs. answer back (env ++ vs) b))))
       (told_more v hs.more hb.more all
       (told_by v hs.more None all (λ z q. never_is z None refl q) (hs.told F scope t.width.0 (bound_typed t) v w1))
-      (told_by v hb.more (gate (on v inner) x) all (λ z q. let_second (on v path) (is_ready v bound.ready) (on v inner) ws o go x z (hs.value v w1) (hi.is v w2) (ap (λ (l : List Word). goes_of (answer back l b)) (words_more v slots bound.values.items)) q) (hb.told F tail (scope ++ t.width.0) w (body_typed t) v w3)));
+      (told_by v hb.more (gate (on v inner) x) all (λ z q. let_second (on v path) (is_ready v bound.ready) ws o go x z (hs.value v w1) (ap (λ (l : List Word). goes_of (answer back l b)) (words_more v slots bound.values.items)) (q ∙ any_path (holds_calls b) (on v inner) (on v path && is_ready v bound.ready) x (λ h. hi.is h v w2) (no_going back b (words v (slots ++ bound.values.items))))) (hb.told F tail (scope ++ t.width.0) w (body_typed t) v w3)));
   sites = more_twice (map site_of o0.wants.items) (map site_of o1.wants.items) (map site_of o2.wants.items) (sites_in bs) (sites_of b) hs.sites hb.sites;
   fits = λ F tail env w s t x.
       let a = hs.shape F env t.width.0 s (bound_typed t) in
@@ -279,8 +279,11 @@ lowers_let {P} {slots} {path} {inner} {n0} {n1} {n2} {n3} {n4} {o0} {o1} {o2} {b
       let back = back_of v P in
       let env = words v slots in
       let ws = words v bound.values.items in
-      let_asked (on v path) (not (sent_of v P k)) (is_ready v bound.ready) (on v inner) ws (answers back env bs) (λ vs. wanted back (env ++ vs) b k) (asked v o0.wants.items k) (asked v o1.wants.items k) (asked v o2.wants.items k) (wanted_in back env bs k) (wanted back (words v (slots ++ bound.values.items)) b k)
-      (hs.value v w1) (hi.is v w2) (ap (λ (l : List Word). wanted back l b k) (words_more v slots bound.values.items)) (hs.wants F scope t.width.0 (bound_typed t) v w1 k) (hb.wants F tail (scope ++ t.width.0) w (body_typed t) v w3 k);
+      let unsent = not (sent_of v P k) in
+      let below = words v (slots ++ bound.values.items) in
+      let_asked (on v path) unsent (is_ready v bound.ready) ws (answers back env bs) (λ vs. wanted back (env ++ vs) b k) (asked v o0.wants.items k) (asked v o1.wants.items k) (asked v o2.wants.items k) (wanted_in back env bs k) (wanted back below b k)
+      (hs.value v w1) (ap (λ (l : List Word). wanted back l b k) (words_more v slots bound.values.items)) (hs.wants F scope t.width.0 (bound_typed t) v w1 k)
+      (any_asked (holds_calls b) (on v inner) (on v path && is_ready v bound.ready) unsent (wanted back below b k) (asked v o1.wants.items k) (asked v o2.wants.items k) (λ h. hi.is h v w2) (no_wants back b below k) (hb.wants F tail (scope ++ t.width.0) w (body_typed t) v w3 k));
   loops = λ F tail scope w t v w4.
       let w3 = wired_before hr.grows w4 in
       let w2 = wired_before hb.grows w3 in
@@ -290,8 +293,13 @@ lowers_let {P} {slots} {path} {inner} {n0} {n1} {n2} {n3} {n4} {o0} {o1} {o2} {b
       let ws = words v bound.values.items in
       let x0 = went v o0.loops.items in
       let o = answers back env bs in
-      let_asked (on v path) true (is_ready v bound.ready) (on v inner) ws o (λ vs. goes_of (answer back (env ++ vs) b)) x0 (went v o1.loops.items) (went v o2.loops.items) None (goes_of (answer back (words v (slots ++ bound.values.items)) b))
-      (hs.value v w1) (hi.is v w2) (ap (λ (l : List Word). goes_of (answer back l b)) (words_more v slots bound.values.items)) (hs.loops F scope t.width.0 (bound_typed t) v w1 ∙ stays x0 (on v path && true)) (without (went v o2.loops.items) (went v o1.loops.items) (goes_of (answer back (words v (slots ++ bound.values.items)) b)) (on v inner) (hb.loops F tail (scope ++ t.width.0) w (body_typed t) v w3))
+      let x1 = went v o1.loops.items in
+      let x2 = went v o2.loops.items in
+      let below = words v (slots ++ bound.values.items) in
+      let g = goes_of (answer back below b) in
+      let_asked (on v path) true (is_ready v bound.ready) ws o (λ vs. goes_of (answer back (env ++ vs) b)) x0 x1 x2 None g
+      (hs.value v w1) (ap (λ (l : List Word). goes_of (answer back l b)) (words_more v slots bound.values.items)) (hs.loops F scope t.width.0 (bound_typed t) v w1 ∙ stays x0 (on v path && true))
+      (any_asked (holds_calls b) (on v inner) (on v path && is_ready v bound.ready) true g x1 x2 (λ h. hi.is h v w2) (no_going back b below) (without x2 x1 g (on v inner) (hb.loops F tail (scope ++ t.width.0) w (body_typed t) v w3)))
       ∙ ap (λ (c : Bool). or_else x0 (gate c (with_all o None (λ vs. goes_of (answer back (env ++ vs) b))))) (and_true (on v path))
       ∙ ap (λ (y : Option (ℕ × List Word)). or_else x0 (gate (on v path) y)) (sym (goes_with_all o (λ vs. answer back (env ++ vs) b)));
 }

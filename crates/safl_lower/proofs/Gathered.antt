@@ -142,9 +142,9 @@ if_second p r w c x y z e k =
     ∙ ap (λ (o : Option _). or_else o (gate (((p && r) && not (w.bits == 1)) && true) y)) (sym (ap (λ (b : Bool). gate b x) (and_true _) ∙ off_other (p && r) (w.bits == 1) y x z k))
     ∙ if_wants p true r w c x y e ∙ ap (λ (b : Bool). gate b (select c None x y)) (and_true p)
 
-pub let_second : {A : Type 0} (p r i : Bool) (ws : List Word) (o : Option (List Word)) (go : List Word → Option A) (x : Option A) (z : A) → gate r (Some ws) ≡ o → i ≡ (p && r) → x ≡ go ws → Some z ≡ gate i x → Some z ≡ gate p (with_all o None go)
-let_second p r i ws o go x z e f g h =
-    h ∙ ap (λ (b : Bool). gate b x) f ∙ ap (gate (p && r)) g ∙ ap (λ (b : Bool). gate b (go ws)) (sym (and_true (p && r)))
+pub let_second : {A : Type 0} (p r : Bool) (ws : List Word) (o : Option (List Word)) (go : List Word → Option A) (x : Option A) (z : A) → gate r (Some ws) ≡ o → x ≡ go ws → Some z ≡ gate (p && r) x → Some z ≡ gate p (with_all o None go)
+let_second p r ws o go x z e g h =
+    h ∙ ap (gate (p && r)) g ∙ ap (λ (b : Bool). gate b (go ws)) (sym (and_true (p && r)))
     ∙ let_wants p true r ws o go e ∙ ap (λ (b : Bool). gate b (with_all o None go)) (and_true p)
 
 pub taken_tells : (h : ℕ) (t p r : Bool) (ws : List Word) (o : Option (List Word)) → t ≡ (p && r) → gate r (Some ws) ≡ o → t ≡ true → Some (h, ws) ≡ gate p (goes_of (loop_to h o))

@@ -45,6 +45,11 @@ true_from false h = absurd h
 pub same : (w : ℕ) → (w == w) ≡ true
 same w = true_from (w == w) (eqb_refl w)
 
+-- what holds of a signal, and what follows from it
+pub weaker : {E : Type 0} (r : Result Sig E) (P Q : Sig → Type 0) → ((s : Sig) → P s → Q s) → IfOk r P → IfOk r Q
+weaker (Ok s) P Q f h = f s h
+weaker (Err e) P Q f h = tt
+
 -- ---- sites
 
 pub sited_kept : {a b : Netlist} → Grows a b → (p : SitePorts) (w : ℕ) → Sited a p w → Sited b p w

@@ -73,6 +73,27 @@ pub fn branch_paths(
     }
 }
 
+/// The path of the body of a let: where the let has its path and the bindings are ready. A body that holds no calls
+/// keeps the let's path.
+pub fn body_path(net: &mut Net, path: Sig, bound: Readiness, body: &Term) -> Result<Sig, AllocError>
+    requires tidy { IsTidy net.old }
+    requires path { BitAt net.old path }
+    requires ready { ReadyAt net.old bound }
+    requires room { length net.old.signals < 4294967295 }
+    ensures tidy { IsTidy net.new }
+    ensures grows { Grows net.old net.new }
+    ensures count { length net.new.signals ≤ length net.old.signals + 1 }
+    ensures width { IfOk result (λ s. BitAt net.new s) }
+    ensures value { IfOk result (λ s. holds_calls (tree body.now) ≡ true → (v : Val) → Wired net.new v → on v s ≡ (on v path && is_ready v bound)) }
+    ensures settled { IfOk result (λ s. AreSteady net.old (path ∷ listed bound) → SettlesOn net.old net.new (s ∷ [])) }
+{
+    if holds_calls(body) {
+        and_ready(net, path, bound)
+    } else {
+        Ok(path)
+    }
+}
+
 /// The value and the readiness of a choice.
 pub fn choose(
     net: &mut Net,

@@ -7,10 +7,10 @@ ghost use Rattle.safl_net.specs.Growth.{Grows};
 ghost use Rattle.safl_lower.specs.Lowering.{Lowerable, LowerableAll, Lowers, LowersAll};
 
 use crate::gates::constant;
-use crate::joins::{ask, branch_paths, choose, go_on};
+use crate::joins::{ask, body_path, branch_paths, choose, go_on};
 use crate::parts::{Lowered, LoweredAll, Out, Ports, Readiness};
 use crate::primitives::apply;
-use crate::ready::{and_ready, both_ready};
+use crate::ready::both_ready;
 use safl_check::Term;
 use safl_net::{Net, Sig};
 use std::alloc::{AllocError, Global};
@@ -54,7 +54,7 @@ pub fn lower_term(
         }
         Term::Let(_, ts, b) => {
             let bound = lower_all(alloc, net, out, slots, ports, path, ts)?;
-            let inner = and_ready(net, path, bound.ready)?;
+            let inner = body_path(net, path, bound.ready, b)?;
             let depth = slots.len();
             slots.extend_from_slice(&bound.values)?;
             let body = lower_term(alloc, net, out, slots, ports, inner, b)?;

@@ -1,14 +1,9 @@
-use Rattle.std.proofs.Common.{◌≡◌, true, Some, cond, Result, Ok, Err, IfOk}
-use Rattle.safl_net.specs.declared.cell.Sig.{Sig}
+use Rattle.std.proofs.Common.{◌≡◌, true, Some, cond}
 use Rattle.safl_net.specs.Growth.{Val, Wired, width_at}
 use Rattle.safl_lower.specs.declared.parts.Readiness.TheVariants.{Never}
 use Rattle.safl_lower.specs.Bits.{on, is_ready}
+use Rattle.safl_lower.proofs.Kept.{weaker}
 use Rattle.safl_lower.proofs.joins.choose_value.Goals as goal
-
--- what holds without a premise
-weaker : {E : Type 0} (r : Result Sig E) (P Q : Sig → Type 0) → ((s : Sig) → P s → Q s) → IfOk r P → IfOk r Q
-weaker (Ok s) P Q f h = f s h
-weaker (Err e) P Q f h = tt
 
 pub returns-in_default : goal.returns-in_default
 returns-in_default c =

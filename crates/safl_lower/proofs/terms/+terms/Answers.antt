@@ -329,19 +329,19 @@ lower_term-lower_all-requires t c =
     let ok : LowerableAll c.args.net.now c.args.ports.now c.args.slots.now.items c.args.path (forest c.deref-in-Let.result.now) = subst (λ (l : List declared.Term). LowerableAll c.args.net.now c.args.ports.now c.args.slots.now.items c.args.path (forest l)) (sym c.deref-in-Let.ensures.value) (Able.able_bound a) in
     search rules
 
-pub lower_term-and_ready-requires-clause-first : goal.lower_term-and_ready-requires-clause-first
-lower_term-and_ready-requires-clause-first t c =
+pub lower_term-body_path-requires-clause-path : goal.lower_term-body_path-requires-clause-path
+lower_term-body_path-requires-clause-path t c =
     Able.path_kept c.requires.able c.lower_all.ensures.kept
 
-pub lower_term-and_ready-requires-clause-second : goal.lower_term-and_ready-requires-clause-second
-lower_term-and_ready-requires-clause-second t c =
+pub lower_term-body_path-requires-clause-ready : goal.lower_term-body_path-requires-clause-ready
+lower_term-body_path-requires-clause-ready t c =
     let e = ap tree c.in-Let.is ∙ tree-Let c.in-Let.field-0 c.in-Let.ts c.in-Let.b in
     let a = subst (λ (x : Term). Lowerable c.args.net.now c.args.ports.now c.args.slots.now.items c.args.path x) e c.requires.able in
     let hs = renamed_all refl c.deref-in-Let.ensures.value c.in_ok-bound-in-Let.ensures.done in
     Able.bound_shape a hs
 
-pub lower_term-and_ready-requires-clause-room : goal.lower_term-and_ready-requires-clause-room
-lower_term-and_ready-requires-clause-room t c =
+pub lower_term-body_path-requires-clause-room : goal.lower_term-body_path-requires-clause-room
+lower_term-body_path-requires-clause-room t c =
     let e = ap tree c.in-Let.is ∙ tree-Let c.in-Let.field-0 c.in-Let.ts c.in-Let.b in
     let a = subst (λ (x : Term). Lowerable c.args.net.now c.args.ports.now c.args.slots.now.items c.args.path x) e c.requires.able in
     let hs = renamed_all refl c.deref-in-Let.ensures.value c.in_ok-bound-in-Let.ensures.done in
@@ -355,11 +355,11 @@ lower_term-lower_term-requires-in-Let t c =
     let a = subst (λ (x : Term). Lowerable c.args.net.now c.args.ports.now c.args.slots.now.items c.args.path x) e c.requires.able in
     let hs = renamed_all refl c.deref-in-Let.ensures.value c.in_ok-bound-in-Let.ensures.done in
     let q = c.in_ok-inner-in-Let.ensures in
-    let hi : Inner c.args.path c.lower_all.new.net c.and_ready.new.net c.in_ok-bound-in-Let.bound.ready c.in_ok-inner-in-Let.inner = record { grows = q.grows; count = q.count; bit = q.width; is = q.value; settled = q.settled } in
-    let s3 = c.in_ok-extend_from_slice-in-Let.ensures.items ∙ ap (λ (l : List Sig). c.lower_all.new.slots.items ++ l) c.deref-in-Let-2.ensures.value ∙ ap (λ (l : List Sig). l ++ c.in_ok-bound-in-Let.bound.values.items) c.in_ok-bound-in-Let.ensures.slots in
-    let smaller : 2 * nodes (tree c.deref-in-Let-3.result.now) < 2 * nodes (tree c.args.t.now) = omega (arith, ap nodes e, ap (λ (x : declared.Term). nodes (tree x)) c.deref-in-Let-3.ensures) in
-    let ok : Lowerable c.and_ready.new.net c.args.ports.now c.extend_from_slice.new.self.items c.in_ok-inner-in-Let.inner (tree c.deref-in-Let-3.result.now) = subst (λ (x : declared.Term). Lowerable c.and_ready.new.net c.args.ports.now c.extend_from_slice.new.self.items c.in_ok-inner-in-Let.inner (tree x)) (sym c.deref-in-Let-3.ensures)
-    (subst (λ (s : List Sig). Lowerable c.and_ready.new.net c.args.ports.now s c.in_ok-inner-in-Let.inner (tree c.in-Let.b.value)) (sym s3) (Able.able_inner a hs hi)) in
+    let hi : Inner c.args.path c.lower_all.new.net c.body_path.new.net (tree c.in-Let.b.value) c.in_ok-bound-in-Let.bound.ready c.in_ok-inner-in-Let.inner = record { grows = q.grows; count = q.count; bit = q.width; is = λ h. q.value (same_holds c.deref-in-Let-2.ensures h); settled = q.settled } in
+    let s3 = c.in_ok-extend_from_slice-in-Let.ensures.items ∙ ap (λ (l : List Sig). c.lower_all.new.slots.items ++ l) c.deref-in-Let-3.ensures.value ∙ ap (λ (l : List Sig). l ++ c.in_ok-bound-in-Let.bound.values.items) c.in_ok-bound-in-Let.ensures.slots in
+    let smaller : 2 * nodes (tree c.deref-in-Let-4.result.now) < 2 * nodes (tree c.args.t.now) = omega (arith, ap nodes e, ap (λ (x : declared.Term). nodes (tree x)) c.deref-in-Let-4.ensures) in
+    let ok : Lowerable c.body_path.new.net c.args.ports.now c.extend_from_slice.new.self.items c.in_ok-inner-in-Let.inner (tree c.deref-in-Let-4.result.now) = subst (λ (x : declared.Term). Lowerable c.body_path.new.net c.args.ports.now c.extend_from_slice.new.self.items c.in_ok-inner-in-Let.inner (tree x)) (sym c.deref-in-Let-4.ensures)
+    (subst (λ (s : List Sig). Lowerable c.body_path.new.net c.args.ports.now s c.in_ok-inner-in-Let.inner (tree c.in-Let.b.value)) (sym s3) (Able.able_inner a hs hi)) in
     search rules
 
 pub lower_term-both_ready-requires-clause-first : goal.lower_term-both_ready-requires-clause-first
@@ -367,7 +367,7 @@ lower_term-both_ready-requires-clause-first t c =
     let e = ap tree c.in-Let.is ∙ tree-Let c.in-Let.field-0 c.in-Let.ts c.in-Let.b in
     let a = subst (λ (x : Term). Lowerable c.args.net.now c.args.ports.now c.args.slots.now.items c.args.path x) e c.requires.able in
     let hs = renamed_all refl c.deref-in-Let.ensures.value c.in_ok-bound-in-Let.ensures.done in
-    ready_kept (grows_on c.and_ready.ensures.grows c.lower_term-in-Let.ensures.kept) c.in_ok-bound-in-Let.bound.ready (Able.bound_shape a hs)
+    ready_kept (grows_on c.body_path.ensures.grows c.lower_term-in-Let.ensures.kept) c.in_ok-bound-in-Let.bound.ready (Able.bound_shape a hs)
 
 pub lower_term-both_ready-requires-clause-second : goal.lower_term-both_ready-requires-clause-second
 lower_term-both_ready-requires-clause-second t c =
@@ -375,9 +375,9 @@ lower_term-both_ready-requires-clause-second t c =
     let a = subst (λ (x : Term). Lowerable c.args.net.now c.args.ports.now c.args.slots.now.items c.args.path x) e c.requires.able in
     let hs = renamed_all refl c.deref-in-Let.ensures.value c.in_ok-bound-in-Let.ensures.done in
     let q = c.in_ok-inner-in-Let.ensures in
-    let hi : Inner c.args.path c.lower_all.new.net c.and_ready.new.net c.in_ok-bound-in-Let.bound.ready c.in_ok-inner-in-Let.inner = record { grows = q.grows; count = q.count; bit = q.width; is = q.value; settled = q.settled } in
-    let s3 = c.in_ok-extend_from_slice-in-Let.ensures.items ∙ ap (λ (l : List Sig). c.lower_all.new.slots.items ++ l) c.deref-in-Let-2.ensures.value ∙ ap (λ (l : List Sig). l ++ c.in_ok-bound-in-Let.bound.values.items) c.in_ok-bound-in-Let.ensures.slots in
-    let hb = renamed s3 c.deref-in-Let-3.ensures c.in_ok-body-in-Let.ensures.done in
+    let hi : Inner c.args.path c.lower_all.new.net c.body_path.new.net (tree c.in-Let.b.value) c.in_ok-bound-in-Let.bound.ready c.in_ok-inner-in-Let.inner = record { grows = q.grows; count = q.count; bit = q.width; is = λ h. q.value (same_holds c.deref-in-Let-2.ensures h); settled = q.settled } in
+    let s3 = c.in_ok-extend_from_slice-in-Let.ensures.items ∙ ap (λ (l : List Sig). c.lower_all.new.slots.items ++ l) c.deref-in-Let-3.ensures.value ∙ ap (λ (l : List Sig). l ++ c.in_ok-bound-in-Let.bound.values.items) c.in_ok-bound-in-Let.ensures.slots in
+    let hb = renamed s3 c.deref-in-Let-4.ensures c.in_ok-body-in-Let.ensures.done in
     (Able.body_shape a hs hi hb).ready
 
 pub lower_term-both_ready-requires-clause-room : goal.lower_term-both_ready-requires-clause-room
@@ -386,9 +386,9 @@ lower_term-both_ready-requires-clause-room t c =
     let a = subst (λ (x : Term). Lowerable c.args.net.now c.args.ports.now c.args.slots.now.items c.args.path x) e c.requires.able in
     let hs = renamed_all refl c.deref-in-Let.ensures.value c.in_ok-bound-in-Let.ensures.done in
     let q = c.in_ok-inner-in-Let.ensures in
-    let hi : Inner c.args.path c.lower_all.new.net c.and_ready.new.net c.in_ok-bound-in-Let.bound.ready c.in_ok-inner-in-Let.inner = record { grows = q.grows; count = q.count; bit = q.width; is = q.value; settled = q.settled } in
-    let s3 = c.in_ok-extend_from_slice-in-Let.ensures.items ∙ ap (λ (l : List Sig). c.lower_all.new.slots.items ++ l) c.deref-in-Let-2.ensures.value ∙ ap (λ (l : List Sig). l ++ c.in_ok-bound-in-Let.bound.values.items) c.in_ok-bound-in-Let.ensures.slots in
-    let hb = renamed s3 c.deref-in-Let-3.ensures c.in_ok-body-in-Let.ensures.done in
+    let hi : Inner c.args.path c.lower_all.new.net c.body_path.new.net (tree c.in-Let.b.value) c.in_ok-bound-in-Let.bound.ready c.in_ok-inner-in-Let.inner = record { grows = q.grows; count = q.count; bit = q.width; is = λ h. q.value (same_holds c.deref-in-Let-2.ensures h); settled = q.settled } in
+    let s3 = c.in_ok-extend_from_slice-in-Let.ensures.items ∙ ap (λ (l : List Sig). c.lower_all.new.slots.items ++ l) c.deref-in-Let-3.ensures.value ∙ ap (λ (l : List Sig). l ++ c.in_ok-bound-in-Let.bound.values.items) c.in_ok-bound-in-Let.ensures.slots in
+    let hb = renamed s3 c.deref-in-Let-4.ensures c.in_ok-body-in-Let.ensures.done in
     let r = a.room in
     let k = hs.count in
     let l = hi.count in
@@ -400,9 +400,9 @@ lower_term-returns-in_ok-ready-in-Let-clause-done t c =
     let e = ap tree c.in-Let.is ∙ tree-Let c.in-Let.field-0 c.in-Let.ts c.in-Let.b in
     let hs = renamed_all refl c.deref-in-Let.ensures.value c.in_ok-bound-in-Let.ensures.done in
     let q = c.in_ok-inner-in-Let.ensures in
-    let hi : Inner c.args.path c.lower_all.new.net c.and_ready.new.net c.in_ok-bound-in-Let.bound.ready c.in_ok-inner-in-Let.inner = record { grows = q.grows; count = q.count; bit = q.width; is = q.value; settled = q.settled } in
-    let s3 = c.in_ok-extend_from_slice-in-Let.ensures.items ∙ ap (λ (l : List Sig). c.lower_all.new.slots.items ++ l) c.deref-in-Let-2.ensures.value ∙ ap (λ (l : List Sig). l ++ c.in_ok-bound-in-Let.bound.values.items) c.in_ok-bound-in-Let.ensures.slots in
-    let hb = renamed s3 c.deref-in-Let-3.ensures c.in_ok-body-in-Let.ensures.done in
+    let hi : Inner c.args.path c.lower_all.new.net c.body_path.new.net (tree c.in-Let.b.value) c.in_ok-bound-in-Let.bound.ready c.in_ok-inner-in-Let.inner = record { grows = q.grows; count = q.count; bit = q.width; is = λ h. q.value (same_holds c.deref-in-Let-2.ensures h); settled = q.settled } in
+    let s3 = c.in_ok-extend_from_slice-in-Let.ensures.items ∙ ap (λ (l : List Sig). c.lower_all.new.slots.items ++ l) c.deref-in-Let-3.ensures.value ∙ ap (λ (l : List Sig). l ++ c.in_ok-bound-in-Let.bound.values.items) c.in_ok-bound-in-Let.ensures.slots in
+    let hb = renamed s3 c.deref-in-Let-4.ensures c.in_ok-body-in-Let.ensures.done in
     let b = c.in_ok-ready-in-Let.ensures in
     subst (λ (x : Term). Lowers c.args.ports.now c.args.slots.now.items c.args.path c.args.net.now c.both_ready.new.net c.args.out.now c.lower_term-in-Let.new.out (record { ready = c.in_ok-ready-in-Let.ready; value = c.in_ok-body-in-Let.body.value }) x) (sym e)
     (lowers_let hs hi hb (record { grows = b.grows; count = b.count; bit = b.width; is = b.value; never = b.never; settled = b.settled }))
@@ -431,19 +431,19 @@ pub lower_term-returns-in_ok-no-in-If-clause-kept : goal.lower_term-returns-in_o
 lower_term-returns-in_ok-no-in-If-clause-kept t c = grows_on c.lower_term.ensures.kept (grows_on c.branch_paths.ensures.grows (grows_on c.lower_term-in-If.ensures.kept (grows_on c.lower_term-in-If-2.ensures.kept c.choose.ensures.grows)))
 
 pub lower_term-returns-in_err-inner-in-Let-clause-kept : goal.lower_term-returns-in_err-inner-in-Let-clause-kept
-lower_term-returns-in_err-inner-in-Let-clause-kept t c = grows_on c.lower_all.ensures.kept c.and_ready.ensures.grows
+lower_term-returns-in_err-inner-in-Let-clause-kept t c = grows_on c.lower_all.ensures.kept c.body_path.ensures.grows
 
 pub lower_term-returns-in_err-extend_from_slice-in-Let-clause-kept : goal.lower_term-returns-in_err-extend_from_slice-in-Let-clause-kept
-lower_term-returns-in_err-extend_from_slice-in-Let-clause-kept t c = grows_on c.lower_all.ensures.kept c.and_ready.ensures.grows
+lower_term-returns-in_err-extend_from_slice-in-Let-clause-kept t c = grows_on c.lower_all.ensures.kept c.body_path.ensures.grows
 
 pub lower_term-returns-in_err-body-in-Let-clause-kept : goal.lower_term-returns-in_err-body-in-Let-clause-kept
-lower_term-returns-in_err-body-in-Let-clause-kept t c = grows_on c.lower_all.ensures.kept (grows_on c.and_ready.ensures.grows c.lower_term-in-Let.ensures.kept)
+lower_term-returns-in_err-body-in-Let-clause-kept t c = grows_on c.lower_all.ensures.kept (grows_on c.body_path.ensures.grows c.lower_term-in-Let.ensures.kept)
 
 pub lower_term-returns-in_err-ready-in-Let-clause-kept : goal.lower_term-returns-in_err-ready-in-Let-clause-kept
-lower_term-returns-in_err-ready-in-Let-clause-kept t c = grows_on c.lower_all.ensures.kept (grows_on c.and_ready.ensures.grows (grows_on c.lower_term-in-Let.ensures.kept c.both_ready.ensures.grows))
+lower_term-returns-in_err-ready-in-Let-clause-kept t c = grows_on c.lower_all.ensures.kept (grows_on c.body_path.ensures.grows (grows_on c.lower_term-in-Let.ensures.kept c.both_ready.ensures.grows))
 
 pub lower_term-returns-in_ok-ready-in-Let-clause-kept : goal.lower_term-returns-in_ok-ready-in-Let-clause-kept
-lower_term-returns-in_ok-ready-in-Let-clause-kept t c = grows_on c.lower_all.ensures.kept (grows_on c.and_ready.ensures.grows (grows_on c.lower_term-in-Let.ensures.kept c.both_ready.ensures.grows))
+lower_term-returns-in_ok-ready-in-Let-clause-kept t c = grows_on c.lower_all.ensures.kept (grows_on c.body_path.ensures.grows (grows_on c.lower_term-in-Let.ensures.kept c.both_ready.ensures.grows))
 
 pub lower_term-returns-in_err-value-in-Op-clause-kept : goal.lower_term-returns-in_err-value-in-Op-clause-kept
 lower_term-returns-in_err-value-in-Op-clause-kept t c = grows_on c.lower_all-in-Op.ensures.kept c.apply.ensures.grows
