@@ -1,15 +1,16 @@
 #!/usr/bin/env python3
 """Times the program on sources of growing size: `build` and `sim`, and Icarus Verilog on the same files where it is there.
-It prints signals, bytes, nodes a second and cycles a second. Then it times the plan of nearly 4,000 call sites alone.
+It prints signals, bytes, and nodes and cycles a second of the processor. Then it times the plan of nearly 4,000 call sites
+alone.
 The programs are crates/safl/out/safl and crates/safl_plan_speed/out/safl_plan_speed, or SAFL and PLAN name them; one
 that isn't built is skipped."""
 import os
 import re
+import resource
 import shutil
 import subprocess
 import sys
 import tempfile
-import time
 
 sys.path.insert(0, os.path.dirname(os.path.abspath(__file__)))
 from bench import bench
@@ -17,11 +18,13 @@ from bench import bench
 CRATES = os.path.join(os.path.dirname(os.path.abspath(__file__)), "../crates")
 PROGRAM = os.environ.get("SAFL", os.path.join(CRATES, "safl/out/safl"))
 PLAN = os.environ.get("PLAN", os.path.join(CRATES, "safl_plan_speed/out/safl_plan_speed"))
-CYCLES = 20000
+CYCLES = 5000
+ARGS = ["9999", "3", "200"]
 
 
 def calls(count):
-    """A source of so many functions that call each other, drawn from the numbers that 1 begins; and how many nodes it has."""
+    """A source of so many functions that call each other, drawn from the numbers that 1 begins, and a main that goes
+    through them again and again; and how many nodes it has."""
     x, nodes, lines = 1, 0, []
 
     def draw():
@@ -46,26 +49,32 @@ def calls(count):
             ][d % 4]
         nodes += size
         lines.append(f"fun f{i}(x:16, y:16):16 = {body}\n")
-    lines.append(f"fun main(a:16, b:16):16 = f{count - 1}(a, b)\n")
-    return "".join(lines), nodes + 3
+    return "".join(lines) + main_of(count - 1, 16), nodes + 16
 
 
 def sums(count, terms):
-    """A source of so many functions, each a sum of so many products, and a main that goes through all in turn."""
+    """The same with functions that each are a sum of so many products, behind a call of the function before."""
     lines = []
     for i in range(count):
         products = " + ".join(f"(x ^ {j + 1}) * y" for j in range(terms))
         inner = f"f{i - 1}(x + {i}, y)" if i else "x + y"
         lines.append(f"fun f{i}(x:32, y:32):32 = let s = {inner} in s + {products}\n")
-    lines.append(f"fun main(a:32, b:32):32 = f{count - 1}(a, b)\n")
-    return "".join(lines), count * (6 * terms + 7) + 1
+    return "".join(lines) + main_of(count - 1, 32), count * (6 * terms + 7) + 14
+
+
+def main_of(function, width):
+    return (
+        f"fun main(n:{width}, x:{width}, y:{width}):{width} = "
+        f"let z = f{function}(x, y) in if n == 0 then z else main(n - 1, z, y)\n"
+    )
 
 
 def run(words):
-    """How long a command takes, and what it prints."""
-    begun = time.monotonic()
+    """How many seconds of the processor a command takes, and what it prints."""
+    begun = resource.getrusage(resource.RUSAGE_CHILDREN)
     ended = subprocess.run(words, capture_output=True, text=True)
-    return time.monotonic() - begun, ended
+    now = resource.getrusage(resource.RUSAGE_CHILDREN)
+    return now.ru_utime + now.ru_stime - begun.ru_utime - begun.ru_stime, ended
 
 
 def best(words, times=3):
@@ -77,7 +86,7 @@ def icarus(folder, built, cycles):
     if not shutil.which("iverilog"):
         return "no Icarus Verilog"
     with open(built) as file:
-        text = bench(file.read(), cycles, ["3", "200"])
+        text = bench(file.read(), cycles, ARGS)
     paths = [os.path.join(folder, name) for name in ("bench.v", "simulated")]
     with open(paths[0], "w") as file:
         file.write(text)
@@ -103,8 +112,8 @@ def measure(folder, name, source, nodes):
     with open(built) as file:
         text = file.read()
     signals = len(re.findall(r"^  (?:input \[|reg|wire)", text, re.M))
-    begun, _ = best([PROGRAM, "sim", path, "--cycles", "1", "3", "200"])
-    whole, ended = best([PROGRAM, "sim", path, "--cycles", str(CYCLES), "3", "200"])
+    begun, _ = best([PROGRAM, "sim", path, "--cycles", "1", *ARGS])
+    whole, ended = best([PROGRAM, "sim", path, "--cycles", str(CYCLES), *ARGS])
     cycles = cycles_of(ended.stdout, CYCLES)
     rate = cycles / max(whole - begun, 1e-3)
     print(
@@ -115,11 +124,11 @@ def measure(folder, name, source, nodes):
 
 
 def peak(words):
-    """How long a command takes, and the most memory that it has, in megabytes."""
-    begun = time.monotonic()
-    process = subprocess.Popen(words, stdout=subprocess.DEVNULL)
-    _, _, usage = os.wait4(process.pid, 0)
-    return time.monotonic() - begun, usage.ru_maxrss / 1024
+    """How many seconds of the processor a command takes, and the most memory that it has, in megabytes."""
+    timed = ["/usr/bin/time", "-f", "%U %S %M", *words]
+    told = subprocess.run(timed, stdout=subprocess.DEVNULL, stderr=subprocess.PIPE, text=True)
+    user, system, kilobytes = told.stderr.split()
+    return float(user) + float(system), int(kilobytes) / 1024
 
 
 def sources():
@@ -133,9 +142,12 @@ def sources():
 
 
 def plan():
+    if not os.access("/usr/bin/time", os.X_OK):
+        print("speed: the plan is skipped, as there is no /usr/bin/time")
+        return
     checked = min(peak([PLAN, "check"]) for _ in range(5))
     planned = min(peak([PLAN]) for _ in range(5))
-    print(f"plan: {planned[0] - checked[0]:.3f} s and {planned[1] - checked[1]:.1f} MB after a check of {checked[0]:.3f} s and {checked[1]:.1f} MB")
+    print(f"plan: {planned[0] - checked[0]:.2f} s and {planned[1] - checked[1]:.1f} MB after a check of {checked[0]:.2f} s and {checked[1]:.1f} MB")
 
 
 def main():
