@@ -18,8 +18,6 @@ mod machines;
 #[cfg(test)]
 mod meanings;
 #[cfg(test)]
-mod nets;
-#[cfg(test)]
 mod plans;
 #[cfg(test)]
 mod prints;

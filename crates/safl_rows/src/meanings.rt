@@ -79,7 +79,7 @@ fn mains_are_evaluated(rt: HostRuntime) -> Result<(), Fail> {
     for (source, numbers, word, calls) in &MEANINGS {
         let answer = meaning(rt.alloc(), source, numbers, 10)?.ok_or("no word")?;
         assert_eq!(rt; answer.word.bits(), *word);
-        assert_eq!(rt; answer.left + *calls, 10);
+        assert_eq!(rt; Some(answer.left), 10u32.checked_sub(*calls));
         assert!(rt; meaning(rt.alloc(), source, numbers, calls.saturating_sub(1))?.is_none());
     }
     Ok(())

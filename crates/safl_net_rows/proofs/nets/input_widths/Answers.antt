@@ -1,8 +1,8 @@
 use Rattle.std.proofs.Common.{map, arith}
 use Rattle.safl_net.specs.Netlist.{width_of}
 use Rattle.safl_sim.specs.Places.{inputs_of}
-use Rattle.safl_rows.proofs.Inputs.{widths_more, widths_end}
-use Rattle.safl_rows.proofs.nets.input_widths.Goals as goal
+use Rattle.safl_net_rows.proofs.Inputs.{widths_more, widths_end}
+use Rattle.safl_net_rows.proofs.nets.input_widths.Goals as goal
 
 pub signals-preserved : goal.signals-preserved
 signals-preserved c =
