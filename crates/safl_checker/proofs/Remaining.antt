@@ -21,8 +21,6 @@ use Rattle.safl_typing.proofs.Names.{some_none}
 use Rattle.safl_typing.proofs.Formed.{params_wide, heads_wide, formed_range}
 use Rattle.safl_typing.proofs.Limits.{none_both, none_limit, none_excess}
 use Rattle.safl_typing.proofs.Placing.{heads_length}
-use Rattle.safl_checker.specs.Prepared.{IsPrepared}
-use Rattle.safl_checker.specs.declared.prepare.Prepared.{Prepared}
 
 parts_same : {A : Type 0} (x y : A) (xs ys : List A) → x ∷ xs ≡ y ∷ ys → (x ≡ y) × (xs ≡ ys)
 parts_same x y xs ys e = (cc, cc)
@@ -73,11 +71,8 @@ heads_count : (hs : List code_head.Head) → length (plain_heads hs) ≡ length 
 heads_count [] = refl
 heads_count (h ∷ hs) = ap (λ (n : ℕ). suc n) (heads_count hs)
 
-pub as_many_heads : (ds : List Definition) (p : Prepared) → IsPrepared ds p → length p.heads ≡ length ds
-as_many_heads ds p is = sym (heads_count p.heads) ∙ (ap (λ (l : List Head). length l) is.heads ∙ heads_length 0 0 ds)
-
-pub as_many_bodies : (ds : List Definition) (p : Prepared) → IsPrepared ds p → length p.bodies.items ≡ length ds
-as_many_bodies ds p is = sym (length-map p.bodies.items plain) ∙ (ap (λ (l : List Expression). length l) is.bodies ∙ length-map ds _)
+pub as_many_heads : (ds : List Definition) (hs : List code_head.Head) → plain_heads hs ≡ heads ds → length hs ≡ length ds
+as_many_heads ds hs is = sym (heads_count hs) ∙ (ap (λ (l : List Head). length l) is ∙ heads_length 0 0 ds)
 
 -- the heads can be walked
 pub record AreKnown (all : List Head) (hs : List code_head.Head) : Type 0 where
@@ -94,77 +89,71 @@ few_functions ds e =
 no_limit_from : (ds : List Definition) → limits ds ≡ None → limits_from (heads ds) 0 0 0 0 ds ≡ None
 no_limit_from ds e = (none_both (limit 1 max_functions (excess max_functions (map (λ (d : Definition). d.place) ds))) _ e).1
 
-pub are_known : (ds : List Definition) (p : Prepared) → IsFormedProgram ds → IsPrepared ds p → limits ds ≡ None → AreKnown (heads ds) p.heads
-are_known ds p formed is e =
+pub are_known : (ds : List Definition) (hs : List code_head.Head) → IsFormedProgram ds → plain_heads hs ≡ heads ds → limits ds ≡ None → AreKnown (heads ds) hs
+are_known ds hs formed is e =
     record {
-      same = is.heads;
-      wide = subst WideHeads (sym is.heads) (heads_wide 0 0 ds formed.formed);
-      counted = omega (arith, as_many_heads ds p is, few_functions ds e);
-      params = counts_params (heads ds) 0 0 0 0 ds p.heads (no_limit_from ds e) is.heads;
+      same = is;
+      wide = subst WideHeads (sym is) (heads_wide 0 0 ds formed.formed);
+      counted = omega (arith, as_many_heads ds hs is, few_functions ds e);
+      params = counts_params (heads ds) 0 0 0 0 ds hs (no_limit_from ds e) is;
     }
 
 -- ---- what is left
 
--- the definitions from number n on, with their heads and bodies, where u is the group before them, and their sites are numbered
--- from lo on
-pub record AreLeft (all : List Head) (n u lo : ℕ) (ds : List Definition) (hs : List code_head.Head) (bs : List code_expression.Expression) : Type 0 where
+-- the definitions from number n on, with their heads, where u is the group before them, and their sites are numbered from lo on
+pub record AreLeft (all : List Head) (n u lo : ℕ) (ds : List Definition) (hs : List code_head.Head) : Type 0 where
   pub formed : AreFormedDefinitions ds
   pub heads : plain_heads hs ≡ heads_from n u ds
-  pub bodies : map plain bs ≡ map (λ (d : Definition). rewritten d.body) ds
   pub sites_before : ℕ
   pub nodes_before : ℕ
   pub first : lo ≡ suc sites_before
   pub limits : limits_from all n u sites_before nodes_before ds ≡ None
 
-pub all_left : (ds : List Definition) (p : Prepared) → IsFormedProgram ds → IsPrepared ds p → limits ds ≡ None → AreLeft (heads ds) 0 0 1 ds p.heads p.bodies.items
-all_left ds p formed is e =
-    record { formed = formed.formed; heads = is.heads; bodies = is.bodies; sites_before = 0; nodes_before = 0; first = refl; limits = no_limit_from ds e }
+pub all_left : (ds : List Definition) (hs : List code_head.Head) → IsFormedProgram ds → plain_heads hs ≡ heads ds → limits ds ≡ None → AreLeft (heads ds) 0 0 1 ds hs
+all_left ds hs formed is e =
+    record { formed = formed.formed; heads = is; sites_before = 0; nodes_before = 0; first = refl; limits = no_limit_from ds e }
 
--- a definition with its head and its body
-pub record IsPaired (u : ℕ) (d : Definition) (h : code_head.Head) (b : code_expression.Expression) : Type 0 where
+-- a definition with its head
+pub record IsPaired (u : ℕ) (d : Definition) (h : code_head.Head) : Type 0 where
   pub unit : h.unit ≡ u
   pub params : plain_slots h.params.items ≡ params_of d
-  pub body : plain b ≡ rewritten d.body
 
 pub same_known : (all : List Head) (u : ℕ) (whole : List code_head.Head) (h : code_head.Head) → AreKnown all whole → h.unit ≡ u → ◌≡◌ {A = Known} (known whole h.unit) (record { heads = all; unit = u })
 same_known all u whole h k e = rw (k.same, e) refl
 
-module _ (all : List Head) (n u lo : ℕ) (d : Definition) (ds : List Definition) (h : code_head.Head) (hs : List code_head.Head) (b : code_expression.Expression) (bs : List code_expression.Expression) (left : AreLeft all n u lo (d ∷ ds) (h ∷ hs) (b ∷ bs)) where
-  pub is_paired : IsPaired (unit_of n u d) d h b
+module _ (all : List Head) (n u lo : ℕ) (d : Definition) (ds : List Definition) (h : code_head.Head) (hs : List code_head.Head) (left : AreLeft all n u lo (d ∷ ds) (h ∷ hs)) where
+  pub is_paired : IsPaired (unit_of n u d) d h
   is_paired =
       let p = parts_same (plain_head h) (head_of (unit_of n u d) d) (plain_heads hs) (heads_from (suc n) (unit_of n u d) ds) left.heads in
-      let q = parts_same (plain b) (rewritten d.body) (map plain bs) (map (λ (d : Definition). rewritten d.body) ds) left.bodies in
-      record { unit = ap (λ (z : Head). z.unit) p.0; params = ap (λ (z : Head). z.params) p.0; body = q.0 }
+      record { unit = ap (λ (z : Head). z.unit) p.0; params = ap (λ (z : Head). z.params) p.0 }
 
-  pub rest_left : AreLeft all (suc n) (unit_of n u d) (lo + sites (record { heads = all; unit = unit_of n u d }) (rewritten d.body)) ds hs bs
+  pub rest_left : AreLeft all (suc n) (unit_of n u d) (lo + sites (record { heads = all; unit = unit_of n u d }) (rewritten d.body)) ds hs
   rest_left =
       let k = keeps_limits all n u left.sites_before left.nodes_before d ds left.limits in
       let p = parts_same (plain_head h) (head_of (unit_of n u d) d) (plain_heads hs) (heads_from (suc n) (unit_of n u d) ds) left.heads in
-      let q = parts_same (plain b) (rewritten d.body) (map plain bs) (map (λ (d : Definition). rewritten d.body) ds) left.bodies in
       record {
         formed = left.formed.1;
         heads = p.1;
-        bodies = q.1;
         sites_before = left.sites_before + sites (record { heads = all; unit = unit_of n u d }) (rewritten d.body);
         nodes_before = left.nodes_before + nodes (rewritten d.body);
         first = omega (arith, left.first);
         limits = k.rest;
       }
 
-  pub same_sites : (whole : List code_head.Head) → AreKnown all whole → sites (known whole h.unit) (plain b) ≡ sites (record { heads = all; unit = unit_of n u d }) (rewritten d.body)
-  same_sites whole k =
-      ap (λ (z : Known). sites z (plain b)) (same_known all (unit_of n u d) whole h k is_paired.unit) ∙ ap (λ (e : Expression). sites (record { heads = all; unit = unit_of n u d }) e) is_paired.body
+  pub same_sites : (b : code_expression.Expression) → plain b ≡ rewritten d.body → (whole : List code_head.Head) → AreKnown all whole → sites (known whole h.unit) (plain b) ≡ sites (record { heads = all; unit = unit_of n u d }) (rewritten d.body)
+  same_sites b body whole k =
+      ap (λ (z : Known). sites z (plain b)) (same_known all (unit_of n u d) whole h k is_paired.unit) ∙ ap (λ (e : Expression). sites (record { heads = all; unit = unit_of n u d }) e) body
 
-  pub may_check : (whole : List code_head.Head) → AreKnown all whole → MayCheck whole h.unit h.params.items lo (plain b)
-  may_check whole known_all =
+  pub may_check : (b : code_expression.Expression) → plain b ≡ rewritten d.body → (whole : List code_head.Head) → AreKnown all whole → MayCheck whole h.unit h.params.items lo (plain b)
+  may_check b body whole known_all =
       let k = keeps_limits all n u left.sites_before left.nodes_before d ds left.limits in
-      let same = same_sites whole known_all in
+      let same = same_sites b body whole known_all in
       record {
         heads = known_all.wide;
         counted = known_all.counted;
         params = known_all.params;
         slots = subst WideSlots (sym is_paired.params) (params_wide d.params left.formed.0.1);
-        range = subst IsInRange (sym is_paired.body) (formed_range d.body left.formed.0.3);
+        range = subst IsInRange (sym body) (formed_range d.body left.formed.0.3);
         within = omega (arith, same, left.first, k.few_sites);
-        room = omega (arith, params_count h.params.items d is_paired.params, k.few_params, k.few_nodes, ap (λ (e : Expression). nodes e) is_paired.body);
+        room = omega (arith, params_count h.params.items d is_paired.params, k.few_params, k.few_nodes, ap (λ (e : Expression). nodes e) body);
       }

@@ -20,14 +20,12 @@ use Rattle.safl_typing.specs.Heads.{Slot, Head, Known, unit_of, params_of, heads
 use Rattle.safl_typing.specs.Forms.{FunctionForm, shown_function}
 use Rattle.safl_typing.specs.Walk.{Exactly, after, unless, limits, check, group_fault, function, functions_from}
 use Rattle.safl_typing.specs.Plain.{plain}
-use Rattle.safl_typing.specs.PlainHeads.{plain_slots, known}
+use Rattle.safl_typing.specs.PlainHeads.{plain_slots, plain_heads, known}
 use Rattle.safl_typing.specs.PlainTyped.{Refuses}
 use Rattle.safl_typing.specs.MayWalk.{MayCheck}
-use Rattle.safl_checker.specs.declared.prepare.Prepared.{Prepared}
-use Rattle.safl_checker.specs.Prepared.{IsPrepared}
 use Rattle.safl_checker.specs.Groups.{name_in, earlier, first_group_fault, group_fault_at}
 use Rattle.safl_checker.specs.Functions.{checked_function}
-use Rattle.safl_checker.proofs.Remaining.{AreKnown, AreLeft, all_left, is_paired, rest_left, same_sites, may_check, same_known, as_many_heads, as_many_bodies}
+use Rattle.safl_checker.proofs.Remaining.{AreKnown, AreLeft, all_left, is_paired, rest_left, same_sites, may_check, same_known, as_many_heads}
 
 -- functions, and then those of the rest
 abbrev pub joined_with : List FunctionForm → Result (List FunctionForm) Fault → Result (List FunctionForm) Fault
@@ -63,49 +61,47 @@ group_stops all names n u lo (d ∷ ds) fs whole f p e =
     p ∙ ap (λ z. joined_with fs z) (functions_step all names n u lo d ds) ∙ ap (λ (o : Option Fault). joined_with fs (unless o r)) e
 
 -- the functions of the first i definitions, and what is left
-pub record IsWalked (ds : List Definition) (p : Prepared) (fs : List Function) (i lo : ℕ) : Type 0 where
+pub record IsWalked (ds : List Definition) (hs : List code_head.Head) (fs : List Function) (i lo : ℕ) : Type 0 where
   pub group : ℕ
-  pub left : AreLeft (heads ds) i group lo (drop i ds) (drop i p.heads) (drop i p.bodies.items)
+  pub left : AreLeft (heads ds) i group lo (drop i ds) (drop i hs)
   pub functions : functions_from (heads ds) [] 0 0 1 ds ≡ joined_with (map shown_function fs) (functions_from (heads ds) (earlier ds i) i group lo (drop i ds))
 
-pub walk_begins : (ds : List Definition) (p : Prepared) → IsFormedProgram ds → IsPrepared ds p → limits ds ≡ None → IsWalked ds p [] 0 1
-walk_begins ds p formed is e = record { group = 0; left = all_left ds p formed is e; functions = none_before _ }
+pub walk_begins : (ds : List Definition) (hs : List code_head.Head) → IsFormedProgram ds → plain_heads hs ≡ heads ds → limits ds ≡ None → IsWalked ds hs [] 0 1
+walk_begins ds hs formed is e = record { group = 0; left = all_left ds hs formed is e; functions = none_before _ }
 
-pub walk_ends : (ds : List Definition) (p : Prepared) (fs : List Function) (i lo : ℕ) → IsWalked ds p fs i lo → length ds ≤ i → functions_from (heads ds) [] 0 0 1 ds ≡ Ok (map shown_function fs)
-walk_ends ds p fs i lo w h =
+pub walk_ends : (ds : List Definition) (hs : List code_head.Head) (fs : List Function) (i lo : ℕ) → IsWalked ds hs fs i lo → length ds ≤ i → functions_from (heads ds) [] 0 0 1 ds ≡ Ok (map shown_function fs)
+walk_ends ds hs fs i lo w h =
     w.functions ∙ ap (λ (l : List Definition). joined_with (map shown_function fs) (functions_from (heads ds) (earlier ds i) i w.group lo l)) (drop_all i ds h)
     ∙ ap (λ (l : List FunctionForm). Ok l) (append-nil (map shown_function fs))
 
-pub group_refused : (ds : List Definition) (p : Prepared) (fs : List Function) (i lo : ℕ) (f : Fault) → IsWalked ds p fs i lo → group_fault_at ds i ≡ Some f → functions_from (heads ds) [] 0 0 1 ds ≡ Err f
-group_refused ds p fs i lo f w e = group_stops (heads ds) (earlier ds i) i w.group lo (drop i ds) (map shown_function fs) _ f w.functions e
+pub group_refused : (ds : List Definition) (hs : List code_head.Head) (fs : List Function) (i lo : ℕ) (f : Fault) → IsWalked ds hs fs i lo → group_fault_at ds i ≡ Some f → functions_from (heads ds) [] 0 0 1 ds ≡ Err f
+group_refused ds hs fs i lo f w e = group_stops (heads ds) (earlier ds i) i w.group lo (drop i ds) (map shown_function fs) _ f w.functions e
 
 here : {A : Type 0} (xs : List A) (i : ℕ) (x : A) → i < length xs → x ≡ get_or xs i x → drop i xs ≡ x ∷ drop (i + 1) xs
 here xs i x h e = drop_more xs i x h ∙ ap (λ y. y ∷ drop (i + 1) xs) (sym e)
 
--- definition i, with its head and its body
-pub record IsThere (ds : List Definition) (p : Prepared) (i : ℕ) (d : Definition) (h : code_head.Head) (b : code_expression.Expression) : Type 0 where
+-- definition i, with its head
+pub record IsThere (ds : List Definition) (hs : List code_head.Head) (i : ℕ) (d : Definition) (h : code_head.Head) : Type 0 where
   pub name : name_in (slice_get ds i) ≡ d.name
   pub definition : drop i ds ≡ d ∷ drop (i + 1) ds
-  pub head : drop i p.heads ≡ h ∷ drop (i + 1) p.heads
-  pub body : drop i p.bodies.items ≡ b ∷ drop (i + 1) p.bodies.items
+  pub head : drop i hs ≡ h ∷ drop (i + 1) hs
 
-pub is_there : (defs : List Def) (p : Prepared) (i : ℕ) (d : Def) (h : code_head.Head) (b : code_expression.Expression)
-    → IsPrepared (shows_defs defs) p → i < length defs → d ≡ get_or defs i d → h ≡ get_or p.heads i h → b ≡ get_or p.bodies.items i b → IsThere (shows_defs defs) p i (shows_def d) h b
-is_there defs p i d h b is few ed eh eb =
+pub is_there : (defs : List Def) (hs : List code_head.Head) (i : ℕ) (d : Def) (h : code_head.Head)
+    → plain_heads hs ≡ heads (shows_defs defs) → i < length defs → d ≡ get_or defs i d → h ≡ get_or hs i h → IsThere (shows_defs defs) hs i (shows_def d) h
+is_there defs hs i d h is few ed eh =
     let lt : i < length (shows_defs defs) = omega (arith, few, length-map defs shows_def) in
     let q : shows_def d ≡ get_or (shows_defs defs) i (shows_def d) = ap shows_def ed ∙ sym (get_or-map shows_def defs i d) in
     record {
       name = ap name_in (slice_get_read (shows_defs defs) (length (shows_defs defs)) i (shows_def d) refl lt q);
       definition = here (shows_defs defs) i (shows_def d) lt q;
-      head = here p.heads i h (omega (arith, lt, as_many_heads (shows_defs defs) p is)) eh;
-      body = here p.bodies.items i b (omega (arith, lt, as_many_bodies (shows_defs defs) p is)) eb;
+      head = here hs i h (omega (arith, lt, as_many_heads (shows_defs defs) hs is)) eh;
     }
 
 stops : {A : Type 0} (e : CheckErr) (whole : Result (List FunctionForm) Fault) (fs : List FunctionForm) (r : Result A Fault) (rest : A → Result (List FunctionForm) Fault) → whole ≡ joined_with fs (after r rest) → Refuses e r → Refuses e whole
 stops (errors.Refused f) whole fs r rest p h = p ∙ ap (λ z. joined_with fs (after z rest)) h
 stops errors.NoMemory whole fs r rest p h = tt
 
-module _ (ds : List Definition) (p : Prepared) (fs : List Function) (i lo : ℕ) (d : Definition) (h : code_head.Head) (b : code_expression.Expression) (walked : IsWalked ds p fs i lo) (there : IsThere ds p i d h b) where
+module _ (ds : List Definition) (hs : List code_head.Head) (fs : List Function) (i lo : ℕ) (d : Definition) (h : code_head.Head) (b : code_expression.Expression) (walked : IsWalked ds hs fs i lo) (there : IsThere ds hs i d h) (body : plain b ≡ rewritten d.body) where
   -- the group of definition i, what its body sees, and how many sites it has
   abbrev own : ℕ
   own = unit_of i walked.group d
@@ -120,17 +116,16 @@ module _ (ds : List Definition) (p : Prepared) (fs : List Function) (i lo : ℕ)
   abbrev from_here : Result FunctionForm Fault → Result (List FunctionForm) Fault
   from_here r = from_function (heads ds) (earlier ds i) i walked.group lo d (drop (i + 1) ds) r
 
-  left_here : AreLeft (heads ds) i walked.group lo (d ∷ drop (i + 1) ds) (h ∷ drop (i + 1) p.heads) (b ∷ drop (i + 1) p.bodies.items)
+  left_here : AreLeft (heads ds) i walked.group lo (d ∷ drop (i + 1) ds) (h ∷ drop (i + 1) hs)
   left_here =
-      subst (λ (l : List code_expression.Expression). AreLeft (heads ds) i walked.group lo (d ∷ drop (i + 1) ds) (h ∷ drop (i + 1) p.heads) l) there.body
-      (subst (λ (l : List code_head.Head). AreLeft (heads ds) i walked.group lo (d ∷ drop (i + 1) ds) l (drop i p.bodies.items)) there.head
-      (subst (λ (l : List Definition). AreLeft (heads ds) i walked.group lo l (drop i p.heads) (drop i p.bodies.items)) there.definition walked.left))
+      subst (λ (l : List code_head.Head). AreLeft (heads ds) i walked.group lo (d ∷ drop (i + 1) ds) l) there.head
+      (subst (λ (l : List Definition). AreLeft (heads ds) i walked.group lo l (drop i hs)) there.definition walked.left)
 
   pub formed_here : IsFormedDefinition d
   formed_here = left_here.formed.0
 
   pub may_check_here : (whole : List code_head.Head) → AreKnown (heads ds) whole → MayCheck whole h.unit h.params.items lo (plain b)
-  may_check_here whole k = may_check (heads ds) i walked.group lo d (drop (i + 1) ds) h (drop (i + 1) p.heads) b (drop (i + 1) p.bodies.items) left_here whole k
+  may_check_here whole k = may_check (heads ds) i walked.group lo d (drop (i + 1) ds) h (drop (i + 1) hs) left_here b body whole k
 
   functions_here : functions_from (heads ds) [] 0 0 1 ds ≡ joined_with (map shown_function fs) (unless (group_fault_at ds i) (from_here (checked_function sees (params_of d) lo d (rewritten d.body))))
   functions_here =
@@ -141,9 +136,9 @@ module _ (ds : List Definition) (p : Prepared) (fs : List Function) (i lo : ℕ)
   -- the function of the code is that of the walk
   same_function : (whole : List code_head.Head) → AreKnown (heads ds) whole → checked_function (known whole h.unit) (plain_slots h.params.items) lo d (plain b) ≡ checked_function sees (params_of d) lo d (rewritten d.body)
   same_function whole k =
-      let q = is_paired (heads ds) i walked.group lo d (drop (i + 1) ds) h (drop (i + 1) p.heads) b (drop (i + 1) p.bodies.items) left_here in
+      let q = is_paired (heads ds) i walked.group lo d (drop (i + 1) ds) h (drop (i + 1) hs) left_here in
       ap (λ (z : Known). checked_function z (plain_slots h.params.items) lo d (plain b)) (same_known (heads ds) own whole h k q.unit)
-      ∙ ap (λ (l : List Slot). checked_function sees l lo d (plain b)) q.params ∙ ap (λ (e : Expression). checked_function sees (params_of d) lo d e) q.body
+      ∙ ap (λ (l : List Slot). checked_function sees l lo d (plain b)) q.params ∙ ap (λ (e : Expression). checked_function sees (params_of d) lo d e) body
 
   function_next : (whole : List code_head.Head) → AreKnown (heads ds) whole → group_fault_at ds i ≡ None → functions_from (heads ds) [] 0 0 1 ds ≡ joined_with (map shown_function fs) (from_here (checked_function (known whole h.unit) (plain_slots h.params.items) lo d (plain b)))
   function_next whole k g =
@@ -169,15 +164,15 @@ module _ (ds : List Definition) (p : Prepared) (fs : List Function) (i lo : ℕ)
 
   next_is : (whole : List code_head.Head) → AreKnown (heads ds) whole → (next : ℕ) → next ≡ min 4001 (lo + sites (known whole h.unit) (plain b)) → lo + own_sites ≡ next
   next_is whole k next e =
-      omega (arith, e, (may_check_here whole k).within, same_sites (heads ds) i walked.group lo d (drop (i + 1) ds) h (drop (i + 1) p.heads) b (drop (i + 1) p.bodies.items) left_here whole k)
+      omega (arith, e, (may_check_here whole k).within, same_sites (heads ds) i walked.group lo d (drop (i + 1) ds) h (drop (i + 1) hs) left_here b body whole k)
 
-  left_next : AreLeft (heads ds) (i + 1) own (lo + own_sites) (drop (i + 1) ds) (drop (i + 1) p.heads) (drop (i + 1) p.bodies.items)
+  left_next : AreLeft (heads ds) (i + 1) own (lo + own_sites) (drop (i + 1) ds) (drop (i + 1) hs)
   left_next =
-      subst (λ (n : ℕ). AreLeft (heads ds) n own (lo + own_sites) (drop (i + 1) ds) (drop (i + 1) p.heads) (drop (i + 1) p.bodies.items)) (sym (add-one i))
-      (rest_left (heads ds) i walked.group lo d (drop (i + 1) ds) h (drop (i + 1) p.heads) b (drop (i + 1) p.bodies.items) left_here)
+      subst (λ (n : ℕ). AreLeft (heads ds) n own (lo + own_sites) (drop (i + 1) ds) (drop (i + 1) hs)) (sym (add-one i))
+      (rest_left (heads ds) i walked.group lo d (drop (i + 1) ds) h (drop (i + 1) hs) left_here)
 
   pub walk_goes_on : (whole again : List code_head.Head) → AreKnown (heads ds) whole → AreKnown (heads ds) again → (f : Function) (gs : List Function) (next : ℕ) → group_fault_at ds i ≡ None
-      → checked_function (known whole h.unit) (plain_slots h.params.items) lo d (plain b) ≡ Ok (shown_function f) → gs ≡ fs ++ f ∷ [] → next ≡ min 4001 (lo + sites (known again h.unit) (plain b)) → IsWalked ds p gs (i + 1) next
+      → checked_function (known whole h.unit) (plain_slots h.params.items) lo d (plain b) ≡ Ok (shown_function f) → gs ≡ fs ++ f ∷ [] → next ≡ min 4001 (lo + sites (known again h.unit) (plain b)) → IsWalked ds hs gs (i + 1) next
   walk_goes_on whole again k l f gs next g r eg en =
-      let w : IsWalked ds p (fs ++ f ∷ []) (i + 1) (lo + own_sites) = record { group = own; left = left_next; functions = added whole k f g r } in
-      subst (λ (l : List Function). IsWalked ds p l (i + 1) next) (sym eg) (subst (λ (n : ℕ). IsWalked ds p (fs ++ f ∷ []) (i + 1) n) (next_is again l next en) w)
+      let w : IsWalked ds hs (fs ++ f ∷ []) (i + 1) (lo + own_sites) = record { group = own; left = left_next; functions = added whole k f g r } in
+      subst (λ (l : List Function). IsWalked ds hs l (i + 1) next) (sym eg) (subst (λ (n : ℕ). IsWalked ds hs (fs ++ f ∷ []) (i + 1) n) (next_is again l next en) w)

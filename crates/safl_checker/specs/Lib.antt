@@ -1,4 +1,3 @@
-pub mod Prepared
 pub mod Groups
 pub mod Answers
 pub mod Numbered

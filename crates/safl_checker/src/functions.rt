@@ -4,22 +4,22 @@ ghost use Rattle.std.specs.Prelude.{◌≡◌, [], None};
 ghost use Rattle.safl_tree.specs.Shown.{shows_def, shows_defs};
 ghost use Rattle.safl_tree.specs.Printable.{IsFormedDefinition, IsFormedProgram};
 ghost use Rattle.safl_typing.specs.Heads.{heads};
+ghost use Rattle.safl_typing.specs.Marks.{IsMarked};
 ghost use Rattle.safl_typing.specs.MayWalk.{MayCheck};
 ghost use Rattle.safl_typing.specs.Plain.{plain};
-ghost use Rattle.safl_typing.specs.PlainHeads.{plain_slots, known};
+ghost use Rattle.safl_typing.specs.PlainHeads.{plain_heads, plain_slots, known};
 ghost use Rattle.safl_typing.specs.Walk.{limits, functions_from};
-ghost use Rattle.safl_checker.specs.Prepared.{IsPrepared};
 ghost use Rattle.safl_checker.specs.Answers.{SaysFunctions};
 ghost use Rattle.safl_checker.specs.Functions.{SaysFunction, checked_function};
 
 use crate::form::function_of;
 use crate::groups::find_group_fault;
-use crate::prepare::Prepared;
 use safl_check::Function;
 use safl_tree::Def;
 use safl_typing::expression::Expression;
 use safl_typing::heads::{Head, Heads};
-use safl_typing::sites::add_sites;
+use safl_typing::marks::add_sites;
+use safl_typing::rewrite::rewrite;
 use safl_typing::typed::{CheckErr, Wanted};
 use safl_typing::walk::check_expression;
 use std::alloc::Global;
@@ -28,25 +28,25 @@ use std::alloc::Global;
 pub fn check_functions(
     alloc: Global,
     defs: &[Def],
-    prepared: &Prepared,
+    all_heads: &Heads,
 ) -> Result<Vec<Function>, CheckErr>
     requires formed { IsFormedProgram (shows_defs defs.now) }
-    requires prepared { IsPrepared (shows_defs defs.now) prepared.now }
+    requires heads { plain_heads all_heads.now ≡ heads (shows_defs defs.now) }
     requires within { limits (shows_defs defs.now) ≡ None }
     ensures { SaysFunctions result (functions_from (heads (shows_defs defs.now)) [] 0 0 1 (shows_defs defs.now)) }
 {
     let mut functions = Vec::new(alloc);
     let mut first_site = 1;
     for number in 0..defs.len() {
-        if let Some(fault) = find_group_fault(defs, prepared, number) {
+        if let Some(fault) = find_group_fault(defs, all_heads, number) {
             return Err(CheckErr::Refused(fault));
         }
         let def = &defs[number];
-        let head = prepared.heads.get(number);
-        let body = &prepared.bodies[number];
-        let function = check_function(alloc, &prepared.heads, def, head, first_site, body)?;
+        let head = all_heads.get(number);
+        let body = rewrite(alloc, all_heads, head.unit, &def.body)?;
+        let function = check_function(alloc, all_heads, def, head, first_site, &body)?;
         functions.push(function)?;
-        first_site = add_sites(&prepared.heads, head.unit, first_site, body);
+        first_site = add_sites(first_site, &body);
     }
     Ok(functions)
 }
@@ -62,6 +62,7 @@ fn check_function(
 ) -> Result<Function, CheckErr>
     requires formed { IsFormedDefinition (shows_def def.now) }
     requires able { MayCheck heads.now head.now.unit head.now.params.items first_site (plain body.now) }
+    requires marked { IsMarked (known heads.now head.now.unit) body.now }
     ensures { SaysFunction result (checked_function (known heads.now head.now.unit) (plain_slots head.now.params.items) first_site (shows_def def.now) (plain body.now)) }
 {
     let unit = head.unit;

@@ -4,26 +4,27 @@ ghost use Rattle.std.specs.Prelude.{◌≡◌, ◌<◌, [], length, slice_get, I
 ghost use Rattle.std.specs.List.{list_any};
 ghost use Rattle.std.specs.Str.{bytes_eq};
 ghost use Rattle.safl_tree.specs.Shown.{shows_def, shows_defs};
+ghost use Rattle.safl_typing.specs.Heads.{heads};
+ghost use Rattle.safl_typing.specs.PlainHeads.{plain_heads};
 ghost use Rattle.safl_typing.specs.Walk.{fault_with, repeated, placed_params, head_fault};
 ghost use Rattle.safl_checker.specs.Groups.{earlier, group_fault_at};
-ghost use Rattle.safl_checker.specs.Prepared.{IsPrepared};
 
-use crate::prepare::Prepared;
 use safl_tree::{Def, Name, Param};
+use safl_typing::heads::Heads;
 use safl_word::{Fault, Rule};
 
 /// The first fault of the heads of the group that begins with this definition, member by member: E06 (function defined
 /// twice), E12 (another width than the group's) and E07 (parameter named twice). None where it is joined to a group.
-pub fn find_group_fault(defs: &[Def], prepared: &Prepared, number: usize) -> Option<Fault>
+pub fn find_group_fault(defs: &[Def], all_heads: &Heads, number: usize) -> Option<Fault>
     requires number { number < length defs.now }
-    requires prepared { IsPrepared (shows_defs defs.now) prepared.now }
+    requires heads { plain_heads all_heads.now ≡ heads (shows_defs defs.now) }
     ensures { result ≡ group_fault_at (shows_defs defs.now) number }
 {
     let first = &defs[number];
     if first.joined {
         return None;
     }
-    if let Some(fault) = find_head_fault(defs, prepared, number, first.width) {
+    if let Some(fault) = find_head_fault(defs, all_heads, number, first.width) {
         return Some(fault);
     }
     for member in number + 1..defs.len() {
@@ -31,7 +32,7 @@ pub fn find_group_fault(defs: &[Def], prepared: &Prepared, number: usize) -> Opt
         if !def.joined {
             return None;
         }
-        if let Some(fault) = find_head_fault(defs, prepared, member, first.width) {
+        if let Some(fault) = find_head_fault(defs, all_heads, member, first.width) {
             return Some(fault);
         }
     }
@@ -39,13 +40,13 @@ pub fn find_group_fault(defs: &[Def], prepared: &Prepared, number: usize) -> Opt
 }
 
 // The first fault of the head of the definition of this number, in a group of this width.
-fn find_head_fault(defs: &[Def], prepared: &Prepared, number: usize, width: u8) -> Option<Fault>
+fn find_head_fault(defs: &[Def], all_heads: &Heads, number: usize, width: u8) -> Option<Fault>
     requires number { number < length defs.now }
-    requires prepared { IsPrepared (shows_defs defs.now) prepared.now }
+    requires heads { plain_heads all_heads.now ≡ heads (shows_defs defs.now) }
     ensures { IfSome (slice_get defs.now number) (λ d. result ≡ head_fault (earlier (shows_defs defs.now) number) width (shows_def d)) }
 {
     let def = &defs[number];
-    let namesake = prepared.heads.before(number);
+    let namesake = all_heads.before(number);
     if namesake.is_some() {
         return Some(fault_at(Rule::E06, def.place, 0, 0));
     }

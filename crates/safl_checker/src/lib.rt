@@ -5,10 +5,10 @@ mod dismantle;
 mod form;
 mod functions;
 mod groups;
+mod heads;
 pub mod laws;
 mod limits;
 mod nodes;
-mod prepare;
 pub mod program;
 mod sites;
 

@@ -8,8 +8,8 @@ ghost use Rattle.safl_typing.specs.Forms.{max_functions, max_params, max_binding
 ghost use Rattle.safl_typing.specs.PlainHeads.{plain_heads};
 ghost use Rattle.safl_typing.specs.Walk.{fault_with, needs, or_else, limit, excess, limits_from, main_fault};
 
+use crate::heads::next_unit;
 use crate::nodes::{BINDINGS_MAX, measure};
-use crate::prepare::next_unit;
 use safl_tree::{Def, Param};
 use safl_typing::heads::Heads;
 use safl_word::{Fault, NoMemory, Rule};

@@ -3,15 +3,15 @@
 ghost use Rattle.std.specs.Prelude.{◌≡◌, ◌+◌, ◌*◌, ◌≤◌, ◌++◌, map, min, IfOk, OnOk};
 ghost use Rattle.safl_tree.specs.Shown.{shows, shows_all};
 ghost use Rattle.safl_typing.specs.Forms.{max_bindings};
-ghost use Rattle.safl_typing.specs.PlainHeads.{known, site_of};
+ghost use Rattle.safl_typing.specs.PlainHeads.{known};
 ghost use Rattle.safl_typing.specs.Heads.{sites};
 ghost use Rattle.safl_typing.specs.Rewriting.{rewritten, nodes};
 ghost use Rattle.safl_typing.specs.Walk.{excess, long_let};
 ghost use Rattle.safl_checker.specs.Parts.{parts, pending, values_of, arms_of, own_long_let, own_nodes, own_sites};
 
 use safl_tree::tree::{Arm, Bind, Expr, Node};
-use safl_typing::heads::{Callee, Heads, find_callee};
-use safl_typing::sites::SITES_COUNTED;
+use safl_typing::heads::{Heads, find_callee};
+use safl_typing::sites::{SITES_COUNTED, sites_of_callee};
 use safl_word::NoMemory;
 use std::alloc::Global;
 
@@ -101,16 +101,6 @@ fn sites_at(heads: &Heads, unit: u32, e: &Expr) -> u32
         Node::Case(_, _, _) => 0,
         Node::Op(_, _) => 0,
         Node::Call(name, _) => sites_of_callee(find_callee(heads, unit, name)),
-    }
-}
-
-fn sites_of_callee(callee: Callee) -> u32
-    ensures { result ≡ site_of callee }
-{
-    match callee {
-        Callee::Member(_) => 0,
-        Callee::Above(_) => 1,
-        Callee::Unknown => 1,
     }
 }
 

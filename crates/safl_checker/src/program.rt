@@ -5,18 +5,19 @@ ghost use Rattle.safl_tree.specs.Shown.{shows_defs, shows_program};
 ghost use Rattle.safl_tree.specs.Printable.{IsFormedProgram};
 ghost use Rattle.safl_typing.specs.Heads.{heads};
 ghost use Rattle.safl_typing.specs.Forms.{IsFormOf, shown, shown_function};
+ghost use Rattle.safl_typing.specs.PlainHeads.{plain_heads};
 ghost use Rattle.safl_typing.specs.Walk.{limits, functions_from};
 ghost use Rattle.safl_checker.specs.Answers.{RefusesProgram};
-ghost use Rattle.safl_checker.specs.Prepared.{IsPrepared};
 
 use crate::dismantle::dismantle;
 use crate::functions::check_functions;
+use crate::heads::heads_of;
 use crate::limits::{find_function_fault, find_limit_fault, find_main_fault};
-use crate::prepare::{Prepared, heads_of, prepare};
 use crate::sites::sites_of;
 use safl_check::{Checked, Function};
 use safl_tree::Def;
 use safl_tree::tree::Program;
+use safl_typing::heads::Heads;
 use safl_typing::laws::{forms_are_checked_law, walk_law};
 use safl_typing::typed::CheckErr;
 use std::alloc::Global;
@@ -40,14 +41,14 @@ fn check_defs(alloc: Global, defs: &[Def]) -> Result<Checked, CheckErr>
     ensures form { IfOk result (λ c. IsFormOf (shows_defs defs.now) (shown c)) }
     ensures refused { IfErr result (RefusesProgram (shows_defs defs.now)) }
 {
-    let prepared = prepare_within(alloc, defs)?;
-    let functions = check_functions(alloc, defs, &prepared)?;
+    let heads = heads_within(alloc, defs)?;
+    let functions = check_functions(alloc, defs, &heads)?;
     checked_of(alloc, defs, functions)
 }
 
-// What is known of definitions that pass no limit. Limits come first: what follows them recurses.
-fn prepare_within(alloc: Global, defs: &[Def]) -> Result<Prepared, CheckErr>
-    ensures prepared { IfOk result (IsPrepared (shows_defs defs.now)) }
+// The heads of definitions that pass no limit. Limits come first: what follows them recurses.
+fn heads_within(alloc: Global, defs: &[Def]) -> Result<Heads, CheckErr>
+    ensures heads { IfOk result (λ all. plain_heads all ≡ heads (shows_defs defs.now)) }
     ensures within { OnOk result (limits (shows_defs defs.now) ≡ None) }
     ensures refused { IfErr result (RefusesProgram (shows_defs defs.now)) }
 {
@@ -58,7 +59,7 @@ fn prepare_within(alloc: Global, defs: &[Def]) -> Result<Prepared, CheckErr>
     if let Some(fault) = find_limit_fault(alloc, defs, &heads)? {
         return Err(CheckErr::Refused(fault));
     }
-    Ok(prepare(alloc, defs, heads)?)
+    Ok(heads)
 }
 
 // The program of checked functions, whose last one is `main`.

@@ -67,8 +67,15 @@ fn a_deep_tree_is_refused_and_not_followed(rt: HostRuntime) -> Result<(), Fail> 
 }
 
 #[test]
-fn a_nest_of_a_thousand_is_within_the_limits(rt: HostRuntime) -> Result<(), Fail> {
-    let answer = check_nested(rt.alloc(), 1_000)?;
+fn a_nest_as_deep_as_the_stack_is_taken_to_hold_is_checked(rt: HostRuntime) -> Result<(), Fail> {
+    let answer = check_nested(rt.alloc(), 1_999)?;
     assert!(rt; answer.is_ok());
+    Ok(())
+}
+
+#[test]
+fn a_deeper_nest_wants_memory(rt: HostRuntime) -> Result<(), Fail> {
+    let answer = check_nested(rt.alloc(), 2_000)?;
+    assert!(rt; matches!(answer, Err(CheckErr::NoMemory)));
     Ok(())
 }

@@ -37,12 +37,13 @@ bound_upto (y ∷ ys) (suc i) e lt is =
     let s : suc i + 1 ≡ suc (i + 1) = omega arith in
     ap (λ (j : ℕ). take j (y ∷ ys)) s ∙ ap (λ (l : List Bound). y ∷ l) (bound_upto ys i e (omega (arith, lt)) is)
 
-and_true : (a b : Bool) → a ≡ true → (a && b) ≡ b
+pub and_true : (a b : Bool) → a ≡ true → (a && b) ≡ b
 and_true true b e = refl
 and_true false b e = absurd cc
 
-pub applied_flexible : (o : Primitive) (es : Expressions) → takes_width (shape o) ≡ true → (takes_width (shape o) && all_flexible es) ≡ all_flexible es
-applied_flexible o es e = and_true (takes_width (shape o)) (all_flexible es) e
+pub and_false : (a b : Bool) → a ≡ false → (a && b) ≡ false
+and_false true b e = absurd cc
+and_false false b e = refl
 
 -- ---- sites
 

@@ -4,6 +4,7 @@ use Rattle.std.specs.Prelude.{Result, Ok, Err, IfOk}
 use mathlib.Core.Former.{Count}
 use Rattle.safl_word.specs.declared.primitive.Primitive.{Primitive}
 use Rattle.safl_typing.specs.declared.expression.Bound.{Bound}
+use Rattle.safl_typing.specs.declared.expression.Marks.{Marks}
 use Rattle.safl_typing.specs.declared.expression.Expression as code
 use Rattle.safl_typing.specs.declared.expression.Expression.{Row_of-Expression, end_of-Expression, more_of-Expression, items-the_row-Expression, items_hidden-the_row-Expression-1, Row_of-Bound, end_of-Bound, more_of-Bound, items-the_row-Bound, items_hidden-the_row-Bound-0}
 use Rattle.safl_typing.specs.declared.expression.Expression.TheVariants as codes
@@ -22,24 +23,25 @@ bound_plain : (n : Count) (row : Row_of-Bound n) → plain_bound row ≡ plain_b
 bound_plain n end_of-Bound = refl
 bound_plain n (more_of-Bound p x w e row) = ap (a_binding p x w (plain e)) (bound_plain _ row)
 
-abbrev row_of : code.Expression → (n : Count) × Row_of-Expression n
-row_of (codes.Called' p f s row) = (_, row)
+abbrev pub row_of : code.Expression → (n : Count) × Row_of-Expression n
+row_of (codes.Called' p m f s row) = (_, row)
+row_of (codes.Applied' p m o s row) = (_, row)
 row_of _ = (_, end_of-Expression)
 
-listed : (p : ℕ) (f : List ℕ) (es : Vec code.Expression Global) → plain_row (row_of (codes.Called p f es)).1 ≡ plain_all es.items
-listed p f es = let row = row_of (codes.Called p f es) in row_plain row.0 row.1 ∙ ap plain_all (items_hidden-the_row-Expression-1 es)
+listed : (p : ℕ) (m : Marks) (f : List ℕ) (es : Vec code.Expression Global) → plain_row (row_of (codes.Called p m f es)).1 ≡ plain_all es.items
+listed p m f es = let row = row_of (codes.Called p m f es) in row_plain row.0 row.1 ∙ ap plain_all (items_hidden-the_row-Expression-1 es)
 
-abbrev bound_of : code.Expression → (n : Count) × Row_of-Bound n
-bound_of (codes.Binding' p s row q b) = (_, row)
+abbrev pub bound_of : code.Expression → (n : Count) × Row_of-Bound n
+bound_of (codes.Binding' p m s row q b) = (_, row)
 bound_of _ = (_, end_of-Bound)
 
-pub plain-Applied : (p : ℕ) (o : Primitive) (es : Vec code.Expression Global) → plain (codes.Applied p o es) ≡ Applied p o (plain_all es.items)
-plain-Applied p o es = ap (Applied p o) (listed p [] es)
+pub plain-Applied : (p : ℕ) (m : Marks) (o : Primitive) (es : Vec code.Expression Global) → plain (codes.Applied p m o es) ≡ Applied p o (plain_all es.items)
+plain-Applied p m o es = ap (Applied p o) (listed p m [] es)
 
-pub plain-Called : (p : ℕ) (f : List ℕ) (es : Vec code.Expression Global) → plain (codes.Called p f es) ≡ Called p f (plain_all es.items)
-plain-Called p f es = ap (Called p f) (listed p f es)
+pub plain-Called : (p : ℕ) (m : Marks) (f : List ℕ) (es : Vec code.Expression Global) → plain (codes.Called p m f es) ≡ Called p f (plain_all es.items)
+plain-Called p m f es = ap (Called p f) (listed p m f es)
 
-pub plain-Binding : (p : ℕ) (bs : Vec Bound Global) (b : Box code.Expression Global) → plain (codes.Binding p bs b) ≡ Binding p (plain_bindings bs.items) (plain b.value)
-plain-Binding p bs b =
-    let row = bound_of (codes.Binding p bs b) in
+pub plain-Binding : (p : ℕ) (m : Marks) (bs : Vec Bound Global) (b : Box code.Expression Global) → plain (codes.Binding p m bs b) ≡ Binding p (plain_bindings bs.items) (plain b.value)
+plain-Binding p m bs b =
+    let row = bound_of (codes.Binding p m bs b) in
     ap (λ (l : Bindings). Binding p l (plain b.value)) (bound_plain row.0 row.1 ∙ ap plain_bindings (items_hidden-the_row-Bound-0 bs))

@@ -11,10 +11,8 @@ use Rattle.safl_tree.specs.Tree.{Tree, trees_of, binds_of, arms_of, place_of}
 use Rattle.safl_tree.specs.Shown.{shows, shows_node, shows_all, shows_bounds, shows_labelled}
 use Rattle.safl_typing.specs.declared.expression.Bound.{Bound}
 use Rattle.safl_typing.specs.declared.expression.Expression as code
-use Rattle.safl_typing.specs.declared.expression.Expression.TheVariants as codes
 use Rattle.safl_typing.specs.Rewriting.{Expression, Choice, Binding, Applied, Called, Expressions, no_expression, an_expression, Bindings, no_binding, a_binding, rewritten, rewritten_all, rewritten_binds, rewritten_arms, scrutinee, test_at}
 use Rattle.safl_typing.specs.Plain.{plain, plain_all, plain_bindings}
-use Rattle.safl_typing.proofs.PlainLemmas.{plain-Applied, plain-Called}
 use Rattle.safl_typing.proofs.SourceLemmas.{shows-Op, shows-Call, shows-Let, shows-Case, shown_place}
 
 -- one more at the end
@@ -78,15 +76,15 @@ case_rewrites n p looked_at arms other v b xs e is x y h k =
     ∙ sym (ap (λ (z : Node). rewritten (shows_node z p)) is ∙ ap rewritten (shows-Case looked_at arms other p))
 
 pub op_rewrites : (n : Node) (p : ℕ) (o : Primitive) (es : Vec Expr Global) (all : Vec code.Expression Global) (xs : List Expr)
-    → n ≡ Op o es → xs ≡ es.items → plain_all all.items ≡ rewritten_all (trees_of (shows_all xs)) → plain (codes.Applied p o all) ≡ rewritten (shows_node n p)
+    → n ≡ Op o es → xs ≡ es.items → plain_all all.items ≡ rewritten_all (trees_of (shows_all xs)) → Applied p o (plain_all all.items) ≡ rewritten (shows_node n p)
 op_rewrites n p o es all xs is x h =
-    plain-Applied p o all ∙ ap (Applied p o) (h ∙ ap (λ (l : List Expr). rewritten_all (trees_of (shows_all l))) x)
+    ap (Applied p o) (h ∙ ap (λ (l : List Expr). rewritten_all (trees_of (shows_all l))) x)
     ∙ sym (ap (λ (z : Node). rewritten (shows_node z p)) is ∙ ap rewritten (shows-Op o es p))
 
 pub call_rewrites : (n : Node) (p : ℕ) (f g : List ℕ) (es : Vec Expr Global) (all : Vec code.Expression Global) (xs : List Expr)
-    → n ≡ Call f es → g ≡ f → xs ≡ es.items → plain_all all.items ≡ rewritten_all (trees_of (shows_all xs)) → plain (codes.Called p g all) ≡ rewritten (shows_node n p)
+    → n ≡ Call f es → g ≡ f → xs ≡ es.items → plain_all all.items ≡ rewritten_all (trees_of (shows_all xs)) → Called p g (plain_all all.items) ≡ rewritten (shows_node n p)
 call_rewrites n p f g es all xs is i x h =
-    plain-Called p g all ∙ ap (λ (z : List ℕ). Called p z (plain_all all.items)) i ∙ ap (Called p f) (h ∙ ap (λ (l : List Expr). rewritten_all (trees_of (shows_all l))) x)
+    ap (λ (z : List ℕ). Called p z (plain_all all.items)) i ∙ ap (Called p f) (h ∙ ap (λ (l : List Expr). rewritten_all (trees_of (shows_all l))) x)
     ∙ sym (ap (λ (z : Node). rewritten (shows_node z p)) is ∙ ap rewritten (shows-Call f es p))
 
 pub arm_rewrites : (p : ℕ) (a : Arm) (label value rest : code.Expression) (arms : List Arm) (t : Tree)

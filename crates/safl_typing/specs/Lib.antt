@@ -7,6 +7,7 @@ pub mod Walk
 pub mod Laws
 pub mod Ranges
 pub mod Plain
+pub mod Marks
 pub mod PlainHeads
 pub mod PlainTyped
 pub mod PlainNames

@@ -11,10 +11,10 @@ abbrev mutual
   plain (codes.Number p n) = Number p n
   plain (codes.Sized p w n) = Sized p w n
   plain (codes.Variable p x) = Variable p x
-  plain (codes.Choice' p q1 c q2 a q3 b) = Choice p (plain c) (plain a) (plain b)
-  plain (codes.Binding' p s row q b) = Binding p (plain_bound row) (plain b)
-  plain (codes.Applied' p o s row) = Applied p o (plain_row row)
-  plain (codes.Called' p f s row) = Called p f (plain_row row)
+  plain (codes.Choice' p m q1 c q2 a q3 b) = Choice p (plain c) (plain a) (plain b)
+  plain (codes.Binding' p m s row q b) = Binding p (plain_bound row) (plain b)
+  plain (codes.Applied' p m o s row) = Applied p o (plain_row row)
+  plain (codes.Called' p m f s row) = Called p f (plain_row row)
 
   pub plain_row : {m : _} → Row_of-Expression m → Expressions
   plain_row end_of-Expression = no_expression

@@ -11,8 +11,8 @@ use Rattle.safl_typing.specs.declared.typed.Wanted.TheVariants as wants
 use Rattle.safl_typing.specs.declared.typed.Typed as code_typed
 use Rattle.safl_typing.specs.declared.parts.TypedAll as code_all
 use Rattle.safl_typing.specs.declared.parts.TypedAlike as code_alike
-use Rattle.safl_typing.specs.declared.measure.Shape as code_shape
-use Rattle.safl_typing.specs.declared.measure.Shape.TheVariants as shapes
+use Rattle.safl_typing.specs.declared.shape.Shape as code_shape
+use Rattle.safl_typing.specs.declared.shape.Shape.TheVariants as shapes
 use Rattle.safl_typing.specs.Rewriting.{Expressions, Shape, Alike, Comparing, Shifting, Resizing}
 use Rattle.safl_typing.specs.Typing.{At}
 use Rattle.safl_typing.specs.Walk.{Wanted, Any, Exactly, Typed, TypedAll, TypedAlike, all_any, amounts}

@@ -3,6 +3,15 @@
 use safl_tree::Name;
 use safl_word::{Primitive, Raw};
 
+/// What is noted of an expression when it is made, so that nothing looks at its parts again to find it.
+#[derive(Clone, Copy)]
+pub struct Marks {
+    /// Whether it takes any width.
+    pub flexible: bool,
+    /// How many call sites it has, up to 4,001.
+    pub sites: u32,
+}
+
 /// An expression in which each `case` is rewritten as a let and ifs. Each has its place first.
 #[derive(Drop)]
 #[cycle(expression)]
@@ -10,10 +19,10 @@ pub enum Expression {
     Number(u32, Raw),
     Sized(u32, u8, Raw),
     Variable(u32, Name),
-    Choice(u32, Box<Expression>, Box<Expression>, Box<Expression>),
-    Binding(u32, Vec<Bound>, Box<Expression>),
-    Applied(u32, Primitive, Vec<Expression>),
-    Called(u32, Name, Vec<Expression>),
+    Choice(u32, Marks, Box<Expression>, Box<Expression>, Box<Expression>),
+    Binding(u32, Marks, Vec<Bound>, Box<Expression>),
+    Applied(u32, Marks, Primitive, Vec<Expression>),
+    Called(u32, Marks, Name, Vec<Expression>),
 }
 
 /// A binding's place, its name, its width in bits where one is written, and its value.

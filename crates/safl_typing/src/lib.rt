@@ -4,10 +4,12 @@
 pub mod expression;
 pub mod heads;
 pub mod laws;
-pub mod measure;
+mod make;
+pub mod marks;
 mod parts;
 mod repeats;
 pub mod rewrite;
+pub mod shape;
 pub mod sites;
 pub mod typed;
 pub mod walk;

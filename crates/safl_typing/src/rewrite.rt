@@ -1,66 +1,107 @@
-//! Rewriting each `case` as a let and ifs.
+//! Rewriting each `case` as a let and ifs, and marking what is made.
 
-ghost use Rattle.std.specs.Prelude.{◌≡◌, [], ◌∷◌, IfOk};
-ghost use Rattle.safl_word.specs.declared.primitive.Primitive.TheVariants as prims;
+ghost use Rattle.std.specs.Prelude.{◌≡◌, ◌+◌, [], ◌∷◌, IfOk};
 ghost use Rattle.safl_tree.specs.Tree.{Tree, trees_of, binds_of, arms_of};
 ghost use Rattle.safl_tree.specs.Shown.{shows, shows_all, shows_bounds, shows_labelled};
-ghost use Rattle.safl_typing.specs.Rewriting.{Choice, Binding, Applied, an_expression, no_expression, a_binding, no_binding, rewritten, rewritten_all, rewritten_binds, rewritten_arms, scrutinee, test_at};
+ghost use Rattle.safl_typing.specs.Rewriting.{rewritten, rewritten_all, rewritten_binds, rewritten_arms};
 ghost use Rattle.safl_typing.specs.Plain.{plain, plain_all, plain_bindings};
+ghost use Rattle.safl_typing.specs.PlainHeads.{known};
+ghost use Rattle.safl_typing.specs.Marks.{IsMarked, AreMarked, BoundMarked};
 
 use crate::expression::{Bound, Expression};
+use crate::heads::{Heads, find_callee};
+use crate::make::{bind, call, choice, operate, scrutinise, test};
+use crate::sites::sites_of_callee;
 use safl_tree::{Arm, Bind, Expr, Name, Node};
-use safl_word::{NoMemory, Primitive};
+use safl_word::NoMemory;
 use std::alloc::Global;
 
-// The name of what a `case` looks at; no name of a source has a `$`.
-const SCRUTINEE: &[u8] = b"$case";
+// How deep expressions may be. Sources stay below 1,100 levels.
+const LEVELS_MAX: u32 = 2_000;
 
-/// The expression in which each `case` is rewritten.
+/// The expression in which each `case` is rewritten, of a body of this group. NoMemory is answered too where it would
+/// have more than 2,000 levels, as the stack is taken to have no room for what follows.
+pub fn rewrite(alloc: Global, heads: &Heads, unit: u32, e: &Expr) -> Result<Expression, NoMemory>
+    ensures rewritten { IfOk result (λ x. plain x ≡ rewritten (shows e.now)) }
+    ensures marked { IfOk result (IsMarked (known heads.now unit)) }
+{
+    rewrite_within(alloc, heads, unit, LEVELS_MAX, e)
+}
+
+// So many levels further down.
+fn descend(levels: u32, count: usize) -> Result<u32, NoMemory>
+    ensures { IfOk result (λ below. below + count ≡ levels) }
+{
+    if count <= levels as usize {
+        Ok(levels - count as u32)
+    } else {
+        Err(NoMemory)
+    }
+}
+
+// The same, with so many levels at most.
 #[cycle(rewriting)]
-pub fn rewrite(alloc: Global, e: &Expr) -> Result<Expression, NoMemory>
-    ensures { IfOk result (λ x. plain x ≡ rewritten (shows e.now)) }
+fn rewrite_within(
+    alloc: Global,
+    heads: &Heads,
+    unit: u32,
+    levels: u32,
+    e: &Expr,
+) -> Result<Expression, NoMemory>
+    ensures rewritten { IfOk result (λ x. plain x ≡ rewritten (shows e.now)) }
+    ensures marked { IfOk result (IsMarked (known heads.now unit)) }
 {
     let place = e.place;
+    let below = descend(levels, 1)?;
     match &e.node {
         Node::Num(n) => Ok(Expression::Number(place, *n)),
         Node::Sized(width, n) => Ok(Expression::Sized(place, *width, *n)),
         Node::Var(name) => Ok(Expression::Variable(place, copied(alloc, name)?)),
         Node::If(condition, first, second) => {
-            let condition = rewrite(alloc, condition)?;
-            let first = rewrite(alloc, first)?;
-            let second = rewrite(alloc, second)?;
+            let condition = rewrite_within(alloc, heads, unit, below, condition)?;
+            let first = rewrite_within(alloc, heads, unit, below, first)?;
+            let second = rewrite_within(alloc, heads, unit, below, second)?;
             choice(alloc, place, condition, first, second)
         }
         Node::Let(binds, body) => {
-            let bound = rewrite_binds(alloc, binds)?;
-            let body = rewrite(alloc, body)?;
+            let bound = rewrite_binds(alloc, heads, unit, below, binds)?;
+            let body = rewrite_within(alloc, heads, unit, below, body)?;
             bind(alloc, place, bound, body)
         }
         Node::Case(looked_at, arms, other) => {
-            let value = rewrite(alloc, looked_at)?;
-            let other = rewrite(alloc, other)?;
-            let body = rewrite_arms(alloc, place, arms, other)?;
+            let value = rewrite_within(alloc, heads, unit, below, looked_at)?;
+            let last = descend(below, arms.len())?;
+            let other = rewrite_within(alloc, heads, unit, last, other)?;
+            let body = rewrite_arms(alloc, heads, unit, below, place, arms, other)?;
             scrutinise(alloc, place, value, body)
         }
         Node::Op(operator, operands) => {
-            let operands = rewrite_all(alloc, operands)?;
-            Ok(Expression::Applied(place, *operator, operands))
+            let operands = rewrite_all(alloc, heads, unit, below, operands)?;
+            Ok(operate(place, *operator, operands))
         }
         Node::Call(name, arguments) => {
-            let arguments = rewrite_all(alloc, arguments)?;
-            Ok(Expression::Called(place, copied(alloc, name)?, arguments))
+            let arguments = rewrite_all(alloc, heads, unit, below, arguments)?;
+            let own = sites_of_callee(find_callee(heads, unit, name));
+            Ok(call(place, own, copied(alloc, name)?, arguments))
         }
     }
 }
 
 // Operands or arguments.
 #[cycle(rewriting)]
-fn rewrite_all(alloc: Global, es: &[Expr]) -> Result<Vec<Expression>, NoMemory>
-    ensures { IfOk result (λ xs. plain_all xs.items ≡ rewritten_all (trees_of (shows_all es.now))) }
+fn rewrite_all(
+    alloc: Global,
+    heads: &Heads,
+    unit: u32,
+    levels: u32,
+    es: &[Expr],
+) -> Result<Vec<Expression>, NoMemory>
+    ensures rewritten { IfOk result (λ xs. plain_all xs.items ≡ rewritten_all (trees_of (shows_all es.now))) }
+    ensures marked { IfOk result (λ xs. AreMarked (known heads.now unit) xs.items) }
 {
     let mut all = Vec::new(alloc);
     for e in es {
-        let next = rewrite(alloc, e)?;
+        let next = rewrite_within(alloc, heads, unit, levels, e)?;
         all.push(next)?;
     }
     Ok(all)
@@ -68,13 +109,20 @@ fn rewrite_all(alloc: Global, es: &[Expr]) -> Result<Vec<Expression>, NoMemory>
 
 // Bindings, with their values rewritten.
 #[cycle(rewriting)]
-fn rewrite_binds(alloc: Global, binds: &[Bind]) -> Result<Vec<Bound>, NoMemory>
-    ensures { IfOk result (λ bs. plain_bindings bs.items ≡ rewritten_binds (binds_of (shows_bounds binds.now))) }
+fn rewrite_binds(
+    alloc: Global,
+    heads: &Heads,
+    unit: u32,
+    levels: u32,
+    binds: &[Bind],
+) -> Result<Vec<Bound>, NoMemory>
+    ensures rewritten { IfOk result (λ bs. plain_bindings bs.items ≡ rewritten_binds (binds_of (shows_bounds binds.now))) }
+    ensures marked { IfOk result (λ bs. BoundMarked (known heads.now unit) bs.items) }
 {
     let mut all = Vec::new(alloc);
     for b in binds {
         let name = copied(alloc, &b.name)?;
-        let value = rewrite(alloc, &b.value)?;
+        let value = rewrite_within(alloc, heads, unit, levels, &b.value)?;
         all.push(Bound {
             place: b.place,
             name,
@@ -89,19 +137,24 @@ fn rewrite_binds(alloc: Global, binds: &[Bind]) -> Result<Vec<Bound>, NoMemory>
 #[cycle(rewriting)]
 fn rewrite_arms(
     alloc: Global,
+    heads: &Heads,
+    unit: u32,
+    levels: u32,
     place: u32,
     arms: &[Arm],
     other: Expression,
 ) -> Result<Expression, NoMemory>
-    ensures { IfOk result (λ x. (t : Tree) → plain other ≡ rewritten t → plain x ≡ rewritten_arms place (arms_of (shows_labelled arms.now) t)) }
+    ensures rewritten { IfOk result (λ x. (t : Tree) → plain other ≡ rewritten t → plain x ≡ rewritten_arms place (arms_of (shows_labelled arms.now) t)) }
+    ensures marked { IfOk result (λ x. IsMarked (known heads.now unit) other → IsMarked (known heads.now unit) x) }
 {
     let mut body = other;
     let count = arms.len();
     for done in 0..count {
         let arm = &arms[count - 1 - done];
-        let label = rewrite(alloc, &arm.label)?;
+        let below = descend(levels, count - done)?;
+        let label = rewrite_within(alloc, heads, unit, below, &arm.label)?;
         let condition = test(alloc, arm.label.place, label)?;
-        let value = rewrite(alloc, &arm.value)?;
+        let value = rewrite_within(alloc, heads, unit, below, &arm.value)?;
         body = choice(alloc, place, condition, value, body)?;
     }
     Ok(body)
@@ -111,61 +164,4 @@ fn copied(alloc: Global, name: &Name) -> Result<Name, NoMemory>
     ensures { IfOk result (λ copy. copy ≡ name.now) }
 {
     Name::new(alloc, name.bytes())
-}
-
-fn choice(
-    alloc: Global,
-    place: u32,
-    condition: Expression,
-    first: Expression,
-    second: Expression,
-) -> Result<Expression, NoMemory>
-    ensures { IfOk result (λ x. plain x ≡ Choice place (plain condition) (plain first) (plain second)) }
-{
-    let condition = Box::new(alloc, condition)?;
-    let first = Box::new(alloc, first)?;
-    let second = Box::new(alloc, second)?;
-    Ok(Expression::Choice(place, condition, first, second))
-}
-
-fn bind(
-    alloc: Global,
-    place: u32,
-    bound: Vec<Bound>,
-    body: Expression,
-) -> Result<Expression, NoMemory>
-    ensures { IfOk result (λ x. plain x ≡ Binding place (plain_bindings bound.items) (plain body)) }
-{
-    let body = Box::new(alloc, body)?;
-    Ok(Expression::Binding(place, bound, body))
-}
-
-// A let of the scrutinee.
-fn scrutinise(
-    alloc: Global,
-    place: u32,
-    value: Expression,
-    body: Expression,
-) -> Result<Expression, NoMemory>
-    ensures { IfOk result (λ x. plain x ≡ Binding place (a_binding place scrutinee None (plain value) no_binding) (plain body)) }
-{
-    let name = Name::new(alloc, SCRUTINEE)?;
-    let scrutinee = Bound {
-        place,
-        name,
-        width: None,
-        value,
-    };
-    let bound = vec![in alloc; scrutinee]?;
-    bind(alloc, place, bound, body)
-}
-
-// Whether the scrutinee is the label.
-fn test(alloc: Global, place: u32, label: Expression) -> Result<Expression, NoMemory>
-    ensures { IfOk result (λ x. plain x ≡ test_at place (plain label)) }
-{
-    let name = Name::new(alloc, SCRUTINEE)?;
-    let variable = Expression::Variable(place, name);
-    let operands = vec![in alloc; variable, label]?;
-    Ok(Expression::Applied(place, Primitive::Eq, operands))
 }

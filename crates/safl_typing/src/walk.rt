@@ -12,17 +12,18 @@ ghost use Rattle.safl_typing.specs.Walk.{fault_with, unless, needs, is_any, bran
 ghost use Rattle.safl_typing.specs.Plain.{plain, plain_all, plain_bindings};
 ghost use Rattle.safl_typing.specs.PlainHeads.{plain_slots, plain_head, known};
 ghost use Rattle.safl_typing.specs.PlainTyped.{plain_wanted, HasWideWanted, HasWideWritten, Says, SaysAll, SaysAlike, operands_wanted};
+ghost use Rattle.safl_typing.specs.Marks.{IsMarked, AreMarked, BoundMarked};
 ghost use Rattle.safl_typing.specs.MayWalk.{MayWalk, MayCheck, MayCheckAll, MayBind};
 
 use crate::expression::{Bound, Expression};
 use crate::heads::{Callee, Head, Heads, Slot, find_callee};
-use crate::measure::{Shape, are_both_flexible, is_flexible, shape_of};
+use crate::marks::{add_bound_sites, add_sites, are_both_flexible, is_flexible};
 use crate::parts::{
     TypedAlike, TypedAll, make_if, make_let, make_operation, none_alike, none_typed, put_first,
     put_operand, settled_call, settled_loop, settled_operation, slots_below,
 };
 use crate::repeats::find_repeated;
-use crate::sites::{add_bound_sites, add_sites};
+use crate::shape::{Shape, shape_of};
 use crate::typed::{
     CheckErr, Typed, Wanted, as_operand, as_written, comes_later, has_width, refused, typed_number,
     typed_sized, typed_variable,
@@ -45,6 +46,7 @@ pub fn check_expression(
     e: &Expression,
 ) -> Result<Typed, CheckErr>
     requires able { MayCheck heads.now unit slots.now lo (plain e.now) }
+    requires marked { IsMarked (known heads.now unit) e.now }
     requires wanted { HasWideWanted wanted }
     ensures { Says result (check (known heads.now unit) (plain_slots slots.now) tail lo (plain_wanted wanted) (plain e.now)) }
 {
@@ -52,16 +54,16 @@ pub fn check_expression(
         Expression::Number(place, value) => typed_number(*place, *value, wanted),
         Expression::Sized(place, width, value) => typed_sized(*place, *width, *value, wanted),
         Expression::Variable(place, name) => typed_variable(*place, slots, name, wanted),
-        Expression::Choice(place, condition, first, second) => check_choice(
+        Expression::Choice(place, _, condition, first, second) => check_choice(
             alloc, heads, unit, slots, tail, lo, wanted, *place, condition, first, second,
         ),
-        Expression::Binding(place, bound, body) => check_binding(
+        Expression::Binding(place, _, bound, body) => check_binding(
             alloc, heads, unit, slots, tail, lo, wanted, *place, bound, body,
         ),
-        Expression::Applied(place, operator, operands) => check_applied(
+        Expression::Applied(place, _, operator, operands) => check_applied(
             alloc, heads, unit, slots, lo, wanted, *place, *operator, operands,
         ),
-        Expression::Called(place, name, arguments) => check_called(
+        Expression::Called(place, _, name, arguments) => check_called(
             alloc, heads, unit, slots, tail, lo, wanted, *place, name, arguments,
         ),
     }
@@ -83,6 +85,7 @@ fn check_choice(
     second: &Expression,
 ) -> Result<Typed, CheckErr>
     requires able { MayCheck heads.now unit slots.now lo (Choice place (plain condition.now) (plain first.now) (plain second.now)) }
+    requires marked { IsMarked (known heads.now unit) condition.now × IsMarked (known heads.now unit) first.now × IsMarked (known heads.now unit) second.now }
     requires wanted { HasWideWanted wanted }
     ensures { Says result (check (known heads.now unit) (plain_slots slots.now) tail lo (plain_wanted wanted) (Choice place (plain condition.now) (plain first.now) (plain second.now))) }
 {
@@ -91,7 +94,7 @@ fn check_choice(
     if !known {
         return Err(refused(Rule::E14, place));
     }
-    let next = add_sites(heads, unit, lo, condition);
+    let next = add_sites(lo, condition);
     let bit = Wanted::Exactly(1);
     let x = check_expression(alloc, heads, unit, slots, false, lo, bit, condition)?;
     check_branches(
@@ -114,10 +117,11 @@ fn check_branches(
     second: &Expression,
 ) -> Result<Typed, CheckErr>
     requires able { MayWalk heads.now slots.now lo (IsInRange (plain first.now) × IsInRange (plain second.now)) (sites (known heads.now unit) (plain first.now) + sites (known heads.now unit) (plain second.now)) (nodes (plain first.now) + nodes (plain second.now)) }
+    requires marked { IsMarked (known heads.now unit) first.now × IsMarked (known heads.now unit) second.now }
     requires wanted { HasWideWanted wanted }
     ensures { Says result (branches (is_any (plain_wanted wanted) && flexible (plain first.now)) (plain_wanted wanted) (λ v. check (known heads.now unit) (plain_slots slots.now) tail lo v (plain first.now)) (λ v. check (known heads.now unit) (plain_slots slots.now) tail (lo + sites (known heads.now unit) (plain first.now)) v (plain second.now)) (tree test)) }
 {
-    let next = add_sites(heads, unit, lo, first);
+    let next = add_sites(lo, first);
     let flexible = is_flexible(first);
     let later = comes_later(wanted, flexible);
     if later {
@@ -147,6 +151,7 @@ fn check_binding(
     body: &Expression,
 ) -> Result<Typed, CheckErr>
     requires able { MayCheck heads.now unit slots.now lo (Binding place (plain_bindings bound.now) (plain body.now)) }
+    requires marked { BoundMarked (known heads.now unit) bound.now × IsMarked (known heads.now unit) body.now }
     requires wanted { HasWideWanted wanted }
     ensures { Says result (check (known heads.now unit) (plain_slots slots.now) tail lo (plain_wanted wanted) (Binding place (plain_bindings bound.now) (plain body.now))) }
 {
@@ -158,7 +163,7 @@ fn check_binding(
     if let Some(twice) = find_repeated(bound) {
         return Err(refused(Rule::E07, twice));
     }
-    let next = add_bound_sites(heads, unit, lo, bound);
+    let next = add_bound_sites(lo, bound);
     let all = check_bound(alloc, heads, unit, slots, lo, bound)?;
     let below = slots_below(alloc, slots, bound, &all.widths)?;
     let y = check_expression(alloc, heads, unit, &below, tail, next, wanted, body)?;
@@ -175,13 +180,14 @@ fn check_bound(
     lo: u32,
     bound: &[Bound],
 ) -> Result<TypedAll, CheckErr>
-    requires { MayBind heads.now unit slots.now lo (plain_bindings bound.now) }
+    requires able { MayBind heads.now unit slots.now lo (plain_bindings bound.now) }
+    requires marked { BoundMarked (known heads.now unit) bound.now }
     ensures { SaysAll result (check_bound (known heads.now unit) (plain_slots slots.now) lo (plain_bindings bound.now)) }
 {
     let Some((first, rest)) = bound.split_first() else {
         return Ok(none_typed(alloc));
     };
-    let next = add_sites(heads, unit, lo, &first.value);
+    let next = add_sites(lo, &first.value);
     let wanted = as_written(first.width);
     let x = check_expression(alloc, heads, unit, slots, false, lo, wanted, &first.value)?;
     let others = check_bound(alloc, heads, unit, slots, next, rest)?;
@@ -202,6 +208,7 @@ fn check_applied(
     operands: &[Expression],
 ) -> Result<Typed, CheckErr>
     requires able { MayCheck heads.now unit slots.now lo (Applied place operator (plain_all operands.now)) }
+    requires marked { AreMarked (known heads.now unit) operands.now }
     requires wanted { HasWideWanted wanted }
     ensures { (tail : Bool) → Says result (check (known heads.now unit) (plain_slots slots.now) tail lo (plain_wanted wanted) (Applied place operator (plain_all operands.now))) }
 {
@@ -242,13 +249,14 @@ fn check_alike(
     es: &[Expression],
 ) -> Result<TypedAlike, CheckErr>
     requires able { MayCheckAll heads.now unit slots.now lo (plain_all es.now) }
+    requires marked { AreMarked (known heads.now unit) es.now }
     requires wanted { HasWideWanted wanted }
     ensures { SaysAlike result (check_alike (known heads.now unit) (plain_slots slots.now) lo place (plain_wanted wanted) (plain_all es.now)) }
 {
     let Some((first, rest)) = es.split_first() else {
         return none_alike(alloc, place, wanted);
     };
-    let next = add_sites(heads, unit, lo, first);
+    let next = add_sites(lo, first);
     let flexible = is_flexible(first);
     let later = comes_later(wanted, flexible);
     if later {
@@ -274,13 +282,14 @@ fn check_shift(
     place: u32,
     es: &[Expression],
 ) -> Result<TypedAlike, CheckErr>
-    requires { MayCheckAll heads.now unit slots.now lo (plain_all es.now) }
+    requires able { MayCheckAll heads.now unit slots.now lo (plain_all es.now) }
+    requires marked { AreMarked (known heads.now unit) es.now }
     ensures { SaysAlike result (check_shift (known heads.now unit) (plain_slots slots.now) lo place (plain_all es.now)) }
 {
     let Some((first, rest)) = es.split_first() else {
         return Err(refused(Rule::E14, place));
     };
-    let next = add_sites(heads, unit, lo, first);
+    let next = add_sites(lo, first);
     let any = Wanted::Any;
     let x = check_expression(alloc, heads, unit, slots, false, lo, any, first)?;
     let shifted = Some(x.width);
@@ -300,13 +309,14 @@ fn check_operands(
     es: &[Expression],
 ) -> Result<TypedAll, CheckErr>
     requires able { MayCheckAll heads.now unit slots.now lo (plain_all es.now) }
+    requires marked { AreMarked (known heads.now unit) es.now }
     requires shifted { HasWideWritten shifted }
     ensures { SaysAll result (check_all (known heads.now unit) (plain_slots slots.now) lo (operands_wanted shifted (plain_all es.now)) (plain_all es.now)) }
 {
     let Some((first, rest)) = es.split_first() else {
         return Ok(none_typed(alloc));
     };
-    let next = add_sites(heads, unit, lo, first);
+    let next = add_sites(lo, first);
     let flexible = is_flexible(first);
     let wanted = as_operand(shifted, flexible);
     let x = check_expression(alloc, heads, unit, slots, false, lo, wanted, first)?;
@@ -329,6 +339,7 @@ fn check_called(
     arguments: &[Expression],
 ) -> Result<Typed, CheckErr>
     requires able { MayCheck heads.now unit slots.now lo (Called place name.now (plain_all arguments.now)) }
+    requires marked { AreMarked (known heads.now unit) arguments.now }
     requires wanted { HasWideWanted wanted }
     ensures { Says result (check (known heads.now unit) (plain_slots slots.now) tail lo (plain_wanted wanted) (Called place name.now (plain_all arguments.now))) }
 {
@@ -364,6 +375,7 @@ fn check_counted(
     es: &[Expression],
 ) -> Result<TypedAll, CheckErr>
     requires able { MayCheckAll heads.now unit slots.now lo (plain_all es.now) }
+    requires marked { AreMarked (known heads.now unit) es.now }
     requires wide { WideSlots (plain_head head.now).params }
     requires counted { length head.now.params.items < 2 ^ 32 }
     ensures { SaysAll result (unless (needs (length (plain_head head.now).params == count (plain_all es.now)) (fault_with rules.E11 place (length (plain_head head.now).params) (count (plain_all es.now)))) (check_all (known heads.now unit) (plain_slots slots.now) lo (exactly (widths_of (plain_head head.now).params)) (plain_all es.now))) }
@@ -387,6 +399,7 @@ fn check_arguments(
     es: &[Expression],
 ) -> Result<TypedAll, CheckErr>
     requires able { MayCheckAll heads.now unit slots.now lo (plain_all es.now) }
+    requires marked { AreMarked (known heads.now unit) es.now }
     requires params { WideSlots (plain_slots params.now) }
     ensures { SaysAll result (check_all (known heads.now unit) (plain_slots slots.now) lo (exactly (widths_of (plain_slots params.now))) (plain_all es.now)) }
 {
@@ -396,7 +409,7 @@ fn check_arguments(
     let Some((param, others)) = params.split_first() else {
         return Ok(none_typed(alloc));
     };
-    let next = add_sites(heads, unit, lo, first);
+    let next = add_sites(lo, first);
     let wanted = Wanted::Exactly(param.width);
     let x = check_expression(alloc, heads, unit, slots, false, lo, wanted, first)?;
     let r = check_arguments(alloc, heads, unit, slots, next, others, rest)?;

@@ -3,4 +3,4 @@ use Rattle.safl_checker.proofs.Walked.{IsWalked}
 use Rattle.safl_checker.proofs.functions.check_functions.Given as goal
 
 abbrev pub invariant-loop-number : goal.invariant-loop-number
-invariant-loop-number l = IsWalked (shows_defs l.defs) l.prepared l.functions.items l.number l.first_site
+invariant-loop-number l = IsWalked (shows_defs l.defs) l.all_heads l.functions.items l.number l.first_site

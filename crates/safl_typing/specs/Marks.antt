@@ -1,0 +1,43 @@
+-- What an expression is marked with, and that its marks are right.
+use Rattle.std.specs.Prelude.{◌≡◌, List, [], ◌∷◌, min}
+use Rattle.safl_typing.specs.declared.expression.Bound.{Bound}
+use Rattle.safl_typing.specs.declared.expression.Marks.{Marks}
+use Rattle.safl_typing.specs.declared.expression.Expression as code
+use Rattle.safl_typing.specs.declared.expression.Expression.{Row_of-Expression, end_of-Expression, more_of-Expression, Row_of-Bound, end_of-Bound, more_of-Bound}
+use Rattle.safl_typing.specs.declared.expression.Expression.TheVariants as codes
+use Rattle.safl_typing.specs.Rewriting.{Expression, Choice, Binding, Applied, Called, flexible}
+use Rattle.safl_typing.specs.Heads.{Known, sites}
+use Rattle.safl_typing.specs.Plain.{plain, plain_row, plain_bound}
+
+-- the marks say whether an expression takes any width, and how many sites it has, up to 4,001
+pub record IsMarkOf (k : Known) (e : Expression) (m : Marks) : Type 0 where
+  pub width : m.flexible ≡ flexible e
+  pub counted : m.sites ≡ min 4001 (sites k e)
+
+-- the marks of an expression and of all its parts are right
+abbrev mutual
+  pub IsMarked : Known → code.Expression → Type 0
+  IsMarked k (codes.Number p n) = Unit {0}
+  IsMarked k (codes.Sized p w n) = Unit {0}
+  IsMarked k (codes.Variable p x) = Unit {0}
+  IsMarked k (codes.Choice' p m q1 c q2 a q3 b) = IsMarkOf k (Choice p (plain c) (plain a) (plain b)) m × IsMarked k c × IsMarked k a × IsMarked k b
+  IsMarked k (codes.Binding' p m s row q b) = IsMarkOf k (Binding p (plain_bound row) (plain b)) m × RowBound k row × IsMarked k b
+  IsMarked k (codes.Applied' p m o s row) = IsMarkOf k (Applied p o (plain_row row)) m × RowMarked k row
+  IsMarked k (codes.Called' p m f s row) = IsMarkOf k (Called p f (plain_row row)) m × RowMarked k row
+
+  pub RowMarked : Known → {n : _} → Row_of-Expression n → Type 0
+  RowMarked k end_of-Expression = Unit {0}
+  RowMarked k (more_of-Expression e row) = IsMarked k e × RowMarked k row
+
+  pub RowBound : Known → {n : _} → Row_of-Bound n → Type 0
+  RowBound k end_of-Bound = Unit {0}
+  RowBound k (more_of-Bound p x w e row) = IsMarked k e × RowBound k row
+
+-- the same of lists
+abbrev pub AreMarked : Known → List code.Expression → Type 0
+AreMarked k [] = Unit {0}
+AreMarked k (e ∷ es) = IsMarked k e × AreMarked k es
+
+abbrev pub BoundMarked : Known → List Bound → Type 0
+BoundMarked k [] = Unit {0}
+BoundMarked k (b ∷ bs) = IsMarked k b.value × BoundMarked k bs

@@ -1,0 +1,131 @@
+//! What an expression is marked with: whether it takes any width, and how many call sites it has.
+
+ghost use Rattle.std.specs.Prelude.{◌≡◌, ℕ, ◌+◌, ◌≤◌, ◌&&◌, List, min};
+ghost use Rattle.safl_typing.specs.Rewriting.{Choice, Binding, Applied, Called, flexible, all_flexible, shape, takes_width};
+ghost use Rattle.safl_typing.specs.Heads.{Known, callee, is_site, sites, sites_in, sites_bound};
+ghost use Rattle.safl_typing.specs.Plain.{plain, plain_all, plain_bindings};
+ghost use Rattle.safl_typing.specs.Marks.{IsMarkOf, IsMarked, AreMarked, BoundMarked};
+
+use crate::expression::{Bound, Expression, Marks};
+use crate::shape::has_operands_width;
+use crate::sites::SITES_COUNTED;
+use safl_word::Primitive;
+
+/// The marks of an expression.
+pub fn marks_of(e: &Expression) -> Marks
+    ensures { (k : Known) → IsMarked k e.now → IsMarkOf k (plain e.now) result }
+{
+    match e {
+        Expression::Number(_, _) => unmarked(true),
+        Expression::Sized(_, _, _) => unmarked(false),
+        Expression::Variable(_, _) => unmarked(false),
+        Expression::Choice(_, marks, _, _, _) => *marks,
+        Expression::Binding(_, marks, _, _) => *marks,
+        Expression::Applied(_, marks, _, _) => *marks,
+        Expression::Called(_, marks, _, _) => *marks,
+    }
+}
+
+// The marks of an expression without parts.
+fn unmarked(flexible: bool) -> Marks
+    ensures flexible { result.flexible ≡ flexible }
+    ensures sites { result.sites ≡ 0 }
+{
+    Marks { flexible, sites: 0 }
+}
+
+/// Whether an expression takes any width: a number, or what is made of flexible parts alone.
+pub fn is_flexible(e: &Expression) -> bool
+    ensures { (k : Known) → IsMarked k e.now → result ≡ flexible (plain e.now) }
+{
+    marks_of(e).flexible
+}
+
+/// Whether two branches are both flexible.
+pub fn are_both_flexible(first: &Expression, second: &Expression) -> bool
+    ensures { (k : Known) → IsMarked k first.now → IsMarked k second.now → result ≡ (flexible (plain first.now) && flexible (plain second.now)) }
+{
+    is_flexible(first) && is_flexible(second)
+}
+
+/// Adds the sites of an expression to those that were counted, up to 4,001.
+pub fn add_sites(counted: u32, e: &Expression) -> u32
+    ensures { (k : Known) → IsMarked k e.now → result ≡ min 4001 (counted + sites k (plain e.now)) }
+{
+    counted.saturating_add(marks_of(e).sites).min(SITES_COUNTED)
+}
+
+/// Adds the sites of the values of bindings.
+pub fn add_bound_sites(counted: u32, bound: &[Bound]) -> u32
+    requires { counted ≤ 4001 }
+    ensures { (k : Known) → BoundMarked k bound.now → result ≡ min 4001 (counted + sites_bound k (plain_bindings bound.now)) }
+{
+    let mut total = counted;
+    for b in bound {
+        total = add_sites(total, &b.value);
+    }
+    total
+}
+
+// Adds the sites of operands or arguments.
+fn add_all_sites(counted: u32, es: &[Expression]) -> u32
+    requires { counted ≤ 4001 }
+    ensures { (k : Known) → AreMarked k es.now → result ≡ min 4001 (counted + sites_in k (plain_all es.now)) }
+{
+    let mut total = counted;
+    for e in es {
+        total = add_sites(total, e);
+    }
+    total
+}
+
+fn are_flexible(es: &[Expression]) -> bool
+    ensures { (k : Known) → AreMarked k es.now → result ≡ all_flexible (plain_all es.now) }
+{
+    for e in es {
+        if !is_flexible(e) {
+            return false;
+        }
+    }
+    true
+}
+
+/// The marks of an if.
+pub fn marks_of_choice(condition: &Expression, first: &Expression, second: &Expression) -> Marks
+    ensures { (k : Known) (p : ℕ) → IsMarked k condition.now → IsMarked k first.now → IsMarked k second.now → IsMarkOf k (Choice p (plain condition.now) (plain first.now) (plain second.now)) result }
+{
+    let flexible = are_both_flexible(first, second);
+    let tested = add_sites(0, condition);
+    let sites = add_sites(add_sites(tested, first), second);
+    Marks { flexible, sites }
+}
+
+/// The marks of a let.
+pub fn marks_of_binding(bound: &[Bound], body: &Expression) -> Marks
+    ensures { (k : Known) (p : ℕ) → BoundMarked k bound.now → IsMarked k body.now → IsMarkOf k (Binding p (plain_bindings bound.now) (plain body.now)) result }
+{
+    let flexible = is_flexible(body);
+    let sites = add_sites(add_bound_sites(0, bound), body);
+    Marks { flexible, sites }
+}
+
+/// The marks of an operator with its operands.
+pub fn marks_of_operation(operator: Primitive, operands: &[Expression]) -> Marks
+    ensures { (k : Known) (p : ℕ) → AreMarked k operands.now → IsMarkOf k (Applied p operator (plain_all operands.now)) result }
+{
+    let flexible = has_operands_width(operator) && are_flexible(operands);
+    let sites = add_all_sites(0, operands);
+    Marks { flexible, sites }
+}
+
+/// The marks of a call, which is so many sites itself.
+pub fn marks_of_call(own: u32, arguments: &[Expression]) -> Marks
+    requires { own ≤ 1 }
+    ensures { (k : Known) (p : ℕ) (f : List ℕ) → own ≡ is_site (callee k f) → AreMarked k arguments.now → IsMarkOf k (Called p f (plain_all arguments.now)) result }
+{
+    let sites = add_all_sites(own, arguments);
+    Marks {
+        flexible: false,
+        sites,
+    }
+}
