@@ -10,7 +10,7 @@ use Rattle.safl_typing.specs.declared.expression.Expression as code_expression
 use Rattle.safl_typing.specs.declared.heads.Slot as code_slot
 use Rattle.safl_typing.specs.declared.heads.Head as code_head
 use Rattle.safl_typing.specs.Rewriting.{Expression, rewritten, nodes}
-use Rattle.safl_typing.specs.Heads.{Slot, Head, Known, unit_of, params_of, head_of, heads_from, heads, sites}
+use Rattle.safl_typing.specs.Heads.{Slot, Head, Known, unit_of, slot_of, params_of, head_of, heads_from, heads, sites}
 use Rattle.safl_typing.specs.Forms.{max_functions, max_params, max_bindings, max_sites, max_nodes}
 use Rattle.safl_typing.specs.Ranges.{WideSlots, WideHeads, IsInRange}
 use Rattle.safl_typing.specs.Walk.{fault_with, needs, excess, limit, long_let, limits_from, limits}
@@ -144,7 +144,7 @@ module _ (all : List Head) (n u lo : ℕ) (d : Definition) (ds : List Definition
   same_sites b body whole k =
       ap (λ (z : Known). sites z (plain b)) (same_known all (unit_of n u d) whole h k is_paired.unit) ∙ ap (λ (e : Expression). sites (record { heads = all; unit = unit_of n u d }) e) body
 
-  pub may_check : (b : code_expression.Expression) → plain b ≡ rewritten d.body → (whole : List code_head.Head) → AreKnown all whole → MayCheck whole h.unit h.params.items lo (plain b)
+  pub may_check : (b : code_expression.Expression) → plain b ≡ rewritten d.body → (whole : List code_head.Head) → AreKnown all whole → MayCheck whole h.unit (plain_slots h.params.items) lo (plain b)
   may_check b body whole known_all =
       let k = keeps_limits all n u left.sites_before left.nodes_before d ds left.limits in
       let same = same_sites b body whole known_all in
@@ -155,5 +155,5 @@ module _ (all : List Head) (n u lo : ℕ) (d : Definition) (ds : List Definition
         slots = subst WideSlots (sym is_paired.params) (params_wide d.params left.formed.0.1);
         range = subst IsInRange (sym body) (formed_range d.body left.formed.0.3);
         within = omega (arith, same, left.first, k.few_sites);
-        room = omega (arith, params_count h.params.items d is_paired.params, k.few_params, k.few_nodes, ap (λ (e : Expression). nodes e) body);
+        room = omega (arith, ap (λ (l : List Slot). length l) is_paired.params, length-map d.params slot_of, k.few_params, k.few_nodes, ap (λ (e : Expression). nodes e) body);
       }

@@ -124,7 +124,7 @@ module _ (ds : List Definition) (hs : List code_head.Head) (fs : List Function) 
   pub formed_here : IsFormedDefinition d
   formed_here = left_here.formed.0
 
-  pub may_check_here : (whole : List code_head.Head) → AreKnown (heads ds) whole → MayCheck whole h.unit h.params.items lo (plain b)
+  pub may_check_here : (whole : List code_head.Head) → AreKnown (heads ds) whole → MayCheck whole h.unit (plain_slots h.params.items) lo (plain b)
   may_check_here whole k = may_check (heads ds) i walked.group lo d (drop (i + 1) ds) h (drop (i + 1) hs) left_here b body whole k
 
   functions_here : functions_from (heads ds) [] 0 0 1 ds ≡ joined_with (map shown_function fs) (unless (group_fault_at ds i) (from_here (checked_function sees (params_of d) lo d (rewritten d.body))))

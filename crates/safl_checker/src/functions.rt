@@ -20,6 +20,7 @@ use safl_typing::expression::Expression;
 use safl_typing::heads::{Head, Heads};
 use safl_typing::marks::add_sites;
 use safl_typing::rewrite::rewrite;
+use safl_typing::scope::Scope;
 use safl_typing::typed::{CheckErr, Wanted};
 use safl_typing::walk::check_expression;
 use std::alloc::Global;
@@ -61,13 +62,13 @@ fn check_function(
     body: &Expression,
 ) -> Result<Function, CheckErr>
     requires formed { IsFormedDefinition (shows_def def.now) }
-    requires able { MayCheck heads.now head.now.unit head.now.params.items first_site (plain body.now) }
+    requires able { MayCheck heads.now head.now.unit (plain_slots head.now.params.items) first_site (plain body.now) }
     requires marked { IsMarked (known heads.now head.now.unit) body.now }
     ensures { SaysFunction result (checked_function (known heads.now head.now.unit) (plain_slots head.now.params.items) first_site (shows_def def.now) (plain body.now)) }
 {
     let unit = head.unit;
-    let params = &head.params;
+    let scope = Scope::Params(&head.params);
     let wanted = Wanted::Exactly(def.width);
-    let typed = check_expression(alloc, heads, unit, params, true, first_site, wanted, body)?;
+    let typed = check_expression(alloc, heads, unit, &scope, true, first_site, wanted, body)?;
     Ok(function_of(alloc, def, unit, first_site, typed.term)?)
 }

@@ -2,8 +2,7 @@
 use Rattle.std.proofs.Common.{◌≡◌, ℕ, zero, suc, ◌+◌, ◌<◌, arith, drop, get_or, drop-cons, List, [], ◌∷◌, ◌++◌, length, take, Bool, true, false, refl, sym, ap, ◌∙◌}
 use Rattle.std.specs.Prelude.{◌&&◌, min}
 use Rattle.safl_typing.specs.declared.expression.Expression as code
-use Rattle.safl_typing.specs.Rewriting.{Expressions, shape, takes_width, flexible, all_flexible}
-use Rattle.safl_word.specs.declared.primitive.Primitive.{Primitive}
+use Rattle.safl_typing.specs.Rewriting.{flexible, all_flexible}
 use Rattle.safl_typing.specs.Heads.{Known, sites, sites_in, sites_bound}
 use Rattle.safl_typing.specs.declared.expression.Bound.{Bound}
 use Rattle.safl_typing.specs.Plain.{plain, plain_all, plain_bindings}

@@ -7,7 +7,7 @@ use Rattle.safl_typing.specs.declared.expression.Marks.{Marks}
 use Rattle.safl_typing.specs.declared.expression.Expression as code
 use Rattle.safl_typing.specs.declared.expression.Expression.{Row_of-Expression, end_of-Expression, more_of-Expression, items-the_row-Expression, items_hidden-the_row-Expression-1, Row_of-Bound, end_of-Bound, more_of-Bound, items-the_row-Bound, items_hidden-the_row-Bound-0}
 use Rattle.safl_typing.specs.declared.expression.Expression.TheVariants as codes
-use Rattle.safl_typing.specs.Rewriting.{Expression, Choice, Binding, Applied, Called}
+use Rattle.safl_typing.specs.Rewriting.{Expression, Binding, Applied, Called}
 use Rattle.safl_typing.specs.Heads.{Known}
 use Rattle.safl_typing.specs.Plain.{plain, plain_all, plain_bindings}
 use Rattle.safl_typing.specs.Marks.{IsMarkOf, IsMarked, RowMarked, RowBound, AreMarked, BoundMarked}

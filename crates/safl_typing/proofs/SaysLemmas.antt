@@ -1,6 +1,6 @@
 -- Slots below a let, terms with their widths, and faults that stop the walk.
-use Rattle.std.proofs.Common.{◌≡◌, ℕ, ◌+◌, ◌<◌, take, get_or, length, List, [], ◌∷◌, ◌++◌, map, append_assoc, Bool, true, false, Option, Some, None, refl, sym, ap, ◌∙◌, subst}
-use Rattle.std.specs.Prelude.{Result, Ok, Err}
+use Rattle.std.proofs.Common.{◌≡◌, ℕ, ◌+◌, ◌<◌, take, get_or, length, List, [], ◌∷◌, ◌++◌, append_assoc, refl, sym, ap, ◌∙◌}
+use Rattle.std.specs.Prelude.{Result, Ok}
 use Rattle.safl_word.specs.declared.fault.Fault.{Fault}
 use Rattle.safl_check.specs.Terms.{Term}
 use Rattle.safl_typing.specs.declared.expression.Bound.{Bound}

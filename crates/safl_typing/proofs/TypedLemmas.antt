@@ -20,11 +20,11 @@ use Rattle.safl_typing.specs.PlainTyped.{HasWidthOfWord, HasWideWanted, plain_wa
 pub not_fits : (w n : ℕ) → HasWidthOfWord w → (IsWord (word w n) → ⊥) → nat_lt n (2 ^ w) ≡ false
 not_fits w n h f = false_from_ne_true _ (λ e. f (record { some = h.0; bounded = h.1; fits = ltb-true n (2 ^ w) e }))
 
-later_again : (a b c : Option At) → later (later a b) c ≡ later a (later b c)
+pub later_again : (a b c : Option At) → later (later a b) c ≡ later a (later b c)
 later_again None b c = refl
 later_again (Some x) b c = refl
 
-later_none : (a : Option At) → later a None ≡ a
+pub later_none : (a : Option At) → later a None ≡ a
 later_none None = refl
 later_none (Some x) = refl
 

@@ -1,5 +1,5 @@
 -- What is asked of the parts of an expression, and the walk over each form, step by step.
-use Rattle.std.proofs.Common.{◌≡◌, ℕ, zero, suc, ◌+◌, ◌*◌, ◌<◌, ◌≤◌, ◌^◌, arith, get_or, List, [], ◌∷◌, ◌++◌, length, map, Option, Some, None, Bool, true, false, refl, sym, ap, ◌∙◌, subst}
+use Rattle.std.proofs.Common.{◌≡◌, ℕ, zero, suc, ◌+◌, ◌*◌, ◌<◌, ◌≤◌, ◌^◌, arith, get_or, List, [], ◌∷◌, ◌++◌, length, Option, Some, None, Bool, true, false, refl, sym, ap, ◌∙◌, subst}
 use Rattle.std.specs.Prelude.{min, ◌&&◌, ◌==◌, Result, Ok, Err, slice_get}
 use Rattle.std.proofs.lemmas.Option.{slice_get_read}
 use Rattle.safl_word.specs.declared.fault.Rule.TheVariants as rules
@@ -20,10 +20,10 @@ use Rattle.safl_typing.specs.declared.typed.Wanted.TheVariants as wants
 use Rattle.safl_typing.specs.Rewriting.{Expression, Number, Sized, Variable, Choice, Binding, Applied, Called, Expressions, no_expression, an_expression, Bindings, no_binding, a_binding, Shape, Alike, Comparing, Shifting, Resizing, shape, flexible, count, nodes, nodes_in, nodes_bound}
 use Rattle.safl_typing.specs.Heads.{Slot, Head, Known, Callee, Member, Above, Unknown, callee, sites, sites_in, sites_bound}
 use Rattle.safl_typing.specs.Typing.{slots, widths_of}
-use Rattle.safl_typing.specs.Ranges.{IsWide, AreWide, WideSlots, WideHeads, IsInRange, AreInRange, BoundInRange}
+use Rattle.safl_typing.specs.Ranges.{IsWide, WideSlots, WideHeads}
 use Rattle.safl_typing.specs.Walk.{fault, fault_with, after, unless, needs, Typed, TypedAll, TypedAlike, Wanted, Any, Exactly, is_any, is_known, wanted_by, settle, branches, alike, resized, operated, arguments, called, placed, repeated, all_any, amounts, exactly, check, check_all, check_alike, check_shift, check_bound}
 use Rattle.safl_typing.specs.Plain.{plain, plain_all, plain_bindings}
-use Rattle.safl_typing.specs.PlainHeads.{plain_slot, plain_slots, plain_head, plain_heads, known, with_number, a_member, an_earlier, plain_callee, IsOneOf}
+use Rattle.safl_typing.specs.PlainHeads.{plain_slots, plain_head, plain_heads, known, with_number, a_member, an_earlier, plain_callee, IsOneOf}
 use Rattle.safl_typing.specs.PlainTyped.{plain_wanted, HasWidthOfWord, HasWideWanted, HasWideWritten, Refuses, operand_wanted, operands_wanted}
 use Rattle.safl_typing.specs.MayWalk.{CountParams, MayWalk, MayCheck, MayCheckAll, MayBind}
 use Rattle.safl_typing.proofs.Wide.{WideCallee, callee_wide, wide_slots, wide_append}
@@ -41,24 +41,24 @@ some_node (Called p f es) = omega arith
 pub next_site : (lo n r : ℕ) → r ≡ min 4001 (lo + n) → lo + n ≤ 4001 → r ≡ lo + n
 next_site lo n r e h = omega (arith, e, h)
 
-pub may_part : {R S : Type 0} (hs : List code_head.Head) (ss : List code_slot.Slot) (lo n d lo2 n2 d2 : ℕ) → MayWalk hs ss lo R n d → S → lo2 + n2 ≤ 4001 → d2 ≤ d → MayWalk hs ss lo2 S n2 d2
+pub may_part : {R S : Type 0} (hs : List code_head.Head) (ss : List Slot) (lo n d lo2 n2 d2 : ℕ) → MayWalk hs ss lo R n d → S → lo2 + n2 ≤ 4001 → d2 ≤ d → MayWalk hs ss lo2 S n2 d2
 may_part hs ss lo n d lo2 n2 d2 h s w l = record { heads = h.heads; counted = h.counted; params = h.params; slots = h.slots; range = s; within = w; room = omega (arith, h.room, l) }
 
 -- ---- lists
 
-pub first_of : (hs : List code_head.Head) (u : ℕ) (ss : List code_slot.Slot) (lo : ℕ) (es : List code.Expression) (y : code.Expression) (ys : List code.Expression)
+pub first_of : (hs : List code_head.Head) (u : ℕ) (ss : List Slot) (lo : ℕ) (es : List code.Expression) (y : code.Expression) (ys : List code.Expression)
     → es ≡ y ∷ ys → MayCheckAll hs u ss lo (plain_all es) → MayCheck hs u ss lo (plain y)
 first_of hs u ss lo es y ys e h =
     let g : MayCheckAll hs u ss lo (plain_all (y ∷ ys)) = subst (λ (l : List code.Expression). MayCheckAll hs u ss lo (plain_all l)) e h in
     may_part hs ss lo (sites_in (known hs u) (plain_all (y ∷ ys))) (nodes_in (plain_all (y ∷ ys))) lo (sites (known hs u) (plain y)) (nodes (plain y)) g g.range.0 (omega (arith, g.within)) (omega arith)
 
-pub rest_of : (hs : List code_head.Head) (u : ℕ) (ss : List code_slot.Slot) (lo : ℕ) (es : List code.Expression) (y : code.Expression) (ys : List code.Expression) (r : ℕ)
+pub rest_of : (hs : List code_head.Head) (u : ℕ) (ss : List Slot) (lo : ℕ) (es : List code.Expression) (y : code.Expression) (ys : List code.Expression) (r : ℕ)
     → es ≡ y ∷ ys → r ≡ min 4001 (lo + sites (known hs u) (plain y)) → MayCheckAll hs u ss lo (plain_all es) → MayCheckAll hs u ss r (plain_all ys)
 rest_of hs u ss lo es y ys r e q h =
     let g : MayCheckAll hs u ss lo (plain_all (y ∷ ys)) = subst (λ (l : List code.Expression). MayCheckAll hs u ss lo (plain_all l)) e h in
     may_part hs ss lo (sites_in (known hs u) (plain_all (y ∷ ys))) (nodes_in (plain_all (y ∷ ys))) r (sites_in (known hs u) (plain_all ys)) (nodes_in (plain_all ys)) g g.range.1 (omega (arith, g.within, q)) (omega arith)
 
-pub next_of : (hs : List code_head.Head) (u : ℕ) (ss : List code_slot.Slot) (lo : ℕ) (es : List code.Expression) (y : code.Expression) (ys : List code.Expression) (r : ℕ)
+pub next_of : (hs : List code_head.Head) (u : ℕ) (ss : List Slot) (lo : ℕ) (es : List code.Expression) (y : code.Expression) (ys : List code.Expression) (r : ℕ)
     → es ≡ y ∷ ys → r ≡ min 4001 (lo + sites (known hs u) (plain y)) → MayCheckAll hs u ss lo (plain_all es) → r ≡ lo + sites (known hs u) (plain y)
 next_of hs u ss lo es y ys r e q h = next_site lo (sites (known hs u) (plain y)) r q (first_of hs u ss lo es y ys e h).within
 
@@ -69,13 +69,13 @@ pub less_rest : (es : List code.Expression) (y : code.Expression) (ys : List cod
 less_rest es y ys e = omega (arith, some_node (plain y), ap (λ (l : List code.Expression). nodes_in (plain_all l)) e)
 
 -- the same of bindings
-pub bound_first : (hs : List code_head.Head) (u : ℕ) (ss : List code_slot.Slot) (lo : ℕ) (es : List Bound) (y : Bound) (ys : List Bound)
+pub bound_first : (hs : List code_head.Head) (u : ℕ) (ss : List Slot) (lo : ℕ) (es : List Bound) (y : Bound) (ys : List Bound)
     → es ≡ y ∷ ys → MayBind hs u ss lo (plain_bindings es) → MayCheck hs u ss lo (plain y.value)
 bound_first hs u ss lo es y ys e h =
     let g : MayBind hs u ss lo (plain_bindings (y ∷ ys)) = subst (λ (l : List Bound). MayBind hs u ss lo (plain_bindings l)) e h in
     may_part hs ss lo (sites_bound (known hs u) (plain_bindings (y ∷ ys))) (nodes_bound (plain_bindings (y ∷ ys))) lo (sites (known hs u) (plain y.value)) (nodes (plain y.value)) g g.range.1 (omega (arith, g.within)) (omega arith)
 
-pub bound_rest : (hs : List code_head.Head) (u : ℕ) (ss : List code_slot.Slot) (lo : ℕ) (es : List Bound) (y : Bound) (ys : List Bound) (r : ℕ)
+pub bound_rest : (hs : List code_head.Head) (u : ℕ) (ss : List Slot) (lo : ℕ) (es : List Bound) (y : Bound) (ys : List Bound) (r : ℕ)
     → es ≡ y ∷ ys → r ≡ min 4001 (lo + sites (known hs u) (plain y.value)) → MayBind hs u ss lo (plain_bindings es) → MayBind hs u ss r (plain_bindings ys)
 bound_rest hs u ss lo es y ys r e q h =
     let g : MayBind hs u ss lo (plain_bindings (y ∷ ys)) = subst (λ (l : List Bound). MayBind hs u ss lo (plain_bindings l)) e h in
@@ -86,13 +86,13 @@ written_wide o wants.Any e f = tt
 written_wide None (wants.Exactly w) e f = absurd cc
 written_wide (Some v) (wants.Exactly w) e f = let q : v ≡ w = cc in let g = f v refl in subst HasWidthOfWord q (g.some, g.bounded)
 
-pub bound_wanted : (hs : List code_head.Head) (u : ℕ) (ss : List code_slot.Slot) (lo : ℕ) (es : List Bound) (y : Bound) (ys : List Bound) (m : code_wanted.Wanted)
+pub bound_wanted : (hs : List code_head.Head) (u : ℕ) (ss : List Slot) (lo : ℕ) (es : List Bound) (y : Bound) (ys : List Bound) (m : code_wanted.Wanted)
     → es ≡ y ∷ ys → MayBind hs u ss lo (plain_bindings es) → plain_wanted m ≡ wanted_by y.width → HasWideWanted m
 bound_wanted hs u ss lo es y ys m e h q =
     let g : MayBind hs u ss lo (plain_bindings (y ∷ ys)) = subst (λ (l : List Bound). MayBind hs u ss lo (plain_bindings l)) e h in
     written_wide y.width m q g.range.0
 
-pub bound_next : (hs : List code_head.Head) (u : ℕ) (ss : List code_slot.Slot) (lo : ℕ) (es : List Bound) (y : Bound) (ys : List Bound) (r : ℕ)
+pub bound_next : (hs : List code_head.Head) (u : ℕ) (ss : List Slot) (lo : ℕ) (es : List Bound) (y : Bound) (ys : List Bound) (r : ℕ)
     → es ≡ y ∷ ys → r ≡ min 4001 (lo + sites (known hs u) (plain y.value)) → MayBind hs u ss lo (plain_bindings es) → r ≡ lo + sites (known hs u) (plain y.value)
 bound_next hs u ss lo es y ys r e q h = next_site lo (sites (known hs u) (plain y.value)) r q (bound_first hs u ss lo es y ys e h).within
 
@@ -108,16 +108,16 @@ pub wide_wanted : (m : code_wanted.Wanted) → HasWideWanted m → WideWanted (p
 wide_wanted wants.Any h = tt
 wide_wanted (wants.Exactly w) h = record { some = h.0; bounded = h.1 }
 
-pub found_wide : (hs : List code_head.Head) (u : ℕ) (ss : List code_slot.Slot) (tail : Bool) (lo : ℕ) (m : code_wanted.Wanted) (e : Expression) (x : Typed)
-    → MayCheck hs u ss lo e → HasWideWanted m → check (known hs u) (plain_slots ss) tail lo (plain_wanted m) e ≡ Ok x → HasWidthOfWord x.width
+pub found_wide : (hs : List code_head.Head) (u : ℕ) (ss : List Slot) (tail : Bool) (lo : ℕ) (m : code_wanted.Wanted) (e : Expression) (x : Typed)
+    → MayCheck hs u ss lo e → HasWideWanted m → check (known hs u) ss tail lo (plain_wanted m) e ≡ Ok x → HasWidthOfWord x.width
 found_wide hs u ss tail lo m e x h w q =
-    let g = (checks_has (known hs u) (plain_slots ss) tail lo (lo + sites (known hs u) e) (plain_wanted m) e x refl h.heads h.slots h.range (wide_wanted m w) q).wide in
+    let g = (checks_has (known hs u) ss tail lo (lo + sites (known hs u) e) (plain_wanted m) e x refl h.heads h.slots h.range (wide_wanted m w) q).wide in
     (g.some, g.bounded)
 
-pub alike_wide : (hs : List code_head.Head) (u : ℕ) (ss : List code_slot.Slot) (lo p : ℕ) (m : code_wanted.Wanted) (es : Expressions) (r : TypedAlike)
-    → MayCheckAll hs u ss lo es → HasWideWanted m → check_alike (known hs u) (plain_slots ss) lo p (plain_wanted m) es ≡ Ok r → HasWidthOfWord r.width
+pub alike_wide : (hs : List code_head.Head) (u : ℕ) (ss : List Slot) (lo p : ℕ) (m : code_wanted.Wanted) (es : Expressions) (r : TypedAlike)
+    → MayCheckAll hs u ss lo es → HasWideWanted m → check_alike (known hs u) ss lo p (plain_wanted m) es ≡ Ok r → HasWidthOfWord r.width
 alike_wide hs u ss lo p m es r h w q =
-    let g = (checks_have_alike (known hs u) (plain_slots ss) lo (lo + sites_in (known hs u) es) p (plain_wanted m) es r refl h.heads h.slots h.range (wide_wanted m w) q).wide in
+    let g = (checks_have_alike (known hs u) ss lo (lo + sites_in (known hs u) es) p (plain_wanted m) es r refl h.heads h.slots h.range (wide_wanted m w) q).wide in
     (g.some, g.bounded)
 
 pub operand_wide : (o : Option ℕ) (b : Bool) (m : code_wanted.Wanted) → HasWideWritten o → plain_wanted m ≡ operand_wanted o b → HasWideWanted m
@@ -264,13 +264,13 @@ append_length : (a b : List Slot) → length (a ++ b) ≡ length a + length b
 append_length [] b = omega arith
 append_length (x ∷ a) b = let i = append_length a b in omega (arith, i)
 
-pub may_below : (hs : List code_head.Head) (u : ℕ) (ss below : List code_slot.Slot) (lo p : ℕ) (bs : Bindings) (b : Expression) (r : TypedAll) (n : ℕ)
-    → MayCheck hs u ss lo (Binding p bs b) → n ≡ min 4001 (lo + sites_bound (known hs u) bs) → check_bound (known hs u) (plain_slots ss) lo bs ≡ Ok r
-    → plain_slots below ≡ plain_slots ss ++ slots bs r.widths → MayCheck hs u below n b
+pub may_below : (hs : List code_head.Head) (u : ℕ) (ss below : List Slot) (lo p : ℕ) (bs : Bindings) (b : Expression) (r : TypedAll) (n : ℕ)
+    → MayCheck hs u ss lo (Binding p bs b) → n ≡ min 4001 (lo + sites_bound (known hs u) bs) → check_bound (known hs u) ss lo bs ≡ Ok r
+    → below ≡ ss ++ slots bs r.widths → MayCheck hs u below n b
 may_below hs u ss below lo p bs b r n h q c e =
-    let w = (checks_have_bound (known hs u) (plain_slots ss) lo (lo + sites_bound (known hs u) bs) bs r refl h.heads h.slots h.range.0 c).wide in
-    let l : length below ≡ length ss + length (slots bs r.widths) = omega (arith, sym (slots_length below), ap (λ (z : List Slot). length z) e, append_length (plain_slots ss) (slots bs r.widths), slots_length ss) in
-    record { heads = h.heads; counted = h.counted; params = h.params; slots = subst WideSlots (sym e) (wide_append (plain_slots ss) (slots bs r.widths) h.slots (wide_slots bs r.widths w)); range = h.range.1; within = omega (arith, h.within, q); room = omega (arith, h.room, l, slots_few bs r.widths) }
+    let w = (checks_have_bound (known hs u) ss lo (lo + sites_bound (known hs u) bs) bs r refl h.heads h.slots h.range.0 c).wide in
+    let l : length below ≡ length ss + length (slots bs r.widths) = omega (arith, ap (λ (z : List Slot). length z) e, append_length ss (slots bs r.widths)) in
+    record { heads = h.heads; counted = h.counted; params = h.params; slots = subst WideSlots (sym e) (wide_append ss (slots bs r.widths) h.slots (wide_slots bs r.widths w)); range = h.range.1; within = omega (arith, h.within, q); room = omega (arith, h.room, l, slots_few bs r.widths) }
 
 -- ---- operators
 

@@ -1,11 +1,10 @@
 -- What is asked before a part of a body is checked: widths are in range, and sites, slots and operands can be counted.
 use Rattle.std.specs.Prelude.{ℕ, ◌+◌, ◌<◌, ◌≤◌, ◌^◌, List, [], ◌∷◌, length}
-use Rattle.safl_typing.specs.declared.heads.Slot as code_slot
 use Rattle.safl_typing.specs.declared.heads.Head as code_head
 use Rattle.safl_typing.specs.Rewriting.{Expression, Expressions, Bindings, nodes, nodes_in, nodes_bound}
-use Rattle.safl_typing.specs.Heads.{sites, sites_in, sites_bound}
+use Rattle.safl_typing.specs.Heads.{Slot, sites, sites_in, sites_bound}
 use Rattle.safl_typing.specs.Ranges.{WideSlots, WideHeads, IsInRange, AreInRange, BoundInRange}
-use Rattle.safl_typing.specs.PlainHeads.{plain_slots, plain_heads, known}
+use Rattle.safl_typing.specs.PlainHeads.{plain_heads, known}
 
 -- each function's parameters can be counted
 abbrev pub CountParams : List code_head.Head → Type 0
@@ -13,20 +12,20 @@ CountParams [] = Unit {0}
 CountParams (h ∷ hs) = (length h.params.items < 2 ^ 32) × CountParams hs
 
 -- with these heads and slots, of a part that has so many sites and nodes
-pub record MayWalk (hs : List code_head.Head) (ss : List code_slot.Slot) (lo : ℕ) (Range : Type 0) (sites nodes : ℕ) : Type 0 where
+pub record MayWalk (hs : List code_head.Head) (ss : List Slot) (lo : ℕ) (Range : Type 0) (sites nodes : ℕ) : Type 0 where
   pub heads : WideHeads (plain_heads hs)
   pub counted : length hs < 2 ^ 32
   pub params : CountParams hs
-  pub slots : WideSlots (plain_slots ss)
+  pub slots : WideSlots ss
   pub range : Range
   pub within : lo + sites ≤ 4001
   pub room : length ss + nodes < 2 ^ 32
 
-abbrev pub MayCheck : List code_head.Head → ℕ → List code_slot.Slot → ℕ → Expression → Type 0
+abbrev pub MayCheck : List code_head.Head → ℕ → List Slot → ℕ → Expression → Type 0
 MayCheck hs unit ss lo e = MayWalk hs ss lo (IsInRange e) (sites (known hs unit) e) (nodes e)
 
-abbrev pub MayCheckAll : List code_head.Head → ℕ → List code_slot.Slot → ℕ → Expressions → Type 0
+abbrev pub MayCheckAll : List code_head.Head → ℕ → List Slot → ℕ → Expressions → Type 0
 MayCheckAll hs unit ss lo es = MayWalk hs ss lo (AreInRange es) (sites_in (known hs unit) es) (nodes_in es)
 
-abbrev pub MayBind : List code_head.Head → ℕ → List code_slot.Slot → ℕ → Bindings → Type 0
+abbrev pub MayBind : List code_head.Head → ℕ → List Slot → ℕ → Bindings → Type 0
 MayBind hs unit ss lo bs = MayWalk hs ss lo (BoundInRange bs) (sites_bound (known hs unit) bs) (nodes_bound bs)

@@ -1,5 +1,5 @@
 -- Widths that a word may have: of slots, heads and what is written in an expression.
-use Rattle.std.specs.Prelude.{◌≡◌, ℕ, ◌≤◌, List, [], ◌∷◌, Option, Some}
+use Rattle.std.specs.Prelude.{◌≡◌, ℕ, ◌≤◌, List, [], ◌∷◌, Some}
 use Rattle.safl_word.specs.Words.{max_width}
 use Rattle.safl_typing.specs.Rewriting.{Expression, Number, Sized, Variable, Choice, Binding, Applied, Called, Expressions, no_expression, an_expression, Bindings, no_binding, a_binding}
 use Rattle.safl_typing.specs.Heads.{Slot, Head}

@@ -9,6 +9,7 @@ pub mod marks;
 mod parts;
 mod repeats;
 pub mod rewrite;
+pub mod scope;
 pub mod shape;
 pub mod sites;
 pub mod typed;

@@ -156,33 +156,13 @@ pub fn settled_loop(
     settled(place, wanted, width, Term::Loop(function, arguments))
 }
 
-/// The slots below a let: those around it, and then its bindings.
-pub fn slots_below(
-    alloc: Global,
-    around: &[Slot],
-    bound: &[Bound],
-    widths: &[u8],
-) -> Result<Vec<Slot>, NoMemory>
-    ensures { IfOk result (λ all. plain_slots all.items ≡ plain_slots around.now ++ slots (plain_bindings bound.now) widths.now) }
+/// The slots of a let's bindings.
+pub fn own_slots(alloc: Global, bound: &[Bound], widths: &[u8]) -> Result<Vec<Slot>, NoMemory>
+    ensures { IfOk result (λ own. plain_slots own.items ≡ slots (plain_bindings bound.now) widths.now) }
 {
-    let mut all = Vec::new(alloc);
-    copy_slots(alloc, &mut all, around)?;
-    add_slots(alloc, &mut all, bound, widths)?;
-    Ok(all)
-}
-
-// Adds slots to others.
-fn copy_slots(alloc: Global, all: &mut Vec<Slot>, around: &[Slot]) -> Result<(), NoMemory>
-    ensures { OnOk result (plain_slots all.new.items ≡ plain_slots all.old.items ++ plain_slots around.now) }
-{
-    for slot in around {
-        let name = Name::new(alloc, slot.name.bytes())?;
-        all.push(Slot {
-            name,
-            width: slot.width,
-        })?;
-    }
-    Ok(())
+    let mut own = Vec::new(alloc);
+    add_slots(alloc, &mut own, bound, widths)?;
+    Ok(own)
 }
 
 // Adds a slot for each binding. Lets have few bindings.

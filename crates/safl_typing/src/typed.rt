@@ -1,14 +1,14 @@
 //! What the walk gives: a width with a term, or a fault.
 
-ghost use Rattle.std.specs.Prelude.{◌≡◌, ◌<◌, ◌^◌, ◌&&◌, IfSome, length};
+ghost use Rattle.std.specs.Prelude.{◌≡◌, ◌<◌, ◌^◌, ◌&&◌, length};
 ghost use Rattle.safl_check.specs.Tree.{tree};
 ghost use Rattle.safl_typing.specs.Typing.{innermost};
 ghost use Rattle.safl_typing.specs.Walk.{fault, settle, number, sized, variable, is_known, is_any, wanted_by};
 ghost use Rattle.safl_typing.specs.declared.typed.CheckErr.TheVariants as errors;
-ghost use Rattle.safl_typing.specs.PlainHeads.{plain_slots};
-ghost use Rattle.safl_typing.specs.PlainTyped.{plain_wanted, HasWideWanted, HasWidthOfWord, Says, at_slot, operand_wanted};
+ghost use Rattle.safl_typing.specs.PlainScope.{plain_scope};
+ghost use Rattle.safl_typing.specs.PlainTyped.{plain_wanted, HasWideWanted, HasWidthOfWord, Says, operand_wanted};
 
-use crate::heads::Slot;
+use crate::scope::{Scope, find_variable};
 use safl_check::Term;
 use safl_tree::Name;
 use safl_word::{Fault, NoMemory, Raw, Rule, Word};
@@ -159,32 +159,18 @@ pub fn typed_sized(place: u32, width: u8, value: Raw, wanted: Wanted) -> Result<
     }
 }
 
-/// A variable: E08 where no slot has its name.
+/// A variable: E08 where none of its name is in scope.
 pub fn typed_variable(
     place: u32,
-    slots: &[Slot],
+    scope: &Scope,
     name: &Name,
     wanted: Wanted,
 ) -> Result<Typed, CheckErr>
-    requires { length slots.now < 2 ^ 32 }
-    ensures { Says result (variable place (plain_wanted wanted) (innermost name.now 0 (plain_slots slots.now))) }
+    requires { length (plain_scope scope.now) < 2 ^ 32 }
+    ensures { Says result (variable place (plain_wanted wanted) (innermost name.now 0 (plain_scope scope.now))) }
 {
-    match find_slot(slots, name) {
-        Some(slot) => settled(place, wanted, slots[slot].width, Term::Var(slot as u32)),
+    match find_variable(scope, name) {
+        Some(found) => settled(place, wanted, found.width, Term::Var(found.slot)),
         None => Err(refused(Rule::E08, place)),
     }
-}
-
-// The innermost slot of this name, the last one.
-fn find_slot(slots: &[Slot], name: &Name) -> Option<usize>
-    ensures within { IfSome result (λ i. i < length slots.now) }
-    ensures found { at_slot slots.now result ≡ innermost name.now 0 (plain_slots slots.now) }
-{
-    let mut found = None;
-    for slot in 0..slots.len() {
-        if slots[slot].name.bytes() == name.bytes() {
-            found = Some(slot);
-        }
-    }
-    found
 }

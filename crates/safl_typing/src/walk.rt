@@ -11,6 +11,7 @@ ghost use Rattle.safl_typing.specs.Ranges.{IsInRange, WideSlots};
 ghost use Rattle.safl_typing.specs.Walk.{fault_with, unless, needs, is_any, branches, exactly, check, check_all, check_alike, check_shift, check_bound};
 ghost use Rattle.safl_typing.specs.Plain.{plain, plain_all, plain_bindings};
 ghost use Rattle.safl_typing.specs.PlainHeads.{plain_slots, plain_head, known};
+ghost use Rattle.safl_typing.specs.PlainScope.{plain_scope};
 ghost use Rattle.safl_typing.specs.PlainTyped.{plain_wanted, HasWideWanted, HasWideWritten, Says, SaysAll, SaysAlike, operands_wanted};
 ghost use Rattle.safl_typing.specs.Marks.{IsMarked, AreMarked, BoundMarked};
 ghost use Rattle.safl_typing.specs.MayWalk.{MayWalk, MayCheck, MayCheckAll, MayBind};
@@ -19,10 +20,11 @@ use crate::expression::{Bound, Expression};
 use crate::heads::{Callee, Head, Heads, Slot, find_callee};
 use crate::marks::{add_bound_sites, add_sites, are_both_flexible, is_flexible};
 use crate::parts::{
-    TypedAlike, TypedAll, make_if, make_let, make_operation, none_alike, none_typed, put_first,
-    put_operand, settled_call, settled_loop, settled_operation, slots_below,
+    TypedAlike, TypedAll, make_if, make_let, make_operation, none_alike, none_typed, own_slots,
+    put_first, put_operand, settled_call, settled_loop, settled_operation,
 };
 use crate::repeats::find_repeated;
+use crate::scope::{Scope, count};
 use crate::shape::{Shape, shape_of};
 use crate::typed::{
     CheckErr, Typed, Wanted, as_operand, as_written, comes_later, has_width, refused, typed_number,
@@ -39,32 +41,32 @@ pub fn check_expression(
     alloc: Global,
     heads: &Heads,
     unit: u32,
-    slots: &[Slot],
+    scope: &Scope,
     tail: bool,
     lo: u32,
     wanted: Wanted,
     e: &Expression,
 ) -> Result<Typed, CheckErr>
-    requires able { MayCheck heads.now unit slots.now lo (plain e.now) }
+    requires able { MayCheck heads.now unit (plain_scope scope.now) lo (plain e.now) }
     requires marked { IsMarked (known heads.now unit) e.now }
     requires wanted { HasWideWanted wanted }
-    ensures { Says result (check (known heads.now unit) (plain_slots slots.now) tail lo (plain_wanted wanted) (plain e.now)) }
+    ensures { Says result (check (known heads.now unit) (plain_scope scope.now) tail lo (plain_wanted wanted) (plain e.now)) }
 {
     match e {
         Expression::Number(place, value) => typed_number(*place, *value, wanted),
         Expression::Sized(place, width, value) => typed_sized(*place, *width, *value, wanted),
-        Expression::Variable(place, name) => typed_variable(*place, slots, name, wanted),
+        Expression::Variable(place, name) => typed_variable(*place, scope, name, wanted),
         Expression::Choice(place, _, condition, first, second) => check_choice(
-            alloc, heads, unit, slots, tail, lo, wanted, *place, condition, first, second,
+            alloc, heads, unit, scope, tail, lo, wanted, *place, condition, first, second,
         ),
         Expression::Binding(place, _, bound, body) => check_binding(
-            alloc, heads, unit, slots, tail, lo, wanted, *place, bound, body,
+            alloc, heads, unit, scope, tail, lo, wanted, *place, bound, body,
         ),
         Expression::Applied(place, _, operator, operands) => check_applied(
-            alloc, heads, unit, slots, lo, wanted, *place, *operator, operands,
+            alloc, heads, unit, scope, lo, wanted, *place, *operator, operands,
         ),
         Expression::Called(place, _, name, arguments) => check_called(
-            alloc, heads, unit, slots, tail, lo, wanted, *place, name, arguments,
+            alloc, heads, unit, scope, tail, lo, wanted, *place, name, arguments,
         ),
     }
 }
@@ -75,7 +77,7 @@ fn check_choice(
     alloc: Global,
     heads: &Heads,
     unit: u32,
-    slots: &[Slot],
+    scope: &Scope,
     tail: bool,
     lo: u32,
     wanted: Wanted,
@@ -84,10 +86,10 @@ fn check_choice(
     first: &Expression,
     second: &Expression,
 ) -> Result<Typed, CheckErr>
-    requires able { MayCheck heads.now unit slots.now lo (Choice place (plain condition.now) (plain first.now) (plain second.now)) }
+    requires able { MayCheck heads.now unit (plain_scope scope.now) lo (Choice place (plain condition.now) (plain first.now) (plain second.now)) }
     requires marked { IsMarked (known heads.now unit) condition.now × IsMarked (known heads.now unit) first.now × IsMarked (known heads.now unit) second.now }
     requires wanted { HasWideWanted wanted }
-    ensures { Says result (check (known heads.now unit) (plain_slots slots.now) tail lo (plain_wanted wanted) (Choice place (plain condition.now) (plain first.now) (plain second.now))) }
+    ensures { Says result (check (known heads.now unit) (plain_scope scope.now) tail lo (plain_wanted wanted) (Choice place (plain condition.now) (plain first.now) (plain second.now))) }
 {
     let flexible = are_both_flexible(first, second);
     let known = has_width(wanted, flexible);
@@ -96,9 +98,9 @@ fn check_choice(
     }
     let next = add_sites(lo, condition);
     let bit = Wanted::Exactly(1);
-    let x = check_expression(alloc, heads, unit, slots, false, lo, bit, condition)?;
+    let x = check_expression(alloc, heads, unit, scope, false, lo, bit, condition)?;
     check_branches(
-        alloc, heads, unit, slots, tail, next, wanted, x.term, first, second,
+        alloc, heads, unit, scope, tail, next, wanted, x.term, first, second,
     )
 }
 
@@ -108,7 +110,7 @@ fn check_branches(
     alloc: Global,
     heads: &Heads,
     unit: u32,
-    slots: &[Slot],
+    scope: &Scope,
     tail: bool,
     lo: u32,
     wanted: Wanted,
@@ -116,23 +118,23 @@ fn check_branches(
     first: &Expression,
     second: &Expression,
 ) -> Result<Typed, CheckErr>
-    requires able { MayWalk heads.now slots.now lo (IsInRange (plain first.now) × IsInRange (plain second.now)) (sites (known heads.now unit) (plain first.now) + sites (known heads.now unit) (plain second.now)) (nodes (plain first.now) + nodes (plain second.now)) }
+    requires able { MayWalk heads.now (plain_scope scope.now) lo (IsInRange (plain first.now) × IsInRange (plain second.now)) (sites (known heads.now unit) (plain first.now) + sites (known heads.now unit) (plain second.now)) (nodes (plain first.now) + nodes (plain second.now)) }
     requires marked { IsMarked (known heads.now unit) first.now × IsMarked (known heads.now unit) second.now }
     requires wanted { HasWideWanted wanted }
-    ensures { Says result (branches (is_any (plain_wanted wanted) && flexible (plain first.now)) (plain_wanted wanted) (λ v. check (known heads.now unit) (plain_slots slots.now) tail lo v (plain first.now)) (λ v. check (known heads.now unit) (plain_slots slots.now) tail (lo + sites (known heads.now unit) (plain first.now)) v (plain second.now)) (tree test)) }
+    ensures { Says result (branches (is_any (plain_wanted wanted) && flexible (plain first.now)) (plain_wanted wanted) (λ v. check (known heads.now unit) (plain_scope scope.now) tail lo v (plain first.now)) (λ v. check (known heads.now unit) (plain_scope scope.now) tail (lo + sites (known heads.now unit) (plain first.now)) v (plain second.now)) (tree test)) }
 {
     let next = add_sites(lo, first);
     let flexible = is_flexible(first);
     let later = comes_later(wanted, flexible);
     if later {
-        let z = check_expression(alloc, heads, unit, slots, tail, next, wanted, second)?;
+        let z = check_expression(alloc, heads, unit, scope, tail, next, wanted, second)?;
         let found = Wanted::Exactly(z.width);
-        let y = check_expression(alloc, heads, unit, slots, tail, lo, found, first)?;
+        let y = check_expression(alloc, heads, unit, scope, tail, lo, found, first)?;
         return make_if(alloc, z.width, test, y.term, z.term);
     }
-    let y = check_expression(alloc, heads, unit, slots, tail, lo, wanted, first)?;
+    let y = check_expression(alloc, heads, unit, scope, tail, lo, wanted, first)?;
     let found = Wanted::Exactly(y.width);
-    let z = check_expression(alloc, heads, unit, slots, tail, next, found, second)?;
+    let z = check_expression(alloc, heads, unit, scope, tail, next, found, second)?;
     make_if(alloc, y.width, test, y.term, z.term)
 }
 
@@ -142,7 +144,7 @@ fn check_binding(
     alloc: Global,
     heads: &Heads,
     unit: u32,
-    slots: &[Slot],
+    scope: &Scope,
     tail: bool,
     lo: u32,
     wanted: Wanted,
@@ -150,10 +152,10 @@ fn check_binding(
     bound: &[Bound],
     body: &Expression,
 ) -> Result<Typed, CheckErr>
-    requires able { MayCheck heads.now unit slots.now lo (Binding place (plain_bindings bound.now) (plain body.now)) }
+    requires able { MayCheck heads.now unit (plain_scope scope.now) lo (Binding place (plain_bindings bound.now) (plain body.now)) }
     requires marked { BoundMarked (known heads.now unit) bound.now × IsMarked (known heads.now unit) body.now }
     requires wanted { HasWideWanted wanted }
-    ensures { Says result (check (known heads.now unit) (plain_slots slots.now) tail lo (plain_wanted wanted) (Binding place (plain_bindings bound.now) (plain body.now))) }
+    ensures { Says result (check (known heads.now unit) (plain_scope scope.now) tail lo (plain_wanted wanted) (Binding place (plain_bindings bound.now) (plain body.now))) }
 {
     let flexible = is_flexible(body);
     let known = has_width(wanted, flexible);
@@ -164,10 +166,11 @@ fn check_binding(
         return Err(refused(Rule::E07, twice));
     }
     let next = add_bound_sites(lo, bound);
-    let all = check_bound(alloc, heads, unit, slots, lo, bound)?;
-    let below = slots_below(alloc, slots, bound, &all.widths)?;
+    let all = check_bound(alloc, heads, unit, scope, lo, bound)?;
+    let own = own_slots(alloc, bound, &all.widths)?;
+    let below = Scope::Let(&*scope, &own);
     let y = check_expression(alloc, heads, unit, &below, tail, next, wanted, body)?;
-    make_let(alloc, y.width, slots.len() as u32, all.terms, y.term)
+    make_let(alloc, y.width, count(scope), all.terms, y.term)
 }
 
 // Bindings in order, each expected at its written width, or else found.
@@ -176,21 +179,21 @@ fn check_bound(
     alloc: Global,
     heads: &Heads,
     unit: u32,
-    slots: &[Slot],
+    scope: &Scope,
     lo: u32,
     bound: &[Bound],
 ) -> Result<TypedAll, CheckErr>
-    requires able { MayBind heads.now unit slots.now lo (plain_bindings bound.now) }
+    requires able { MayBind heads.now unit (plain_scope scope.now) lo (plain_bindings bound.now) }
     requires marked { BoundMarked (known heads.now unit) bound.now }
-    ensures { SaysAll result (check_bound (known heads.now unit) (plain_slots slots.now) lo (plain_bindings bound.now)) }
+    ensures { SaysAll result (check_bound (known heads.now unit) (plain_scope scope.now) lo (plain_bindings bound.now)) }
 {
     let Some((first, rest)) = bound.split_first() else {
         return Ok(none_typed(alloc));
     };
     let next = add_sites(lo, &first.value);
     let wanted = as_written(first.width);
-    let x = check_expression(alloc, heads, unit, slots, false, lo, wanted, &first.value)?;
-    let others = check_bound(alloc, heads, unit, slots, next, rest)?;
+    let x = check_expression(alloc, heads, unit, scope, false, lo, wanted, &first.value)?;
+    let others = check_bound(alloc, heads, unit, scope, next, rest)?;
     put_first(x, others)
 }
 
@@ -200,34 +203,34 @@ fn check_applied(
     alloc: Global,
     heads: &Heads,
     unit: u32,
-    slots: &[Slot],
+    scope: &Scope,
     lo: u32,
     wanted: Wanted,
     place: u32,
     operator: Primitive,
     operands: &[Expression],
 ) -> Result<Typed, CheckErr>
-    requires able { MayCheck heads.now unit slots.now lo (Applied place operator (plain_all operands.now)) }
+    requires able { MayCheck heads.now unit (plain_scope scope.now) lo (Applied place operator (plain_all operands.now)) }
     requires marked { AreMarked (known heads.now unit) operands.now }
     requires wanted { HasWideWanted wanted }
-    ensures { (tail : Bool) → Says result (check (known heads.now unit) (plain_slots slots.now) tail lo (plain_wanted wanted) (Applied place operator (plain_all operands.now))) }
+    ensures { (tail : Bool) → Says result (check (known heads.now unit) (plain_scope scope.now) tail lo (plain_wanted wanted) (Applied place operator (plain_all operands.now))) }
 {
     match shape_of(operator) {
         Shape::Alike => {
-            let r = check_alike(alloc, heads, unit, slots, lo, place, wanted, operands)?;
+            let r = check_alike(alloc, heads, unit, scope, lo, place, wanted, operands)?;
             Ok(make_operation(r.width, operator, r.terms))
         }
         Shape::Comparing => {
             let any = Wanted::Any;
-            let r = check_alike(alloc, heads, unit, slots, lo, place, any, operands)?;
+            let r = check_alike(alloc, heads, unit, scope, lo, place, any, operands)?;
             settled_operation(place, wanted, 1, operator, r.terms)
         }
         Shape::Shifting => {
-            let r = check_shift(alloc, heads, unit, slots, lo, place, operands)?;
+            let r = check_shift(alloc, heads, unit, scope, lo, place, operands)?;
             settled_operation(place, wanted, r.width, operator, r.terms)
         }
         Shape::Resizing => {
-            let r = check_operands(alloc, heads, unit, slots, lo, None, operands)?;
+            let r = check_operands(alloc, heads, unit, scope, lo, None, operands)?;
             match result_width(operator, &r.widths) {
                 Some(width) => settled_operation(place, wanted, width, operator, r.terms),
                 None => Err(refused(Rule::E05, place)),
@@ -242,16 +245,16 @@ fn check_alike(
     alloc: Global,
     heads: &Heads,
     unit: u32,
-    slots: &[Slot],
+    scope: &Scope,
     lo: u32,
     place: u32,
     wanted: Wanted,
     es: &[Expression],
 ) -> Result<TypedAlike, CheckErr>
-    requires able { MayCheckAll heads.now unit slots.now lo (plain_all es.now) }
+    requires able { MayCheckAll heads.now unit (plain_scope scope.now) lo (plain_all es.now) }
     requires marked { AreMarked (known heads.now unit) es.now }
     requires wanted { HasWideWanted wanted }
-    ensures { SaysAlike result (check_alike (known heads.now unit) (plain_slots slots.now) lo place (plain_wanted wanted) (plain_all es.now)) }
+    ensures { SaysAlike result (check_alike (known heads.now unit) (plain_scope scope.now) lo place (plain_wanted wanted) (plain_all es.now)) }
 {
     let Some((first, rest)) = es.split_first() else {
         return none_alike(alloc, place, wanted);
@@ -260,14 +263,14 @@ fn check_alike(
     let flexible = is_flexible(first);
     let later = comes_later(wanted, flexible);
     if later {
-        let r = check_alike(alloc, heads, unit, slots, next, place, wanted, rest)?;
+        let r = check_alike(alloc, heads, unit, scope, next, place, wanted, rest)?;
         let found = Wanted::Exactly(r.width);
-        let x = check_expression(alloc, heads, unit, slots, false, lo, found, first)?;
+        let x = check_expression(alloc, heads, unit, scope, false, lo, found, first)?;
         return put_operand(r.width, x.term, r.terms);
     }
-    let x = check_expression(alloc, heads, unit, slots, false, lo, wanted, first)?;
+    let x = check_expression(alloc, heads, unit, scope, false, lo, wanted, first)?;
     let found = Wanted::Exactly(x.width);
-    let r = check_alike(alloc, heads, unit, slots, next, place, found, rest)?;
+    let r = check_alike(alloc, heads, unit, scope, next, place, found, rest)?;
     put_operand(x.width, x.term, r.terms)
 }
 
@@ -277,23 +280,23 @@ fn check_shift(
     alloc: Global,
     heads: &Heads,
     unit: u32,
-    slots: &[Slot],
+    scope: &Scope,
     lo: u32,
     place: u32,
     es: &[Expression],
 ) -> Result<TypedAlike, CheckErr>
-    requires able { MayCheckAll heads.now unit slots.now lo (plain_all es.now) }
+    requires able { MayCheckAll heads.now unit (plain_scope scope.now) lo (plain_all es.now) }
     requires marked { AreMarked (known heads.now unit) es.now }
-    ensures { SaysAlike result (check_shift (known heads.now unit) (plain_slots slots.now) lo place (plain_all es.now)) }
+    ensures { SaysAlike result (check_shift (known heads.now unit) (plain_scope scope.now) lo place (plain_all es.now)) }
 {
     let Some((first, rest)) = es.split_first() else {
         return Err(refused(Rule::E14, place));
     };
     let next = add_sites(lo, first);
     let any = Wanted::Any;
-    let x = check_expression(alloc, heads, unit, slots, false, lo, any, first)?;
+    let x = check_expression(alloc, heads, unit, scope, false, lo, any, first)?;
     let shifted = Some(x.width);
-    let r = check_operands(alloc, heads, unit, slots, next, shifted, rest)?;
+    let r = check_operands(alloc, heads, unit, scope, next, shifted, rest)?;
     put_operand(x.width, x.term, r.terms)
 }
 
@@ -303,15 +306,15 @@ fn check_operands(
     alloc: Global,
     heads: &Heads,
     unit: u32,
-    slots: &[Slot],
+    scope: &Scope,
     lo: u32,
     shifted: Option<u8>,
     es: &[Expression],
 ) -> Result<TypedAll, CheckErr>
-    requires able { MayCheckAll heads.now unit slots.now lo (plain_all es.now) }
+    requires able { MayCheckAll heads.now unit (plain_scope scope.now) lo (plain_all es.now) }
     requires marked { AreMarked (known heads.now unit) es.now }
     requires shifted { HasWideWritten shifted }
-    ensures { SaysAll result (check_all (known heads.now unit) (plain_slots slots.now) lo (operands_wanted shifted (plain_all es.now)) (plain_all es.now)) }
+    ensures { SaysAll result (check_all (known heads.now unit) (plain_scope scope.now) lo (operands_wanted shifted (plain_all es.now)) (plain_all es.now)) }
 {
     let Some((first, rest)) = es.split_first() else {
         return Ok(none_typed(alloc));
@@ -319,8 +322,8 @@ fn check_operands(
     let next = add_sites(lo, first);
     let flexible = is_flexible(first);
     let wanted = as_operand(shifted, flexible);
-    let x = check_expression(alloc, heads, unit, slots, false, lo, wanted, first)?;
-    let others = check_operands(alloc, heads, unit, slots, next, shifted, rest)?;
+    let x = check_expression(alloc, heads, unit, scope, false, lo, wanted, first)?;
+    let others = check_operands(alloc, heads, unit, scope, next, shifted, rest)?;
     put_first(x, others)
 }
 
@@ -330,7 +333,7 @@ fn check_called(
     alloc: Global,
     heads: &Heads,
     unit: u32,
-    slots: &[Slot],
+    scope: &Scope,
     tail: bool,
     lo: u32,
     wanted: Wanted,
@@ -338,10 +341,10 @@ fn check_called(
     name: &Name,
     arguments: &[Expression],
 ) -> Result<Typed, CheckErr>
-    requires able { MayCheck heads.now unit slots.now lo (Called place name.now (plain_all arguments.now)) }
+    requires able { MayCheck heads.now unit (plain_scope scope.now) lo (Called place name.now (plain_all arguments.now)) }
     requires marked { AreMarked (known heads.now unit) arguments.now }
     requires wanted { HasWideWanted wanted }
-    ensures { Says result (check (known heads.now unit) (plain_slots slots.now) tail lo (plain_wanted wanted) (Called place name.now (plain_all arguments.now))) }
+    ensures { Says result (check (known heads.now unit) (plain_scope scope.now) tail lo (plain_wanted wanted) (Called place name.now (plain_all arguments.now))) }
 {
     match find_callee(heads, unit, name) {
         Callee::Member(n) => {
@@ -349,13 +352,13 @@ fn check_called(
                 return Err(refused(Rule::E10, place));
             }
             let head = heads.get(n);
-            let all = check_counted(alloc, heads, unit, slots, lo, place, head, arguments)?;
+            let all = check_counted(alloc, heads, unit, scope, lo, place, head, arguments)?;
             settled_loop(place, wanted, head.width, n as u32, all.terms)
         }
         Callee::Above(n) => {
             let head = heads.get(n);
             let first = lo + 1;
-            let all = check_counted(alloc, heads, unit, slots, first, place, head, arguments)?;
+            let all = check_counted(alloc, heads, unit, scope, first, place, head, arguments)?;
             settled_call(place, wanted, head.width, n as u32, lo, all.terms)
         }
         Callee::Unknown => Err(refused(Rule::E09, place)),
@@ -368,23 +371,23 @@ fn check_counted(
     alloc: Global,
     heads: &Heads,
     unit: u32,
-    slots: &[Slot],
+    scope: &Scope,
     lo: u32,
     place: u32,
     head: &Head,
     es: &[Expression],
 ) -> Result<TypedAll, CheckErr>
-    requires able { MayCheckAll heads.now unit slots.now lo (plain_all es.now) }
+    requires able { MayCheckAll heads.now unit (plain_scope scope.now) lo (plain_all es.now) }
     requires marked { AreMarked (known heads.now unit) es.now }
     requires wide { WideSlots (plain_head head.now).params }
     requires counted { length head.now.params.items < 2 ^ 32 }
-    ensures { SaysAll result (unless (needs (length (plain_head head.now).params == count (plain_all es.now)) (fault_with rules.E11 place (length (plain_head head.now).params) (count (plain_all es.now)))) (check_all (known heads.now unit) (plain_slots slots.now) lo (exactly (widths_of (plain_head head.now).params)) (plain_all es.now))) }
+    ensures { SaysAll result (unless (needs (length (plain_head head.now).params == count (plain_all es.now)) (fault_with rules.E11 place (length (plain_head head.now).params) (count (plain_all es.now)))) (check_all (known heads.now unit) (plain_scope scope.now) lo (exactly (widths_of (plain_head head.now).params)) (plain_all es.now))) }
 {
     let same = are_as_many(&head.params, es);
     if !same {
         return Err(wrong_count(place, &head.params, es));
     }
-    check_arguments(alloc, heads, unit, slots, lo, &head.params, es)
+    check_arguments(alloc, heads, unit, scope, lo, &head.params, es)
 }
 
 // Arguments in order, each at its parameter's width.
@@ -393,15 +396,15 @@ fn check_arguments(
     alloc: Global,
     heads: &Heads,
     unit: u32,
-    slots: &[Slot],
+    scope: &Scope,
     lo: u32,
     params: &[Slot],
     es: &[Expression],
 ) -> Result<TypedAll, CheckErr>
-    requires able { MayCheckAll heads.now unit slots.now lo (plain_all es.now) }
+    requires able { MayCheckAll heads.now unit (plain_scope scope.now) lo (plain_all es.now) }
     requires marked { AreMarked (known heads.now unit) es.now }
     requires params { WideSlots (plain_slots params.now) }
-    ensures { SaysAll result (check_all (known heads.now unit) (plain_slots slots.now) lo (exactly (widths_of (plain_slots params.now))) (plain_all es.now)) }
+    ensures { SaysAll result (check_all (known heads.now unit) (plain_scope scope.now) lo (exactly (widths_of (plain_slots params.now))) (plain_all es.now)) }
 {
     let Some((first, rest)) = es.split_first() else {
         return Ok(none_typed(alloc));
@@ -411,8 +414,8 @@ fn check_arguments(
     };
     let next = add_sites(lo, first);
     let wanted = Wanted::Exactly(param.width);
-    let x = check_expression(alloc, heads, unit, slots, false, lo, wanted, first)?;
-    let r = check_arguments(alloc, heads, unit, slots, next, others, rest)?;
+    let x = check_expression(alloc, heads, unit, scope, false, lo, wanted, first)?;
+    let r = check_arguments(alloc, heads, unit, scope, next, others, rest)?;
     put_first(x, r)
 }
 

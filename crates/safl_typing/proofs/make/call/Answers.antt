@@ -1,4 +1,4 @@
-use Rattle.std.proofs.Common.{List, subst, ap}
+use Rattle.std.proofs.Common.{List, subst}
 use Rattle.safl_typing.specs.declared.expression.Expression as code
 use Rattle.safl_typing.specs.Rewriting.{Called}
 use Rattle.safl_typing.specs.Plain.{plain_all}

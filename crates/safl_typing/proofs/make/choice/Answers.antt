@@ -1,6 +1,5 @@
 use Rattle.std.proofs.Common.{sym, subst}
 use Rattle.safl_typing.specs.declared.expression.Expression as code
-use Rattle.safl_typing.specs.Heads.{Known}
 use Rattle.safl_typing.specs.Rewriting.{Choice}
 use Rattle.safl_typing.specs.Plain.{plain}
 use Rattle.safl_typing.specs.Marks.{IsMarkOf, IsMarked}

@@ -1,0 +1,21 @@
+-- Which variables a scope of the code shows.
+use Rattle.std.specs.Prelude.{ℕ, ◌+◌, List, ◌++◌, Option, Some, None}
+use Rattle.safl_typing.specs.declared.scope.Scope.{Scope}
+use Rattle.safl_typing.specs.declared.scope.Scope.TheVariants as scopes
+use Rattle.safl_typing.specs.declared.scope.Variable.{Variable}
+use Rattle.safl_typing.specs.Heads.{Slot}
+use Rattle.safl_typing.specs.Typing.{At}
+use Rattle.safl_typing.specs.PlainHeads.{plain_slots}
+
+abbrev pub plain_scope : Scope → List Slot
+plain_scope (scopes.Params slots) = plain_slots slots.now
+plain_scope (scopes.Let' q around slots) = plain_scope around ++ plain_slots slots.now
+
+abbrev pub found_at : Option Variable → Option At
+found_at None = None
+found_at (Some v) = Some (record { slot = v.slot; width = v.width })
+
+-- the same slot, where so many stand before it
+abbrev pub shifted : ℕ → Option At → Option At
+shifted n None = None
+shifted n (Some a) = Some (record { slot = n + a.slot; width = a.width })
