@@ -9,7 +9,6 @@ mod FormLemmas
 mod SiteLemmas
 mod OutcomeLemmas
 mod NamesakeLemmas
-mod ShownLemmas
 mod PartLemmas
 mod StackLemmas
 mod DismantleLemmas

@@ -18,7 +18,7 @@ use Rattle.safl_typing.specs.Forms.{max_bindings}
 use Rattle.safl_typing.specs.Heads.{Known}
 use Rattle.safl_typing.specs.Rewriting.{Expression, rewritten_binds}
 use Rattle.safl_typing.specs.Walk.{excess, placed}
-use Rattle.safl_checker.proofs.ShownLemmas.{shows-Op, shows-Call, shows-Let, shows-Case}
+use Rattle.safl_tree.proofs.ShownTrees.{op_shows, call_shows, let_shows, case_shows}
 use Rattle.safl_checker.proofs.PartLemmas.{IsMeasured, measured_next, parts_fewer}
 
 -- one more on the top
@@ -82,7 +82,7 @@ pub let_pushed : {A E : Type 0} (r : Result A E) (n : Node) (p : ℕ) (binds : V
     → s1 ≡ s0 ++ x ∷ [] → x.now ≡ b.value → xs ≡ binds.items → OnOk r (pending s2 ≡ values_of xs ++ pending s1) → OnOk r (pending s2 ≡ parts (shows_node n p) ++ pending s0)
 let_pushed r n p binds b xs s0 s1 s2 x is q e same h =
     let whole : parts (shows_node n p) ++ pending s0 ≡ values_of xs ++ pending s1 =
-    ap (λ (m : Node). parts (shows_node m p) ++ pending s0) is ∙ ap (λ (t : Tree). parts t ++ pending s0) (shows-Let binds b p)
+    ap (λ (m : Node). parts (shows_node m p) ++ pending s0) is ∙ ap (λ (t : Tree). parts t ++ pending s0) (let_shows binds b p)
     ∙ ap (λ (l : List Tree). (l ++ shows b.value ∷ []) ++ pending s0) (values_back binds.items ∙ sym (ap values_of same))
     ∙ append_assoc (values_of xs) (shows b.value ∷ []) (pending s0) ∙ ap (λ (l : List Tree). values_of xs ++ l) (sym (top s0 s1 x b.value q e)) in
     on_ok r _ _ (λ g. g ∙ sym whole) h
@@ -94,13 +94,13 @@ case_pushed n p e arms d xs s0 s1 s2 s3 x y is qy ey same h qx ex =
     ap (λ (l : List Tree). l ++ pending s0) (arms_back arms.items (shows d.value) ∙ ap (λ (l : List Arm). shown.arms_of l ++ shows d.value ∷ []) (sym same))
     ∙ append_assoc (shown.arms_of xs) (shows d.value ∷ []) (pending s0) ∙ ap (λ (l : List Tree). shown.arms_of xs ++ l) (sym (top s0 s1 y d.value qy ey)) ∙ sym h in
     top s2 s3 x e.value qx ex ∙ ap (λ (l : List Tree). shows e.value ∷ l) (sym inner)
-    ∙ sym (ap (λ (m : Node). parts (shows_node m p) ++ pending s0) is ∙ ap (λ (t : Tree). parts t ++ pending s0) (shows-Case e arms d p))
+    ∙ sym (ap (λ (m : Node). parts (shows_node m p) ++ pending s0) is ∙ ap (λ (t : Tree). parts t ++ pending s0) (case_shows e arms d p))
 
 pub op_pushed : {A E : Type 0} (r : Result A E) (n : Node) (p : ℕ) (o : Primitive) (es : Vec Expr Global) (xs : List Expr) (s0 s1 : List (Bor Expr)) → n ≡ Op o es → xs ≡ es.items
     → OnOk r (pending s1 ≡ shows_all xs ++ pending s0) → OnOk r (pending s1 ≡ parts (shows_node n p) ++ pending s0)
 op_pushed r n p o es xs s0 s1 is same h =
     let whole : parts (shows_node n p) ++ pending s0 ≡ shows_all xs ++ pending s0 =
-    ap (λ (m : Node). parts (shows_node m p) ++ pending s0) is ∙ ap (λ (t : Tree). parts t ++ pending s0) (shows-Op o es p)
+    ap (λ (m : Node). parts (shows_node m p) ++ pending s0) is ∙ ap (λ (t : Tree). parts t ++ pending s0) (op_shows o es p)
     ∙ ap (λ (l : List Tree). l ++ pending s0) (trees_back (shows_all es.items) ∙ sym (ap shows_all same)) in
     on_ok r _ _ (λ g. g ∙ sym whole) h
 
@@ -108,7 +108,7 @@ pub call_pushed : {A E : Type 0} (r : Result A E) (n : Node) (p : ℕ) (f : List
     → OnOk r (pending s1 ≡ shows_all xs ++ pending s0) → OnOk r (pending s1 ≡ parts (shows_node n p) ++ pending s0)
 call_pushed r n p f es xs s0 s1 is same h =
     let whole : parts (shows_node n p) ++ pending s0 ≡ shows_all xs ++ pending s0 =
-    ap (λ (m : Node). parts (shows_node m p) ++ pending s0) is ∙ ap (λ (t : Tree). parts t ++ pending s0) (shows-Call f es p)
+    ap (λ (m : Node). parts (shows_node m p) ++ pending s0) is ∙ ap (λ (t : Tree). parts t ++ pending s0) (call_shows f es p)
     ∙ ap (λ (l : List Tree). l ++ pending s0) (trees_back (shows_all es.items) ∙ sym (ap shows_all same)) in
     on_ok r _ _ (λ g. g ∙ sym whole) h
 
@@ -122,7 +122,7 @@ pub long_let_at : (n : Node) (p : ℕ) (binds : Vec Bind Global) (b : Box Expr G
     → r ≡ excess max_bindings (map (λ (b : Bind). b.place) xs) → r ≡ own_long_let (shows_node n p)
 long_let_at n p binds b xs r is same h =
     h ∙ ap (λ (l : List Bind). excess max_bindings (map (λ (b : Bind). b.place) l)) same ∙ ap (λ (l : List ℕ). excess max_bindings l) (sym (places_of binds.items))
-    ∙ sym (ap (λ (m : Node). own_long_let (shows_node m p)) is ∙ ap own_long_let (shows-Let binds b p))
+    ∙ sym (ap (λ (m : Node). own_long_let (shows_node m p)) is ∙ ap own_long_let (let_shows binds b p))
 
 arms_counted : (arms : List Arm) (t : Tree) → arm_count (arms_of (shows_labelled arms) t) ≡ length arms
 arms_counted [] t = refl
@@ -131,7 +131,7 @@ arms_counted (a ∷ arms) t = omega (arith, arms_counted arms t)
 pub case_nodes : (n : Node) (p : ℕ) (e : Box Expr Global) (arms : Vec Arm Global) (d : Box Expr Global) (count r : ℕ) → n ≡ Case e arms d → count ≡ length arms.items
     → r ≡ min 50001 (1 + 3 * count) → r ≡ min 50001 (own_nodes (shows_node n p))
 case_nodes n p e arms d count r is same h =
-    let own : own_nodes (shows_node n p) ≡ 1 + 3 * arm_count (arms_of (shows_labelled arms.items) (shows d.value)) = ap (λ (m : Node). own_nodes (shows_node m p)) is ∙ ap own_nodes (shows-Case e arms d p) in
+    let own : own_nodes (shows_node n p) ≡ 1 + 3 * arm_count (arms_of (shows_labelled arms.items) (shows d.value)) = ap (λ (m : Node). own_nodes (shows_node m p)) is ∙ ap own_nodes (case_shows e arms d p) in
     omega (arith, h, same, own, arms_counted arms.items (shows d.value))
 
 -- ---- one step of a walk

@@ -1,60 +1,14 @@
--- What a value with a `Vec` shows, and how deep it is.
+-- How deep the tree of a value with a `Vec` is.
 use Rattle.std.proofs.Common.{◌≡◌, ℕ, ◌+◌, max, min, List, [], ◌∷◌, ◌++◌, length, map, Vec, Box, Global, refl, sym, ap, ◌∙◌, arith}
 use Rattle.safl_word.specs.declared.primitive.Primitive.{Primitive}
 use Rattle.safl_tree.specs.declared.tree.Expr.{Expr}
 use Rattle.safl_tree.specs.declared.tree.Bind.{Bind}
 use Rattle.safl_tree.specs.declared.tree.Arm.{Arm}
-use Rattle.safl_tree.specs.declared.tree.Node.{Node, Row_of-Expr, end_of-Expr, more_of-Expr, items-the_row-Expr, items_hidden-the_row-Expr-2, Row_of-Bind, end_of-Bind, more_of-Bind, items-the_row-Bind, items_hidden-the_row-Bind-0, Row_of-Arm, end_of-Arm, more_of-Arm, items-the_row-Arm, items_hidden-the_row-Arm-1}
-use Rattle.safl_tree.specs.declared.tree.Node.TheVariants.{Op, Op', Call, Call', Let, Let', Case, Case'}
-use mathlib.Core.Former.{Count}
-use Rattle.safl_tree.specs.Tree.{Tree, a_tree, Binds, a_bind, Bound, an_arm, Labelled, Applied, Called, Binding, Cases, trees_of, binds_of, arms_of, depth, deepest, deepest_bind, deepest_arm}
-use Rattle.safl_tree.specs.Shown.{shows_node, shows_trees, shows_binds, shows_arms, shows, shows_all, shows_bind, shows_bounds, shows_arm, shows_labelled}
+use Rattle.safl_tree.specs.declared.tree.Node.TheVariants.{Op, Call, Let, Case}
+use Rattle.safl_tree.specs.Tree.{Tree, Bound, Labelled, trees_of, binds_of, arms_of, depth, deepest, deepest_bind, deepest_arm}
+use Rattle.safl_tree.specs.Shown.{shows_node, shows, shows_all, shows_bind, shows_bounds, shows_arm, shows_labelled}
 use Rattle.safl_parse.specs.Parts.{labelled_depth}
-
-row_shows : (n : _) (row : Row_of-Expr n) → shows_trees row ≡ trees_of (shows_all (items-the_row-Expr n row))
-row_shows n end_of-Expr = refl
-row_shows n (more_of-Expr a x r) = ap (a_tree (shows_node x a)) (row_shows _ r)
-
-binds_show : (n : _) (row : Row_of-Bind n) → shows_binds row ≡ binds_of (shows_bounds (items-the_row-Bind n row))
-binds_show n end_of-Bind = refl
-binds_show n (more_of-Bind a x w b v r) = ap (a_bind a x w (shows_node v b)) (binds_show _ r)
-
-arms_show : (n : _) (row : Row_of-Arm n) (t : Tree) → shows_arms row t ≡ arms_of (shows_labelled (items-the_row-Arm n row)) t
-arms_show n end_of-Arm t = refl
-arms_show n (more_of-Arm a x b v r) t = ap (an_arm (shows_node x a) (shows_node v b)) (arms_show _ r t)
-
-abbrev row_of : Node → (n : Count) × Row_of-Expr n
-row_of (Op' o s r) = (_, r)
-row_of (Call' f s r) = (_, r)
-row_of _ = (_, end_of-Expr)
-
-abbrev binds_in : Node → (n : Count) × Row_of-Bind n
-binds_in (Let' s r q a n) = (_, r)
-binds_in _ = (_, end_of-Bind)
-
-abbrev arms_in : Node → (n : Count) × Row_of-Arm n
-arms_in (Case' p a n s r q b m) = (_, r)
-arms_in _ = (_, end_of-Arm)
-
-pub op_shows : (o : Primitive) (v : Vec Expr Global) (p : ℕ) → shows_node (Op o v) p ≡ Applied p o (trees_of (shows_all v.items))
-op_shows o v p =
-    let row = row_of (Op o v) in
-    ap (Applied p o) (row_shows row.0 row.1 ∙ ap (λ (es : List Expr). trees_of (shows_all es)) (items_hidden-the_row-Expr-2 v))
-
-pub call_shows : (f : List ℕ) (v : Vec Expr Global) (p : ℕ) → shows_node (Call f v) p ≡ Called p f (trees_of (shows_all v.items))
-call_shows f v p =
-    let row = row_of (Call f v) in
-    ap (Called p f) (row_shows row.0 row.1 ∙ ap (λ (es : List Expr). trees_of (shows_all es)) (items_hidden-the_row-Expr-2 v))
-
-pub let_shows : (v : Vec Bind Global) (b : Box Expr Global) (p : ℕ) → shows_node (Let v b) p ≡ Binding p (binds_of (shows_bounds v.items)) (shows b.value)
-let_shows v b p =
-    let row = binds_in (Let v b) in
-    ap (λ (bs : Binds). Binding p bs (shows b.value)) (binds_show row.0 row.1 ∙ ap (λ (es : List Bind). binds_of (shows_bounds es)) (items_hidden-the_row-Bind-0 v))
-
-pub case_shows : (e : Box Expr Global) (v : Vec Arm Global) (d : Box Expr Global) (p : ℕ) → shows_node (Case e v d) p ≡ Cases p (shows e.value) (arms_of (shows_labelled v.items) (shows d.value))
-case_shows e v d p =
-    let row = arms_in (Case e v d) in
-    ap (Cases p (shows e.value)) (arms_show row.0 row.1 (shows d.value) ∙ ap (λ (es : List Arm). arms_of (shows_labelled es) (shows d.value)) (items_hidden-the_row-Arm-1 v))
+use Rattle.safl_tree.proofs.ShownTrees.{op_shows, call_shows, let_shows, case_shows}
 
 -- ---- one more at the end
 

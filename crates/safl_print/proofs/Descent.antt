@@ -10,7 +10,7 @@ use Rattle.safl_tree.specs.Tree.{Tree, Number, Binding, Cases, Applied, Called, 
 use Rattle.safl_tree.specs.Shown.{shows_node, shows, shows_all, shows_bounds, shows_labelled}
 use Rattle.safl_tree.specs.Printable.{own, levels, most, most_operand}
 use Rattle.safl_print.specs.Keeps.{Keeps, PartsKeep, OperandsKeep, BindingsKeep, ArmsKeep}
-use Rattle.safl_print.proofs.Rows.{op_shows, call_shows, let_shows, case_shows}
+use Rattle.safl_tree.proofs.ShownTrees.{op_shows, call_shows, let_shows, case_shows}
 use Rattle.safl_print.proofs.Operators.{own_small}
 
 pub depth_some : (t : Tree) → 1 ≤ depth t

@@ -4,7 +4,6 @@ pub mod Operators
 pub mod Expressions
 pub mod Tokens
 pub mod Programs
-pub mod Rows
 pub mod Descent
 pub mod Depths
 pub mod Lists

@@ -14,7 +14,7 @@ use Rattle.safl_tree.specs.Shown.{shows_node, shows, shows_all, shows_bounds, sh
 use Rattle.safl_print.specs.Printed
 use Rattle.safl_print.specs.Printed.{Word, spaced, separated, words, arm_words, labelled_words, Writes}
 use Rattle.safl_print.proofs.Lists.{drop_at}
-use Rattle.safl_print.proofs.Rows.{op_shows, call_shows, let_shows, case_shows}
+use Rattle.safl_tree.proofs.ShownTrees.{op_shows, call_shows, let_shows, case_shows}
 
 pub spaced_append : (u v : List Word) → spaced (u ++ v) ≡ spaced u ++ spaced v
 spaced_append [] v = refl

@@ -1,11 +1,10 @@
 -- What is read has the form of a printable program and keeps the levels: the facts of each symbol.
-use Rattle.std.proofs.Common.{◌≡◌, ℕ, zero, suc, ◌+◌, ◌<◌, ◌≤◌, max, leb, ltb, Bool, true, false, cond, List, [], ◌∷◌, ◌++◌, Option, Some, None, refl, sym, ap, subst, ◌∙◌, inl, inr, arith}
-use Rattle.std.specs.Prelude.{nat_lt, nat_le}
-use Rattle.std.proofs.lemmas.Bool.{leb-true, leb-false, ltb-true, le-leb}
+use Rattle.std.proofs.Common.{◌≡◌, ℕ, suc, ◌<◌, ◌≤◌, leb, Bool, true, false, cond, List, [], ◌∷◌, Some, None, refl, sym, ap, subst, arith}
+use Rattle.std.proofs.lemmas.Bool.{leb-true, ltb-true, le-leb}
 use Rattle.safl_grammar.specs.Sets.{Only, within}
-use Rattle.safl_grammar.specs.Syntax.{Deep, Range}
-use Rattle.safl_grammar.specs.Reading.{Reading, read_token, read_limited}
-use Rattle.safl_grammar.proofs.Yields.{Yields, yields_nothing, yields_token, yields_limited, yields_follows}
+use Rattle.safl_grammar.specs.Syntax.{Range}
+use Rattle.safl_grammar.specs.Reading.{read_token, read_limited}
+use Rattle.safl_grammar.proofs.Yields.{Yields, yields_token, yields_limited}
 use Rattle.safl_word.specs.declared.token.Key.{Key}
 use Rattle.safl_word.specs.declared.token.Key.TheVariants as keys
 use Rattle.safl_word.specs.declared.token.Sym.{Sym}
@@ -13,14 +12,12 @@ use Rattle.safl_word.specs.declared.token.Sym.TheVariants as syms
 use Rattle.safl_word.specs.declared.token.TokenKind.{TokenKind}
 use Rattle.safl_word.specs.declared.token.TokenKind.TheVariants as kinds
 use Rattle.safl_word.specs.declared.primitive.Primitive.{Primitive}
-use Rattle.safl_word.specs.declared.primitive.Primitive.TheVariants as prims
 use Rattle.safl_word.specs.Words.{max_width}
 use Rattle.safl_word.specs.Tokens.{IsName, IsToken, value_bound}
-use Rattle.safl_tree.specs.Tree.{Tree, Number, Sized, Variable, Choice, Binding, Cases, Applied, Called, trees_of, placed, depth}
-use Rattle.safl_tree.specs.Terminals.{Terminal, code_of, word_code, symbol_code, classed, marked, NameAt, name, NumberAt, number, number_in, SizedAt, sized, width_in, value_in, operators, primitive_of, primitive_in, operator}
+use Rattle.safl_tree.specs.Terminals.{Terminal, code_of, word_code, symbol_code, marked, NameAt, name, NumberAt, number, number_in, SizedAt, sized, value_in, operators, primitive_in}
 use Rattle.safl_tree.specs.Grammar.{is_width, fits_width, fits_sized, fits_index}
-use Rattle.safl_tree.specs.Reader.{read_word, read_symbol, read_width, read_index, read_literal, read_sized_literal}
-use Rattle.safl_tree.specs.Printable.{IsLabel, IsFormed, InRange, operands, is_binary, right_place, left_place, below_of, own_of, own, lifted, levels, IsShallow}
+use Rattle.safl_tree.specs.Reader.{read_word, read_symbol, read_width, read_index}
+use Rattle.safl_tree.specs.Printable.{InRange, operands, is_binary, right_place, left_place, below_of, own_of, lifted}
 
 -- a token's bytes are a text of its kind
 abbrev pub IsTerminal : Terminal → Type 0

@@ -10,13 +10,12 @@ use Rattle.safl_word.specs.declared.token.Sym.TheVariants as syms
 use Rattle.safl_word.specs.declared.token.TokenKind.{TokenKind}
 use Rattle.safl_word.specs.declared.primitive.Primitive.{Primitive}
 use Rattle.safl_word.specs.declared.primitive.Primitive.TheVariants as prims
-use Rattle.safl_word.specs.Tokens.{IsName, value_bound}
+use Rattle.safl_word.specs.Tokens.{IsName}
 use Rattle.safl_tree.specs.Tree.{Tree, Number, Sized, Variable, Choice, Binding, Cases, Applied, Called, Trees, no_tree, a_tree, Bound, Labelled, trees_of, binds_of, arms_of, place_of, placed, depth}
-use Rattle.safl_tree.specs.Terminals.{Terminal, code_of, word_code, symbol_code, comes, NameAt, NumberAt, SizedAt, operators, primitive_in, operator}
+use Rattle.safl_tree.specs.Terminals.{Terminal, code_of, word_code, symbol_code, comes, NameAt, operators, primitive_in, operator}
 use Rattle.safl_tree.specs.Grammar.{shallow, ArmList}
-use Rattle.safl_tree.specs.Reader
 use Rattle.safl_tree.specs.Reader.{read_literal, read_sized_literal, read_another, read_exprs, read_no_arguments, read_arguments, read_call, read_named, read_parenthesised, read_cat, read_bits, read_ext, read_primary, read_inverted, read_unary, read_joined, read_chained, read_compared, read_layer, read_chain, read_choice, read_written, read_bind, read_another_bind, read_binds, read_binding, read_label, read_arm, read_last_arm, read_arms, read_cases, read_expr, operand_at, expr_at, arm_value_at, more_arms_at, open_paren, close_paren, comma}
-use Rattle.safl_tree.specs.Printable.{operands, count, InRange, HasBinding, IsLabel, FitsWritten, IsFormed, AreFormed, AreFormedBinds, AreFormedArms, is_binary, right_place, left_place, below_of, own_of, own, lifted, levels, most, most_operand, most_bind, most_arm, LeftShallow, OfBinary, IsShallow, AreShallow, AreShallowBinds, AreShallowArms}
+use Rattle.safl_tree.specs.Printable.{InRange, HasBinding, IsLabel, FitsWritten, IsFormed, AreFormed, AreFormedBinds, AreFormedArms, right_place, left_place, below_of, own_of, own, lifted, levels, most, most_operand, most_bind, most_arm, OfBinary, IsShallow, AreShallow, AreShallowBinds, AreShallowArms}
 use Rattle.safl_tree.proofs.Formed.{IsTerminal, classed_is, any_word, any_symbol, NamedWell, a_name, Small, a_number, Wide, a_width, Indexes, an_index, WideSmall, a_sized, Layer, layer_0, layer_1, layer_2, layer_3, layer_4, layer_5, layer_6, lift_low, lift_high, lift_in, lift_up}
 
 -- it stands at a place of k layers in at most m levels

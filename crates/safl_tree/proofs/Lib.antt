@@ -7,3 +7,4 @@ pub mod Formed
 pub mod Kept
 pub mod PrintableText
 pub mod Texts
+pub mod ShownTrees

@@ -13,7 +13,7 @@ use Rattle.safl_typing.specs.declared.expression.Bound.{Bound}
 use Rattle.safl_typing.specs.declared.expression.Expression as code
 use Rattle.safl_typing.specs.Rewriting.{Expression, Choice, Binding, Applied, Called, Expressions, no_expression, an_expression, Bindings, no_binding, a_binding, rewritten, rewritten_all, rewritten_binds, rewritten_arms, scrutinee, test_at}
 use Rattle.safl_typing.specs.Plain.{plain, plain_all, plain_bindings}
-use Rattle.safl_typing.proofs.SourceLemmas.{shows-Op, shows-Call, shows-Let, shows-Case, shown_place}
+use Rattle.safl_tree.proofs.ShownTrees.{op_shows, call_shows, let_shows, case_shows, shown_place}
 
 -- one more at the end
 abbrev pub more : Expressions → Expression → Expressions
@@ -64,7 +64,7 @@ let_rewrites n p binds body bs b xs e is x v hs h =
     let k : plain_bindings bs ≡ rewritten_binds (binds_of (shows_bounds binds.items)) = hs ∙ ap (λ (l : List Bind). rewritten_binds (binds_of (shows_bounds l))) x in
     let w : plain b ≡ rewritten (shows body.value) = h ∙ ap (λ (z : Expr). rewritten (shows z)) v in
     ap (λ (z : Bindings). Binding p z (plain b)) k ∙ ap (λ (z : Expression). Binding p (rewritten_binds (binds_of (shows_bounds binds.items))) z) w
-    ∙ sym (ap (λ (z : Node). rewritten (shows_node z p)) is ∙ ap rewritten (shows-Let binds body p))
+    ∙ sym (ap (λ (z : Node). rewritten (shows_node z p)) is ∙ ap rewritten (let_shows binds body p))
 
 pub case_rewrites : (n : Node) (p : ℕ) (looked_at : Box Expr Global) (arms : Vec Arm Global) (other : Box Expr Global) (v b : code.Expression) (xs : List Arm) (e : Expr)
     → n ≡ Case looked_at arms other → xs ≡ arms.items → e ≡ looked_at.value → plain v ≡ rewritten (shows e) → plain b ≡ rewritten_arms p (arms_of (shows_labelled xs) (shows other.value))
@@ -73,19 +73,19 @@ case_rewrites n p looked_at arms other v b xs e is x y h k =
     let w : plain v ≡ rewritten (shows looked_at.value) = h ∙ ap (λ (z : Expr). rewritten (shows z)) y in
     let g : plain b ≡ rewritten_arms p (arms_of (shows_labelled arms.items) (shows other.value)) = k ∙ ap (λ (l : List Arm). rewritten_arms p (arms_of (shows_labelled l) (shows other.value))) x in
     ap (λ (z : Expression). Binding p (a_binding p scrutinee None z no_binding) (plain b)) w ∙ ap (λ (z : Expression). Binding p (a_binding p scrutinee None (rewritten (shows looked_at.value)) no_binding) z) g
-    ∙ sym (ap (λ (z : Node). rewritten (shows_node z p)) is ∙ ap rewritten (shows-Case looked_at arms other p))
+    ∙ sym (ap (λ (z : Node). rewritten (shows_node z p)) is ∙ ap rewritten (case_shows looked_at arms other p))
 
 pub op_rewrites : (n : Node) (p : ℕ) (o : Primitive) (es : Vec Expr Global) (all : Vec code.Expression Global) (xs : List Expr)
     → n ≡ Op o es → xs ≡ es.items → plain_all all.items ≡ rewritten_all (trees_of (shows_all xs)) → Applied p o (plain_all all.items) ≡ rewritten (shows_node n p)
 op_rewrites n p o es all xs is x h =
     ap (Applied p o) (h ∙ ap (λ (l : List Expr). rewritten_all (trees_of (shows_all l))) x)
-    ∙ sym (ap (λ (z : Node). rewritten (shows_node z p)) is ∙ ap rewritten (shows-Op o es p))
+    ∙ sym (ap (λ (z : Node). rewritten (shows_node z p)) is ∙ ap rewritten (op_shows o es p))
 
 pub call_rewrites : (n : Node) (p : ℕ) (f g : List ℕ) (es : Vec Expr Global) (all : Vec code.Expression Global) (xs : List Expr)
     → n ≡ Call f es → g ≡ f → xs ≡ es.items → plain_all all.items ≡ rewritten_all (trees_of (shows_all xs)) → Called p g (plain_all all.items) ≡ rewritten (shows_node n p)
 call_rewrites n p f g es all xs is i x h =
     ap (λ (z : List ℕ). Called p z (plain_all all.items)) i ∙ ap (Called p f) (h ∙ ap (λ (l : List Expr). rewritten_all (trees_of (shows_all l))) x)
-    ∙ sym (ap (λ (z : Node). rewritten (shows_node z p)) is ∙ ap rewritten (shows-Call f es p))
+    ∙ sym (ap (λ (z : Node). rewritten (shows_node z p)) is ∙ ap rewritten (call_shows f es p))
 
 pub arm_rewrites : (p : ℕ) (a : Arm) (label value rest : code.Expression) (arms : List Arm) (t : Tree)
     → plain label ≡ rewritten (shows a.label) → plain value ≡ rewritten (shows a.value) → plain rest ≡ rewritten_arms p (arms_of (shows_labelled arms) t)

@@ -1,4 +1,5 @@
-use Rattle.safl_parse.proofs.Rows.{op_shows, cap_op}
+use Rattle.safl_tree.proofs.ShownTrees.{op_shows}
+use Rattle.safl_parse.proofs.Rows.{cap_op}
 use Rattle.safl_parse.proofs.part.applied.Goals as goal
 
 pub invariant_of-result : goal.invariant_of-result

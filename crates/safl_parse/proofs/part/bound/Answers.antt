@@ -1,7 +1,8 @@
 use Rattle.std.proofs.Common.{◌≡◌, ◌+◌, min, sym, ap, ◌∙◌}
 use Rattle.safl_tree.specs.Tree.{Binding, binds_of, depth}
 use Rattle.safl_tree.specs.Shown.{shows, shows_bounds}
-use Rattle.safl_parse.proofs.Rows.{let_shows, cap_let}
+use Rattle.safl_tree.proofs.ShownTrees.{let_shows}
+use Rattle.safl_parse.proofs.Rows.{cap_let}
 use Rattle.safl_parse.proofs.part.bound.Goals as goal
 
 pub invariant_of-result : goal.invariant_of-result

@@ -1,4 +1,5 @@
-use Rattle.safl_parse.proofs.Rows.{call_shows, cap_call}
+use Rattle.safl_tree.proofs.ShownTrees.{call_shows}
+use Rattle.safl_parse.proofs.Rows.{cap_call}
 use Rattle.safl_parse.proofs.part.called.Goals as goal
 
 pub invariant_of-result : goal.invariant_of-result

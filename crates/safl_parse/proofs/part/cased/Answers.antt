@@ -1,7 +1,8 @@
 use Rattle.std.proofs.Common.{◌≡◌, ◌+◌, min, sym, ap, ◌∙◌}
 use Rattle.safl_tree.specs.Tree.{Cases, arms_of, depth, deepest_arm}
 use Rattle.safl_tree.specs.Shown.{shows, shows_labelled}
-use Rattle.safl_parse.proofs.Rows.{case_shows, cap_case}
+use Rattle.safl_tree.proofs.ShownTrees.{case_shows}
+use Rattle.safl_parse.proofs.Rows.{cap_case}
 use Rattle.safl_parse.proofs.part.cased.Goals as goal
 
 pub invariant_of-result : goal.invariant_of-result

@@ -1,4 +1,4 @@
--- The plain tree of a source's expression, by its lists.
+-- The plain tree of an expression, by its lists.
 use Rattle.std.proofs.Common.{◌≡◌, ℕ, List, Vec, Box, Global, refl, ap, ◌∙◌}
 use mathlib.Core.Former.{Count}
 use Rattle.safl_word.specs.declared.primitive.Primitive.{Primitive}
@@ -35,23 +35,23 @@ abbrev arms_in : Node → (n : Count) × Row_of-Arm n
 arms_in (Case' p a n s r q b m) = (_, r)
 arms_in _ = (_, end_of-Arm)
 
-pub shows-Op : (o : Primitive) (v : Vec Expr Global) (p : ℕ) → shows_node (Op o v) p ≡ Applied p o (trees_of (shows_all v.items))
-shows-Op o v p =
+pub op_shows : (o : Primitive) (v : Vec Expr Global) (p : ℕ) → shows_node (Op o v) p ≡ Applied p o (trees_of (shows_all v.items))
+op_shows o v p =
     let row = row_of (Op o v) in
     ap (Applied p o) (row_shows row.0 row.1 ∙ ap (λ (es : List Expr). trees_of (shows_all es)) (items_hidden-the_row-Expr-2 v))
 
-pub shows-Call : (f : List ℕ) (v : Vec Expr Global) (p : ℕ) → shows_node (Call f v) p ≡ Called p f (trees_of (shows_all v.items))
-shows-Call f v p =
+pub call_shows : (f : List ℕ) (v : Vec Expr Global) (p : ℕ) → shows_node (Call f v) p ≡ Called p f (trees_of (shows_all v.items))
+call_shows f v p =
     let row = row_of (Call f v) in
     ap (Called p f) (row_shows row.0 row.1 ∙ ap (λ (es : List Expr). trees_of (shows_all es)) (items_hidden-the_row-Expr-2 v))
 
-pub shows-Let : (v : Vec Bind Global) (b : Box Expr Global) (p : ℕ) → shows_node (Let v b) p ≡ Binding p (binds_of (shows_bounds v.items)) (shows b.value)
-shows-Let v b p =
+pub let_shows : (v : Vec Bind Global) (b : Box Expr Global) (p : ℕ) → shows_node (Let v b) p ≡ Binding p (binds_of (shows_bounds v.items)) (shows b.value)
+let_shows v b p =
     let row = binds_in (Let v b) in
     ap (λ (bs : Binds). Binding p bs (shows b.value)) (binds_show row.0 row.1 ∙ ap (λ (es : List Bind). binds_of (shows_bounds es)) (items_hidden-the_row-Bind-0 v))
 
-pub shows-Case : (e : Box Expr Global) (v : Vec Arm Global) (d : Box Expr Global) (p : ℕ) → shows_node (Case e v d) p ≡ Cases p (shows e.value) (arms_of (shows_labelled v.items) (shows d.value))
-shows-Case e v d p =
+pub case_shows : (e : Box Expr Global) (v : Vec Arm Global) (d : Box Expr Global) (p : ℕ) → shows_node (Case e v d) p ≡ Cases p (shows e.value) (arms_of (shows_labelled v.items) (shows d.value))
+case_shows e v d p =
     let row = arms_in (Case e v d) in
     ap (Cases p (shows e.value)) (arms_show row.0 row.1 (shows d.value) ∙ ap (λ (es : List Arm). arms_of (shows_labelled es) (shows d.value)) (items_hidden-the_row-Arm-1 v))
 
