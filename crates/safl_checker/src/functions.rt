@@ -16,6 +16,7 @@ use crate::form::function_of;
 use crate::groups::find_group_fault;
 use safl_check::Function;
 use safl_tree::Def;
+use safl_typing::context::Context;
 use safl_typing::expression::Expression;
 use safl_typing::heads::{Head, Heads};
 use safl_typing::marks::add_sites;
@@ -67,8 +68,9 @@ fn check_function(
     ensures { SaysFunction result (checked_function (known heads.now head.now.unit) (plain_slots head.now.params.items) first_site (shows_def def.now) (plain body.now)) }
 {
     let unit = head.unit;
+    let context = Context { alloc, heads, unit };
     let scope = Scope::Params(&head.params);
     let wanted = Wanted::Exactly(def.width);
-    let typed = check_expression(alloc, heads, unit, &scope, true, first_site, wanted, body)?;
+    let typed = check_expression(&context, &scope, true, first_site, wanted, body)?;
     Ok(function_of(alloc, def, unit, first_site, typed.term)?)
 }

@@ -9,6 +9,7 @@ pub mod Ranges
 pub mod Plain
 pub mod Marks
 pub mod PlainHeads
+pub mod PlainContext
 pub mod PlainScope
 pub mod PlainTyped
 pub mod PlainNames

@@ -1,6 +1,7 @@
 //! The rules by which a program is checked: widths, names, groups and limits, and the first fault of a program.
 #![tactic(auto)]
 
+pub mod context;
 pub mod expression;
 pub mod heads;
 pub mod laws;

@@ -10,14 +10,16 @@ ghost use Rattle.safl_typing.specs.Typing.{widths_of};
 ghost use Rattle.safl_typing.specs.Ranges.{IsInRange, WideSlots};
 ghost use Rattle.safl_typing.specs.Walk.{fault_with, unless, needs, is_any, branches, exactly, check, check_all, check_alike, check_shift, check_bound};
 ghost use Rattle.safl_typing.specs.Plain.{plain, plain_all, plain_bindings};
-ghost use Rattle.safl_typing.specs.PlainHeads.{plain_slots, plain_head, known};
+ghost use Rattle.safl_typing.specs.PlainHeads.{plain_slots, plain_head};
+ghost use Rattle.safl_typing.specs.PlainContext.{seen};
 ghost use Rattle.safl_typing.specs.PlainScope.{plain_scope};
 ghost use Rattle.safl_typing.specs.PlainTyped.{plain_wanted, HasWideWanted, HasWideWritten, Says, SaysAll, SaysAlike, operands_wanted};
 ghost use Rattle.safl_typing.specs.Marks.{IsMarked, AreMarked, BoundMarked};
 ghost use Rattle.safl_typing.specs.MayWalk.{MayWalk, MayCheck, MayCheckAll, MayBind};
 
+use crate::context::Context;
 use crate::expression::{Bound, Expression};
-use crate::heads::{Callee, Head, Heads, Slot, find_callee};
+use crate::heads::{Callee, Head, Slot, find_callee};
 use crate::marks::{add_bound_sites, add_sites, are_both_flexible, is_flexible};
 use crate::parts::{
     TypedAlike, TypedAll, make_if, make_let, make_operation, none_alike, none_typed, own_slots,
@@ -33,40 +35,37 @@ use crate::typed::{
 use safl_check::Term;
 use safl_tree::Name;
 use safl_word::{Fault, Primitive, Rule, result_width};
-use std::alloc::Global;
 
 /// Checks an expression in a body of this group, where its sites are numbered from `lo` on.
 #[cycle(walk)]
 pub fn check_expression(
-    alloc: Global,
-    heads: &Heads,
-    unit: u32,
+    context: &Context,
     scope: &Scope,
     tail: bool,
     lo: u32,
     wanted: Wanted,
     e: &Expression,
 ) -> Result<Typed, CheckErr>
-    requires able { MayCheck heads.now unit (plain_scope scope.now) lo (plain e.now) }
-    requires marked { IsMarked (known heads.now unit) e.now }
+    requires able { MayCheck context.now.heads.now context.now.unit (plain_scope scope.now) lo (plain e.now) }
+    requires marked { IsMarked (seen context.now) e.now }
     requires wanted { HasWideWanted wanted }
-    ensures { Says result (check (known heads.now unit) (plain_scope scope.now) tail lo (plain_wanted wanted) (plain e.now)) }
+    ensures { Says result (check (seen context.now) (plain_scope scope.now) tail lo (plain_wanted wanted) (plain e.now)) }
 {
     match e {
         Expression::Number(place, value) => typed_number(*place, *value, wanted),
         Expression::Sized(place, width, value) => typed_sized(*place, *width, *value, wanted),
         Expression::Variable(place, name) => typed_variable(*place, scope, name, wanted),
         Expression::Choice(place, _, condition, first, second) => check_choice(
-            alloc, heads, unit, scope, tail, lo, wanted, *place, condition, first, second,
+            context, scope, tail, lo, wanted, *place, condition, first, second,
         ),
         Expression::Binding(place, _, bound, body) => check_binding(
-            alloc, heads, unit, scope, tail, lo, wanted, *place, bound, body,
+            context, scope, tail, lo, wanted, *place, bound, body,
         ),
         Expression::Applied(place, _, operator, operands) => check_applied(
-            alloc, heads, unit, scope, lo, wanted, *place, *operator, operands,
+            context, scope, lo, wanted, *place, *operator, operands,
         ),
         Expression::Called(place, _, name, arguments) => check_called(
-            alloc, heads, unit, scope, tail, lo, wanted, *place, name, arguments,
+            context, scope, tail, lo, wanted, *place, name, arguments,
         ),
     }
 }
@@ -74,9 +73,7 @@ pub fn check_expression(
 // An if: E14 where neither branch gives a width and none is expected.
 #[cycle(walk)]
 fn check_choice(
-    alloc: Global,
-    heads: &Heads,
-    unit: u32,
+    context: &Context,
     scope: &Scope,
     tail: bool,
     lo: u32,
@@ -86,10 +83,10 @@ fn check_choice(
     first: &Expression,
     second: &Expression,
 ) -> Result<Typed, CheckErr>
-    requires able { MayCheck heads.now unit (plain_scope scope.now) lo (Choice place (plain condition.now) (plain first.now) (plain second.now)) }
-    requires marked { IsMarked (known heads.now unit) condition.now × IsMarked (known heads.now unit) first.now × IsMarked (known heads.now unit) second.now }
+    requires able { MayCheck context.now.heads.now context.now.unit (plain_scope scope.now) lo (Choice place (plain condition.now) (plain first.now) (plain second.now)) }
+    requires marked { IsMarked (seen context.now) condition.now × IsMarked (seen context.now) first.now × IsMarked (seen context.now) second.now }
     requires wanted { HasWideWanted wanted }
-    ensures { Says result (check (known heads.now unit) (plain_scope scope.now) tail lo (plain_wanted wanted) (Choice place (plain condition.now) (plain first.now) (plain second.now))) }
+    ensures { Says result (check (seen context.now) (plain_scope scope.now) tail lo (plain_wanted wanted) (Choice place (plain condition.now) (plain first.now) (plain second.now))) }
 {
     let flexible = are_both_flexible(first, second);
     let known = has_width(wanted, flexible);
@@ -98,18 +95,14 @@ fn check_choice(
     }
     let next = add_sites(lo, condition);
     let bit = Wanted::Exactly(1);
-    let x = check_expression(alloc, heads, unit, scope, false, lo, bit, condition)?;
-    check_branches(
-        alloc, heads, unit, scope, tail, next, wanted, x.term, first, second,
-    )
+    let x = check_expression(context, scope, false, lo, bit, condition)?;
+    check_branches(context, scope, tail, next, wanted, x.term, first, second)
 }
 
 // Two branches: where no width is expected, the first rigid one gives it.
 #[cycle(walk)]
 fn check_branches(
-    alloc: Global,
-    heads: &Heads,
-    unit: u32,
+    context: &Context,
     scope: &Scope,
     tail: bool,
     lo: u32,
@@ -118,32 +111,30 @@ fn check_branches(
     first: &Expression,
     second: &Expression,
 ) -> Result<Typed, CheckErr>
-    requires able { MayWalk heads.now (plain_scope scope.now) lo (IsInRange (plain first.now) × IsInRange (plain second.now)) (sites (known heads.now unit) (plain first.now) + sites (known heads.now unit) (plain second.now)) (nodes (plain first.now) + nodes (plain second.now)) }
-    requires marked { IsMarked (known heads.now unit) first.now × IsMarked (known heads.now unit) second.now }
+    requires able { MayWalk context.now.heads.now (plain_scope scope.now) lo (IsInRange (plain first.now) × IsInRange (plain second.now)) (sites (seen context.now) (plain first.now) + sites (seen context.now) (plain second.now)) (nodes (plain first.now) + nodes (plain second.now)) }
+    requires marked { IsMarked (seen context.now) first.now × IsMarked (seen context.now) second.now }
     requires wanted { HasWideWanted wanted }
-    ensures { Says result (branches (is_any (plain_wanted wanted) && flexible (plain first.now)) (plain_wanted wanted) (λ v. check (known heads.now unit) (plain_scope scope.now) tail lo v (plain first.now)) (λ v. check (known heads.now unit) (plain_scope scope.now) tail (lo + sites (known heads.now unit) (plain first.now)) v (plain second.now)) (tree test)) }
+    ensures { Says result (branches (is_any (plain_wanted wanted) && flexible (plain first.now)) (plain_wanted wanted) (λ v. check (seen context.now) (plain_scope scope.now) tail lo v (plain first.now)) (λ v. check (seen context.now) (plain_scope scope.now) tail (lo + sites (seen context.now) (plain first.now)) v (plain second.now)) (tree test)) }
 {
     let next = add_sites(lo, first);
     let flexible = is_flexible(first);
     let later = comes_later(wanted, flexible);
     if later {
-        let z = check_expression(alloc, heads, unit, scope, tail, next, wanted, second)?;
+        let z = check_expression(context, scope, tail, next, wanted, second)?;
         let found = Wanted::Exactly(z.width);
-        let y = check_expression(alloc, heads, unit, scope, tail, lo, found, first)?;
-        return make_if(alloc, z.width, test, y.term, z.term);
+        let y = check_expression(context, scope, tail, lo, found, first)?;
+        return make_if(context.alloc, z.width, test, y.term, z.term);
     }
-    let y = check_expression(alloc, heads, unit, scope, tail, lo, wanted, first)?;
+    let y = check_expression(context, scope, tail, lo, wanted, first)?;
     let found = Wanted::Exactly(y.width);
-    let z = check_expression(alloc, heads, unit, scope, tail, next, found, second)?;
-    make_if(alloc, y.width, test, y.term, z.term)
+    let z = check_expression(context, scope, tail, next, found, second)?;
+    make_if(context.alloc, y.width, test, y.term, z.term)
 }
 
 // A let: E14 where its body gives no width and none is expected, E07 where it has a name twice.
 #[cycle(walk)]
 fn check_binding(
-    alloc: Global,
-    heads: &Heads,
-    unit: u32,
+    context: &Context,
     scope: &Scope,
     tail: bool,
     lo: u32,
@@ -152,10 +143,10 @@ fn check_binding(
     bound: &[Bound],
     body: &Expression,
 ) -> Result<Typed, CheckErr>
-    requires able { MayCheck heads.now unit (plain_scope scope.now) lo (Binding place (plain_bindings bound.now) (plain body.now)) }
-    requires marked { BoundMarked (known heads.now unit) bound.now × IsMarked (known heads.now unit) body.now }
+    requires able { MayCheck context.now.heads.now context.now.unit (plain_scope scope.now) lo (Binding place (plain_bindings bound.now) (plain body.now)) }
+    requires marked { BoundMarked (seen context.now) bound.now × IsMarked (seen context.now) body.now }
     requires wanted { HasWideWanted wanted }
-    ensures { Says result (check (known heads.now unit) (plain_scope scope.now) tail lo (plain_wanted wanted) (Binding place (plain_bindings bound.now) (plain body.now))) }
+    ensures { Says result (check (seen context.now) (plain_scope scope.now) tail lo (plain_wanted wanted) (Binding place (plain_bindings bound.now) (plain body.now))) }
 {
     let flexible = is_flexible(body);
     let known = has_width(wanted, flexible);
@@ -166,43 +157,39 @@ fn check_binding(
         return Err(refused(Rule::E07, twice));
     }
     let next = add_bound_sites(lo, bound);
-    let all = check_bound(alloc, heads, unit, scope, lo, bound)?;
-    let own = own_slots(alloc, bound, &all.widths)?;
+    let all = check_bound(context, scope, lo, bound)?;
+    let own = own_slots(context.alloc, bound, &all.widths)?;
     let below = Scope::Let(&*scope, &own);
-    let y = check_expression(alloc, heads, unit, &below, tail, next, wanted, body)?;
-    make_let(alloc, y.width, count(scope), all.terms, y.term)
+    let y = check_expression(context, &below, tail, next, wanted, body)?;
+    make_let(context.alloc, y.width, count(scope), all.terms, y.term)
 }
 
 // Bindings in order, each expected at its written width, or else found.
 #[cycle(walk)]
 fn check_bound(
-    alloc: Global,
-    heads: &Heads,
-    unit: u32,
+    context: &Context,
     scope: &Scope,
     lo: u32,
     bound: &[Bound],
 ) -> Result<TypedAll, CheckErr>
-    requires able { MayBind heads.now unit (plain_scope scope.now) lo (plain_bindings bound.now) }
-    requires marked { BoundMarked (known heads.now unit) bound.now }
-    ensures { SaysAll result (check_bound (known heads.now unit) (plain_scope scope.now) lo (plain_bindings bound.now)) }
+    requires able { MayBind context.now.heads.now context.now.unit (plain_scope scope.now) lo (plain_bindings bound.now) }
+    requires marked { BoundMarked (seen context.now) bound.now }
+    ensures { SaysAll result (check_bound (seen context.now) (plain_scope scope.now) lo (plain_bindings bound.now)) }
 {
     let Some((first, rest)) = bound.split_first() else {
-        return Ok(none_typed(alloc));
+        return Ok(none_typed(context.alloc));
     };
     let next = add_sites(lo, &first.value);
     let wanted = as_written(first.width);
-    let x = check_expression(alloc, heads, unit, scope, false, lo, wanted, &first.value)?;
-    let others = check_bound(alloc, heads, unit, scope, next, rest)?;
+    let x = check_expression(context, scope, false, lo, wanted, &first.value)?;
+    let others = check_bound(context, scope, next, rest)?;
     put_first(x, others)
 }
 
 // An operator, by what it asks of its operands.
 #[cycle(walk)]
 fn check_applied(
-    alloc: Global,
-    heads: &Heads,
-    unit: u32,
+    context: &Context,
     scope: &Scope,
     lo: u32,
     wanted: Wanted,
@@ -210,27 +197,27 @@ fn check_applied(
     operator: Primitive,
     operands: &[Expression],
 ) -> Result<Typed, CheckErr>
-    requires able { MayCheck heads.now unit (plain_scope scope.now) lo (Applied place operator (plain_all operands.now)) }
-    requires marked { AreMarked (known heads.now unit) operands.now }
+    requires able { MayCheck context.now.heads.now context.now.unit (plain_scope scope.now) lo (Applied place operator (plain_all operands.now)) }
+    requires marked { AreMarked (seen context.now) operands.now }
     requires wanted { HasWideWanted wanted }
-    ensures { (tail : Bool) → Says result (check (known heads.now unit) (plain_scope scope.now) tail lo (plain_wanted wanted) (Applied place operator (plain_all operands.now))) }
+    ensures { (tail : Bool) → Says result (check (seen context.now) (plain_scope scope.now) tail lo (plain_wanted wanted) (Applied place operator (plain_all operands.now))) }
 {
     match shape_of(operator) {
         Shape::Alike => {
-            let r = check_alike(alloc, heads, unit, scope, lo, place, wanted, operands)?;
+            let r = check_alike(context, scope, lo, place, wanted, operands)?;
             Ok(make_operation(r.width, operator, r.terms))
         }
         Shape::Comparing => {
             let any = Wanted::Any;
-            let r = check_alike(alloc, heads, unit, scope, lo, place, any, operands)?;
+            let r = check_alike(context, scope, lo, place, any, operands)?;
             settled_operation(place, wanted, 1, operator, r.terms)
         }
         Shape::Shifting => {
-            let r = check_shift(alloc, heads, unit, scope, lo, place, operands)?;
+            let r = check_shift(context, scope, lo, place, operands)?;
             settled_operation(place, wanted, r.width, operator, r.terms)
         }
         Shape::Resizing => {
-            let r = check_operands(alloc, heads, unit, scope, lo, None, operands)?;
+            let r = check_operands(context, scope, lo, None, operands)?;
             match result_width(operator, &r.widths) {
                 Some(width) => settled_operation(place, wanted, width, operator, r.terms),
                 None => Err(refused(Rule::E05, place)),
@@ -242,97 +229,89 @@ fn check_applied(
 // Operands of one width: where none is expected, the first rigid one gives it, and is looked at first.
 #[cycle(walk)]
 fn check_alike(
-    alloc: Global,
-    heads: &Heads,
-    unit: u32,
+    context: &Context,
     scope: &Scope,
     lo: u32,
     place: u32,
     wanted: Wanted,
     es: &[Expression],
 ) -> Result<TypedAlike, CheckErr>
-    requires able { MayCheckAll heads.now unit (plain_scope scope.now) lo (plain_all es.now) }
-    requires marked { AreMarked (known heads.now unit) es.now }
+    requires able { MayCheckAll context.now.heads.now context.now.unit (plain_scope scope.now) lo (plain_all es.now) }
+    requires marked { AreMarked (seen context.now) es.now }
     requires wanted { HasWideWanted wanted }
-    ensures { SaysAlike result (check_alike (known heads.now unit) (plain_scope scope.now) lo place (plain_wanted wanted) (plain_all es.now)) }
+    ensures { SaysAlike result (check_alike (seen context.now) (plain_scope scope.now) lo place (plain_wanted wanted) (plain_all es.now)) }
 {
     let Some((first, rest)) = es.split_first() else {
-        return none_alike(alloc, place, wanted);
+        return none_alike(context.alloc, place, wanted);
     };
     let next = add_sites(lo, first);
     let flexible = is_flexible(first);
     let later = comes_later(wanted, flexible);
     if later {
-        let r = check_alike(alloc, heads, unit, scope, next, place, wanted, rest)?;
+        let r = check_alike(context, scope, next, place, wanted, rest)?;
         let found = Wanted::Exactly(r.width);
-        let x = check_expression(alloc, heads, unit, scope, false, lo, found, first)?;
+        let x = check_expression(context, scope, false, lo, found, first)?;
         return put_operand(r.width, x.term, r.terms);
     }
-    let x = check_expression(alloc, heads, unit, scope, false, lo, wanted, first)?;
+    let x = check_expression(context, scope, false, lo, wanted, first)?;
     let found = Wanted::Exactly(x.width);
-    let r = check_alike(alloc, heads, unit, scope, next, place, found, rest)?;
+    let r = check_alike(context, scope, next, place, found, rest)?;
     put_operand(x.width, x.term, r.terms)
 }
 
 // The first operand's width is found, and then the others are looked at.
 #[cycle(walk)]
 fn check_shift(
-    alloc: Global,
-    heads: &Heads,
-    unit: u32,
+    context: &Context,
     scope: &Scope,
     lo: u32,
     place: u32,
     es: &[Expression],
 ) -> Result<TypedAlike, CheckErr>
-    requires able { MayCheckAll heads.now unit (plain_scope scope.now) lo (plain_all es.now) }
-    requires marked { AreMarked (known heads.now unit) es.now }
-    ensures { SaysAlike result (check_shift (known heads.now unit) (plain_scope scope.now) lo place (plain_all es.now)) }
+    requires able { MayCheckAll context.now.heads.now context.now.unit (plain_scope scope.now) lo (plain_all es.now) }
+    requires marked { AreMarked (seen context.now) es.now }
+    ensures { SaysAlike result (check_shift (seen context.now) (plain_scope scope.now) lo place (plain_all es.now)) }
 {
     let Some((first, rest)) = es.split_first() else {
         return Err(refused(Rule::E14, place));
     };
     let next = add_sites(lo, first);
     let any = Wanted::Any;
-    let x = check_expression(alloc, heads, unit, scope, false, lo, any, first)?;
+    let x = check_expression(context, scope, false, lo, any, first)?;
     let shifted = Some(x.width);
-    let r = check_operands(alloc, heads, unit, scope, next, shifted, rest)?;
+    let r = check_operands(context, scope, next, shifted, rest)?;
     put_operand(x.width, x.term, r.terms)
 }
 
 // Operands in order, each found, but a flexible amount of a shift has the width of what is shifted.
 #[cycle(walk)]
 fn check_operands(
-    alloc: Global,
-    heads: &Heads,
-    unit: u32,
+    context: &Context,
     scope: &Scope,
     lo: u32,
     shifted: Option<u8>,
     es: &[Expression],
 ) -> Result<TypedAll, CheckErr>
-    requires able { MayCheckAll heads.now unit (plain_scope scope.now) lo (plain_all es.now) }
-    requires marked { AreMarked (known heads.now unit) es.now }
+    requires able { MayCheckAll context.now.heads.now context.now.unit (plain_scope scope.now) lo (plain_all es.now) }
+    requires marked { AreMarked (seen context.now) es.now }
     requires shifted { HasWideWritten shifted }
-    ensures { SaysAll result (check_all (known heads.now unit) (plain_scope scope.now) lo (operands_wanted shifted (plain_all es.now)) (plain_all es.now)) }
+    ensures { SaysAll result (check_all (seen context.now) (plain_scope scope.now) lo (operands_wanted shifted (plain_all es.now)) (plain_all es.now)) }
 {
     let Some((first, rest)) = es.split_first() else {
-        return Ok(none_typed(alloc));
+        return Ok(none_typed(context.alloc));
     };
     let next = add_sites(lo, first);
     let flexible = is_flexible(first);
     let wanted = as_operand(shifted, flexible);
-    let x = check_expression(alloc, heads, unit, scope, false, lo, wanted, first)?;
-    let others = check_operands(alloc, heads, unit, scope, next, shifted, rest)?;
+    let x = check_expression(context, scope, false, lo, wanted, first)?;
+    let others = check_operands(context, scope, next, shifted, rest)?;
     put_first(x, others)
 }
 
 // A call: of a member of the own group in tail position alone, or of a function of an earlier group.
 #[cycle(walk)]
 fn check_called(
-    alloc: Global,
-    heads: &Heads,
-    unit: u32,
+    context: &Context,
     scope: &Scope,
     tail: bool,
     lo: u32,
@@ -341,24 +320,24 @@ fn check_called(
     name: &Name,
     arguments: &[Expression],
 ) -> Result<Typed, CheckErr>
-    requires able { MayCheck heads.now unit (plain_scope scope.now) lo (Called place name.now (plain_all arguments.now)) }
-    requires marked { AreMarked (known heads.now unit) arguments.now }
+    requires able { MayCheck context.now.heads.now context.now.unit (plain_scope scope.now) lo (Called place name.now (plain_all arguments.now)) }
+    requires marked { AreMarked (seen context.now) arguments.now }
     requires wanted { HasWideWanted wanted }
-    ensures { Says result (check (known heads.now unit) (plain_scope scope.now) tail lo (plain_wanted wanted) (Called place name.now (plain_all arguments.now))) }
+    ensures { Says result (check (seen context.now) (plain_scope scope.now) tail lo (plain_wanted wanted) (Called place name.now (plain_all arguments.now))) }
 {
-    match find_callee(heads, unit, name) {
+    match find_callee(context.heads, context.unit, name) {
         Callee::Member(n) => {
             if !tail {
                 return Err(refused(Rule::E10, place));
             }
-            let head = heads.get(n);
-            let all = check_counted(alloc, heads, unit, scope, lo, place, head, arguments)?;
+            let head = context.heads.get(n);
+            let all = check_counted(context, scope, lo, place, head, arguments)?;
             settled_loop(place, wanted, head.width, n as u32, all.terms)
         }
         Callee::Above(n) => {
-            let head = heads.get(n);
+            let head = context.heads.get(n);
             let first = lo + 1;
-            let all = check_counted(alloc, heads, unit, scope, first, place, head, arguments)?;
+            let all = check_counted(context, scope, first, place, head, arguments)?;
             settled_call(place, wanted, head.width, n as u32, lo, all.terms)
         }
         Callee::Unknown => Err(refused(Rule::E09, place)),
@@ -368,54 +347,50 @@ fn check_called(
 // The arguments of a function: E11 where they are not as many as its parameters.
 #[cycle(walk)]
 fn check_counted(
-    alloc: Global,
-    heads: &Heads,
-    unit: u32,
+    context: &Context,
     scope: &Scope,
     lo: u32,
     place: u32,
     head: &Head,
     es: &[Expression],
 ) -> Result<TypedAll, CheckErr>
-    requires able { MayCheckAll heads.now unit (plain_scope scope.now) lo (plain_all es.now) }
-    requires marked { AreMarked (known heads.now unit) es.now }
+    requires able { MayCheckAll context.now.heads.now context.now.unit (plain_scope scope.now) lo (plain_all es.now) }
+    requires marked { AreMarked (seen context.now) es.now }
     requires wide { WideSlots (plain_head head.now).params }
     requires counted { length head.now.params.items < 2 ^ 32 }
-    ensures { SaysAll result (unless (needs (length (plain_head head.now).params == count (plain_all es.now)) (fault_with rules.E11 place (length (plain_head head.now).params) (count (plain_all es.now)))) (check_all (known heads.now unit) (plain_scope scope.now) lo (exactly (widths_of (plain_head head.now).params)) (plain_all es.now))) }
+    ensures { SaysAll result (unless (needs (length (plain_head head.now).params == count (plain_all es.now)) (fault_with rules.E11 place (length (plain_head head.now).params) (count (plain_all es.now)))) (check_all (seen context.now) (plain_scope scope.now) lo (exactly (widths_of (plain_head head.now).params)) (plain_all es.now))) }
 {
     let same = are_as_many(&head.params, es);
     if !same {
         return Err(wrong_count(place, &head.params, es));
     }
-    check_arguments(alloc, heads, unit, scope, lo, &head.params, es)
+    check_arguments(context, scope, lo, &head.params, es)
 }
 
 // Arguments in order, each at its parameter's width.
 #[cycle(walk)]
 fn check_arguments(
-    alloc: Global,
-    heads: &Heads,
-    unit: u32,
+    context: &Context,
     scope: &Scope,
     lo: u32,
     params: &[Slot],
     es: &[Expression],
 ) -> Result<TypedAll, CheckErr>
-    requires able { MayCheckAll heads.now unit (plain_scope scope.now) lo (plain_all es.now) }
-    requires marked { AreMarked (known heads.now unit) es.now }
+    requires able { MayCheckAll context.now.heads.now context.now.unit (plain_scope scope.now) lo (plain_all es.now) }
+    requires marked { AreMarked (seen context.now) es.now }
     requires params { WideSlots (plain_slots params.now) }
-    ensures { SaysAll result (check_all (known heads.now unit) (plain_scope scope.now) lo (exactly (widths_of (plain_slots params.now))) (plain_all es.now)) }
+    ensures { SaysAll result (check_all (seen context.now) (plain_scope scope.now) lo (exactly (widths_of (plain_slots params.now))) (plain_all es.now)) }
 {
     let Some((first, rest)) = es.split_first() else {
-        return Ok(none_typed(alloc));
+        return Ok(none_typed(context.alloc));
     };
     let Some((param, others)) = params.split_first() else {
-        return Ok(none_typed(alloc));
+        return Ok(none_typed(context.alloc));
     };
     let next = add_sites(lo, first);
     let wanted = Wanted::Exactly(param.width);
-    let x = check_expression(alloc, heads, unit, scope, false, lo, wanted, first)?;
-    let r = check_arguments(alloc, heads, unit, scope, next, others, rest)?;
+    let x = check_expression(context, scope, false, lo, wanted, first)?;
+    let r = check_arguments(context, scope, next, others, rest)?;
     put_first(x, r)
 }
 

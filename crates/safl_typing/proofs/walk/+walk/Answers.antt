@@ -30,433 +30,433 @@ use Rattle.safl_typing.proofs.walk.+walk.Goals as goal
 pub check_operands-check_expression-requires : goal.check_operands-check_expression-requires
 check_operands-check_expression-requires t c =
     let smaller : 4 * nodes (plain c.in-Some.first.now) < 4 * nodes_in (plain_all c.args.es.now) + 1 = walk.less_first c.args.es.now c.in-Some.first.now c.in-Some.rest.now c.in-Some.ensures.cases.0 in
-    let ok : MayCheck c.args.heads.now c.args.unit (plain_scope c.args.scope.now) c.args.lo (plain c.in-Some.first.now) = walk.first_of c.args.heads.now c.args.unit (plain_scope c.args.scope.now) c.args.lo c.args.es.now c.in-Some.first.now c.in-Some.rest.now c.in-Some.ensures.cases.0 c.requires.able in
-    let wide : HasWideWanted c.as_operand-wanted.result = walk.operand_wide c.args.shifted (flexible (plain c.in-Some.first.now)) c.as_operand-wanted.result c.requires.shifted (c.as_operand-wanted.ensures ∙ ap (λ (b : Bool). operand_wanted c.args.shifted b) (c.is_flexible-flexible.ensures (known c.args.heads.now c.args.unit) (marks.first_marked (known c.args.heads.now c.args.unit) c.args.es.now c.in-Some.first.now c.in-Some.rest.now c.in-Some.ensures.cases.0 c.requires.marked))) in
-    let marked : IsMarked (known c.args.heads.now c.args.unit) c.in-Some.first.now = marks.first_marked (known c.args.heads.now c.args.unit) c.args.es.now c.in-Some.first.now c.in-Some.rest.now c.in-Some.ensures.cases.0 c.requires.marked in
+    let ok : MayCheck c.args.context.now.heads.now c.args.context.now.unit (plain_scope c.args.scope.now) c.args.lo (plain c.in-Some.first.now) = walk.first_of c.args.context.now.heads.now c.args.context.now.unit (plain_scope c.args.scope.now) c.args.lo c.args.es.now c.in-Some.first.now c.in-Some.rest.now c.in-Some.ensures.cases.0 c.requires.able in
+    let wide : HasWideWanted c.as_operand-wanted.result = walk.operand_wide c.args.shifted (flexible (plain c.in-Some.first.now)) c.as_operand-wanted.result c.requires.shifted (c.as_operand-wanted.ensures ∙ ap (λ (b : Bool). operand_wanted c.args.shifted b) (c.is_flexible-flexible.ensures (known c.args.context.now.heads.now c.args.context.now.unit) (marks.first_marked (known c.args.context.now.heads.now c.args.context.now.unit) c.args.es.now c.in-Some.first.now c.in-Some.rest.now c.in-Some.ensures.cases.0 c.requires.marked))) in
+    let marked : IsMarked (known c.args.context.now.heads.now c.args.context.now.unit) c.in-Some.first.now = marks.first_marked (known c.args.context.now.heads.now c.args.context.now.unit) c.args.es.now c.in-Some.first.now c.in-Some.rest.now c.in-Some.ensures.cases.0 c.requires.marked in
     search rules
 
 pub check_operands-check_operands-requires : goal.check_operands-check_operands-requires
 check_operands-check_operands-requires t c =
     let smaller : 4 * nodes_in (plain_all c.in-Some.rest.now) + 1 < 4 * nodes_in (plain_all c.args.es.now) + 1 = walk.less_rest c.args.es.now c.in-Some.first.now c.in-Some.rest.now c.in-Some.ensures.cases.0 in
-    let ok : MayCheckAll c.args.heads.now c.args.unit (plain_scope c.args.scope.now) c.add_sites-next.result (plain_all c.in-Some.rest.now) = walk.rest_of c.args.heads.now c.args.unit (plain_scope c.args.scope.now) c.args.lo c.args.es.now c.in-Some.first.now c.in-Some.rest.now c.add_sites-next.result c.in-Some.ensures.cases.0 (c.add_sites-next.ensures (known c.args.heads.now c.args.unit) (marks.first_marked (known c.args.heads.now c.args.unit) c.args.es.now c.in-Some.first.now c.in-Some.rest.now c.in-Some.ensures.cases.0 c.requires.marked)) c.requires.able in
+    let ok : MayCheckAll c.args.context.now.heads.now c.args.context.now.unit (plain_scope c.args.scope.now) c.add_sites-next.result (plain_all c.in-Some.rest.now) = walk.rest_of c.args.context.now.heads.now c.args.context.now.unit (plain_scope c.args.scope.now) c.args.lo c.args.es.now c.in-Some.first.now c.in-Some.rest.now c.add_sites-next.result c.in-Some.ensures.cases.0 (c.add_sites-next.ensures (known c.args.context.now.heads.now c.args.context.now.unit) (marks.first_marked (known c.args.context.now.heads.now c.args.context.now.unit) c.args.es.now c.in-Some.first.now c.in-Some.rest.now c.in-Some.ensures.cases.0 c.requires.marked)) c.requires.able in
     let wide : HasWideWritten c.args.shifted = c.requires.shifted in
-    let marked : AreMarked (known c.args.heads.now c.args.unit) c.in-Some.rest.now = marks.rest_marked (known c.args.heads.now c.args.unit) c.args.es.now c.in-Some.first.now c.in-Some.rest.now c.in-Some.ensures.cases.0 c.requires.marked in
+    let marked : AreMarked (known c.args.context.now.heads.now c.args.context.now.unit) c.in-Some.rest.now = marks.rest_marked (known c.args.context.now.heads.now c.args.context.now.unit) c.args.es.now c.in-Some.first.now c.in-Some.rest.now c.in-Some.ensures.cases.0 c.requires.marked in
     search rules
 
 pub check_operands-returns-in_default : goal.check_operands-returns-in_default
 check_operands-returns-in_default t c =
-    walk.none_is (known c.args.heads.now c.args.unit) (plain_scope c.args.scope.now) c.args.lo (operands_wanted c.args.shifted (plain_all c.args.es.now)) c.args.es.now c.in_default.ensures.cases ∙ walk.ok_all _ _ (sym c.none_typed.ensures)
+    walk.none_is (known c.args.context.now.heads.now c.args.context.now.unit) (plain_scope c.args.scope.now) c.args.lo (operands_wanted c.args.shifted (plain_all c.args.es.now)) c.args.es.now c.in_default.ensures.cases ∙ walk.ok_all _ _ (sym c.none_typed.ensures)
 
 pub check_operands-returns-in_err-x : goal.check_operands-returns-in_err-x
 check_operands-returns-in_err-x t c =
     let p = err_from_is_err_and c.from_residual.result c.from_residual.ensures.1 in
-    rw (p.1, p.2) (fails c.in_err-x.field-0.0 _ _ _ (walk.operands_is (known c.args.heads.now c.args.unit) (plain_scope c.args.scope.now) c.args.lo c.args.shifted c.args.es.now c.in-Some.first.now c.in-Some.rest.now (plain_wanted c.as_operand-wanted.result) c.add_sites-next.result c.in-Some.ensures.cases.0 (c.as_operand-wanted.ensures ∙ ap (λ (b : Bool). operand_wanted c.args.shifted b) (c.is_flexible-flexible.ensures (known c.args.heads.now c.args.unit) (marks.first_marked (known c.args.heads.now c.args.unit) c.args.es.now c.in-Some.first.now c.in-Some.rest.now c.in-Some.ensures.cases.0 c.requires.marked))) (walk.next_of c.args.heads.now c.args.unit (plain_scope c.args.scope.now) c.args.lo c.args.es.now c.in-Some.first.now c.in-Some.rest.now c.add_sites-next.result c.in-Some.ensures.cases.0 (c.add_sites-next.ensures (known c.args.heads.now c.args.unit) (marks.first_marked (known c.args.heads.now c.args.unit) c.args.es.now c.in-Some.first.now c.in-Some.rest.now c.in-Some.ensures.cases.0 c.requires.marked)) c.requires.able)) c.in_err-x.ensures)
+    rw (p.1, p.2) (fails c.in_err-x.field-0.0 _ _ _ (walk.operands_is (known c.args.context.now.heads.now c.args.context.now.unit) (plain_scope c.args.scope.now) c.args.lo c.args.shifted c.args.es.now c.in-Some.first.now c.in-Some.rest.now (plain_wanted c.as_operand-wanted.result) c.add_sites-next.result c.in-Some.ensures.cases.0 (c.as_operand-wanted.ensures ∙ ap (λ (b : Bool). operand_wanted c.args.shifted b) (c.is_flexible-flexible.ensures (known c.args.context.now.heads.now c.args.context.now.unit) (marks.first_marked (known c.args.context.now.heads.now c.args.context.now.unit) c.args.es.now c.in-Some.first.now c.in-Some.rest.now c.in-Some.ensures.cases.0 c.requires.marked))) (walk.next_of c.args.context.now.heads.now c.args.context.now.unit (plain_scope c.args.scope.now) c.args.lo c.args.es.now c.in-Some.first.now c.in-Some.rest.now c.add_sites-next.result c.in-Some.ensures.cases.0 (c.add_sites-next.ensures (known c.args.context.now.heads.now c.args.context.now.unit) (marks.first_marked (known c.args.context.now.heads.now c.args.context.now.unit) c.args.es.now c.in-Some.first.now c.in-Some.rest.now c.in-Some.ensures.cases.0 c.requires.marked)) c.requires.able)) c.in_err-x.ensures)
 
 pub check_operands-returns-in_err-others : goal.check_operands-returns-in_err-others
 check_operands-returns-in_err-others t c =
     let p = err_from_is_err_and c.from_residual-in_err-others.result c.from_residual-in_err-others.ensures.1 in
-    rw (p.1, p.2) (fails c.in_err-others.field-0.0 _ _ _ (goes _ _ _ (plain_typed c.in_ok-x.x) (walk.operands_is (known c.args.heads.now c.args.unit) (plain_scope c.args.scope.now) c.args.lo c.args.shifted c.args.es.now c.in-Some.first.now c.in-Some.rest.now (plain_wanted c.as_operand-wanted.result) c.add_sites-next.result c.in-Some.ensures.cases.0 (c.as_operand-wanted.ensures ∙ ap (λ (b : Bool). operand_wanted c.args.shifted b) (c.is_flexible-flexible.ensures (known c.args.heads.now c.args.unit) (marks.first_marked (known c.args.heads.now c.args.unit) c.args.es.now c.in-Some.first.now c.in-Some.rest.now c.in-Some.ensures.cases.0 c.requires.marked))) (walk.next_of c.args.heads.now c.args.unit (plain_scope c.args.scope.now) c.args.lo c.args.es.now c.in-Some.first.now c.in-Some.rest.now c.add_sites-next.result c.in-Some.ensures.cases.0 (c.add_sites-next.ensures (known c.args.heads.now c.args.unit) (marks.first_marked (known c.args.heads.now c.args.unit) c.args.es.now c.in-Some.first.now c.in-Some.rest.now c.in-Some.ensures.cases.0 c.requires.marked)) c.requires.able)) c.in_ok-x.ensures) c.in_err-others.ensures)
+    rw (p.1, p.2) (fails c.in_err-others.field-0.0 _ _ _ (goes _ _ _ (plain_typed c.in_ok-x.x) (walk.operands_is (known c.args.context.now.heads.now c.args.context.now.unit) (plain_scope c.args.scope.now) c.args.lo c.args.shifted c.args.es.now c.in-Some.first.now c.in-Some.rest.now (plain_wanted c.as_operand-wanted.result) c.add_sites-next.result c.in-Some.ensures.cases.0 (c.as_operand-wanted.ensures ∙ ap (λ (b : Bool). operand_wanted c.args.shifted b) (c.is_flexible-flexible.ensures (known c.args.context.now.heads.now c.args.context.now.unit) (marks.first_marked (known c.args.context.now.heads.now c.args.context.now.unit) c.args.es.now c.in-Some.first.now c.in-Some.rest.now c.in-Some.ensures.cases.0 c.requires.marked))) (walk.next_of c.args.context.now.heads.now c.args.context.now.unit (plain_scope c.args.scope.now) c.args.lo c.args.es.now c.in-Some.first.now c.in-Some.rest.now c.add_sites-next.result c.in-Some.ensures.cases.0 (c.add_sites-next.ensures (known c.args.context.now.heads.now c.args.context.now.unit) (marks.first_marked (known c.args.context.now.heads.now c.args.context.now.unit) c.args.es.now c.in-Some.first.now c.in-Some.rest.now c.in-Some.ensures.cases.0 c.requires.marked)) c.requires.able)) c.in_ok-x.ensures) c.in_err-others.ensures)
 
 pub check_operands-returns : goal.check_operands-returns
 check_operands-returns t c =
-    subst (λ (z : Result TypedAll Fault). SaysAll c.put_first.result z) (sym (goes _ _ _ (plain_all_typed c.in_ok-others.others) (goes _ _ _ (plain_typed c.in_ok-x.x) (walk.operands_is (known c.args.heads.now c.args.unit) (plain_scope c.args.scope.now) c.args.lo c.args.shifted c.args.es.now c.in-Some.first.now c.in-Some.rest.now (plain_wanted c.as_operand-wanted.result) c.add_sites-next.result c.in-Some.ensures.cases.0 (c.as_operand-wanted.ensures ∙ ap (λ (b : Bool). operand_wanted c.args.shifted b) (c.is_flexible-flexible.ensures (known c.args.heads.now c.args.unit) (marks.first_marked (known c.args.heads.now c.args.unit) c.args.es.now c.in-Some.first.now c.in-Some.rest.now c.in-Some.ensures.cases.0 c.requires.marked))) (walk.next_of c.args.heads.now c.args.unit (plain_scope c.args.scope.now) c.args.lo c.args.es.now c.in-Some.first.now c.in-Some.rest.now c.add_sites-next.result c.in-Some.ensures.cases.0 (c.add_sites-next.ensures (known c.args.heads.now c.args.unit) (marks.first_marked (known c.args.heads.now c.args.unit) c.args.es.now c.in-Some.first.now c.in-Some.rest.now c.in-Some.ensures.cases.0 c.requires.marked)) c.requires.able)) c.in_ok-x.ensures) c.in_ok-others.ensures)) c.put_first.ensures
+    subst (λ (z : Result TypedAll Fault). SaysAll c.put_first.result z) (sym (goes _ _ _ (plain_all_typed c.in_ok-others.others) (goes _ _ _ (plain_typed c.in_ok-x.x) (walk.operands_is (known c.args.context.now.heads.now c.args.context.now.unit) (plain_scope c.args.scope.now) c.args.lo c.args.shifted c.args.es.now c.in-Some.first.now c.in-Some.rest.now (plain_wanted c.as_operand-wanted.result) c.add_sites-next.result c.in-Some.ensures.cases.0 (c.as_operand-wanted.ensures ∙ ap (λ (b : Bool). operand_wanted c.args.shifted b) (c.is_flexible-flexible.ensures (known c.args.context.now.heads.now c.args.context.now.unit) (marks.first_marked (known c.args.context.now.heads.now c.args.context.now.unit) c.args.es.now c.in-Some.first.now c.in-Some.rest.now c.in-Some.ensures.cases.0 c.requires.marked))) (walk.next_of c.args.context.now.heads.now c.args.context.now.unit (plain_scope c.args.scope.now) c.args.lo c.args.es.now c.in-Some.first.now c.in-Some.rest.now c.add_sites-next.result c.in-Some.ensures.cases.0 (c.add_sites-next.ensures (known c.args.context.now.heads.now c.args.context.now.unit) (marks.first_marked (known c.args.context.now.heads.now c.args.context.now.unit) c.args.es.now c.in-Some.first.now c.in-Some.rest.now c.in-Some.ensures.cases.0 c.requires.marked)) c.requires.able)) c.in_ok-x.ensures) c.in_ok-others.ensures)) c.put_first.ensures
 
 pub check_arguments-check_expression-requires : goal.check_arguments-check_expression-requires
 check_arguments-check_expression-requires t c =
     let smaller : 4 * nodes (plain c.in-Some.first.now) < 4 * nodes_in (plain_all c.args.es.now) + 1 = walk.less_first c.args.es.now c.in-Some.first.now c.in-Some.rest.now c.in-Some.ensures.cases.0 in
-    let ok : MayCheck c.args.heads.now c.args.unit (plain_scope c.args.scope.now) c.args.lo (plain c.in-Some.first.now) = walk.first_of c.args.heads.now c.args.unit (plain_scope c.args.scope.now) c.args.lo c.args.es.now c.in-Some.first.now c.in-Some.rest.now c.in-Some.ensures.cases.0 c.requires.able in
+    let ok : MayCheck c.args.context.now.heads.now c.args.context.now.unit (plain_scope c.args.scope.now) c.args.lo (plain c.in-Some.first.now) = walk.first_of c.args.context.now.heads.now c.args.context.now.unit (plain_scope c.args.scope.now) c.args.lo c.args.es.now c.in-Some.first.now c.in-Some.rest.now c.in-Some.ensures.cases.0 c.requires.able in
     let both : WideSlots (plain_slots (c.in-Some-split_first.param.now ∷ c.in-Some-split_first.others.now)) = subst (λ (l : List code_slot.Slot). WideSlots (plain_slots l)) c.in-Some-split_first.ensures.cases.0 c.requires.params in
     let wide : HasWidthOfWord c.in-Some-split_first.param.now.width = (both.0.some, both.0.bounded) in
-    let marked : IsMarked (known c.args.heads.now c.args.unit) c.in-Some.first.now = marks.first_marked (known c.args.heads.now c.args.unit) c.args.es.now c.in-Some.first.now c.in-Some.rest.now c.in-Some.ensures.cases.0 c.requires.marked in
+    let marked : IsMarked (known c.args.context.now.heads.now c.args.context.now.unit) c.in-Some.first.now = marks.first_marked (known c.args.context.now.heads.now c.args.context.now.unit) c.args.es.now c.in-Some.first.now c.in-Some.rest.now c.in-Some.ensures.cases.0 c.requires.marked in
     search rules
 
 pub check_arguments-check_arguments-requires : goal.check_arguments-check_arguments-requires
 check_arguments-check_arguments-requires t c =
     let smaller : 4 * nodes_in (plain_all c.in-Some.rest.now) + 1 < 4 * nodes_in (plain_all c.args.es.now) + 1 = walk.less_rest c.args.es.now c.in-Some.first.now c.in-Some.rest.now c.in-Some.ensures.cases.0 in
-    let ok : MayCheckAll c.args.heads.now c.args.unit (plain_scope c.args.scope.now) c.add_sites-next.result (plain_all c.in-Some.rest.now) = walk.rest_of c.args.heads.now c.args.unit (plain_scope c.args.scope.now) c.args.lo c.args.es.now c.in-Some.first.now c.in-Some.rest.now c.add_sites-next.result c.in-Some.ensures.cases.0 (c.add_sites-next.ensures (known c.args.heads.now c.args.unit) (marks.first_marked (known c.args.heads.now c.args.unit) c.args.es.now c.in-Some.first.now c.in-Some.rest.now c.in-Some.ensures.cases.0 c.requires.marked)) c.requires.able in
+    let ok : MayCheckAll c.args.context.now.heads.now c.args.context.now.unit (plain_scope c.args.scope.now) c.add_sites-next.result (plain_all c.in-Some.rest.now) = walk.rest_of c.args.context.now.heads.now c.args.context.now.unit (plain_scope c.args.scope.now) c.args.lo c.args.es.now c.in-Some.first.now c.in-Some.rest.now c.add_sites-next.result c.in-Some.ensures.cases.0 (c.add_sites-next.ensures (known c.args.context.now.heads.now c.args.context.now.unit) (marks.first_marked (known c.args.context.now.heads.now c.args.context.now.unit) c.args.es.now c.in-Some.first.now c.in-Some.rest.now c.in-Some.ensures.cases.0 c.requires.marked)) c.requires.able in
     let both : WideSlots (plain_slots (c.in-Some-split_first.param.now ∷ c.in-Some-split_first.others.now)) = subst (λ (l : List code_slot.Slot). WideSlots (plain_slots l)) c.in-Some-split_first.ensures.cases.0 c.requires.params in
     let wide : WideSlots (plain_slots c.in-Some-split_first.others.now) = both.1 in
-    let marked : AreMarked (known c.args.heads.now c.args.unit) c.in-Some.rest.now = marks.rest_marked (known c.args.heads.now c.args.unit) c.args.es.now c.in-Some.first.now c.in-Some.rest.now c.in-Some.ensures.cases.0 c.requires.marked in
+    let marked : AreMarked (known c.args.context.now.heads.now c.args.context.now.unit) c.in-Some.rest.now = marks.rest_marked (known c.args.context.now.heads.now c.args.context.now.unit) c.args.es.now c.in-Some.first.now c.in-Some.rest.now c.in-Some.ensures.cases.0 c.requires.marked in
     search rules
 
 pub check_arguments-returns-in_default : goal.check_arguments-returns-in_default
 check_arguments-returns-in_default t c =
-    walk.none_is (known c.args.heads.now c.args.unit) (plain_scope c.args.scope.now) c.args.lo (exactly (widths_of (plain_slots c.args.params.now))) c.args.es.now c.in_default.ensures.cases ∙ walk.ok_all _ _ (sym c.none_typed.ensures)
+    walk.none_is (known c.args.context.now.heads.now c.args.context.now.unit) (plain_scope c.args.scope.now) c.args.lo (exactly (widths_of (plain_slots c.args.params.now))) c.args.es.now c.in_default.ensures.cases ∙ walk.ok_all _ _ (sym c.none_typed.ensures)
 
 pub check_arguments-returns-in_default-split_first : goal.check_arguments-returns-in_default-split_first
 check_arguments-returns-in_default-split_first t c =
-    walk.arguments_none (known c.args.heads.now c.args.unit) (plain_scope c.args.scope.now) c.args.lo c.args.params.now (plain_all c.args.es.now) c.in_default-split_first.ensures.cases ∙ walk.ok_all _ _ (sym c.none_typed-in_default-split_first.ensures)
+    walk.arguments_none (known c.args.context.now.heads.now c.args.context.now.unit) (plain_scope c.args.scope.now) c.args.lo c.args.params.now (plain_all c.args.es.now) c.in_default-split_first.ensures.cases ∙ walk.ok_all _ _ (sym c.none_typed-in_default-split_first.ensures)
 
 pub check_arguments-returns-in_err-x : goal.check_arguments-returns-in_err-x
 check_arguments-returns-in_err-x t c =
     let p = err_from_is_err_and c.from_residual.result c.from_residual.ensures.1 in
-    rw (p.1, p.2) (fails c.in_err-x.field-0.0 _ _ _ (walk.arguments_is (known c.args.heads.now c.args.unit) (plain_scope c.args.scope.now) c.args.lo c.args.params.now c.in-Some-split_first.param.now c.in-Some-split_first.others.now c.args.es.now c.in-Some.first.now c.in-Some.rest.now c.add_sites-next.result c.in-Some-split_first.ensures.cases.0 c.in-Some.ensures.cases.0 (walk.next_of c.args.heads.now c.args.unit (plain_scope c.args.scope.now) c.args.lo c.args.es.now c.in-Some.first.now c.in-Some.rest.now c.add_sites-next.result c.in-Some.ensures.cases.0 (c.add_sites-next.ensures (known c.args.heads.now c.args.unit) (marks.first_marked (known c.args.heads.now c.args.unit) c.args.es.now c.in-Some.first.now c.in-Some.rest.now c.in-Some.ensures.cases.0 c.requires.marked)) c.requires.able)) c.in_err-x.ensures)
+    rw (p.1, p.2) (fails c.in_err-x.field-0.0 _ _ _ (walk.arguments_is (known c.args.context.now.heads.now c.args.context.now.unit) (plain_scope c.args.scope.now) c.args.lo c.args.params.now c.in-Some-split_first.param.now c.in-Some-split_first.others.now c.args.es.now c.in-Some.first.now c.in-Some.rest.now c.add_sites-next.result c.in-Some-split_first.ensures.cases.0 c.in-Some.ensures.cases.0 (walk.next_of c.args.context.now.heads.now c.args.context.now.unit (plain_scope c.args.scope.now) c.args.lo c.args.es.now c.in-Some.first.now c.in-Some.rest.now c.add_sites-next.result c.in-Some.ensures.cases.0 (c.add_sites-next.ensures (known c.args.context.now.heads.now c.args.context.now.unit) (marks.first_marked (known c.args.context.now.heads.now c.args.context.now.unit) c.args.es.now c.in-Some.first.now c.in-Some.rest.now c.in-Some.ensures.cases.0 c.requires.marked)) c.requires.able)) c.in_err-x.ensures)
 
 pub check_arguments-returns-in_err-r : goal.check_arguments-returns-in_err-r
 check_arguments-returns-in_err-r t c =
     let p = err_from_is_err_and c.from_residual-in_err-r.result c.from_residual-in_err-r.ensures.1 in
-    rw (p.1, p.2) (fails c.in_err-r.field-0.0 _ _ _ (goes _ _ _ (plain_typed c.in_ok-x.x) (walk.arguments_is (known c.args.heads.now c.args.unit) (plain_scope c.args.scope.now) c.args.lo c.args.params.now c.in-Some-split_first.param.now c.in-Some-split_first.others.now c.args.es.now c.in-Some.first.now c.in-Some.rest.now c.add_sites-next.result c.in-Some-split_first.ensures.cases.0 c.in-Some.ensures.cases.0 (walk.next_of c.args.heads.now c.args.unit (plain_scope c.args.scope.now) c.args.lo c.args.es.now c.in-Some.first.now c.in-Some.rest.now c.add_sites-next.result c.in-Some.ensures.cases.0 (c.add_sites-next.ensures (known c.args.heads.now c.args.unit) (marks.first_marked (known c.args.heads.now c.args.unit) c.args.es.now c.in-Some.first.now c.in-Some.rest.now c.in-Some.ensures.cases.0 c.requires.marked)) c.requires.able)) c.in_ok-x.ensures) c.in_err-r.ensures)
+    rw (p.1, p.2) (fails c.in_err-r.field-0.0 _ _ _ (goes _ _ _ (plain_typed c.in_ok-x.x) (walk.arguments_is (known c.args.context.now.heads.now c.args.context.now.unit) (plain_scope c.args.scope.now) c.args.lo c.args.params.now c.in-Some-split_first.param.now c.in-Some-split_first.others.now c.args.es.now c.in-Some.first.now c.in-Some.rest.now c.add_sites-next.result c.in-Some-split_first.ensures.cases.0 c.in-Some.ensures.cases.0 (walk.next_of c.args.context.now.heads.now c.args.context.now.unit (plain_scope c.args.scope.now) c.args.lo c.args.es.now c.in-Some.first.now c.in-Some.rest.now c.add_sites-next.result c.in-Some.ensures.cases.0 (c.add_sites-next.ensures (known c.args.context.now.heads.now c.args.context.now.unit) (marks.first_marked (known c.args.context.now.heads.now c.args.context.now.unit) c.args.es.now c.in-Some.first.now c.in-Some.rest.now c.in-Some.ensures.cases.0 c.requires.marked)) c.requires.able)) c.in_ok-x.ensures) c.in_err-r.ensures)
 
 pub check_arguments-returns : goal.check_arguments-returns
 check_arguments-returns t c =
-    subst (λ (z : Result TypedAll Fault). SaysAll c.put_first.result z) (sym (goes _ _ _ (plain_all_typed c.in_ok-r.r) (goes _ _ _ (plain_typed c.in_ok-x.x) (walk.arguments_is (known c.args.heads.now c.args.unit) (plain_scope c.args.scope.now) c.args.lo c.args.params.now c.in-Some-split_first.param.now c.in-Some-split_first.others.now c.args.es.now c.in-Some.first.now c.in-Some.rest.now c.add_sites-next.result c.in-Some-split_first.ensures.cases.0 c.in-Some.ensures.cases.0 (walk.next_of c.args.heads.now c.args.unit (plain_scope c.args.scope.now) c.args.lo c.args.es.now c.in-Some.first.now c.in-Some.rest.now c.add_sites-next.result c.in-Some.ensures.cases.0 (c.add_sites-next.ensures (known c.args.heads.now c.args.unit) (marks.first_marked (known c.args.heads.now c.args.unit) c.args.es.now c.in-Some.first.now c.in-Some.rest.now c.in-Some.ensures.cases.0 c.requires.marked)) c.requires.able)) c.in_ok-x.ensures) c.in_ok-r.ensures)) c.put_first.ensures
+    subst (λ (z : Result TypedAll Fault). SaysAll c.put_first.result z) (sym (goes _ _ _ (plain_all_typed c.in_ok-r.r) (goes _ _ _ (plain_typed c.in_ok-x.x) (walk.arguments_is (known c.args.context.now.heads.now c.args.context.now.unit) (plain_scope c.args.scope.now) c.args.lo c.args.params.now c.in-Some-split_first.param.now c.in-Some-split_first.others.now c.args.es.now c.in-Some.first.now c.in-Some.rest.now c.add_sites-next.result c.in-Some-split_first.ensures.cases.0 c.in-Some.ensures.cases.0 (walk.next_of c.args.context.now.heads.now c.args.context.now.unit (plain_scope c.args.scope.now) c.args.lo c.args.es.now c.in-Some.first.now c.in-Some.rest.now c.add_sites-next.result c.in-Some.ensures.cases.0 (c.add_sites-next.ensures (known c.args.context.now.heads.now c.args.context.now.unit) (marks.first_marked (known c.args.context.now.heads.now c.args.context.now.unit) c.args.es.now c.in-Some.first.now c.in-Some.rest.now c.in-Some.ensures.cases.0 c.requires.marked)) c.requires.able)) c.in_ok-x.ensures) c.in_ok-r.ensures)) c.put_first.ensures
 
 pub check_shift-check_expression-requires : goal.check_shift-check_expression-requires
 check_shift-check_expression-requires t c =
     let smaller : 4 * nodes (plain c.in-Some.first.now) < 4 * nodes_in (plain_all c.args.es.now) + 1 = walk.less_first c.args.es.now c.in-Some.first.now c.in-Some.rest.now c.in-Some.ensures.cases.0 in
-    let ok : MayCheck c.args.heads.now c.args.unit (plain_scope c.args.scope.now) c.args.lo (plain c.in-Some.first.now) = walk.first_of c.args.heads.now c.args.unit (plain_scope c.args.scope.now) c.args.lo c.args.es.now c.in-Some.first.now c.in-Some.rest.now c.in-Some.ensures.cases.0 c.requires.able in
-    let marked : IsMarked (known c.args.heads.now c.args.unit) c.in-Some.first.now = marks.first_marked (known c.args.heads.now c.args.unit) c.args.es.now c.in-Some.first.now c.in-Some.rest.now c.in-Some.ensures.cases.0 c.requires.marked in
+    let ok : MayCheck c.args.context.now.heads.now c.args.context.now.unit (plain_scope c.args.scope.now) c.args.lo (plain c.in-Some.first.now) = walk.first_of c.args.context.now.heads.now c.args.context.now.unit (plain_scope c.args.scope.now) c.args.lo c.args.es.now c.in-Some.first.now c.in-Some.rest.now c.in-Some.ensures.cases.0 c.requires.able in
+    let marked : IsMarked (known c.args.context.now.heads.now c.args.context.now.unit) c.in-Some.first.now = marks.first_marked (known c.args.context.now.heads.now c.args.context.now.unit) c.args.es.now c.in-Some.first.now c.in-Some.rest.now c.in-Some.ensures.cases.0 c.requires.marked in
     search rules
 
 pub check_shift-check_operands-requires : goal.check_shift-check_operands-requires
 check_shift-check_operands-requires t c =
     let smaller : 4 * nodes_in (plain_all c.in-Some.rest.now) + 1 < 4 * nodes_in (plain_all c.args.es.now) + 1 = walk.less_rest c.args.es.now c.in-Some.first.now c.in-Some.rest.now c.in-Some.ensures.cases.0 in
-    let ok : MayCheckAll c.args.heads.now c.args.unit (plain_scope c.args.scope.now) c.add_sites-next.result (plain_all c.in-Some.rest.now) = walk.rest_of c.args.heads.now c.args.unit (plain_scope c.args.scope.now) c.args.lo c.args.es.now c.in-Some.first.now c.in-Some.rest.now c.add_sites-next.result c.in-Some.ensures.cases.0 (c.add_sites-next.ensures (known c.args.heads.now c.args.unit) (marks.first_marked (known c.args.heads.now c.args.unit) c.args.es.now c.in-Some.first.now c.in-Some.rest.now c.in-Some.ensures.cases.0 c.requires.marked)) c.requires.able in
-    let wide : HasWidthOfWord c.in_ok-x.x.width = walk.found_wide c.args.heads.now c.args.unit (plain_scope c.args.scope.now) false c.args.lo wants.Any (plain c.in-Some.first.now) (plain_typed c.in_ok-x.x) (walk.first_of c.args.heads.now c.args.unit (plain_scope c.args.scope.now) c.args.lo c.args.es.now c.in-Some.first.now c.in-Some.rest.now c.in-Some.ensures.cases.0 c.requires.able) tt c.in_ok-x.ensures in
-    let marked : AreMarked (known c.args.heads.now c.args.unit) c.in-Some.rest.now = marks.rest_marked (known c.args.heads.now c.args.unit) c.args.es.now c.in-Some.first.now c.in-Some.rest.now c.in-Some.ensures.cases.0 c.requires.marked in
+    let ok : MayCheckAll c.args.context.now.heads.now c.args.context.now.unit (plain_scope c.args.scope.now) c.add_sites-next.result (plain_all c.in-Some.rest.now) = walk.rest_of c.args.context.now.heads.now c.args.context.now.unit (plain_scope c.args.scope.now) c.args.lo c.args.es.now c.in-Some.first.now c.in-Some.rest.now c.add_sites-next.result c.in-Some.ensures.cases.0 (c.add_sites-next.ensures (known c.args.context.now.heads.now c.args.context.now.unit) (marks.first_marked (known c.args.context.now.heads.now c.args.context.now.unit) c.args.es.now c.in-Some.first.now c.in-Some.rest.now c.in-Some.ensures.cases.0 c.requires.marked)) c.requires.able in
+    let wide : HasWidthOfWord c.in_ok-x.x.width = walk.found_wide c.args.context.now.heads.now c.args.context.now.unit (plain_scope c.args.scope.now) false c.args.lo wants.Any (plain c.in-Some.first.now) (plain_typed c.in_ok-x.x) (walk.first_of c.args.context.now.heads.now c.args.context.now.unit (plain_scope c.args.scope.now) c.args.lo c.args.es.now c.in-Some.first.now c.in-Some.rest.now c.in-Some.ensures.cases.0 c.requires.able) tt c.in_ok-x.ensures in
+    let marked : AreMarked (known c.args.context.now.heads.now c.args.context.now.unit) c.in-Some.rest.now = marks.rest_marked (known c.args.context.now.heads.now c.args.context.now.unit) c.args.es.now c.in-Some.first.now c.in-Some.rest.now c.in-Some.ensures.cases.0 c.requires.marked in
     search rules
 
 pub check_shift-returns-in_default : goal.check_shift-returns-in_default
 check_shift-returns-in_default t c =
-    subst (λ (z : Expressions). SaysAlike (Err c.refused.result) (check_shift (known c.args.heads.now c.args.unit) (plain_scope c.args.scope.now) c.args.lo c.args.place z)) (sym (walk.no_list c.args.es.now c.in_default.ensures.cases)) (walk.refused_is c.refused.result _ _ c.refused.ensures refl)
+    subst (λ (z : Expressions). SaysAlike (Err c.refused.result) (check_shift (known c.args.context.now.heads.now c.args.context.now.unit) (plain_scope c.args.scope.now) c.args.lo c.args.place z)) (sym (walk.no_list c.args.es.now c.in_default.ensures.cases)) (walk.refused_is c.refused.result _ _ c.refused.ensures refl)
 
 pub check_shift-returns-in_err-x : goal.check_shift-returns-in_err-x
 check_shift-returns-in_err-x t c =
     let p = err_from_is_err_and c.from_residual.result c.from_residual.ensures.1 in
-    rw (p.1, p.2) (fails c.in_err-x.field-0.0 _ _ _ (walk.shift_is (known c.args.heads.now c.args.unit) (plain_scope c.args.scope.now) c.args.lo c.args.place c.args.es.now c.in-Some.first.now c.in-Some.rest.now c.add_sites-next.result c.in-Some.ensures.cases.0 (walk.next_of c.args.heads.now c.args.unit (plain_scope c.args.scope.now) c.args.lo c.args.es.now c.in-Some.first.now c.in-Some.rest.now c.add_sites-next.result c.in-Some.ensures.cases.0 (c.add_sites-next.ensures (known c.args.heads.now c.args.unit) (marks.first_marked (known c.args.heads.now c.args.unit) c.args.es.now c.in-Some.first.now c.in-Some.rest.now c.in-Some.ensures.cases.0 c.requires.marked)) c.requires.able)) c.in_err-x.ensures)
+    rw (p.1, p.2) (fails c.in_err-x.field-0.0 _ _ _ (walk.shift_is (known c.args.context.now.heads.now c.args.context.now.unit) (plain_scope c.args.scope.now) c.args.lo c.args.place c.args.es.now c.in-Some.first.now c.in-Some.rest.now c.add_sites-next.result c.in-Some.ensures.cases.0 (walk.next_of c.args.context.now.heads.now c.args.context.now.unit (plain_scope c.args.scope.now) c.args.lo c.args.es.now c.in-Some.first.now c.in-Some.rest.now c.add_sites-next.result c.in-Some.ensures.cases.0 (c.add_sites-next.ensures (known c.args.context.now.heads.now c.args.context.now.unit) (marks.first_marked (known c.args.context.now.heads.now c.args.context.now.unit) c.args.es.now c.in-Some.first.now c.in-Some.rest.now c.in-Some.ensures.cases.0 c.requires.marked)) c.requires.able)) c.in_err-x.ensures)
 
 pub check_shift-returns-in_err-r : goal.check_shift-returns-in_err-r
 check_shift-returns-in_err-r t c =
     let p = err_from_is_err_and c.from_residual-in_err-r.result c.from_residual-in_err-r.ensures.1 in
-    rw (p.1, p.2) (fails c.in_err-r.field-0.0 _ _ _ (goes _ _ _ (plain_typed c.in_ok-x.x) (walk.shift_is (known c.args.heads.now c.args.unit) (plain_scope c.args.scope.now) c.args.lo c.args.place c.args.es.now c.in-Some.first.now c.in-Some.rest.now c.add_sites-next.result c.in-Some.ensures.cases.0 (walk.next_of c.args.heads.now c.args.unit (plain_scope c.args.scope.now) c.args.lo c.args.es.now c.in-Some.first.now c.in-Some.rest.now c.add_sites-next.result c.in-Some.ensures.cases.0 (c.add_sites-next.ensures (known c.args.heads.now c.args.unit) (marks.first_marked (known c.args.heads.now c.args.unit) c.args.es.now c.in-Some.first.now c.in-Some.rest.now c.in-Some.ensures.cases.0 c.requires.marked)) c.requires.able)) c.in_ok-x.ensures) c.in_err-r.ensures)
+    rw (p.1, p.2) (fails c.in_err-r.field-0.0 _ _ _ (goes _ _ _ (plain_typed c.in_ok-x.x) (walk.shift_is (known c.args.context.now.heads.now c.args.context.now.unit) (plain_scope c.args.scope.now) c.args.lo c.args.place c.args.es.now c.in-Some.first.now c.in-Some.rest.now c.add_sites-next.result c.in-Some.ensures.cases.0 (walk.next_of c.args.context.now.heads.now c.args.context.now.unit (plain_scope c.args.scope.now) c.args.lo c.args.es.now c.in-Some.first.now c.in-Some.rest.now c.add_sites-next.result c.in-Some.ensures.cases.0 (c.add_sites-next.ensures (known c.args.context.now.heads.now c.args.context.now.unit) (marks.first_marked (known c.args.context.now.heads.now c.args.context.now.unit) c.args.es.now c.in-Some.first.now c.in-Some.rest.now c.in-Some.ensures.cases.0 c.requires.marked)) c.requires.able)) c.in_ok-x.ensures) c.in_err-r.ensures)
 
 pub check_shift-returns : goal.check_shift-returns
 check_shift-returns t c =
-    subst (λ (z : Result TypedAlike Fault). SaysAlike c.put_operand.result z) (sym (goes _ _ _ (plain_all_typed c.in_ok-r.r) (goes _ _ _ (plain_typed c.in_ok-x.x) (walk.shift_is (known c.args.heads.now c.args.unit) (plain_scope c.args.scope.now) c.args.lo c.args.place c.args.es.now c.in-Some.first.now c.in-Some.rest.now c.add_sites-next.result c.in-Some.ensures.cases.0 (walk.next_of c.args.heads.now c.args.unit (plain_scope c.args.scope.now) c.args.lo c.args.es.now c.in-Some.first.now c.in-Some.rest.now c.add_sites-next.result c.in-Some.ensures.cases.0 (c.add_sites-next.ensures (known c.args.heads.now c.args.unit) (marks.first_marked (known c.args.heads.now c.args.unit) c.args.es.now c.in-Some.first.now c.in-Some.rest.now c.in-Some.ensures.cases.0 c.requires.marked)) c.requires.able)) c.in_ok-x.ensures) c.in_ok-r.ensures)) c.put_operand.ensures
+    subst (λ (z : Result TypedAlike Fault). SaysAlike c.put_operand.result z) (sym (goes _ _ _ (plain_all_typed c.in_ok-r.r) (goes _ _ _ (plain_typed c.in_ok-x.x) (walk.shift_is (known c.args.context.now.heads.now c.args.context.now.unit) (plain_scope c.args.scope.now) c.args.lo c.args.place c.args.es.now c.in-Some.first.now c.in-Some.rest.now c.add_sites-next.result c.in-Some.ensures.cases.0 (walk.next_of c.args.context.now.heads.now c.args.context.now.unit (plain_scope c.args.scope.now) c.args.lo c.args.es.now c.in-Some.first.now c.in-Some.rest.now c.add_sites-next.result c.in-Some.ensures.cases.0 (c.add_sites-next.ensures (known c.args.context.now.heads.now c.args.context.now.unit) (marks.first_marked (known c.args.context.now.heads.now c.args.context.now.unit) c.args.es.now c.in-Some.first.now c.in-Some.rest.now c.in-Some.ensures.cases.0 c.requires.marked)) c.requires.able)) c.in_ok-x.ensures) c.in_ok-r.ensures)) c.put_operand.ensures
 
 pub check_alike-returns-in_default : goal.check_alike-returns-in_default
 check_alike-returns-in_default t c =
-    subst (λ (z : Expressions). SaysAlike c.none_alike.result (check_alike (known c.args.heads.now c.args.unit) (plain_scope c.args.scope.now) c.args.lo c.args.place (plain_wanted c.args.wanted) z)) (sym (walk.no_list c.args.es.now c.in_default.ensures.cases)) (c.none_alike.ensures (known c.args.heads.now c.args.unit) (plain_scope c.args.scope.now) c.args.lo)
+    subst (λ (z : Expressions). SaysAlike c.none_alike.result (check_alike (known c.args.context.now.heads.now c.args.context.now.unit) (plain_scope c.args.scope.now) c.args.lo c.args.place (plain_wanted c.args.wanted) z)) (sym (walk.no_list c.args.es.now c.in_default.ensures.cases)) (c.none_alike.ensures (known c.args.context.now.heads.now c.args.context.now.unit) (plain_scope c.args.scope.now) c.args.lo)
 
 pub check_alike-check_alike-requires : goal.check_alike-check_alike-requires
 check_alike-check_alike-requires t c =
     let smaller : 4 * nodes_in (plain_all c.in-Some.rest.now) + 1 < 4 * nodes_in (plain_all c.args.es.now) + 1 = walk.less_rest c.args.es.now c.in-Some.first.now c.in-Some.rest.now c.in-Some.ensures.cases.0 in
-    let ok : MayCheckAll c.args.heads.now c.args.unit (plain_scope c.args.scope.now) c.add_sites-next.result (plain_all c.in-Some.rest.now) = walk.rest_of c.args.heads.now c.args.unit (plain_scope c.args.scope.now) c.args.lo c.args.es.now c.in-Some.first.now c.in-Some.rest.now c.add_sites-next.result c.in-Some.ensures.cases.0 (c.add_sites-next.ensures (known c.args.heads.now c.args.unit) (marks.first_marked (known c.args.heads.now c.args.unit) c.args.es.now c.in-Some.first.now c.in-Some.rest.now c.in-Some.ensures.cases.0 c.requires.marked)) c.requires.able in
+    let ok : MayCheckAll c.args.context.now.heads.now c.args.context.now.unit (plain_scope c.args.scope.now) c.add_sites-next.result (plain_all c.in-Some.rest.now) = walk.rest_of c.args.context.now.heads.now c.args.context.now.unit (plain_scope c.args.scope.now) c.args.lo c.args.es.now c.in-Some.first.now c.in-Some.rest.now c.add_sites-next.result c.in-Some.ensures.cases.0 (c.add_sites-next.ensures (known c.args.context.now.heads.now c.args.context.now.unit) (marks.first_marked (known c.args.context.now.heads.now c.args.context.now.unit) c.args.es.now c.in-Some.first.now c.in-Some.rest.now c.in-Some.ensures.cases.0 c.requires.marked)) c.requires.able in
     let wide : HasWideWanted c.args.wanted = c.requires.wanted in
-    let marked : AreMarked (known c.args.heads.now c.args.unit) c.in-Some.rest.now = marks.rest_marked (known c.args.heads.now c.args.unit) c.args.es.now c.in-Some.first.now c.in-Some.rest.now c.in-Some.ensures.cases.0 c.requires.marked in
+    let marked : AreMarked (known c.args.context.now.heads.now c.args.context.now.unit) c.in-Some.rest.now = marks.rest_marked (known c.args.context.now.heads.now c.args.context.now.unit) c.args.es.now c.in-Some.first.now c.in-Some.rest.now c.in-Some.ensures.cases.0 c.requires.marked in
     search rules
 
 pub check_alike-check_expression-requires : goal.check_alike-check_expression-requires
 check_alike-check_expression-requires t c =
     let smaller : 4 * nodes (plain c.in-Some.first.now) < 4 * nodes_in (plain_all c.args.es.now) + 1 = walk.less_first c.args.es.now c.in-Some.first.now c.in-Some.rest.now c.in-Some.ensures.cases.0 in
-    let ok : MayCheck c.args.heads.now c.args.unit (plain_scope c.args.scope.now) c.args.lo (plain c.in-Some.first.now) = walk.first_of c.args.heads.now c.args.unit (plain_scope c.args.scope.now) c.args.lo c.args.es.now c.in-Some.first.now c.in-Some.rest.now c.in-Some.ensures.cases.0 c.requires.able in
-    let wide : HasWidthOfWord c.in_ok-r.r.width = walk.alike_wide c.args.heads.now c.args.unit (plain_scope c.args.scope.now) c.add_sites-next.result c.args.place c.args.wanted (plain_all c.in-Some.rest.now) (plain_alike c.in_ok-r.r) (walk.rest_of c.args.heads.now c.args.unit (plain_scope c.args.scope.now) c.args.lo c.args.es.now c.in-Some.first.now c.in-Some.rest.now c.add_sites-next.result c.in-Some.ensures.cases.0 (c.add_sites-next.ensures (known c.args.heads.now c.args.unit) (marks.first_marked (known c.args.heads.now c.args.unit) c.args.es.now c.in-Some.first.now c.in-Some.rest.now c.in-Some.ensures.cases.0 c.requires.marked)) c.requires.able) c.requires.wanted c.in_ok-r.ensures in
-    let marked : IsMarked (known c.args.heads.now c.args.unit) c.in-Some.first.now = marks.first_marked (known c.args.heads.now c.args.unit) c.args.es.now c.in-Some.first.now c.in-Some.rest.now c.in-Some.ensures.cases.0 c.requires.marked in
+    let ok : MayCheck c.args.context.now.heads.now c.args.context.now.unit (plain_scope c.args.scope.now) c.args.lo (plain c.in-Some.first.now) = walk.first_of c.args.context.now.heads.now c.args.context.now.unit (plain_scope c.args.scope.now) c.args.lo c.args.es.now c.in-Some.first.now c.in-Some.rest.now c.in-Some.ensures.cases.0 c.requires.able in
+    let wide : HasWidthOfWord c.in_ok-r.r.width = walk.alike_wide c.args.context.now.heads.now c.args.context.now.unit (plain_scope c.args.scope.now) c.add_sites-next.result c.args.place c.args.wanted (plain_all c.in-Some.rest.now) (plain_alike c.in_ok-r.r) (walk.rest_of c.args.context.now.heads.now c.args.context.now.unit (plain_scope c.args.scope.now) c.args.lo c.args.es.now c.in-Some.first.now c.in-Some.rest.now c.add_sites-next.result c.in-Some.ensures.cases.0 (c.add_sites-next.ensures (known c.args.context.now.heads.now c.args.context.now.unit) (marks.first_marked (known c.args.context.now.heads.now c.args.context.now.unit) c.args.es.now c.in-Some.first.now c.in-Some.rest.now c.in-Some.ensures.cases.0 c.requires.marked)) c.requires.able) c.requires.wanted c.in_ok-r.ensures in
+    let marked : IsMarked (known c.args.context.now.heads.now c.args.context.now.unit) c.in-Some.first.now = marks.first_marked (known c.args.context.now.heads.now c.args.context.now.unit) c.args.es.now c.in-Some.first.now c.in-Some.rest.now c.in-Some.ensures.cases.0 c.requires.marked in
     search rules
 
 pub check_alike-returns-in_err-r : goal.check_alike-returns-in_err-r
 check_alike-returns-in_err-r t c =
     let p = err_from_is_err_and c.from_residual.result c.from_residual.ensures.1 in
-    rw (p.1, p.2) (fails c.in_err-r.field-0.0 _ _ _ (walk.alike_later (known c.args.heads.now c.args.unit) (plain_scope c.args.scope.now) c.args.lo c.args.place (plain_wanted c.args.wanted) c.args.es.now c.in-Some.first.now c.in-Some.rest.now c.add_sites-next.result c.in-Some.ensures.cases.0 (sym (c.comes_later-later.ensures ∙ ap (λ (b : Bool). is_any (plain_wanted c.args.wanted) && b) (c.is_flexible-flexible.ensures (known c.args.heads.now c.args.unit) (marks.first_marked (known c.args.heads.now c.args.unit) c.args.es.now c.in-Some.first.now c.in-Some.rest.now c.in-Some.ensures.cases.0 c.requires.marked))) ∙ c.if-later.true) (walk.next_of c.args.heads.now c.args.unit (plain_scope c.args.scope.now) c.args.lo c.args.es.now c.in-Some.first.now c.in-Some.rest.now c.add_sites-next.result c.in-Some.ensures.cases.0 (c.add_sites-next.ensures (known c.args.heads.now c.args.unit) (marks.first_marked (known c.args.heads.now c.args.unit) c.args.es.now c.in-Some.first.now c.in-Some.rest.now c.in-Some.ensures.cases.0 c.requires.marked)) c.requires.able)) c.in_err-r.ensures)
+    rw (p.1, p.2) (fails c.in_err-r.field-0.0 _ _ _ (walk.alike_later (known c.args.context.now.heads.now c.args.context.now.unit) (plain_scope c.args.scope.now) c.args.lo c.args.place (plain_wanted c.args.wanted) c.args.es.now c.in-Some.first.now c.in-Some.rest.now c.add_sites-next.result c.in-Some.ensures.cases.0 (sym (c.comes_later-later.ensures ∙ ap (λ (b : Bool). is_any (plain_wanted c.args.wanted) && b) (c.is_flexible-flexible.ensures (known c.args.context.now.heads.now c.args.context.now.unit) (marks.first_marked (known c.args.context.now.heads.now c.args.context.now.unit) c.args.es.now c.in-Some.first.now c.in-Some.rest.now c.in-Some.ensures.cases.0 c.requires.marked))) ∙ c.if-later.true) (walk.next_of c.args.context.now.heads.now c.args.context.now.unit (plain_scope c.args.scope.now) c.args.lo c.args.es.now c.in-Some.first.now c.in-Some.rest.now c.add_sites-next.result c.in-Some.ensures.cases.0 (c.add_sites-next.ensures (known c.args.context.now.heads.now c.args.context.now.unit) (marks.first_marked (known c.args.context.now.heads.now c.args.context.now.unit) c.args.es.now c.in-Some.first.now c.in-Some.rest.now c.in-Some.ensures.cases.0 c.requires.marked)) c.requires.able)) c.in_err-r.ensures)
 
 pub check_alike-returns-in_err-x : goal.check_alike-returns-in_err-x
 check_alike-returns-in_err-x t c =
     let p = err_from_is_err_and c.from_residual-in_err-x.result c.from_residual-in_err-x.ensures.1 in
-    rw (p.1, p.2) (fails c.in_err-x.field-0.0 _ _ _ (goes _ _ _ (plain_alike c.in_ok-r.r) (walk.alike_later (known c.args.heads.now c.args.unit) (plain_scope c.args.scope.now) c.args.lo c.args.place (plain_wanted c.args.wanted) c.args.es.now c.in-Some.first.now c.in-Some.rest.now c.add_sites-next.result c.in-Some.ensures.cases.0 (sym (c.comes_later-later.ensures ∙ ap (λ (b : Bool). is_any (plain_wanted c.args.wanted) && b) (c.is_flexible-flexible.ensures (known c.args.heads.now c.args.unit) (marks.first_marked (known c.args.heads.now c.args.unit) c.args.es.now c.in-Some.first.now c.in-Some.rest.now c.in-Some.ensures.cases.0 c.requires.marked))) ∙ c.if-later.true) (walk.next_of c.args.heads.now c.args.unit (plain_scope c.args.scope.now) c.args.lo c.args.es.now c.in-Some.first.now c.in-Some.rest.now c.add_sites-next.result c.in-Some.ensures.cases.0 (c.add_sites-next.ensures (known c.args.heads.now c.args.unit) (marks.first_marked (known c.args.heads.now c.args.unit) c.args.es.now c.in-Some.first.now c.in-Some.rest.now c.in-Some.ensures.cases.0 c.requires.marked)) c.requires.able)) c.in_ok-r.ensures) c.in_err-x.ensures)
+    rw (p.1, p.2) (fails c.in_err-x.field-0.0 _ _ _ (goes _ _ _ (plain_alike c.in_ok-r.r) (walk.alike_later (known c.args.context.now.heads.now c.args.context.now.unit) (plain_scope c.args.scope.now) c.args.lo c.args.place (plain_wanted c.args.wanted) c.args.es.now c.in-Some.first.now c.in-Some.rest.now c.add_sites-next.result c.in-Some.ensures.cases.0 (sym (c.comes_later-later.ensures ∙ ap (λ (b : Bool). is_any (plain_wanted c.args.wanted) && b) (c.is_flexible-flexible.ensures (known c.args.context.now.heads.now c.args.context.now.unit) (marks.first_marked (known c.args.context.now.heads.now c.args.context.now.unit) c.args.es.now c.in-Some.first.now c.in-Some.rest.now c.in-Some.ensures.cases.0 c.requires.marked))) ∙ c.if-later.true) (walk.next_of c.args.context.now.heads.now c.args.context.now.unit (plain_scope c.args.scope.now) c.args.lo c.args.es.now c.in-Some.first.now c.in-Some.rest.now c.add_sites-next.result c.in-Some.ensures.cases.0 (c.add_sites-next.ensures (known c.args.context.now.heads.now c.args.context.now.unit) (marks.first_marked (known c.args.context.now.heads.now c.args.context.now.unit) c.args.es.now c.in-Some.first.now c.in-Some.rest.now c.in-Some.ensures.cases.0 c.requires.marked)) c.requires.able)) c.in_ok-r.ensures) c.in_err-x.ensures)
 
 pub check_alike-returns-then-later : goal.check_alike-returns-then-later
 check_alike-returns-then-later t c =
-    subst (λ (z : Result TypedAlike Fault). SaysAlike c.put_operand.result z) (sym (goes _ _ _ (plain_typed c.in_ok-x.x) (goes _ _ _ (plain_alike c.in_ok-r.r) (walk.alike_later (known c.args.heads.now c.args.unit) (plain_scope c.args.scope.now) c.args.lo c.args.place (plain_wanted c.args.wanted) c.args.es.now c.in-Some.first.now c.in-Some.rest.now c.add_sites-next.result c.in-Some.ensures.cases.0 (sym (c.comes_later-later.ensures ∙ ap (λ (b : Bool). is_any (plain_wanted c.args.wanted) && b) (c.is_flexible-flexible.ensures (known c.args.heads.now c.args.unit) (marks.first_marked (known c.args.heads.now c.args.unit) c.args.es.now c.in-Some.first.now c.in-Some.rest.now c.in-Some.ensures.cases.0 c.requires.marked))) ∙ c.if-later.true) (walk.next_of c.args.heads.now c.args.unit (plain_scope c.args.scope.now) c.args.lo c.args.es.now c.in-Some.first.now c.in-Some.rest.now c.add_sites-next.result c.in-Some.ensures.cases.0 (c.add_sites-next.ensures (known c.args.heads.now c.args.unit) (marks.first_marked (known c.args.heads.now c.args.unit) c.args.es.now c.in-Some.first.now c.in-Some.rest.now c.in-Some.ensures.cases.0 c.requires.marked)) c.requires.able)) c.in_ok-r.ensures) c.in_ok-x.ensures)) c.put_operand.ensures
+    subst (λ (z : Result TypedAlike Fault). SaysAlike c.put_operand.result z) (sym (goes _ _ _ (plain_typed c.in_ok-x.x) (goes _ _ _ (plain_alike c.in_ok-r.r) (walk.alike_later (known c.args.context.now.heads.now c.args.context.now.unit) (plain_scope c.args.scope.now) c.args.lo c.args.place (plain_wanted c.args.wanted) c.args.es.now c.in-Some.first.now c.in-Some.rest.now c.add_sites-next.result c.in-Some.ensures.cases.0 (sym (c.comes_later-later.ensures ∙ ap (λ (b : Bool). is_any (plain_wanted c.args.wanted) && b) (c.is_flexible-flexible.ensures (known c.args.context.now.heads.now c.args.context.now.unit) (marks.first_marked (known c.args.context.now.heads.now c.args.context.now.unit) c.args.es.now c.in-Some.first.now c.in-Some.rest.now c.in-Some.ensures.cases.0 c.requires.marked))) ∙ c.if-later.true) (walk.next_of c.args.context.now.heads.now c.args.context.now.unit (plain_scope c.args.scope.now) c.args.lo c.args.es.now c.in-Some.first.now c.in-Some.rest.now c.add_sites-next.result c.in-Some.ensures.cases.0 (c.add_sites-next.ensures (known c.args.context.now.heads.now c.args.context.now.unit) (marks.first_marked (known c.args.context.now.heads.now c.args.context.now.unit) c.args.es.now c.in-Some.first.now c.in-Some.rest.now c.in-Some.ensures.cases.0 c.requires.marked)) c.requires.able)) c.in_ok-r.ensures) c.in_ok-x.ensures)) c.put_operand.ensures
 
 pub check_alike-check_expression-requires-2 : goal.check_alike-check_expression-requires-2
 check_alike-check_expression-requires-2 t c =
     let smaller : 4 * nodes (plain c.in-Some.first.now) < 4 * nodes_in (plain_all c.args.es.now) + 1 = walk.less_first c.args.es.now c.in-Some.first.now c.in-Some.rest.now c.in-Some.ensures.cases.0 in
-    let ok : MayCheck c.args.heads.now c.args.unit (plain_scope c.args.scope.now) c.args.lo (plain c.in-Some.first.now) = walk.first_of c.args.heads.now c.args.unit (plain_scope c.args.scope.now) c.args.lo c.args.es.now c.in-Some.first.now c.in-Some.rest.now c.in-Some.ensures.cases.0 c.requires.able in
+    let ok : MayCheck c.args.context.now.heads.now c.args.context.now.unit (plain_scope c.args.scope.now) c.args.lo (plain c.in-Some.first.now) = walk.first_of c.args.context.now.heads.now c.args.context.now.unit (plain_scope c.args.scope.now) c.args.lo c.args.es.now c.in-Some.first.now c.in-Some.rest.now c.in-Some.ensures.cases.0 c.requires.able in
     let wide : HasWideWanted c.args.wanted = c.requires.wanted in
-    let marked : IsMarked (known c.args.heads.now c.args.unit) c.in-Some.first.now = marks.first_marked (known c.args.heads.now c.args.unit) c.args.es.now c.in-Some.first.now c.in-Some.rest.now c.in-Some.ensures.cases.0 c.requires.marked in
+    let marked : IsMarked (known c.args.context.now.heads.now c.args.context.now.unit) c.in-Some.first.now = marks.first_marked (known c.args.context.now.heads.now c.args.context.now.unit) c.args.es.now c.in-Some.first.now c.in-Some.rest.now c.in-Some.ensures.cases.0 c.requires.marked in
     search rules
 
 pub check_alike-check_alike-requires-2 : goal.check_alike-check_alike-requires-2
 check_alike-check_alike-requires-2 t c =
     let smaller : 4 * nodes_in (plain_all c.in-Some.rest.now) + 1 < 4 * nodes_in (plain_all c.args.es.now) + 1 = walk.less_rest c.args.es.now c.in-Some.first.now c.in-Some.rest.now c.in-Some.ensures.cases.0 in
-    let ok : MayCheckAll c.args.heads.now c.args.unit (plain_scope c.args.scope.now) c.add_sites-next.result (plain_all c.in-Some.rest.now) = walk.rest_of c.args.heads.now c.args.unit (plain_scope c.args.scope.now) c.args.lo c.args.es.now c.in-Some.first.now c.in-Some.rest.now c.add_sites-next.result c.in-Some.ensures.cases.0 (c.add_sites-next.ensures (known c.args.heads.now c.args.unit) (marks.first_marked (known c.args.heads.now c.args.unit) c.args.es.now c.in-Some.first.now c.in-Some.rest.now c.in-Some.ensures.cases.0 c.requires.marked)) c.requires.able in
-    let wide : HasWidthOfWord c.in_ok-x-2.x.width = walk.found_wide c.args.heads.now c.args.unit (plain_scope c.args.scope.now) false c.args.lo c.args.wanted (plain c.in-Some.first.now) (plain_typed c.in_ok-x-2.x) (walk.first_of c.args.heads.now c.args.unit (plain_scope c.args.scope.now) c.args.lo c.args.es.now c.in-Some.first.now c.in-Some.rest.now c.in-Some.ensures.cases.0 c.requires.able) c.requires.wanted c.in_ok-x-2.ensures in
-    let marked : AreMarked (known c.args.heads.now c.args.unit) c.in-Some.rest.now = marks.rest_marked (known c.args.heads.now c.args.unit) c.args.es.now c.in-Some.first.now c.in-Some.rest.now c.in-Some.ensures.cases.0 c.requires.marked in
+    let ok : MayCheckAll c.args.context.now.heads.now c.args.context.now.unit (plain_scope c.args.scope.now) c.add_sites-next.result (plain_all c.in-Some.rest.now) = walk.rest_of c.args.context.now.heads.now c.args.context.now.unit (plain_scope c.args.scope.now) c.args.lo c.args.es.now c.in-Some.first.now c.in-Some.rest.now c.add_sites-next.result c.in-Some.ensures.cases.0 (c.add_sites-next.ensures (known c.args.context.now.heads.now c.args.context.now.unit) (marks.first_marked (known c.args.context.now.heads.now c.args.context.now.unit) c.args.es.now c.in-Some.first.now c.in-Some.rest.now c.in-Some.ensures.cases.0 c.requires.marked)) c.requires.able in
+    let wide : HasWidthOfWord c.in_ok-x-2.x.width = walk.found_wide c.args.context.now.heads.now c.args.context.now.unit (plain_scope c.args.scope.now) false c.args.lo c.args.wanted (plain c.in-Some.first.now) (plain_typed c.in_ok-x-2.x) (walk.first_of c.args.context.now.heads.now c.args.context.now.unit (plain_scope c.args.scope.now) c.args.lo c.args.es.now c.in-Some.first.now c.in-Some.rest.now c.in-Some.ensures.cases.0 c.requires.able) c.requires.wanted c.in_ok-x-2.ensures in
+    let marked : AreMarked (known c.args.context.now.heads.now c.args.context.now.unit) c.in-Some.rest.now = marks.rest_marked (known c.args.context.now.heads.now c.args.context.now.unit) c.args.es.now c.in-Some.first.now c.in-Some.rest.now c.in-Some.ensures.cases.0 c.requires.marked in
     search rules
 
 pub check_alike-returns-in_err-x-2 : goal.check_alike-returns-in_err-x-2
 check_alike-returns-in_err-x-2 t c =
     let p = err_from_is_err_and c.from_residual-in_err-x-2.result c.from_residual-in_err-x-2.ensures.1 in
-    rw (p.1, p.2) (fails c.in_err-x-2.field-0.0 _ _ _ (walk.alike_first (known c.args.heads.now c.args.unit) (plain_scope c.args.scope.now) c.args.lo c.args.place (plain_wanted c.args.wanted) c.args.es.now c.in-Some.first.now c.in-Some.rest.now c.add_sites-next.result c.in-Some.ensures.cases.0 (sym (c.comes_later-later.ensures ∙ ap (λ (b : Bool). is_any (plain_wanted c.args.wanted) && b) (c.is_flexible-flexible.ensures (known c.args.heads.now c.args.unit) (marks.first_marked (known c.args.heads.now c.args.unit) c.args.es.now c.in-Some.first.now c.in-Some.rest.now c.in-Some.ensures.cases.0 c.requires.marked))) ∙ c.if-later.false) (walk.next_of c.args.heads.now c.args.unit (plain_scope c.args.scope.now) c.args.lo c.args.es.now c.in-Some.first.now c.in-Some.rest.now c.add_sites-next.result c.in-Some.ensures.cases.0 (c.add_sites-next.ensures (known c.args.heads.now c.args.unit) (marks.first_marked (known c.args.heads.now c.args.unit) c.args.es.now c.in-Some.first.now c.in-Some.rest.now c.in-Some.ensures.cases.0 c.requires.marked)) c.requires.able)) c.in_err-x-2.ensures)
+    rw (p.1, p.2) (fails c.in_err-x-2.field-0.0 _ _ _ (walk.alike_first (known c.args.context.now.heads.now c.args.context.now.unit) (plain_scope c.args.scope.now) c.args.lo c.args.place (plain_wanted c.args.wanted) c.args.es.now c.in-Some.first.now c.in-Some.rest.now c.add_sites-next.result c.in-Some.ensures.cases.0 (sym (c.comes_later-later.ensures ∙ ap (λ (b : Bool). is_any (plain_wanted c.args.wanted) && b) (c.is_flexible-flexible.ensures (known c.args.context.now.heads.now c.args.context.now.unit) (marks.first_marked (known c.args.context.now.heads.now c.args.context.now.unit) c.args.es.now c.in-Some.first.now c.in-Some.rest.now c.in-Some.ensures.cases.0 c.requires.marked))) ∙ c.if-later.false) (walk.next_of c.args.context.now.heads.now c.args.context.now.unit (plain_scope c.args.scope.now) c.args.lo c.args.es.now c.in-Some.first.now c.in-Some.rest.now c.add_sites-next.result c.in-Some.ensures.cases.0 (c.add_sites-next.ensures (known c.args.context.now.heads.now c.args.context.now.unit) (marks.first_marked (known c.args.context.now.heads.now c.args.context.now.unit) c.args.es.now c.in-Some.first.now c.in-Some.rest.now c.in-Some.ensures.cases.0 c.requires.marked)) c.requires.able)) c.in_err-x-2.ensures)
 
 pub check_alike-returns-in_err-r-2 : goal.check_alike-returns-in_err-r-2
 check_alike-returns-in_err-r-2 t c =
     let p = err_from_is_err_and c.from_residual-in_err-r-2.result c.from_residual-in_err-r-2.ensures.1 in
-    rw (p.1, p.2) (fails c.in_err-r-2.field-0.0 _ _ _ (goes _ _ _ (plain_typed c.in_ok-x-2.x) (walk.alike_first (known c.args.heads.now c.args.unit) (plain_scope c.args.scope.now) c.args.lo c.args.place (plain_wanted c.args.wanted) c.args.es.now c.in-Some.first.now c.in-Some.rest.now c.add_sites-next.result c.in-Some.ensures.cases.0 (sym (c.comes_later-later.ensures ∙ ap (λ (b : Bool). is_any (plain_wanted c.args.wanted) && b) (c.is_flexible-flexible.ensures (known c.args.heads.now c.args.unit) (marks.first_marked (known c.args.heads.now c.args.unit) c.args.es.now c.in-Some.first.now c.in-Some.rest.now c.in-Some.ensures.cases.0 c.requires.marked))) ∙ c.if-later.false) (walk.next_of c.args.heads.now c.args.unit (plain_scope c.args.scope.now) c.args.lo c.args.es.now c.in-Some.first.now c.in-Some.rest.now c.add_sites-next.result c.in-Some.ensures.cases.0 (c.add_sites-next.ensures (known c.args.heads.now c.args.unit) (marks.first_marked (known c.args.heads.now c.args.unit) c.args.es.now c.in-Some.first.now c.in-Some.rest.now c.in-Some.ensures.cases.0 c.requires.marked)) c.requires.able)) c.in_ok-x-2.ensures) c.in_err-r-2.ensures)
+    rw (p.1, p.2) (fails c.in_err-r-2.field-0.0 _ _ _ (goes _ _ _ (plain_typed c.in_ok-x-2.x) (walk.alike_first (known c.args.context.now.heads.now c.args.context.now.unit) (plain_scope c.args.scope.now) c.args.lo c.args.place (plain_wanted c.args.wanted) c.args.es.now c.in-Some.first.now c.in-Some.rest.now c.add_sites-next.result c.in-Some.ensures.cases.0 (sym (c.comes_later-later.ensures ∙ ap (λ (b : Bool). is_any (plain_wanted c.args.wanted) && b) (c.is_flexible-flexible.ensures (known c.args.context.now.heads.now c.args.context.now.unit) (marks.first_marked (known c.args.context.now.heads.now c.args.context.now.unit) c.args.es.now c.in-Some.first.now c.in-Some.rest.now c.in-Some.ensures.cases.0 c.requires.marked))) ∙ c.if-later.false) (walk.next_of c.args.context.now.heads.now c.args.context.now.unit (plain_scope c.args.scope.now) c.args.lo c.args.es.now c.in-Some.first.now c.in-Some.rest.now c.add_sites-next.result c.in-Some.ensures.cases.0 (c.add_sites-next.ensures (known c.args.context.now.heads.now c.args.context.now.unit) (marks.first_marked (known c.args.context.now.heads.now c.args.context.now.unit) c.args.es.now c.in-Some.first.now c.in-Some.rest.now c.in-Some.ensures.cases.0 c.requires.marked)) c.requires.able)) c.in_ok-x-2.ensures) c.in_err-r-2.ensures)
 
 pub check_alike-returns : goal.check_alike-returns
 check_alike-returns t c =
-    subst (λ (z : Result TypedAlike Fault). SaysAlike c.put_operand-2.result z) (sym (goes _ _ _ (plain_alike c.in_ok-r-2.r) (goes _ _ _ (plain_typed c.in_ok-x-2.x) (walk.alike_first (known c.args.heads.now c.args.unit) (plain_scope c.args.scope.now) c.args.lo c.args.place (plain_wanted c.args.wanted) c.args.es.now c.in-Some.first.now c.in-Some.rest.now c.add_sites-next.result c.in-Some.ensures.cases.0 (sym (c.comes_later-later.ensures ∙ ap (λ (b : Bool). is_any (plain_wanted c.args.wanted) && b) (c.is_flexible-flexible.ensures (known c.args.heads.now c.args.unit) (marks.first_marked (known c.args.heads.now c.args.unit) c.args.es.now c.in-Some.first.now c.in-Some.rest.now c.in-Some.ensures.cases.0 c.requires.marked))) ∙ c.if-later.false) (walk.next_of c.args.heads.now c.args.unit (plain_scope c.args.scope.now) c.args.lo c.args.es.now c.in-Some.first.now c.in-Some.rest.now c.add_sites-next.result c.in-Some.ensures.cases.0 (c.add_sites-next.ensures (known c.args.heads.now c.args.unit) (marks.first_marked (known c.args.heads.now c.args.unit) c.args.es.now c.in-Some.first.now c.in-Some.rest.now c.in-Some.ensures.cases.0 c.requires.marked)) c.requires.able)) c.in_ok-x-2.ensures) c.in_ok-r-2.ensures)) c.put_operand-2.ensures
+    subst (λ (z : Result TypedAlike Fault). SaysAlike c.put_operand-2.result z) (sym (goes _ _ _ (plain_alike c.in_ok-r-2.r) (goes _ _ _ (plain_typed c.in_ok-x-2.x) (walk.alike_first (known c.args.context.now.heads.now c.args.context.now.unit) (plain_scope c.args.scope.now) c.args.lo c.args.place (plain_wanted c.args.wanted) c.args.es.now c.in-Some.first.now c.in-Some.rest.now c.add_sites-next.result c.in-Some.ensures.cases.0 (sym (c.comes_later-later.ensures ∙ ap (λ (b : Bool). is_any (plain_wanted c.args.wanted) && b) (c.is_flexible-flexible.ensures (known c.args.context.now.heads.now c.args.context.now.unit) (marks.first_marked (known c.args.context.now.heads.now c.args.context.now.unit) c.args.es.now c.in-Some.first.now c.in-Some.rest.now c.in-Some.ensures.cases.0 c.requires.marked))) ∙ c.if-later.false) (walk.next_of c.args.context.now.heads.now c.args.context.now.unit (plain_scope c.args.scope.now) c.args.lo c.args.es.now c.in-Some.first.now c.in-Some.rest.now c.add_sites-next.result c.in-Some.ensures.cases.0 (c.add_sites-next.ensures (known c.args.context.now.heads.now c.args.context.now.unit) (marks.first_marked (known c.args.context.now.heads.now c.args.context.now.unit) c.args.es.now c.in-Some.first.now c.in-Some.rest.now c.in-Some.ensures.cases.0 c.requires.marked)) c.requires.able)) c.in_ok-x-2.ensures) c.in_ok-r-2.ensures)) c.put_operand-2.ensures
 
 pub check_bound-check_expression-requires : goal.check_bound-check_expression-requires
 check_bound-check_expression-requires t c =
     let smaller : 4 * nodes (plain c.in-Some.first.now.value) < 4 * nodes_bound (plain_bindings c.args.bound.now) + 1 = walk.bound_less_first c.args.bound.now c.in-Some.first.now c.in-Some.rest.now c.in-Some.ensures.cases.0 in
-    let ok : MayCheck c.args.heads.now c.args.unit (plain_scope c.args.scope.now) c.args.lo (plain c.in-Some.first.now.value) = walk.bound_first c.args.heads.now c.args.unit (plain_scope c.args.scope.now) c.args.lo c.args.bound.now c.in-Some.first.now c.in-Some.rest.now c.in-Some.ensures.cases.0 c.requires.able in
-    let wide : HasWideWanted c.as_written-wanted.result = walk.bound_wanted c.args.heads.now c.args.unit (plain_scope c.args.scope.now) c.args.lo c.args.bound.now c.in-Some.first.now c.in-Some.rest.now c.as_written-wanted.result c.in-Some.ensures.cases.0 c.requires.able c.as_written-wanted.ensures in
-    let marked : IsMarked (known c.args.heads.now c.args.unit) c.in-Some.first.now.value = marks.value_marked (known c.args.heads.now c.args.unit) c.args.bound.now c.in-Some.first.now c.in-Some.rest.now c.in-Some.ensures.cases.0 c.requires.marked in
+    let ok : MayCheck c.args.context.now.heads.now c.args.context.now.unit (plain_scope c.args.scope.now) c.args.lo (plain c.in-Some.first.now.value) = walk.bound_first c.args.context.now.heads.now c.args.context.now.unit (plain_scope c.args.scope.now) c.args.lo c.args.bound.now c.in-Some.first.now c.in-Some.rest.now c.in-Some.ensures.cases.0 c.requires.able in
+    let wide : HasWideWanted c.as_written-wanted.result = walk.bound_wanted c.args.context.now.heads.now c.args.context.now.unit (plain_scope c.args.scope.now) c.args.lo c.args.bound.now c.in-Some.first.now c.in-Some.rest.now c.as_written-wanted.result c.in-Some.ensures.cases.0 c.requires.able c.as_written-wanted.ensures in
+    let marked : IsMarked (known c.args.context.now.heads.now c.args.context.now.unit) c.in-Some.first.now.value = marks.value_marked (known c.args.context.now.heads.now c.args.context.now.unit) c.args.bound.now c.in-Some.first.now c.in-Some.rest.now c.in-Some.ensures.cases.0 c.requires.marked in
     search rules
 
 pub check_bound-check_bound-requires : goal.check_bound-check_bound-requires
 check_bound-check_bound-requires t c =
     let smaller : 4 * nodes_bound (plain_bindings c.in-Some.rest.now) + 1 < 4 * nodes_bound (plain_bindings c.args.bound.now) + 1 = walk.bound_less_rest c.args.bound.now c.in-Some.first.now c.in-Some.rest.now c.in-Some.ensures.cases.0 in
-    let ok : MayBind c.args.heads.now c.args.unit (plain_scope c.args.scope.now) c.add_sites-next.result (plain_bindings c.in-Some.rest.now) = walk.bound_rest c.args.heads.now c.args.unit (plain_scope c.args.scope.now) c.args.lo c.args.bound.now c.in-Some.first.now c.in-Some.rest.now c.add_sites-next.result c.in-Some.ensures.cases.0 (c.add_sites-next.ensures (known c.args.heads.now c.args.unit) (marks.value_marked (known c.args.heads.now c.args.unit) c.args.bound.now c.in-Some.first.now c.in-Some.rest.now c.in-Some.ensures.cases.0 c.requires.marked)) c.requires.able in
-    let marked : BoundMarked (known c.args.heads.now c.args.unit) c.in-Some.rest.now = marks.others_marked (known c.args.heads.now c.args.unit) c.args.bound.now c.in-Some.first.now c.in-Some.rest.now c.in-Some.ensures.cases.0 c.requires.marked in
+    let ok : MayBind c.args.context.now.heads.now c.args.context.now.unit (plain_scope c.args.scope.now) c.add_sites-next.result (plain_bindings c.in-Some.rest.now) = walk.bound_rest c.args.context.now.heads.now c.args.context.now.unit (plain_scope c.args.scope.now) c.args.lo c.args.bound.now c.in-Some.first.now c.in-Some.rest.now c.add_sites-next.result c.in-Some.ensures.cases.0 (c.add_sites-next.ensures (known c.args.context.now.heads.now c.args.context.now.unit) (marks.value_marked (known c.args.context.now.heads.now c.args.context.now.unit) c.args.bound.now c.in-Some.first.now c.in-Some.rest.now c.in-Some.ensures.cases.0 c.requires.marked)) c.requires.able in
+    let marked : BoundMarked (known c.args.context.now.heads.now c.args.context.now.unit) c.in-Some.rest.now = marks.others_marked (known c.args.context.now.heads.now c.args.context.now.unit) c.args.bound.now c.in-Some.first.now c.in-Some.rest.now c.in-Some.ensures.cases.0 c.requires.marked in
     search rules
 
 pub check_bound-returns-in_default : goal.check_bound-returns-in_default
 check_bound-returns-in_default t c =
-    walk.no_bound (known c.args.heads.now c.args.unit) (plain_scope c.args.scope.now) c.args.lo c.args.bound.now c.in_default.ensures.cases ∙ walk.ok_all _ _ (sym c.none_typed.ensures)
+    walk.no_bound (known c.args.context.now.heads.now c.args.context.now.unit) (plain_scope c.args.scope.now) c.args.lo c.args.bound.now c.in_default.ensures.cases ∙ walk.ok_all _ _ (sym c.none_typed.ensures)
 
 pub check_bound-returns-in_err-x : goal.check_bound-returns-in_err-x
 check_bound-returns-in_err-x t c =
     let p = err_from_is_err_and c.from_residual.result c.from_residual.ensures.1 in
-    rw (p.1, p.2) (fails c.in_err-x.field-0.0 _ _ _ (walk.bound_is (known c.args.heads.now c.args.unit) (plain_scope c.args.scope.now) c.args.lo c.args.bound.now c.in-Some.first.now c.in-Some.rest.now (plain_wanted c.as_written-wanted.result) c.add_sites-next.result c.in-Some.ensures.cases.0 c.as_written-wanted.ensures (walk.bound_next c.args.heads.now c.args.unit (plain_scope c.args.scope.now) c.args.lo c.args.bound.now c.in-Some.first.now c.in-Some.rest.now c.add_sites-next.result c.in-Some.ensures.cases.0 (c.add_sites-next.ensures (known c.args.heads.now c.args.unit) (marks.value_marked (known c.args.heads.now c.args.unit) c.args.bound.now c.in-Some.first.now c.in-Some.rest.now c.in-Some.ensures.cases.0 c.requires.marked)) c.requires.able)) c.in_err-x.ensures)
+    rw (p.1, p.2) (fails c.in_err-x.field-0.0 _ _ _ (walk.bound_is (known c.args.context.now.heads.now c.args.context.now.unit) (plain_scope c.args.scope.now) c.args.lo c.args.bound.now c.in-Some.first.now c.in-Some.rest.now (plain_wanted c.as_written-wanted.result) c.add_sites-next.result c.in-Some.ensures.cases.0 c.as_written-wanted.ensures (walk.bound_next c.args.context.now.heads.now c.args.context.now.unit (plain_scope c.args.scope.now) c.args.lo c.args.bound.now c.in-Some.first.now c.in-Some.rest.now c.add_sites-next.result c.in-Some.ensures.cases.0 (c.add_sites-next.ensures (known c.args.context.now.heads.now c.args.context.now.unit) (marks.value_marked (known c.args.context.now.heads.now c.args.context.now.unit) c.args.bound.now c.in-Some.first.now c.in-Some.rest.now c.in-Some.ensures.cases.0 c.requires.marked)) c.requires.able)) c.in_err-x.ensures)
 
 pub check_bound-returns-in_err-others : goal.check_bound-returns-in_err-others
 check_bound-returns-in_err-others t c =
     let p = err_from_is_err_and c.from_residual-in_err-others.result c.from_residual-in_err-others.ensures.1 in
-    rw (p.1, p.2) (fails c.in_err-others.field-0.0 _ _ _ (goes _ _ _ (plain_typed c.in_ok-x.x) (walk.bound_is (known c.args.heads.now c.args.unit) (plain_scope c.args.scope.now) c.args.lo c.args.bound.now c.in-Some.first.now c.in-Some.rest.now (plain_wanted c.as_written-wanted.result) c.add_sites-next.result c.in-Some.ensures.cases.0 c.as_written-wanted.ensures (walk.bound_next c.args.heads.now c.args.unit (plain_scope c.args.scope.now) c.args.lo c.args.bound.now c.in-Some.first.now c.in-Some.rest.now c.add_sites-next.result c.in-Some.ensures.cases.0 (c.add_sites-next.ensures (known c.args.heads.now c.args.unit) (marks.value_marked (known c.args.heads.now c.args.unit) c.args.bound.now c.in-Some.first.now c.in-Some.rest.now c.in-Some.ensures.cases.0 c.requires.marked)) c.requires.able)) c.in_ok-x.ensures) c.in_err-others.ensures)
+    rw (p.1, p.2) (fails c.in_err-others.field-0.0 _ _ _ (goes _ _ _ (plain_typed c.in_ok-x.x) (walk.bound_is (known c.args.context.now.heads.now c.args.context.now.unit) (plain_scope c.args.scope.now) c.args.lo c.args.bound.now c.in-Some.first.now c.in-Some.rest.now (plain_wanted c.as_written-wanted.result) c.add_sites-next.result c.in-Some.ensures.cases.0 c.as_written-wanted.ensures (walk.bound_next c.args.context.now.heads.now c.args.context.now.unit (plain_scope c.args.scope.now) c.args.lo c.args.bound.now c.in-Some.first.now c.in-Some.rest.now c.add_sites-next.result c.in-Some.ensures.cases.0 (c.add_sites-next.ensures (known c.args.context.now.heads.now c.args.context.now.unit) (marks.value_marked (known c.args.context.now.heads.now c.args.context.now.unit) c.args.bound.now c.in-Some.first.now c.in-Some.rest.now c.in-Some.ensures.cases.0 c.requires.marked)) c.requires.able)) c.in_ok-x.ensures) c.in_err-others.ensures)
 
 pub check_bound-returns : goal.check_bound-returns
 check_bound-returns t c =
-    subst (λ (z : Result TypedAll Fault). SaysAll c.put_first.result z) (sym (goes _ _ _ (plain_all_typed c.in_ok-others.others) (goes _ _ _ (plain_typed c.in_ok-x.x) (walk.bound_is (known c.args.heads.now c.args.unit) (plain_scope c.args.scope.now) c.args.lo c.args.bound.now c.in-Some.first.now c.in-Some.rest.now (plain_wanted c.as_written-wanted.result) c.add_sites-next.result c.in-Some.ensures.cases.0 c.as_written-wanted.ensures (walk.bound_next c.args.heads.now c.args.unit (plain_scope c.args.scope.now) c.args.lo c.args.bound.now c.in-Some.first.now c.in-Some.rest.now c.add_sites-next.result c.in-Some.ensures.cases.0 (c.add_sites-next.ensures (known c.args.heads.now c.args.unit) (marks.value_marked (known c.args.heads.now c.args.unit) c.args.bound.now c.in-Some.first.now c.in-Some.rest.now c.in-Some.ensures.cases.0 c.requires.marked)) c.requires.able)) c.in_ok-x.ensures) c.in_ok-others.ensures)) c.put_first.ensures
+    subst (λ (z : Result TypedAll Fault). SaysAll c.put_first.result z) (sym (goes _ _ _ (plain_all_typed c.in_ok-others.others) (goes _ _ _ (plain_typed c.in_ok-x.x) (walk.bound_is (known c.args.context.now.heads.now c.args.context.now.unit) (plain_scope c.args.scope.now) c.args.lo c.args.bound.now c.in-Some.first.now c.in-Some.rest.now (plain_wanted c.as_written-wanted.result) c.add_sites-next.result c.in-Some.ensures.cases.0 c.as_written-wanted.ensures (walk.bound_next c.args.context.now.heads.now c.args.context.now.unit (plain_scope c.args.scope.now) c.args.lo c.args.bound.now c.in-Some.first.now c.in-Some.rest.now c.add_sites-next.result c.in-Some.ensures.cases.0 (c.add_sites-next.ensures (known c.args.context.now.heads.now c.args.context.now.unit) (marks.value_marked (known c.args.context.now.heads.now c.args.context.now.unit) c.args.bound.now c.in-Some.first.now c.in-Some.rest.now c.in-Some.ensures.cases.0 c.requires.marked)) c.requires.able)) c.in_ok-x.ensures) c.in_ok-others.ensures)) c.put_first.ensures
 
 pub check_choice-returns-then-not-known : goal.check_choice-returns-then-not-known
 check_choice-returns-then-not-known t c =
-    walk.refused_is c.refused.result _ _ c.refused.ensures (walk.choice_not (known c.args.heads.now c.args.unit) (plain_scope c.args.scope.now) c.args.tail c.args.lo (plain_wanted c.args.wanted) c.args.place (plain c.args.condition.now) (plain c.args.first.now) (plain c.args.second.now) (sym (c.has_width-known.ensures ∙ ap (λ (b : Bool). is_known (plain_wanted c.args.wanted) b) (c.are_both_flexible-flexible.ensures (known c.args.heads.now c.args.unit) c.requires.marked.1 c.requires.marked.2)) ∙ c.if-not-known.true))
+    walk.refused_is c.refused.result _ _ c.refused.ensures (walk.choice_not (known c.args.context.now.heads.now c.args.context.now.unit) (plain_scope c.args.scope.now) c.args.tail c.args.lo (plain_wanted c.args.wanted) c.args.place (plain c.args.condition.now) (plain c.args.first.now) (plain c.args.second.now) (sym (c.has_width-known.ensures ∙ ap (λ (b : Bool). is_known (plain_wanted c.args.wanted) b) (c.are_both_flexible-flexible.ensures (known c.args.context.now.heads.now c.args.context.now.unit) c.requires.marked.1 c.requires.marked.2)) ∙ c.if-not-known.true))
 
 pub check_choice-check_expression-requires : goal.check_choice-check_expression-requires
 check_choice-check_expression-requires t c =
     let smaller : 4 * nodes (plain c.args.condition.now) < 4 * (nodes (plain c.args.condition.now) + (nodes (plain c.args.first.now) + nodes (plain c.args.second.now))) + 3 = omega arith in
-    let ok : MayCheck c.args.heads.now c.args.unit (plain_scope c.args.scope.now) c.args.lo (plain c.args.condition.now) = walk.may_part c.args.heads.now (plain_scope c.args.scope.now) c.args.lo _ _ c.args.lo _ _ c.requires.able c.requires.able.range.0 (omega (arith, c.requires.able.within)) (omega arith) in
+    let ok : MayCheck c.args.context.now.heads.now c.args.context.now.unit (plain_scope c.args.scope.now) c.args.lo (plain c.args.condition.now) = walk.may_part c.args.context.now.heads.now (plain_scope c.args.scope.now) c.args.lo _ _ c.args.lo _ _ c.requires.able c.requires.able.range.0 (omega (arith, c.requires.able.within)) (omega arith) in
     let wide : HasWidthOfWord 1 = (omega arith, omega arith) in
-    let marked : IsMarked (known c.args.heads.now c.args.unit) c.args.condition.now = c.requires.marked.0 in
+    let marked : IsMarked (known c.args.context.now.heads.now c.args.context.now.unit) c.args.condition.now = c.requires.marked.0 in
     search rules
 
 pub check_choice-check_branches-requires : goal.check_choice-check_branches-requires
 check_choice-check_branches-requires t c =
     let smaller : 4 * (nodes (plain c.args.first.now) + nodes (plain c.args.second.now)) + 1 < 4 * (nodes (plain c.args.condition.now) + (nodes (plain c.args.first.now) + nodes (plain c.args.second.now))) + 3 = omega arith in
-    let ok : MayWalk c.args.heads.now (plain_scope c.args.scope.now) c.add_sites-next.result (IsInRange (plain c.args.first.now) × IsInRange (plain c.args.second.now)) (sites (known c.args.heads.now c.args.unit) (plain c.args.first.now) + sites (known c.args.heads.now c.args.unit) (plain c.args.second.now)) (nodes (plain c.args.first.now) + nodes (plain c.args.second.now)) = walk.may_part c.args.heads.now (plain_scope c.args.scope.now) c.args.lo _ _ c.add_sites-next.result _ _ c.requires.able (c.requires.able.range.1, c.requires.able.range.2) (omega (arith, c.requires.able.within, (c.add_sites-next.ensures (known c.args.heads.now c.args.unit) c.requires.marked.0))) (omega arith) in
+    let ok : MayWalk c.args.context.now.heads.now (plain_scope c.args.scope.now) c.add_sites-next.result (IsInRange (plain c.args.first.now) × IsInRange (plain c.args.second.now)) (sites (known c.args.context.now.heads.now c.args.context.now.unit) (plain c.args.first.now) + sites (known c.args.context.now.heads.now c.args.context.now.unit) (plain c.args.second.now)) (nodes (plain c.args.first.now) + nodes (plain c.args.second.now)) = walk.may_part c.args.context.now.heads.now (plain_scope c.args.scope.now) c.args.lo _ _ c.add_sites-next.result _ _ c.requires.able (c.requires.able.range.1, c.requires.able.range.2) (omega (arith, c.requires.able.within, (c.add_sites-next.ensures (known c.args.context.now.heads.now c.args.context.now.unit) c.requires.marked.0))) (omega arith) in
     let wide : HasWideWanted c.args.wanted = c.requires.wanted in
-    let marked : IsMarked (known c.args.heads.now c.args.unit) c.args.first.now × IsMarked (known c.args.heads.now c.args.unit) c.args.second.now = (c.requires.marked.1, c.requires.marked.2) in
+    let marked : IsMarked (known c.args.context.now.heads.now c.args.context.now.unit) c.args.first.now × IsMarked (known c.args.context.now.heads.now c.args.context.now.unit) c.args.second.now = (c.requires.marked.1, c.requires.marked.2) in
     search rules
 
 pub check_choice-returns-in_err-x : goal.check_choice-returns-in_err-x
 check_choice-returns-in_err-x t c =
     let p = err_from_is_err_and c.from_residual.result c.from_residual.ensures.1 in
-    rw (p.1, p.2) (fails c.in_err-x.field-0.0 _ _ _ (walk.choice_is (known c.args.heads.now c.args.unit) (plain_scope c.args.scope.now) c.args.tail c.args.lo (plain_wanted c.args.wanted) c.args.place (plain c.args.condition.now) (plain c.args.first.now) (plain c.args.second.now) c.add_sites-next.result (sym (c.has_width-known.ensures ∙ ap (λ (b : Bool). is_known (plain_wanted c.args.wanted) b) (c.are_both_flexible-flexible.ensures (known c.args.heads.now c.args.unit) c.requires.marked.1 c.requires.marked.2)) ∙ c.if-not-known.false) (walk.next_site c.args.lo (sites (known c.args.heads.now c.args.unit) (plain c.args.condition.now)) c.add_sites-next.result (c.add_sites-next.ensures (known c.args.heads.now c.args.unit) c.requires.marked.0) (omega (arith, c.requires.able.within)))) c.in_err-x.ensures)
+    rw (p.1, p.2) (fails c.in_err-x.field-0.0 _ _ _ (walk.choice_is (known c.args.context.now.heads.now c.args.context.now.unit) (plain_scope c.args.scope.now) c.args.tail c.args.lo (plain_wanted c.args.wanted) c.args.place (plain c.args.condition.now) (plain c.args.first.now) (plain c.args.second.now) c.add_sites-next.result (sym (c.has_width-known.ensures ∙ ap (λ (b : Bool). is_known (plain_wanted c.args.wanted) b) (c.are_both_flexible-flexible.ensures (known c.args.context.now.heads.now c.args.context.now.unit) c.requires.marked.1 c.requires.marked.2)) ∙ c.if-not-known.false) (walk.next_site c.args.lo (sites (known c.args.context.now.heads.now c.args.context.now.unit) (plain c.args.condition.now)) c.add_sites-next.result (c.add_sites-next.ensures (known c.args.context.now.heads.now c.args.context.now.unit) c.requires.marked.0) (omega (arith, c.requires.able.within)))) c.in_err-x.ensures)
 
 pub check_choice-returns : goal.check_choice-returns
 check_choice-returns t c =
-    subst (λ (z : Result Typed Fault). Says c.check_branches.result z) (sym (goes _ _ _ (plain_typed c.in_ok-x.x) (walk.choice_is (known c.args.heads.now c.args.unit) (plain_scope c.args.scope.now) c.args.tail c.args.lo (plain_wanted c.args.wanted) c.args.place (plain c.args.condition.now) (plain c.args.first.now) (plain c.args.second.now) c.add_sites-next.result (sym (c.has_width-known.ensures ∙ ap (λ (b : Bool). is_known (plain_wanted c.args.wanted) b) (c.are_both_flexible-flexible.ensures (known c.args.heads.now c.args.unit) c.requires.marked.1 c.requires.marked.2)) ∙ c.if-not-known.false) (walk.next_site c.args.lo (sites (known c.args.heads.now c.args.unit) (plain c.args.condition.now)) c.add_sites-next.result (c.add_sites-next.ensures (known c.args.heads.now c.args.unit) c.requires.marked.0) (omega (arith, c.requires.able.within)))) c.in_ok-x.ensures)) c.check_branches.ensures
+    subst (λ (z : Result Typed Fault). Says c.check_branches.result z) (sym (goes _ _ _ (plain_typed c.in_ok-x.x) (walk.choice_is (known c.args.context.now.heads.now c.args.context.now.unit) (plain_scope c.args.scope.now) c.args.tail c.args.lo (plain_wanted c.args.wanted) c.args.place (plain c.args.condition.now) (plain c.args.first.now) (plain c.args.second.now) c.add_sites-next.result (sym (c.has_width-known.ensures ∙ ap (λ (b : Bool). is_known (plain_wanted c.args.wanted) b) (c.are_both_flexible-flexible.ensures (known c.args.context.now.heads.now c.args.context.now.unit) c.requires.marked.1 c.requires.marked.2)) ∙ c.if-not-known.false) (walk.next_site c.args.lo (sites (known c.args.context.now.heads.now c.args.context.now.unit) (plain c.args.condition.now)) c.add_sites-next.result (c.add_sites-next.ensures (known c.args.context.now.heads.now c.args.context.now.unit) c.requires.marked.0) (omega (arith, c.requires.able.within)))) c.in_ok-x.ensures)) c.check_branches.ensures
 
 pub check_branches-check_expression-requires : goal.check_branches-check_expression-requires
 check_branches-check_expression-requires t c =
     let smaller : 4 * nodes (plain c.args.second.now) < 4 * (nodes (plain c.args.first.now) + nodes (plain c.args.second.now)) + 1 = omega arith in
-    let ok : MayCheck c.args.heads.now c.args.unit (plain_scope c.args.scope.now) c.add_sites-next.result (plain c.args.second.now) = walk.may_part c.args.heads.now (plain_scope c.args.scope.now) c.args.lo _ _ c.add_sites-next.result (sites (known c.args.heads.now c.args.unit) (plain c.args.second.now)) (nodes (plain c.args.second.now)) c.requires.able c.requires.able.range.1 (omega (arith, c.requires.able.within, (c.add_sites-next.ensures (known c.args.heads.now c.args.unit) c.requires.marked.0))) (omega arith) in
+    let ok : MayCheck c.args.context.now.heads.now c.args.context.now.unit (plain_scope c.args.scope.now) c.add_sites-next.result (plain c.args.second.now) = walk.may_part c.args.context.now.heads.now (plain_scope c.args.scope.now) c.args.lo _ _ c.add_sites-next.result (sites (known c.args.context.now.heads.now c.args.context.now.unit) (plain c.args.second.now)) (nodes (plain c.args.second.now)) c.requires.able c.requires.able.range.1 (omega (arith, c.requires.able.within, (c.add_sites-next.ensures (known c.args.context.now.heads.now c.args.context.now.unit) c.requires.marked.0))) (omega arith) in
     let wide : HasWideWanted c.args.wanted = c.requires.wanted in
-    let first_marked : IsMarked (known c.args.heads.now c.args.unit) c.args.first.now = c.requires.marked.0 in
-    let second_marked : IsMarked (known c.args.heads.now c.args.unit) c.args.second.now = c.requires.marked.1 in
+    let first_marked : IsMarked (known c.args.context.now.heads.now c.args.context.now.unit) c.args.first.now = c.requires.marked.0 in
+    let second_marked : IsMarked (known c.args.context.now.heads.now c.args.context.now.unit) c.args.second.now = c.requires.marked.1 in
     search rules
 
 pub check_branches-check_expression-requires-then-later : goal.check_branches-check_expression-requires-then-later
 check_branches-check_expression-requires-then-later t c =
     let smaller : 4 * nodes (plain c.args.first.now) < 4 * (nodes (plain c.args.first.now) + nodes (plain c.args.second.now)) + 1 = omega arith in
-    let ok : MayCheck c.args.heads.now c.args.unit (plain_scope c.args.scope.now) c.args.lo (plain c.args.first.now) = walk.may_part c.args.heads.now (plain_scope c.args.scope.now) c.args.lo _ _ c.args.lo (sites (known c.args.heads.now c.args.unit) (plain c.args.first.now)) (nodes (plain c.args.first.now)) c.requires.able c.requires.able.range.0 (omega (arith, c.requires.able.within)) (omega arith) in
-    let wide : HasWidthOfWord c.in_ok-z.z.width = walk.found_wide c.args.heads.now c.args.unit (plain_scope c.args.scope.now) c.args.tail c.add_sites-next.result c.args.wanted (plain c.args.second.now) (plain_typed c.in_ok-z.z) (walk.may_part c.args.heads.now (plain_scope c.args.scope.now) c.args.lo _ _ c.add_sites-next.result (sites (known c.args.heads.now c.args.unit) (plain c.args.second.now)) (nodes (plain c.args.second.now)) c.requires.able c.requires.able.range.1 (omega (arith, c.requires.able.within, (c.add_sites-next.ensures (known c.args.heads.now c.args.unit) c.requires.marked.0))) (omega arith)) c.requires.wanted c.in_ok-z.ensures in
+    let ok : MayCheck c.args.context.now.heads.now c.args.context.now.unit (plain_scope c.args.scope.now) c.args.lo (plain c.args.first.now) = walk.may_part c.args.context.now.heads.now (plain_scope c.args.scope.now) c.args.lo _ _ c.args.lo (sites (known c.args.context.now.heads.now c.args.context.now.unit) (plain c.args.first.now)) (nodes (plain c.args.first.now)) c.requires.able c.requires.able.range.0 (omega (arith, c.requires.able.within)) (omega arith) in
+    let wide : HasWidthOfWord c.in_ok-z.z.width = walk.found_wide c.args.context.now.heads.now c.args.context.now.unit (plain_scope c.args.scope.now) c.args.tail c.add_sites-next.result c.args.wanted (plain c.args.second.now) (plain_typed c.in_ok-z.z) (walk.may_part c.args.context.now.heads.now (plain_scope c.args.scope.now) c.args.lo _ _ c.add_sites-next.result (sites (known c.args.context.now.heads.now c.args.context.now.unit) (plain c.args.second.now)) (nodes (plain c.args.second.now)) c.requires.able c.requires.able.range.1 (omega (arith, c.requires.able.within, (c.add_sites-next.ensures (known c.args.context.now.heads.now c.args.context.now.unit) c.requires.marked.0))) (omega arith)) c.requires.wanted c.in_ok-z.ensures in
     search rules
 
 pub check_branches-returns-in_err-z : goal.check_branches-returns-in_err-z
 check_branches-returns-in_err-z t c =
     let p = err_from_is_err_and c.from_residual.result c.from_residual.ensures.1 in
-    rw (p.1, p.2) (fails c.in_err-z.field-0.0 _ _ _ (walk.branches_later (known c.args.heads.now c.args.unit) (plain_scope c.args.scope.now) c.args.tail c.args.lo (plain_wanted c.args.wanted) (plain c.args.first.now) (plain c.args.second.now) (tree c.args.test) c.add_sites-next.result (sym (c.comes_later-later.ensures ∙ ap (λ (b : Bool). is_any (plain_wanted c.args.wanted) && b) (c.is_flexible-flexible.ensures (known c.args.heads.now c.args.unit) c.requires.marked.0)) ∙ c.if-later.true) (walk.next_site c.args.lo (sites (known c.args.heads.now c.args.unit) (plain c.args.first.now)) c.add_sites-next.result (c.add_sites-next.ensures (known c.args.heads.now c.args.unit) c.requires.marked.0) (omega (arith, c.requires.able.within)))) c.in_err-z.ensures)
+    rw (p.1, p.2) (fails c.in_err-z.field-0.0 _ _ _ (walk.branches_later (known c.args.context.now.heads.now c.args.context.now.unit) (plain_scope c.args.scope.now) c.args.tail c.args.lo (plain_wanted c.args.wanted) (plain c.args.first.now) (plain c.args.second.now) (tree c.args.test) c.add_sites-next.result (sym (c.comes_later-later.ensures ∙ ap (λ (b : Bool). is_any (plain_wanted c.args.wanted) && b) (c.is_flexible-flexible.ensures (known c.args.context.now.heads.now c.args.context.now.unit) c.requires.marked.0)) ∙ c.if-later.true) (walk.next_site c.args.lo (sites (known c.args.context.now.heads.now c.args.context.now.unit) (plain c.args.first.now)) c.add_sites-next.result (c.add_sites-next.ensures (known c.args.context.now.heads.now c.args.context.now.unit) c.requires.marked.0) (omega (arith, c.requires.able.within)))) c.in_err-z.ensures)
 
 pub check_branches-returns-in_err-y : goal.check_branches-returns-in_err-y
 check_branches-returns-in_err-y t c =
     let p = err_from_is_err_and c.from_residual-in_err-y.result c.from_residual-in_err-y.ensures.1 in
-    rw (p.1, p.2) (fails c.in_err-y.field-0.0 _ _ _ (goes _ _ _ (plain_typed c.in_ok-z.z) (walk.branches_later (known c.args.heads.now c.args.unit) (plain_scope c.args.scope.now) c.args.tail c.args.lo (plain_wanted c.args.wanted) (plain c.args.first.now) (plain c.args.second.now) (tree c.args.test) c.add_sites-next.result (sym (c.comes_later-later.ensures ∙ ap (λ (b : Bool). is_any (plain_wanted c.args.wanted) && b) (c.is_flexible-flexible.ensures (known c.args.heads.now c.args.unit) c.requires.marked.0)) ∙ c.if-later.true) (walk.next_site c.args.lo (sites (known c.args.heads.now c.args.unit) (plain c.args.first.now)) c.add_sites-next.result (c.add_sites-next.ensures (known c.args.heads.now c.args.unit) c.requires.marked.0) (omega (arith, c.requires.able.within)))) c.in_ok-z.ensures) c.in_err-y.ensures)
+    rw (p.1, p.2) (fails c.in_err-y.field-0.0 _ _ _ (goes _ _ _ (plain_typed c.in_ok-z.z) (walk.branches_later (known c.args.context.now.heads.now c.args.context.now.unit) (plain_scope c.args.scope.now) c.args.tail c.args.lo (plain_wanted c.args.wanted) (plain c.args.first.now) (plain c.args.second.now) (tree c.args.test) c.add_sites-next.result (sym (c.comes_later-later.ensures ∙ ap (λ (b : Bool). is_any (plain_wanted c.args.wanted) && b) (c.is_flexible-flexible.ensures (known c.args.context.now.heads.now c.args.context.now.unit) c.requires.marked.0)) ∙ c.if-later.true) (walk.next_site c.args.lo (sites (known c.args.context.now.heads.now c.args.context.now.unit) (plain c.args.first.now)) c.add_sites-next.result (c.add_sites-next.ensures (known c.args.context.now.heads.now c.args.context.now.unit) c.requires.marked.0) (omega (arith, c.requires.able.within)))) c.in_ok-z.ensures) c.in_err-y.ensures)
 
 pub check_branches-returns-then-later : goal.check_branches-returns-then-later
 check_branches-returns-then-later t c =
-    subst (λ (z : Result Typed Fault). Says c.make_if.result z) (sym (goes _ _ _ (plain_typed c.in_ok-y.y) (goes _ _ _ (plain_typed c.in_ok-z.z) (walk.branches_later (known c.args.heads.now c.args.unit) (plain_scope c.args.scope.now) c.args.tail c.args.lo (plain_wanted c.args.wanted) (plain c.args.first.now) (plain c.args.second.now) (tree c.args.test) c.add_sites-next.result (sym (c.comes_later-later.ensures ∙ ap (λ (b : Bool). is_any (plain_wanted c.args.wanted) && b) (c.is_flexible-flexible.ensures (known c.args.heads.now c.args.unit) c.requires.marked.0)) ∙ c.if-later.true) (walk.next_site c.args.lo (sites (known c.args.heads.now c.args.unit) (plain c.args.first.now)) c.add_sites-next.result (c.add_sites-next.ensures (known c.args.heads.now c.args.unit) c.requires.marked.0) (omega (arith, c.requires.able.within)))) c.in_ok-z.ensures) c.in_ok-y.ensures)) c.make_if.ensures
+    subst (λ (z : Result Typed Fault). Says c.make_if.result z) (sym (goes _ _ _ (plain_typed c.in_ok-y.y) (goes _ _ _ (plain_typed c.in_ok-z.z) (walk.branches_later (known c.args.context.now.heads.now c.args.context.now.unit) (plain_scope c.args.scope.now) c.args.tail c.args.lo (plain_wanted c.args.wanted) (plain c.args.first.now) (plain c.args.second.now) (tree c.args.test) c.add_sites-next.result (sym (c.comes_later-later.ensures ∙ ap (λ (b : Bool). is_any (plain_wanted c.args.wanted) && b) (c.is_flexible-flexible.ensures (known c.args.context.now.heads.now c.args.context.now.unit) c.requires.marked.0)) ∙ c.if-later.true) (walk.next_site c.args.lo (sites (known c.args.context.now.heads.now c.args.context.now.unit) (plain c.args.first.now)) c.add_sites-next.result (c.add_sites-next.ensures (known c.args.context.now.heads.now c.args.context.now.unit) c.requires.marked.0) (omega (arith, c.requires.able.within)))) c.in_ok-z.ensures) c.in_ok-y.ensures)) c.make_if.ensures
 
 pub check_branches-check_expression-requires-2 : goal.check_branches-check_expression-requires-2
 check_branches-check_expression-requires-2 t c =
     let smaller : 4 * nodes (plain c.args.first.now) < 4 * (nodes (plain c.args.first.now) + nodes (plain c.args.second.now)) + 1 = omega arith in
-    let ok : MayCheck c.args.heads.now c.args.unit (plain_scope c.args.scope.now) c.args.lo (plain c.args.first.now) = walk.may_part c.args.heads.now (plain_scope c.args.scope.now) c.args.lo _ _ c.args.lo (sites (known c.args.heads.now c.args.unit) (plain c.args.first.now)) (nodes (plain c.args.first.now)) c.requires.able c.requires.able.range.0 (omega (arith, c.requires.able.within)) (omega arith) in
+    let ok : MayCheck c.args.context.now.heads.now c.args.context.now.unit (plain_scope c.args.scope.now) c.args.lo (plain c.args.first.now) = walk.may_part c.args.context.now.heads.now (plain_scope c.args.scope.now) c.args.lo _ _ c.args.lo (sites (known c.args.context.now.heads.now c.args.context.now.unit) (plain c.args.first.now)) (nodes (plain c.args.first.now)) c.requires.able c.requires.able.range.0 (omega (arith, c.requires.able.within)) (omega arith) in
     let wide : HasWideWanted c.args.wanted = c.requires.wanted in
-    let first_marked : IsMarked (known c.args.heads.now c.args.unit) c.args.first.now = c.requires.marked.0 in
-    let second_marked : IsMarked (known c.args.heads.now c.args.unit) c.args.second.now = c.requires.marked.1 in
+    let first_marked : IsMarked (known c.args.context.now.heads.now c.args.context.now.unit) c.args.first.now = c.requires.marked.0 in
+    let second_marked : IsMarked (known c.args.context.now.heads.now c.args.context.now.unit) c.args.second.now = c.requires.marked.1 in
     search rules
 
 pub check_branches-check_expression-requires-3 : goal.check_branches-check_expression-requires-3
 check_branches-check_expression-requires-3 t c =
     let smaller : 4 * nodes (plain c.args.second.now) < 4 * (nodes (plain c.args.first.now) + nodes (plain c.args.second.now)) + 1 = omega arith in
-    let ok : MayCheck c.args.heads.now c.args.unit (plain_scope c.args.scope.now) c.add_sites-next.result (plain c.args.second.now) = walk.may_part c.args.heads.now (plain_scope c.args.scope.now) c.args.lo _ _ c.add_sites-next.result (sites (known c.args.heads.now c.args.unit) (plain c.args.second.now)) (nodes (plain c.args.second.now)) c.requires.able c.requires.able.range.1 (omega (arith, c.requires.able.within, (c.add_sites-next.ensures (known c.args.heads.now c.args.unit) c.requires.marked.0))) (omega arith) in
-    let wide : HasWidthOfWord c.in_ok-y-2.y.width = walk.found_wide c.args.heads.now c.args.unit (plain_scope c.args.scope.now) c.args.tail c.args.lo c.args.wanted (plain c.args.first.now) (plain_typed c.in_ok-y-2.y) (walk.may_part c.args.heads.now (plain_scope c.args.scope.now) c.args.lo _ _ c.args.lo (sites (known c.args.heads.now c.args.unit) (plain c.args.first.now)) (nodes (plain c.args.first.now)) c.requires.able c.requires.able.range.0 (omega (arith, c.requires.able.within)) (omega arith)) c.requires.wanted c.in_ok-y-2.ensures in
-    let first_marked : IsMarked (known c.args.heads.now c.args.unit) c.args.first.now = c.requires.marked.0 in
-    let second_marked : IsMarked (known c.args.heads.now c.args.unit) c.args.second.now = c.requires.marked.1 in
+    let ok : MayCheck c.args.context.now.heads.now c.args.context.now.unit (plain_scope c.args.scope.now) c.add_sites-next.result (plain c.args.second.now) = walk.may_part c.args.context.now.heads.now (plain_scope c.args.scope.now) c.args.lo _ _ c.add_sites-next.result (sites (known c.args.context.now.heads.now c.args.context.now.unit) (plain c.args.second.now)) (nodes (plain c.args.second.now)) c.requires.able c.requires.able.range.1 (omega (arith, c.requires.able.within, (c.add_sites-next.ensures (known c.args.context.now.heads.now c.args.context.now.unit) c.requires.marked.0))) (omega arith) in
+    let wide : HasWidthOfWord c.in_ok-y-2.y.width = walk.found_wide c.args.context.now.heads.now c.args.context.now.unit (plain_scope c.args.scope.now) c.args.tail c.args.lo c.args.wanted (plain c.args.first.now) (plain_typed c.in_ok-y-2.y) (walk.may_part c.args.context.now.heads.now (plain_scope c.args.scope.now) c.args.lo _ _ c.args.lo (sites (known c.args.context.now.heads.now c.args.context.now.unit) (plain c.args.first.now)) (nodes (plain c.args.first.now)) c.requires.able c.requires.able.range.0 (omega (arith, c.requires.able.within)) (omega arith)) c.requires.wanted c.in_ok-y-2.ensures in
+    let first_marked : IsMarked (known c.args.context.now.heads.now c.args.context.now.unit) c.args.first.now = c.requires.marked.0 in
+    let second_marked : IsMarked (known c.args.context.now.heads.now c.args.context.now.unit) c.args.second.now = c.requires.marked.1 in
     search rules
 
 pub check_branches-returns-in_err-y-2 : goal.check_branches-returns-in_err-y-2
 check_branches-returns-in_err-y-2 t c =
     let p = err_from_is_err_and c.from_residual-in_err-y-2.result c.from_residual-in_err-y-2.ensures.1 in
-    rw (p.1, p.2) (fails c.in_err-y-2.field-0.0 _ _ _ (walk.branches_first (known c.args.heads.now c.args.unit) (plain_scope c.args.scope.now) c.args.tail c.args.lo (plain_wanted c.args.wanted) (plain c.args.first.now) (plain c.args.second.now) (tree c.args.test) c.add_sites-next.result (sym (c.comes_later-later.ensures ∙ ap (λ (b : Bool). is_any (plain_wanted c.args.wanted) && b) (c.is_flexible-flexible.ensures (known c.args.heads.now c.args.unit) c.requires.marked.0)) ∙ c.if-later.false) (walk.next_site c.args.lo (sites (known c.args.heads.now c.args.unit) (plain c.args.first.now)) c.add_sites-next.result (c.add_sites-next.ensures (known c.args.heads.now c.args.unit) c.requires.marked.0) (omega (arith, c.requires.able.within)))) c.in_err-y-2.ensures)
+    rw (p.1, p.2) (fails c.in_err-y-2.field-0.0 _ _ _ (walk.branches_first (known c.args.context.now.heads.now c.args.context.now.unit) (plain_scope c.args.scope.now) c.args.tail c.args.lo (plain_wanted c.args.wanted) (plain c.args.first.now) (plain c.args.second.now) (tree c.args.test) c.add_sites-next.result (sym (c.comes_later-later.ensures ∙ ap (λ (b : Bool). is_any (plain_wanted c.args.wanted) && b) (c.is_flexible-flexible.ensures (known c.args.context.now.heads.now c.args.context.now.unit) c.requires.marked.0)) ∙ c.if-later.false) (walk.next_site c.args.lo (sites (known c.args.context.now.heads.now c.args.context.now.unit) (plain c.args.first.now)) c.add_sites-next.result (c.add_sites-next.ensures (known c.args.context.now.heads.now c.args.context.now.unit) c.requires.marked.0) (omega (arith, c.requires.able.within)))) c.in_err-y-2.ensures)
 
 pub check_branches-returns-in_err-z-2 : goal.check_branches-returns-in_err-z-2
 check_branches-returns-in_err-z-2 t c =
     let p = err_from_is_err_and c.from_residual-in_err-z-2.result c.from_residual-in_err-z-2.ensures.1 in
-    rw (p.1, p.2) (fails c.in_err-z-2.field-0.0 _ _ _ (goes _ _ _ (plain_typed c.in_ok-y-2.y) (walk.branches_first (known c.args.heads.now c.args.unit) (plain_scope c.args.scope.now) c.args.tail c.args.lo (plain_wanted c.args.wanted) (plain c.args.first.now) (plain c.args.second.now) (tree c.args.test) c.add_sites-next.result (sym (c.comes_later-later.ensures ∙ ap (λ (b : Bool). is_any (plain_wanted c.args.wanted) && b) (c.is_flexible-flexible.ensures (known c.args.heads.now c.args.unit) c.requires.marked.0)) ∙ c.if-later.false) (walk.next_site c.args.lo (sites (known c.args.heads.now c.args.unit) (plain c.args.first.now)) c.add_sites-next.result (c.add_sites-next.ensures (known c.args.heads.now c.args.unit) c.requires.marked.0) (omega (arith, c.requires.able.within)))) c.in_ok-y-2.ensures) c.in_err-z-2.ensures)
+    rw (p.1, p.2) (fails c.in_err-z-2.field-0.0 _ _ _ (goes _ _ _ (plain_typed c.in_ok-y-2.y) (walk.branches_first (known c.args.context.now.heads.now c.args.context.now.unit) (plain_scope c.args.scope.now) c.args.tail c.args.lo (plain_wanted c.args.wanted) (plain c.args.first.now) (plain c.args.second.now) (tree c.args.test) c.add_sites-next.result (sym (c.comes_later-later.ensures ∙ ap (λ (b : Bool). is_any (plain_wanted c.args.wanted) && b) (c.is_flexible-flexible.ensures (known c.args.context.now.heads.now c.args.context.now.unit) c.requires.marked.0)) ∙ c.if-later.false) (walk.next_site c.args.lo (sites (known c.args.context.now.heads.now c.args.context.now.unit) (plain c.args.first.now)) c.add_sites-next.result (c.add_sites-next.ensures (known c.args.context.now.heads.now c.args.context.now.unit) c.requires.marked.0) (omega (arith, c.requires.able.within)))) c.in_ok-y-2.ensures) c.in_err-z-2.ensures)
 
 pub check_branches-returns : goal.check_branches-returns
 check_branches-returns t c =
-    subst (λ (z : Result Typed Fault). Says c.make_if-2.result z) (sym (goes _ _ _ (plain_typed c.in_ok-z-2.z) (goes _ _ _ (plain_typed c.in_ok-y-2.y) (walk.branches_first (known c.args.heads.now c.args.unit) (plain_scope c.args.scope.now) c.args.tail c.args.lo (plain_wanted c.args.wanted) (plain c.args.first.now) (plain c.args.second.now) (tree c.args.test) c.add_sites-next.result (sym (c.comes_later-later.ensures ∙ ap (λ (b : Bool). is_any (plain_wanted c.args.wanted) && b) (c.is_flexible-flexible.ensures (known c.args.heads.now c.args.unit) c.requires.marked.0)) ∙ c.if-later.false) (walk.next_site c.args.lo (sites (known c.args.heads.now c.args.unit) (plain c.args.first.now)) c.add_sites-next.result (c.add_sites-next.ensures (known c.args.heads.now c.args.unit) c.requires.marked.0) (omega (arith, c.requires.able.within)))) c.in_ok-y-2.ensures) c.in_ok-z-2.ensures)) c.make_if-2.ensures
+    subst (λ (z : Result Typed Fault). Says c.make_if-2.result z) (sym (goes _ _ _ (plain_typed c.in_ok-z-2.z) (goes _ _ _ (plain_typed c.in_ok-y-2.y) (walk.branches_first (known c.args.context.now.heads.now c.args.context.now.unit) (plain_scope c.args.scope.now) c.args.tail c.args.lo (plain_wanted c.args.wanted) (plain c.args.first.now) (plain c.args.second.now) (tree c.args.test) c.add_sites-next.result (sym (c.comes_later-later.ensures ∙ ap (λ (b : Bool). is_any (plain_wanted c.args.wanted) && b) (c.is_flexible-flexible.ensures (known c.args.context.now.heads.now c.args.context.now.unit) c.requires.marked.0)) ∙ c.if-later.false) (walk.next_site c.args.lo (sites (known c.args.context.now.heads.now c.args.context.now.unit) (plain c.args.first.now)) c.add_sites-next.result (c.add_sites-next.ensures (known c.args.context.now.heads.now c.args.context.now.unit) c.requires.marked.0) (omega (arith, c.requires.able.within)))) c.in_ok-y-2.ensures) c.in_ok-z-2.ensures)) c.make_if-2.ensures
 
 pub check_binding-returns-then-not-known : goal.check_binding-returns-then-not-known
 check_binding-returns-then-not-known t c =
-    walk.refused_is c.refused.result _ _ c.refused.ensures (walk.binding_not (known c.args.heads.now c.args.unit) (plain_scope c.args.scope.now) c.args.tail c.args.lo (plain_wanted c.args.wanted) c.args.place (plain_bindings c.args.bound.now) (plain c.args.body.now) (sym (c.has_width-known.ensures ∙ ap (λ (b : Bool). is_known (plain_wanted c.args.wanted) b) (c.is_flexible-flexible.ensures (known c.args.heads.now c.args.unit) c.requires.marked.1)) ∙ c.if-not-known.true))
+    walk.refused_is c.refused.result _ _ c.refused.ensures (walk.binding_not (known c.args.context.now.heads.now c.args.context.now.unit) (plain_scope c.args.scope.now) c.args.tail c.args.lo (plain_wanted c.args.wanted) c.args.place (plain_bindings c.args.bound.now) (plain c.args.body.now) (sym (c.has_width-known.ensures ∙ ap (λ (b : Bool). is_known (plain_wanted c.args.wanted) b) (c.is_flexible-flexible.ensures (known c.args.context.now.heads.now c.args.context.now.unit) c.requires.marked.1)) ∙ c.if-not-known.true))
 
 pub check_binding-check_bound-requires : goal.check_binding-check_bound-requires
 check_binding-check_bound-requires t c =
     let smaller : 4 * nodes_bound (plain_bindings c.args.bound.now) + 1 < 4 * (nodes_bound (plain_bindings c.args.bound.now) + nodes (plain c.args.body.now)) + 3 = omega arith in
-    let ok : MayBind c.args.heads.now c.args.unit (plain_scope c.args.scope.now) c.args.lo (plain_bindings c.args.bound.now) = walk.may_part c.args.heads.now (plain_scope c.args.scope.now) c.args.lo _ _ c.args.lo (sites_bound (known c.args.heads.now c.args.unit) (plain_bindings c.args.bound.now)) (nodes_bound (plain_bindings c.args.bound.now)) c.requires.able c.requires.able.range.0 (omega (arith, c.requires.able.within)) (omega arith) in
-    let marked : BoundMarked (known c.args.heads.now c.args.unit) c.args.bound.now = c.requires.marked.0 in
+    let ok : MayBind c.args.context.now.heads.now c.args.context.now.unit (plain_scope c.args.scope.now) c.args.lo (plain_bindings c.args.bound.now) = walk.may_part c.args.context.now.heads.now (plain_scope c.args.scope.now) c.args.lo _ _ c.args.lo (sites_bound (known c.args.context.now.heads.now c.args.context.now.unit) (plain_bindings c.args.bound.now)) (nodes_bound (plain_bindings c.args.bound.now)) c.requires.able c.requires.able.range.0 (omega (arith, c.requires.able.within)) (omega arith) in
+    let marked : BoundMarked (known c.args.context.now.heads.now c.args.context.now.unit) c.args.bound.now = c.requires.marked.0 in
     search rules
 
 pub check_binding-check_expression-requires : goal.check_binding-check_expression-requires
 check_binding-check_expression-requires t c =
     let smaller : 4 * nodes (plain c.args.body.now) < 4 * (nodes_bound (plain_bindings c.args.bound.now) + nodes (plain c.args.body.now)) + 3 = omega arith in
     let own : plain_slots c.deref-2.result.now ≡ slots (plain_bindings c.args.bound.now) c.in_ok-all.all.widths.items = ap (λ (l : List code_slot.Slot). plain_slots l) c.deref-2.ensures.value ∙ c.in_ok-own.ensures ∙ ap (λ (ws : List ℕ). slots (plain_bindings c.args.bound.now) ws) c.deref.ensures.value in
-    let ok : MayCheck c.args.heads.now c.args.unit (plain_scope c.args.scope.now ++ plain_slots c.deref-2.result.now) c.add_bound_sites-next.result (plain c.args.body.now) = walk.may_below c.args.heads.now c.args.unit (plain_scope c.args.scope.now) (plain_scope c.args.scope.now ++ plain_slots c.deref-2.result.now) c.args.lo c.args.place (plain_bindings c.args.bound.now) (plain c.args.body.now) (plain_all_typed c.in_ok-all.all) c.add_bound_sites-next.result c.requires.able (c.add_bound_sites-next.ensures (known c.args.heads.now c.args.unit) c.requires.marked.0) c.in_ok-all.ensures (ap (λ (l : List Slot). plain_scope c.args.scope.now ++ l) own) in
-    let marked : IsMarked (known c.args.heads.now c.args.unit) c.args.body.now = c.requires.marked.1 in
+    let ok : MayCheck c.args.context.now.heads.now c.args.context.now.unit (plain_scope c.args.scope.now ++ plain_slots c.deref-2.result.now) c.add_bound_sites-next.result (plain c.args.body.now) = walk.may_below c.args.context.now.heads.now c.args.context.now.unit (plain_scope c.args.scope.now) (plain_scope c.args.scope.now ++ plain_slots c.deref-2.result.now) c.args.lo c.args.place (plain_bindings c.args.bound.now) (plain c.args.body.now) (plain_all_typed c.in_ok-all.all) c.add_bound_sites-next.result c.requires.able (c.add_bound_sites-next.ensures (known c.args.context.now.heads.now c.args.context.now.unit) c.requires.marked.0) c.in_ok-all.ensures (ap (λ (l : List Slot). plain_scope c.args.scope.now ++ l) own) in
+    let marked : IsMarked (known c.args.context.now.heads.now c.args.context.now.unit) c.args.body.now = c.requires.marked.1 in
     let wide : HasWideWanted c.args.wanted = c.requires.wanted in
     search rules
 
 pub check_binding-returns-in_err-all : goal.check_binding-returns-in_err-all
 check_binding-returns-in_err-all t c =
     let p = err_from_is_err_and c.from_residual.result c.from_residual.ensures.1 in
-    rw (p.1, p.2) (fails c.in_err-all.field-0.0 _ _ _ (walk.binding_is (known c.args.heads.now c.args.unit) (plain_scope c.args.scope.now) c.args.tail c.args.lo (plain_wanted c.args.wanted) c.args.place (plain_bindings c.args.bound.now) (plain c.args.body.now) c.add_bound_sites-next.result (sym (c.has_width-known.ensures ∙ ap (λ (b : Bool). is_known (plain_wanted c.args.wanted) b) (c.is_flexible-flexible.ensures (known c.args.heads.now c.args.unit) c.requires.marked.1)) ∙ c.if-not-known.false) (sym c.find_repeated.ensures ∙ ap twice_at c.in_default.is) (walk.next_site c.args.lo (sites_bound (known c.args.heads.now c.args.unit) (plain_bindings c.args.bound.now)) c.add_bound_sites-next.result (c.add_bound_sites-next.ensures (known c.args.heads.now c.args.unit) c.requires.marked.0) (omega (arith, c.requires.able.within)))) c.in_err-all.ensures)
+    rw (p.1, p.2) (fails c.in_err-all.field-0.0 _ _ _ (walk.binding_is (known c.args.context.now.heads.now c.args.context.now.unit) (plain_scope c.args.scope.now) c.args.tail c.args.lo (plain_wanted c.args.wanted) c.args.place (plain_bindings c.args.bound.now) (plain c.args.body.now) c.add_bound_sites-next.result (sym (c.has_width-known.ensures ∙ ap (λ (b : Bool). is_known (plain_wanted c.args.wanted) b) (c.is_flexible-flexible.ensures (known c.args.context.now.heads.now c.args.context.now.unit) c.requires.marked.1)) ∙ c.if-not-known.false) (sym c.find_repeated.ensures ∙ ap twice_at c.in_default.is) (walk.next_site c.args.lo (sites_bound (known c.args.context.now.heads.now c.args.context.now.unit) (plain_bindings c.args.bound.now)) c.add_bound_sites-next.result (c.add_bound_sites-next.ensures (known c.args.context.now.heads.now c.args.context.now.unit) c.requires.marked.0) (omega (arith, c.requires.able.within)))) c.in_err-all.ensures)
 
 pub check_applied-check_alike-requires : goal.check_applied-check_alike-requires
 check_applied-check_alike-requires t c =
     let smaller : 4 * nodes_in (plain_all c.args.operands.now) + 1 < 4 * nodes_in (plain_all c.args.operands.now) + 3 = omega arith in
-    let ok : MayCheckAll c.args.heads.now c.args.unit (plain_scope c.args.scope.now) c.args.lo (plain_all c.args.operands.now) = walk.may_part c.args.heads.now (plain_scope c.args.scope.now) c.args.lo _ _ c.args.lo _ _ c.requires.able c.requires.able.range (omega (arith, c.requires.able.within)) (omega arith) in
+    let ok : MayCheckAll c.args.context.now.heads.now c.args.context.now.unit (plain_scope c.args.scope.now) c.args.lo (plain_all c.args.operands.now) = walk.may_part c.args.context.now.heads.now (plain_scope c.args.scope.now) c.args.lo _ _ c.args.lo _ _ c.requires.able c.requires.able.range (omega (arith, c.requires.able.within)) (omega arith) in
     let wide : HasWideWanted c.args.wanted = c.requires.wanted in
-    let marked : AreMarked (known c.args.heads.now c.args.unit) c.args.operands.now = c.requires.marked in
+    let marked : AreMarked (known c.args.context.now.heads.now c.args.context.now.unit) c.args.operands.now = c.requires.marked in
     search rules
 
 pub check_applied-check_alike-requires-in-Comparing : goal.check_applied-check_alike-requires-in-Comparing
 check_applied-check_alike-requires-in-Comparing t c =
     let smaller : 4 * nodes_in (plain_all c.args.operands.now) + 1 < 4 * nodes_in (plain_all c.args.operands.now) + 3 = omega arith in
-    let ok : MayCheckAll c.args.heads.now c.args.unit (plain_scope c.args.scope.now) c.args.lo (plain_all c.args.operands.now) = walk.may_part c.args.heads.now (plain_scope c.args.scope.now) c.args.lo _ _ c.args.lo _ _ c.requires.able c.requires.able.range (omega (arith, c.requires.able.within)) (omega arith) in
+    let ok : MayCheckAll c.args.context.now.heads.now c.args.context.now.unit (plain_scope c.args.scope.now) c.args.lo (plain_all c.args.operands.now) = walk.may_part c.args.context.now.heads.now (plain_scope c.args.scope.now) c.args.lo _ _ c.args.lo _ _ c.requires.able c.requires.able.range (omega (arith, c.requires.able.within)) (omega arith) in
     search rules
 
 pub check_applied-check_shift-requires : goal.check_applied-check_shift-requires
 check_applied-check_shift-requires t c =
     let smaller : 4 * nodes_in (plain_all c.args.operands.now) + 1 < 4 * nodes_in (plain_all c.args.operands.now) + 3 = omega arith in
-    let ok : MayCheckAll c.args.heads.now c.args.unit (plain_scope c.args.scope.now) c.args.lo (plain_all c.args.operands.now) = walk.may_part c.args.heads.now (plain_scope c.args.scope.now) c.args.lo _ _ c.args.lo _ _ c.requires.able c.requires.able.range (omega (arith, c.requires.able.within)) (omega arith) in
-    let marked : AreMarked (known c.args.heads.now c.args.unit) c.args.operands.now = c.requires.marked in
+    let ok : MayCheckAll c.args.context.now.heads.now c.args.context.now.unit (plain_scope c.args.scope.now) c.args.lo (plain_all c.args.operands.now) = walk.may_part c.args.context.now.heads.now (plain_scope c.args.scope.now) c.args.lo _ _ c.args.lo _ _ c.requires.able c.requires.able.range (omega (arith, c.requires.able.within)) (omega arith) in
+    let marked : AreMarked (known c.args.context.now.heads.now c.args.context.now.unit) c.args.operands.now = c.requires.marked in
     search rules
 
 pub check_applied-check_operands-requires : goal.check_applied-check_operands-requires
 check_applied-check_operands-requires t c =
     let smaller : 4 * nodes_in (plain_all c.args.operands.now) + 1 < 4 * nodes_in (plain_all c.args.operands.now) + 3 = omega arith in
-    let ok : MayCheckAll c.args.heads.now c.args.unit (plain_scope c.args.scope.now) c.args.lo (plain_all c.args.operands.now) = walk.may_part c.args.heads.now (plain_scope c.args.scope.now) c.args.lo _ _ c.args.lo _ _ c.requires.able c.requires.able.range (omega (arith, c.requires.able.within)) (omega arith) in
-    let marked : AreMarked (known c.args.heads.now c.args.unit) c.args.operands.now = c.requires.marked in
+    let ok : MayCheckAll c.args.context.now.heads.now c.args.context.now.unit (plain_scope c.args.scope.now) c.args.lo (plain_all c.args.operands.now) = walk.may_part c.args.context.now.heads.now (plain_scope c.args.scope.now) c.args.lo _ _ c.args.lo _ _ c.requires.able c.requires.able.range (omega (arith, c.requires.able.within)) (omega arith) in
+    let marked : AreMarked (known c.args.context.now.heads.now c.args.context.now.unit) c.args.operands.now = c.requires.marked in
     search rules
 
 pub check_applied-returns-in_err-r-in-Alike : goal.check_applied-returns-in_err-r-in-Alike
 check_applied-returns-in_err-r-in-Alike t c =
     let p = err_from_is_err_and c.from_residual.result c.from_residual.ensures.1 in
-    rw (p.1, p.2) (λ (tail : Bool). fails c.in_err-r-in-Alike.field-0.0 _ _ _ (walk.alike_is (known c.args.heads.now c.args.unit) (plain_scope c.args.scope.now) tail c.args.lo (plain_wanted c.args.wanted) c.args.place c.args.operator (plain_all c.args.operands.now) (sym (ap plain_shape c.in-Alike.is) ∙ c.shape_of.ensures)) c.in_err-r-in-Alike.ensures)
+    rw (p.1, p.2) (λ (tail : Bool). fails c.in_err-r-in-Alike.field-0.0 _ _ _ (walk.alike_is (known c.args.context.now.heads.now c.args.context.now.unit) (plain_scope c.args.scope.now) tail c.args.lo (plain_wanted c.args.wanted) c.args.place c.args.operator (plain_all c.args.operands.now) (sym (ap plain_shape c.in-Alike.is) ∙ c.shape_of.ensures)) c.in_err-r-in-Alike.ensures)
 
 pub check_applied-returns-in_ok-r-in-Alike : goal.check_applied-returns-in_ok-r-in-Alike
 check_applied-returns-in_ok-r-in-Alike t c =
-    λ (tail : Bool). goes _ _ _ (plain_alike c.in_ok-r-in-Alike.r) (walk.alike_is (known c.args.heads.now c.args.unit) (plain_scope c.args.scope.now) tail c.args.lo (plain_wanted c.args.wanted) c.args.place c.args.operator (plain_all c.args.operands.now) (sym (ap plain_shape c.in-Alike.is) ∙ c.shape_of.ensures)) c.in_ok-r-in-Alike.ensures ∙ walk.ok_typed _ _ (walk.same_typed _ _ _ _ (sym c.make_operation.ensures.width) (sym c.make_operation.ensures.term))
+    λ (tail : Bool). goes _ _ _ (plain_alike c.in_ok-r-in-Alike.r) (walk.alike_is (known c.args.context.now.heads.now c.args.context.now.unit) (plain_scope c.args.scope.now) tail c.args.lo (plain_wanted c.args.wanted) c.args.place c.args.operator (plain_all c.args.operands.now) (sym (ap plain_shape c.in-Alike.is) ∙ c.shape_of.ensures)) c.in_ok-r-in-Alike.ensures ∙ walk.ok_typed _ _ (walk.same_typed _ _ _ _ (sym c.make_operation.ensures.width) (sym c.make_operation.ensures.term))
 
 pub check_applied-returns-in_err-r-in-Comparing : goal.check_applied-returns-in_err-r-in-Comparing
 check_applied-returns-in_err-r-in-Comparing t c =
     let p = err_from_is_err_and c.from_residual-in_err-r-in-Comparing.result c.from_residual-in_err-r-in-Comparing.ensures.1 in
-    rw (p.1, p.2) (λ (tail : Bool). fails c.in_err-r-in-Comparing.field-0.0 _ _ _ (walk.comparing_is (known c.args.heads.now c.args.unit) (plain_scope c.args.scope.now) tail c.args.lo (plain_wanted c.args.wanted) c.args.place c.args.operator (plain_all c.args.operands.now) (sym (ap plain_shape c.in-Comparing.is) ∙ c.shape_of.ensures)) c.in_err-r-in-Comparing.ensures)
+    rw (p.1, p.2) (λ (tail : Bool). fails c.in_err-r-in-Comparing.field-0.0 _ _ _ (walk.comparing_is (known c.args.context.now.heads.now c.args.context.now.unit) (plain_scope c.args.scope.now) tail c.args.lo (plain_wanted c.args.wanted) c.args.place c.args.operator (plain_all c.args.operands.now) (sym (ap plain_shape c.in-Comparing.is) ∙ c.shape_of.ensures)) c.in_err-r-in-Comparing.ensures)
 
 pub check_applied-returns-in_ok-r-in-Comparing : goal.check_applied-returns-in_ok-r-in-Comparing
 check_applied-returns-in_ok-r-in-Comparing t c =
-    λ (tail : Bool). subst (λ (z : Result Typed Fault). Says c.settled_operation.result z) (sym (goes _ _ _ (plain_alike c.in_ok-r-in-Comparing.r) (walk.comparing_is (known c.args.heads.now c.args.unit) (plain_scope c.args.scope.now) tail c.args.lo (plain_wanted c.args.wanted) c.args.place c.args.operator (plain_all c.args.operands.now) (sym (ap plain_shape c.in-Comparing.is) ∙ c.shape_of.ensures)) c.in_ok-r-in-Comparing.ensures)) c.settled_operation.ensures
+    λ (tail : Bool). subst (λ (z : Result Typed Fault). Says c.settled_operation.result z) (sym (goes _ _ _ (plain_alike c.in_ok-r-in-Comparing.r) (walk.comparing_is (known c.args.context.now.heads.now c.args.context.now.unit) (plain_scope c.args.scope.now) tail c.args.lo (plain_wanted c.args.wanted) c.args.place c.args.operator (plain_all c.args.operands.now) (sym (ap plain_shape c.in-Comparing.is) ∙ c.shape_of.ensures)) c.in_ok-r-in-Comparing.ensures)) c.settled_operation.ensures
 
 pub check_applied-returns-in_err-r-in-Shifting : goal.check_applied-returns-in_err-r-in-Shifting
 check_applied-returns-in_err-r-in-Shifting t c =
     let p = err_from_is_err_and c.from_residual-in_err-r-in-Shifting.result c.from_residual-in_err-r-in-Shifting.ensures.1 in
-    rw (p.1, p.2) (λ (tail : Bool). fails c.in_err-r-in-Shifting.field-0.0 _ _ _ (walk.shifting_is (known c.args.heads.now c.args.unit) (plain_scope c.args.scope.now) tail c.args.lo (plain_wanted c.args.wanted) c.args.place c.args.operator (plain_all c.args.operands.now) (sym (ap plain_shape c.in-Shifting.is) ∙ c.shape_of.ensures)) c.in_err-r-in-Shifting.ensures)
+    rw (p.1, p.2) (λ (tail : Bool). fails c.in_err-r-in-Shifting.field-0.0 _ _ _ (walk.shifting_is (known c.args.context.now.heads.now c.args.context.now.unit) (plain_scope c.args.scope.now) tail c.args.lo (plain_wanted c.args.wanted) c.args.place c.args.operator (plain_all c.args.operands.now) (sym (ap plain_shape c.in-Shifting.is) ∙ c.shape_of.ensures)) c.in_err-r-in-Shifting.ensures)
 
 pub check_applied-returns-in_ok-r-in-Shifting : goal.check_applied-returns-in_ok-r-in-Shifting
 check_applied-returns-in_ok-r-in-Shifting t c =
-    λ (tail : Bool). subst (λ (z : Result Typed Fault). Says c.settled_operation-in-Shifting.result z) (sym (goes _ _ _ (plain_alike c.in_ok-r-in-Shifting.r) (walk.shifting_is (known c.args.heads.now c.args.unit) (plain_scope c.args.scope.now) tail c.args.lo (plain_wanted c.args.wanted) c.args.place c.args.operator (plain_all c.args.operands.now) (sym (ap plain_shape c.in-Shifting.is) ∙ c.shape_of.ensures)) c.in_ok-r-in-Shifting.ensures)) c.settled_operation-in-Shifting.ensures
+    λ (tail : Bool). subst (λ (z : Result Typed Fault). Says c.settled_operation-in-Shifting.result z) (sym (goes _ _ _ (plain_alike c.in_ok-r-in-Shifting.r) (walk.shifting_is (known c.args.context.now.heads.now c.args.context.now.unit) (plain_scope c.args.scope.now) tail c.args.lo (plain_wanted c.args.wanted) c.args.place c.args.operator (plain_all c.args.operands.now) (sym (ap plain_shape c.in-Shifting.is) ∙ c.shape_of.ensures)) c.in_ok-r-in-Shifting.ensures)) c.settled_operation-in-Shifting.ensures
 
 pub check_applied-returns-in_err-r-in-Resizing : goal.check_applied-returns-in_err-r-in-Resizing
 check_applied-returns-in_err-r-in-Resizing t c =
     let p = err_from_is_err_and c.from_residual-in_err-r-in-Resizing.result c.from_residual-in_err-r-in-Resizing.ensures.1 in
-    rw (p.1, p.2) (λ (tail : Bool). fails c.in_err-r-in-Resizing.field-0.0 _ _ _ (walk.resizing_is (known c.args.heads.now c.args.unit) (plain_scope c.args.scope.now) tail c.args.lo (plain_wanted c.args.wanted) c.args.place c.args.operator (plain_all c.args.operands.now) (sym (ap plain_shape c.in-Resizing.is) ∙ c.shape_of.ensures)) c.in_err-r-in-Resizing.ensures)
+    rw (p.1, p.2) (λ (tail : Bool). fails c.in_err-r-in-Resizing.field-0.0 _ _ _ (walk.resizing_is (known c.args.context.now.heads.now c.args.context.now.unit) (plain_scope c.args.scope.now) tail c.args.lo (plain_wanted c.args.wanted) c.args.place c.args.operator (plain_all c.args.operands.now) (sym (ap plain_shape c.in-Resizing.is) ∙ c.shape_of.ensures)) c.in_err-r-in-Resizing.ensures)
 
 pub check_applied-returns-in-Some : goal.check_applied-returns-in-Some
 check_applied-returns-in-Some t c =
-    λ (tail : Bool). subst (λ (z : Result Typed Fault). Says c.settled_operation-in-Some.result z) (sym (goes _ _ _ (plain_all_typed c.in_ok-r-in-Resizing.r) (walk.resizing_is (known c.args.heads.now c.args.unit) (plain_scope c.args.scope.now) tail c.args.lo (plain_wanted c.args.wanted) c.args.place c.args.operator (plain_all c.args.operands.now) (sym (ap plain_shape c.in-Resizing.is) ∙ c.shape_of.ensures)) c.in_ok-r-in-Resizing.ensures ∙ ap (λ (o : Option ℕ). resized c.args.place (plain_wanted c.args.wanted) c.args.operator o (forest c.in_ok-r-in-Resizing.r.terms.items)) ((sym (c.result_width.ensures ∙ ap (λ (ws : List ℕ). result_width c.args.operator ws) c.deref.ensures.value)) ∙ c.in-Some.is))) c.settled_operation-in-Some.ensures
+    λ (tail : Bool). subst (λ (z : Result Typed Fault). Says c.settled_operation-in-Some.result z) (sym (goes _ _ _ (plain_all_typed c.in_ok-r-in-Resizing.r) (walk.resizing_is (known c.args.context.now.heads.now c.args.context.now.unit) (plain_scope c.args.scope.now) tail c.args.lo (plain_wanted c.args.wanted) c.args.place c.args.operator (plain_all c.args.operands.now) (sym (ap plain_shape c.in-Resizing.is) ∙ c.shape_of.ensures)) c.in_ok-r-in-Resizing.ensures ∙ ap (λ (o : Option ℕ). resized c.args.place (plain_wanted c.args.wanted) c.args.operator o (forest c.in_ok-r-in-Resizing.r.terms.items)) ((sym (c.result_width.ensures ∙ ap (λ (ws : List ℕ). result_width c.args.operator ws) c.deref.ensures.value)) ∙ c.in-Some.is))) c.settled_operation-in-Some.ensures
 
 pub check_applied-returns-in-None : goal.check_applied-returns-in-None
 check_applied-returns-in-None t c =
-    λ (tail : Bool). walk.refused_is c.refused.result _ _ c.refused.ensures (goes _ _ _ (plain_all_typed c.in_ok-r-in-Resizing.r) (walk.resizing_is (known c.args.heads.now c.args.unit) (plain_scope c.args.scope.now) tail c.args.lo (plain_wanted c.args.wanted) c.args.place c.args.operator (plain_all c.args.operands.now) (sym (ap plain_shape c.in-Resizing.is) ∙ c.shape_of.ensures)) c.in_ok-r-in-Resizing.ensures ∙ ap (λ (o : Option ℕ). resized c.args.place (plain_wanted c.args.wanted) c.args.operator o (forest c.in_ok-r-in-Resizing.r.terms.items)) ((sym (c.result_width.ensures ∙ ap (λ (ws : List ℕ). result_width c.args.operator ws) c.deref.ensures.value)) ∙ c.in-None.is))
+    λ (tail : Bool). walk.refused_is c.refused.result _ _ c.refused.ensures (goes _ _ _ (plain_all_typed c.in_ok-r-in-Resizing.r) (walk.resizing_is (known c.args.context.now.heads.now c.args.context.now.unit) (plain_scope c.args.scope.now) tail c.args.lo (plain_wanted c.args.wanted) c.args.place c.args.operator (plain_all c.args.operands.now) (sym (ap plain_shape c.in-Resizing.is) ∙ c.shape_of.ensures)) c.in_ok-r-in-Resizing.ensures ∙ ap (λ (o : Option ℕ). resized c.args.place (plain_wanted c.args.wanted) c.args.operator o (forest c.in_ok-r-in-Resizing.r.terms.items)) ((sym (c.result_width.ensures ∙ ap (λ (ws : List ℕ). result_width c.args.operator ws) c.deref.ensures.value)) ∙ c.in-None.is))
 
 pub check_called-get-head-requires : goal.check_called-get-head-requires
 check_called-get-head-requires t c =
-    subst (IsOneOf c.args.heads.now) c.in-Member.is c.find_callee.ensures.one
+    subst (IsOneOf c.args.context.now.heads.now) c.in-Member.is c.find_callee.ensures.one
 
 pub check_called-check_counted-requires : goal.check_called-check_counted-requires
 check_called-check_counted-requires t c =
     let smaller : 4 * nodes_in (plain_all c.args.arguments.now) + 2 < 4 * nodes_in (plain_all c.args.arguments.now) + 3 = omega arith in
-    let ok : MayCheckAll c.args.heads.now c.args.unit (plain_scope c.args.scope.now) c.args.lo (plain_all c.args.arguments.now) = walk.may_part c.args.heads.now (plain_scope c.args.scope.now) c.args.lo _ _ c.args.lo (sites_in (known c.args.heads.now c.args.unit) (plain_all c.args.arguments.now)) (nodes_in (plain_all c.args.arguments.now)) c.requires.able c.requires.able.range (omega (arith, c.requires.able.within)) (omega arith) in
-    let wide : WideSlots (plain_head c.get-head.result.now).params = walk.wide_member c.args.heads.now c.args.unit c.args.name.now c.in-Member.n c.get-head.result.now c.requires.able.heads (walk.callee_member c.args.heads.now (known c.args.heads.now c.args.unit) c.args.name.now c.find_callee.result c.in-Member.n c.get-head.result.now c.find_callee.ensures.found c.find_callee.ensures.one c.in-Member.is (got c.args.heads.now c.in-Member.n c.get-head.result.now c.get-head.ensures)) in
-    let few : length c.get-head.result.now.params.items < 2 ^ 32 = walk.few_params c.args.heads.now c.in-Member.n c.get-head.result.now c.requires.able.params (subst (IsOneOf c.args.heads.now) c.in-Member.is c.find_callee.ensures.one) (got c.args.heads.now c.in-Member.n c.get-head.result.now c.get-head.ensures) in
-    let marked : AreMarked (known c.args.heads.now c.args.unit) c.args.arguments.now = c.requires.marked in
+    let ok : MayCheckAll c.args.context.now.heads.now c.args.context.now.unit (plain_scope c.args.scope.now) c.args.lo (plain_all c.args.arguments.now) = walk.may_part c.args.context.now.heads.now (plain_scope c.args.scope.now) c.args.lo _ _ c.args.lo (sites_in (known c.args.context.now.heads.now c.args.context.now.unit) (plain_all c.args.arguments.now)) (nodes_in (plain_all c.args.arguments.now)) c.requires.able c.requires.able.range (omega (arith, c.requires.able.within)) (omega arith) in
+    let wide : WideSlots (plain_head c.get-head.result.now).params = walk.wide_member c.args.context.now.heads.now c.args.context.now.unit c.args.name.now c.in-Member.n c.get-head.result.now c.requires.able.heads (walk.callee_member c.args.context.now.heads.now (known c.args.context.now.heads.now c.args.context.now.unit) c.args.name.now c.find_callee.result c.in-Member.n c.get-head.result.now c.find_callee.ensures.found c.find_callee.ensures.one c.in-Member.is (got c.args.context.now.heads.now c.in-Member.n c.get-head.result.now c.get-head.ensures)) in
+    let few : length c.get-head.result.now.params.items < 2 ^ 32 = walk.few_params c.args.context.now.heads.now c.in-Member.n c.get-head.result.now c.requires.able.params (subst (IsOneOf c.args.context.now.heads.now) c.in-Member.is c.find_callee.ensures.one) (got c.args.context.now.heads.now c.in-Member.n c.get-head.result.now c.get-head.ensures) in
+    let marked : AreMarked (known c.args.context.now.heads.now c.args.context.now.unit) c.args.arguments.now = c.requires.marked in
     search rules
 
 pub check_called-returns-in_err-all-in-Member : goal.check_called-returns-in_err-all-in-Member
 check_called-returns-in_err-all-in-Member t c =
     let p = err_from_is_err_and c.from_residual.result c.from_residual.ensures.1 in
-    rw (p.1, p.2) (fails c.in_err-all-in-Member.field-0.0 _ _ _ (walk.loop_is (known c.args.heads.now c.args.unit) (plain_scope c.args.scope.now) c.args.tail c.args.lo (plain_wanted c.args.wanted) c.args.place c.args.name.now (plain_all c.args.arguments.now) c.in-Member.n (plain_head c.get-head.result.now) (walk.callee_member c.args.heads.now (known c.args.heads.now c.args.unit) c.args.name.now c.find_callee.result c.in-Member.n c.get-head.result.now c.find_callee.ensures.found c.find_callee.ensures.one c.in-Member.is (got c.args.heads.now c.in-Member.n c.get-head.result.now c.get-head.ensures)) c.if-not-tail.false) c.in_err-all-in-Member.ensures)
+    rw (p.1, p.2) (fails c.in_err-all-in-Member.field-0.0 _ _ _ (walk.loop_is (known c.args.context.now.heads.now c.args.context.now.unit) (plain_scope c.args.scope.now) c.args.tail c.args.lo (plain_wanted c.args.wanted) c.args.place c.args.name.now (plain_all c.args.arguments.now) c.in-Member.n (plain_head c.get-head.result.now) (walk.callee_member c.args.context.now.heads.now (known c.args.context.now.heads.now c.args.context.now.unit) c.args.name.now c.find_callee.result c.in-Member.n c.get-head.result.now c.find_callee.ensures.found c.find_callee.ensures.one c.in-Member.is (got c.args.context.now.heads.now c.in-Member.n c.get-head.result.now c.get-head.ensures)) c.if-not-tail.false) c.in_err-all-in-Member.ensures)
 
 pub check_called-returns-in_ok-all-in-Member : goal.check_called-returns-in_ok-all-in-Member
 check_called-returns-in_ok-all-in-Member t c =
-    subst (λ (z : Result Typed Fault). Says c.settled_loop.result z) (sym (goes _ _ _ (plain_all_typed c.in_ok-all-in-Member.all) (walk.loop_is (known c.args.heads.now c.args.unit) (plain_scope c.args.scope.now) c.args.tail c.args.lo (plain_wanted c.args.wanted) c.args.place c.args.name.now (plain_all c.args.arguments.now) c.in-Member.n (plain_head c.get-head.result.now) (walk.callee_member c.args.heads.now (known c.args.heads.now c.args.unit) c.args.name.now c.find_callee.result c.in-Member.n c.get-head.result.now c.find_callee.ensures.found c.find_callee.ensures.one c.in-Member.is (got c.args.heads.now c.in-Member.n c.get-head.result.now c.get-head.ensures)) c.if-not-tail.false) c.in_ok-all-in-Member.ensures)) c.settled_loop.ensures
+    subst (λ (z : Result Typed Fault). Says c.settled_loop.result z) (sym (goes _ _ _ (plain_all_typed c.in_ok-all-in-Member.all) (walk.loop_is (known c.args.context.now.heads.now c.args.context.now.unit) (plain_scope c.args.scope.now) c.args.tail c.args.lo (plain_wanted c.args.wanted) c.args.place c.args.name.now (plain_all c.args.arguments.now) c.in-Member.n (plain_head c.get-head.result.now) (walk.callee_member c.args.context.now.heads.now (known c.args.context.now.heads.now c.args.context.now.unit) c.args.name.now c.find_callee.result c.in-Member.n c.get-head.result.now c.find_callee.ensures.found c.find_callee.ensures.one c.in-Member.is (got c.args.context.now.heads.now c.in-Member.n c.get-head.result.now c.get-head.ensures)) c.if-not-tail.false) c.in_ok-all-in-Member.ensures)) c.settled_loop.ensures
 
 pub check_called-get-head-requires-in-Above : goal.check_called-get-head-requires-in-Above
 check_called-get-head-requires-in-Above t c =
-    subst (IsOneOf c.args.heads.now) c.in-Above.is c.find_callee.ensures.one
+    subst (IsOneOf c.args.context.now.heads.now) c.in-Above.is c.find_callee.ensures.one
 
 pub check_called-check_counted-requires-in-Above : goal.check_called-check_counted-requires-in-Above
 check_called-check_counted-requires-in-Above t c =
     let smaller : 4 * nodes_in (plain_all c.args.arguments.now) + 2 < 4 * nodes_in (plain_all c.args.arguments.now) + 3 = omega arith in
-    let ok : MayCheckAll c.args.heads.now c.args.unit (plain_scope c.args.scope.now) (c.args.lo + 1) (plain_all c.args.arguments.now) = walk.may_part c.args.heads.now (plain_scope c.args.scope.now) c.args.lo _ _ (c.args.lo + 1) (sites_in (known c.args.heads.now c.args.unit) (plain_all c.args.arguments.now)) (nodes_in (plain_all c.args.arguments.now)) c.requires.able c.requires.able.range (omega (arith, c.requires.able.within, ap is_site (walk.callee_above c.args.heads.now (known c.args.heads.now c.args.unit) c.args.name.now c.find_callee.result c.in-Above.n c.get-head-in-Above.result.now c.find_callee.ensures.found c.find_callee.ensures.one c.in-Above.is (got c.args.heads.now c.in-Above.n c.get-head-in-Above.result.now c.get-head-in-Above.ensures)))) (omega arith) in
-    let wide : WideSlots (plain_head c.get-head-in-Above.result.now).params = walk.wide_above c.args.heads.now c.args.unit c.args.name.now c.in-Above.n c.get-head-in-Above.result.now c.requires.able.heads (walk.callee_above c.args.heads.now (known c.args.heads.now c.args.unit) c.args.name.now c.find_callee.result c.in-Above.n c.get-head-in-Above.result.now c.find_callee.ensures.found c.find_callee.ensures.one c.in-Above.is (got c.args.heads.now c.in-Above.n c.get-head-in-Above.result.now c.get-head-in-Above.ensures)) in
-    let few : length c.get-head-in-Above.result.now.params.items < 2 ^ 32 = walk.few_params c.args.heads.now c.in-Above.n c.get-head-in-Above.result.now c.requires.able.params (subst (IsOneOf c.args.heads.now) c.in-Above.is c.find_callee.ensures.one) (got c.args.heads.now c.in-Above.n c.get-head-in-Above.result.now c.get-head-in-Above.ensures) in
+    let ok : MayCheckAll c.args.context.now.heads.now c.args.context.now.unit (plain_scope c.args.scope.now) (c.args.lo + 1) (plain_all c.args.arguments.now) = walk.may_part c.args.context.now.heads.now (plain_scope c.args.scope.now) c.args.lo _ _ (c.args.lo + 1) (sites_in (known c.args.context.now.heads.now c.args.context.now.unit) (plain_all c.args.arguments.now)) (nodes_in (plain_all c.args.arguments.now)) c.requires.able c.requires.able.range (omega (arith, c.requires.able.within, ap is_site (walk.callee_above c.args.context.now.heads.now (known c.args.context.now.heads.now c.args.context.now.unit) c.args.name.now c.find_callee.result c.in-Above.n c.get-head-in-Above.result.now c.find_callee.ensures.found c.find_callee.ensures.one c.in-Above.is (got c.args.context.now.heads.now c.in-Above.n c.get-head-in-Above.result.now c.get-head-in-Above.ensures)))) (omega arith) in
+    let wide : WideSlots (plain_head c.get-head-in-Above.result.now).params = walk.wide_above c.args.context.now.heads.now c.args.context.now.unit c.args.name.now c.in-Above.n c.get-head-in-Above.result.now c.requires.able.heads (walk.callee_above c.args.context.now.heads.now (known c.args.context.now.heads.now c.args.context.now.unit) c.args.name.now c.find_callee.result c.in-Above.n c.get-head-in-Above.result.now c.find_callee.ensures.found c.find_callee.ensures.one c.in-Above.is (got c.args.context.now.heads.now c.in-Above.n c.get-head-in-Above.result.now c.get-head-in-Above.ensures)) in
+    let few : length c.get-head-in-Above.result.now.params.items < 2 ^ 32 = walk.few_params c.args.context.now.heads.now c.in-Above.n c.get-head-in-Above.result.now c.requires.able.params (subst (IsOneOf c.args.context.now.heads.now) c.in-Above.is c.find_callee.ensures.one) (got c.args.context.now.heads.now c.in-Above.n c.get-head-in-Above.result.now c.get-head-in-Above.ensures) in
     search rules
 
 pub check_called-returns-in_err-all-in-Above : goal.check_called-returns-in_err-all-in-Above
 check_called-returns-in_err-all-in-Above t c =
     let p = err_from_is_err_and c.from_residual-in_err-all-in-Above.result c.from_residual-in_err-all-in-Above.ensures.1 in
-    rw (p.1, p.2) (fails c.in_err-all-in-Above.field-0.0 _ _ _ (walk.call_is (known c.args.heads.now c.args.unit) (plain_scope c.args.scope.now) c.args.tail c.args.lo (plain_wanted c.args.wanted) c.args.place c.args.name.now (plain_all c.args.arguments.now) c.in-Above.n (plain_head c.get-head-in-Above.result.now) (c.args.lo + 1) (walk.callee_above c.args.heads.now (known c.args.heads.now c.args.unit) c.args.name.now c.find_callee.result c.in-Above.n c.get-head-in-Above.result.now c.find_callee.ensures.found c.find_callee.ensures.one c.in-Above.is (got c.args.heads.now c.in-Above.n c.get-head-in-Above.result.now c.get-head-in-Above.ensures)) (omega arith)) c.in_err-all-in-Above.ensures)
+    rw (p.1, p.2) (fails c.in_err-all-in-Above.field-0.0 _ _ _ (walk.call_is (known c.args.context.now.heads.now c.args.context.now.unit) (plain_scope c.args.scope.now) c.args.tail c.args.lo (plain_wanted c.args.wanted) c.args.place c.args.name.now (plain_all c.args.arguments.now) c.in-Above.n (plain_head c.get-head-in-Above.result.now) (c.args.lo + 1) (walk.callee_above c.args.context.now.heads.now (known c.args.context.now.heads.now c.args.context.now.unit) c.args.name.now c.find_callee.result c.in-Above.n c.get-head-in-Above.result.now c.find_callee.ensures.found c.find_callee.ensures.one c.in-Above.is (got c.args.context.now.heads.now c.in-Above.n c.get-head-in-Above.result.now c.get-head-in-Above.ensures)) (omega arith)) c.in_err-all-in-Above.ensures)
 
 pub check_called-returns-in_ok-all-in-Above : goal.check_called-returns-in_ok-all-in-Above
 check_called-returns-in_ok-all-in-Above t c =
-    subst (λ (z : Result Typed Fault). Says c.settled_call.result z) (sym (goes _ _ _ (plain_all_typed c.in_ok-all-in-Above.all) (walk.call_is (known c.args.heads.now c.args.unit) (plain_scope c.args.scope.now) c.args.tail c.args.lo (plain_wanted c.args.wanted) c.args.place c.args.name.now (plain_all c.args.arguments.now) c.in-Above.n (plain_head c.get-head-in-Above.result.now) (c.args.lo + 1) (walk.callee_above c.args.heads.now (known c.args.heads.now c.args.unit) c.args.name.now c.find_callee.result c.in-Above.n c.get-head-in-Above.result.now c.find_callee.ensures.found c.find_callee.ensures.one c.in-Above.is (got c.args.heads.now c.in-Above.n c.get-head-in-Above.result.now c.get-head-in-Above.ensures)) (omega arith)) c.in_ok-all-in-Above.ensures)) c.settled_call.ensures
+    subst (λ (z : Result Typed Fault). Says c.settled_call.result z) (sym (goes _ _ _ (plain_all_typed c.in_ok-all-in-Above.all) (walk.call_is (known c.args.context.now.heads.now c.args.context.now.unit) (plain_scope c.args.scope.now) c.args.tail c.args.lo (plain_wanted c.args.wanted) c.args.place c.args.name.now (plain_all c.args.arguments.now) c.in-Above.n (plain_head c.get-head-in-Above.result.now) (c.args.lo + 1) (walk.callee_above c.args.context.now.heads.now (known c.args.context.now.heads.now c.args.context.now.unit) c.args.name.now c.find_callee.result c.in-Above.n c.get-head-in-Above.result.now c.find_callee.ensures.found c.find_callee.ensures.one c.in-Above.is (got c.args.context.now.heads.now c.in-Above.n c.get-head-in-Above.result.now c.get-head-in-Above.ensures)) (omega arith)) c.in_ok-all-in-Above.ensures)) c.settled_call.ensures
 
 pub check_called-overflow_add-first : goal.check_called-overflow_add-first
 check_called-overflow_add-first t c =
@@ -464,11 +464,11 @@ check_called-overflow_add-first t c =
 
 pub check_called-returns-then-not-tail : goal.check_called-returns-then-not-tail
 check_called-returns-then-not-tail t c =
-    walk.refused_is c.refused.result _ _ c.refused.ensures (walk.not_tail (known c.args.heads.now c.args.unit) (plain_scope c.args.scope.now) c.args.tail c.args.lo (plain_wanted c.args.wanted) c.args.place c.args.name.now (plain_all c.args.arguments.now) c.in-Member.n (walk.head_at c.args.heads.now c.in-Member.n) (walk.member_is c.args.heads.now (known c.args.heads.now c.args.unit) c.args.name.now c.find_callee.result c.in-Member.n c.find_callee.ensures.found c.find_callee.ensures.one c.in-Member.is) c.if-not-tail.true)
+    walk.refused_is c.refused.result _ _ c.refused.ensures (walk.not_tail (known c.args.context.now.heads.now c.args.context.now.unit) (plain_scope c.args.scope.now) c.args.tail c.args.lo (plain_wanted c.args.wanted) c.args.place c.args.name.now (plain_all c.args.arguments.now) c.in-Member.n (walk.head_at c.args.context.now.heads.now c.in-Member.n) (walk.member_is c.args.context.now.heads.now (known c.args.context.now.heads.now c.args.context.now.unit) c.args.name.now c.find_callee.result c.in-Member.n c.find_callee.ensures.found c.find_callee.ensures.one c.in-Member.is) c.if-not-tail.true)
 
 pub check_called-returns-in-Unknown : goal.check_called-returns-in-Unknown
 check_called-returns-in-Unknown t c =
-    walk.refused_is c.refused-in-Unknown.result _ _ c.refused-in-Unknown.ensures (walk.unknown_is (known c.args.heads.now c.args.unit) (plain_scope c.args.scope.now) c.args.tail c.args.lo (plain_wanted c.args.wanted) c.args.place c.args.name.now (plain_all c.args.arguments.now) (sym c.find_callee.ensures.found ∙ ap (plain_callee c.args.heads.now) c.in-Unknown.is))
+    walk.refused_is c.refused-in-Unknown.result _ _ c.refused-in-Unknown.ensures (walk.unknown_is (known c.args.context.now.heads.now c.args.context.now.unit) (plain_scope c.args.scope.now) c.args.tail c.args.lo (plain_wanted c.args.wanted) c.args.place c.args.name.now (plain_all c.args.arguments.now) (sym c.find_callee.ensures.found ∙ ap (plain_callee c.args.context.now.heads.now) c.in-Unknown.is))
 
 pub check_counted-wrong_count-requires-clause-params : goal.check_counted-wrong_count-requires-clause-params
 check_counted-wrong_count-requires-clause-params t c =
@@ -480,68 +480,68 @@ check_counted-wrong_count-requires-clause-arguments t c =
 
 pub check_counted-returns-then-not-same : goal.check_counted-returns-then-not-same
 check_counted-returns-then-not-same t c =
-    walk.refused_is c.wrong_count.result _ _ c.wrong_count.ensures (ap (λ (b : Bool). unless (needs b (fault_with faults.E11 c.args.place (length (plain_slots c.args.head.now.params.items)) (count (plain_all c.args.es.now)))) (check_all (known c.args.heads.now c.args.unit) (plain_scope c.args.scope.now) c.args.lo (exactly (widths_of (plain_slots c.args.head.now.params.items))) (plain_all c.args.es.now))) (sym (c.are_as_many-same.ensures ∙ ap (λ (l : List code_slot.Slot). length (plain_slots l) == count (plain_all c.args.es.now)) c.deref.ensures.value) ∙ c.if-not-same.true) ∙ ap (λ (l : List code_slot.Slot). walk.refusal (fault_with faults.E11 c.args.place (length (plain_slots l)) (count (plain_all c.args.es.now)))) (sym c.deref-then-not-same.ensures.value))
+    walk.refused_is c.wrong_count.result _ _ c.wrong_count.ensures (ap (λ (b : Bool). unless (needs b (fault_with faults.E11 c.args.place (length (plain_slots c.args.head.now.params.items)) (count (plain_all c.args.es.now)))) (check_all (known c.args.context.now.heads.now c.args.context.now.unit) (plain_scope c.args.scope.now) c.args.lo (exactly (widths_of (plain_slots c.args.head.now.params.items))) (plain_all c.args.es.now))) (sym (c.are_as_many-same.ensures ∙ ap (λ (l : List code_slot.Slot). length (plain_slots l) == count (plain_all c.args.es.now)) c.deref.ensures.value) ∙ c.if-not-same.true) ∙ ap (λ (l : List code_slot.Slot). walk.refusal (fault_with faults.E11 c.args.place (length (plain_slots l)) (count (plain_all c.args.es.now)))) (sym c.deref-then-not-same.ensures.value))
 
 pub check_counted-check_arguments-requires : goal.check_counted-check_arguments-requires
 check_counted-check_arguments-requires t c =
     let smaller : 4 * nodes_in (plain_all c.args.es.now) + 1 < 4 * nodes_in (plain_all c.args.es.now) + 2 = omega arith in
-    let ok : MayCheckAll c.args.heads.now c.args.unit (plain_scope c.args.scope.now) c.args.lo (plain_all c.args.es.now) = c.requires.able in
+    let ok : MayCheckAll c.args.context.now.heads.now c.args.context.now.unit (plain_scope c.args.scope.now) c.args.lo (plain_all c.args.es.now) = c.requires.able in
     let wide : WideSlots (plain_slots c.deref-2.result.now) = subst (λ (l : List code_slot.Slot). WideSlots (plain_slots l)) (sym c.deref-2.ensures.value) c.requires.wide in
-    let marked : AreMarked (known c.args.heads.now c.args.unit) c.args.es.now = c.requires.marked in
+    let marked : AreMarked (known c.args.context.now.heads.now c.args.context.now.unit) c.args.es.now = c.requires.marked in
     search rules
 
 pub check_counted-returns : goal.check_counted-returns
 check_counted-returns t c =
-    subst (λ (z : Result TypedAll Fault). SaysAll c.check_arguments.result z) (sym (ap (λ (b : Bool). unless (needs b (fault_with faults.E11 c.args.place (length (plain_slots c.args.head.now.params.items)) (count (plain_all c.args.es.now)))) (check_all (known c.args.heads.now c.args.unit) (plain_scope c.args.scope.now) c.args.lo (exactly (widths_of (plain_slots c.args.head.now.params.items))) (plain_all c.args.es.now))) (sym (c.are_as_many-same.ensures ∙ ap (λ (l : List code_slot.Slot). length (plain_slots l) == count (plain_all c.args.es.now)) c.deref.ensures.value) ∙ c.if-not-same.false)))
-    (subst (λ (l : List code_slot.Slot). SaysAll c.check_arguments.result (check_all (known c.args.heads.now c.args.unit) (plain_scope c.args.scope.now) c.args.lo (exactly (widths_of (plain_slots l))) (plain_all c.args.es.now))) c.deref-2.ensures.value c.check_arguments.ensures)
+    subst (λ (z : Result TypedAll Fault). SaysAll c.check_arguments.result z) (sym (ap (λ (b : Bool). unless (needs b (fault_with faults.E11 c.args.place (length (plain_slots c.args.head.now.params.items)) (count (plain_all c.args.es.now)))) (check_all (known c.args.context.now.heads.now c.args.context.now.unit) (plain_scope c.args.scope.now) c.args.lo (exactly (widths_of (plain_slots c.args.head.now.params.items))) (plain_all c.args.es.now))) (sym (c.are_as_many-same.ensures ∙ ap (λ (l : List code_slot.Slot). length (plain_slots l) == count (plain_all c.args.es.now)) c.deref.ensures.value) ∙ c.if-not-same.false)))
+    (subst (λ (l : List code_slot.Slot). SaysAll c.check_arguments.result (check_all (known c.args.context.now.heads.now c.args.context.now.unit) (plain_scope c.args.scope.now) c.args.lo (exactly (widths_of (plain_slots l))) (plain_all c.args.es.now))) c.deref-2.ensures.value c.check_arguments.ensures)
 
 pub check_expression-check_choice-requires : goal.check_expression-check_choice-requires
 check_expression-check_choice-requires t c =
     let smaller : 4 * (nodes (plain c.deref.result.now) + (nodes (plain c.deref-in-Choice.result.now) + nodes (plain c.deref-in-Choice-2.result.now))) + 3 < 4 * nodes (plain c.args.e.now) = omega (arith, ap nodes (walk.choice_same (plain c.args.e.now) c.in-Choice.place c.in-Choice.condition.value c.in-Choice.first.value c.in-Choice.second.value c.deref.result.now c.deref-in-Choice.result.now c.deref-in-Choice-2.result.now (ap plain c.in-Choice.is) c.deref.ensures c.deref-in-Choice.ensures c.deref-in-Choice-2.ensures)) in
-    let ok : MayCheck c.args.heads.now c.args.unit (plain_scope c.args.scope.now) c.args.lo (Choice c.in-Choice.place (plain c.deref.result.now) (plain c.deref-in-Choice.result.now) (plain c.deref-in-Choice-2.result.now)) = subst (λ (x : Expression). MayCheck c.args.heads.now c.args.unit (plain_scope c.args.scope.now) c.args.lo x) (walk.choice_same (plain c.args.e.now) c.in-Choice.place c.in-Choice.condition.value c.in-Choice.first.value c.in-Choice.second.value c.deref.result.now c.deref-in-Choice.result.now c.deref-in-Choice-2.result.now (ap plain c.in-Choice.is) c.deref.ensures c.deref-in-Choice.ensures c.deref-in-Choice-2.ensures) c.requires.able in
+    let ok : MayCheck c.args.context.now.heads.now c.args.context.now.unit (plain_scope c.args.scope.now) c.args.lo (Choice c.in-Choice.place (plain c.deref.result.now) (plain c.deref-in-Choice.result.now) (plain c.deref-in-Choice-2.result.now)) = subst (λ (x : Expression). MayCheck c.args.context.now.heads.now c.args.context.now.unit (plain_scope c.args.scope.now) c.args.lo x) (walk.choice_same (plain c.args.e.now) c.in-Choice.place c.in-Choice.condition.value c.in-Choice.first.value c.in-Choice.second.value c.deref.result.now c.deref-in-Choice.result.now c.deref-in-Choice-2.result.now (ap plain c.in-Choice.is) c.deref.ensures c.deref-in-Choice.ensures c.deref-in-Choice-2.ensures) c.requires.able in
     let wide : HasWideWanted c.args.wanted = c.requires.wanted in
-    let marked : IsMarked (known c.args.heads.now c.args.unit) c.deref.result.now × IsMarked (known c.args.heads.now c.args.unit) c.deref-in-Choice.result.now × IsMarked (known c.args.heads.now c.args.unit) c.deref-in-Choice-2.result.now = marks.in_choice (known c.args.heads.now c.args.unit) c.args.e.now c.requires.marked c.in-Choice.place c.in-Choice.field-1 c.in-Choice.condition c.in-Choice.first c.in-Choice.second _ _ _ c.in-Choice.is c.deref.ensures c.deref-in-Choice.ensures c.deref-in-Choice-2.ensures in
+    let marked : IsMarked (known c.args.context.now.heads.now c.args.context.now.unit) c.deref.result.now × IsMarked (known c.args.context.now.heads.now c.args.context.now.unit) c.deref-in-Choice.result.now × IsMarked (known c.args.context.now.heads.now c.args.context.now.unit) c.deref-in-Choice-2.result.now = marks.in_choice (known c.args.context.now.heads.now c.args.context.now.unit) c.args.e.now c.requires.marked c.in-Choice.place c.in-Choice.field-1 c.in-Choice.condition c.in-Choice.first c.in-Choice.second _ _ _ c.in-Choice.is c.deref.ensures c.deref-in-Choice.ensures c.deref-in-Choice-2.ensures in
     search rules
 
 pub check_expression-returns-in-Choice : goal.check_expression-returns-in-Choice
 check_expression-returns-in-Choice t c =
-    subst (λ (x : Expression). Says c.check_choice.result (check (known c.args.heads.now c.args.unit) (plain_scope c.args.scope.now) c.args.tail c.args.lo (plain_wanted c.args.wanted) x)) (sym (walk.choice_same (plain c.args.e.now) c.in-Choice.place c.in-Choice.condition.value c.in-Choice.first.value c.in-Choice.second.value c.deref.result.now c.deref-in-Choice.result.now c.deref-in-Choice-2.result.now (ap plain c.in-Choice.is) c.deref.ensures c.deref-in-Choice.ensures c.deref-in-Choice-2.ensures)) c.check_choice.ensures
+    subst (λ (x : Expression). Says c.check_choice.result (check (known c.args.context.now.heads.now c.args.context.now.unit) (plain_scope c.args.scope.now) c.args.tail c.args.lo (plain_wanted c.args.wanted) x)) (sym (walk.choice_same (plain c.args.e.now) c.in-Choice.place c.in-Choice.condition.value c.in-Choice.first.value c.in-Choice.second.value c.deref.result.now c.deref-in-Choice.result.now c.deref-in-Choice-2.result.now (ap plain c.in-Choice.is) c.deref.ensures c.deref-in-Choice.ensures c.deref-in-Choice-2.ensures)) c.check_choice.ensures
 
 pub check_expression-check_binding-requires : goal.check_expression-check_binding-requires
 check_expression-check_binding-requires t c =
     let smaller : 4 * (nodes_bound (plain_bindings c.deref-in-Binding.result.now) + nodes (plain c.deref-in-Binding-2.result.now)) + 3 < 4 * nodes (plain c.args.e.now) = omega (arith, ap nodes (walk.binding_same (plain c.args.e.now) c.in-Binding.place c.in-Binding.bound.items c.deref-in-Binding.result.now c.in-Binding.body.value c.deref-in-Binding-2.result.now (ap plain c.in-Binding.is ∙ plain-Binding c.in-Binding.place c.in-Binding.field-1 c.in-Binding.bound c.in-Binding.body) c.deref-in-Binding.ensures.value c.deref-in-Binding-2.ensures)) in
-    let ok : MayCheck c.args.heads.now c.args.unit (plain_scope c.args.scope.now) c.args.lo (Binding c.in-Binding.place (plain_bindings c.deref-in-Binding.result.now) (plain c.deref-in-Binding-2.result.now)) = subst (λ (x : Expression). MayCheck c.args.heads.now c.args.unit (plain_scope c.args.scope.now) c.args.lo x) (walk.binding_same (plain c.args.e.now) c.in-Binding.place c.in-Binding.bound.items c.deref-in-Binding.result.now c.in-Binding.body.value c.deref-in-Binding-2.result.now (ap plain c.in-Binding.is ∙ plain-Binding c.in-Binding.place c.in-Binding.field-1 c.in-Binding.bound c.in-Binding.body) c.deref-in-Binding.ensures.value c.deref-in-Binding-2.ensures) c.requires.able in
+    let ok : MayCheck c.args.context.now.heads.now c.args.context.now.unit (plain_scope c.args.scope.now) c.args.lo (Binding c.in-Binding.place (plain_bindings c.deref-in-Binding.result.now) (plain c.deref-in-Binding-2.result.now)) = subst (λ (x : Expression). MayCheck c.args.context.now.heads.now c.args.context.now.unit (plain_scope c.args.scope.now) c.args.lo x) (walk.binding_same (plain c.args.e.now) c.in-Binding.place c.in-Binding.bound.items c.deref-in-Binding.result.now c.in-Binding.body.value c.deref-in-Binding-2.result.now (ap plain c.in-Binding.is ∙ plain-Binding c.in-Binding.place c.in-Binding.field-1 c.in-Binding.bound c.in-Binding.body) c.deref-in-Binding.ensures.value c.deref-in-Binding-2.ensures) c.requires.able in
     let wide : HasWideWanted c.args.wanted = c.requires.wanted in
-    let marked : BoundMarked (known c.args.heads.now c.args.unit) c.deref-in-Binding.result.now × IsMarked (known c.args.heads.now c.args.unit) c.deref-in-Binding-2.result.now = marks.in_binding (known c.args.heads.now c.args.unit) c.args.e.now c.requires.marked c.in-Binding.place c.in-Binding.field-1 c.in-Binding.bound c.in-Binding.body _ _ c.in-Binding.is c.deref-in-Binding.ensures.value c.deref-in-Binding-2.ensures in
+    let marked : BoundMarked (known c.args.context.now.heads.now c.args.context.now.unit) c.deref-in-Binding.result.now × IsMarked (known c.args.context.now.heads.now c.args.context.now.unit) c.deref-in-Binding-2.result.now = marks.in_binding (known c.args.context.now.heads.now c.args.context.now.unit) c.args.e.now c.requires.marked c.in-Binding.place c.in-Binding.field-1 c.in-Binding.bound c.in-Binding.body _ _ c.in-Binding.is c.deref-in-Binding.ensures.value c.deref-in-Binding-2.ensures in
     search rules
 
 pub check_expression-returns-in-Binding : goal.check_expression-returns-in-Binding
 check_expression-returns-in-Binding t c =
-    subst (λ (x : Expression). Says c.check_binding.result (check (known c.args.heads.now c.args.unit) (plain_scope c.args.scope.now) c.args.tail c.args.lo (plain_wanted c.args.wanted) x)) (sym (walk.binding_same (plain c.args.e.now) c.in-Binding.place c.in-Binding.bound.items c.deref-in-Binding.result.now c.in-Binding.body.value c.deref-in-Binding-2.result.now (ap plain c.in-Binding.is ∙ plain-Binding c.in-Binding.place c.in-Binding.field-1 c.in-Binding.bound c.in-Binding.body) c.deref-in-Binding.ensures.value c.deref-in-Binding-2.ensures)) c.check_binding.ensures
+    subst (λ (x : Expression). Says c.check_binding.result (check (known c.args.context.now.heads.now c.args.context.now.unit) (plain_scope c.args.scope.now) c.args.tail c.args.lo (plain_wanted c.args.wanted) x)) (sym (walk.binding_same (plain c.args.e.now) c.in-Binding.place c.in-Binding.bound.items c.deref-in-Binding.result.now c.in-Binding.body.value c.deref-in-Binding-2.result.now (ap plain c.in-Binding.is ∙ plain-Binding c.in-Binding.place c.in-Binding.field-1 c.in-Binding.bound c.in-Binding.body) c.deref-in-Binding.ensures.value c.deref-in-Binding-2.ensures)) c.check_binding.ensures
 
 pub check_expression-check_applied-requires : goal.check_expression-check_applied-requires
 check_expression-check_applied-requires t c =
     let smaller : 4 * nodes_in (plain_all c.deref-in-Applied.result.now) + 3 < 4 * nodes (plain c.args.e.now) = omega (arith, ap nodes (ap plain c.in-Applied.is ∙ plain-Applied c.in-Applied.place c.in-Applied.field-1 c.in-Applied.operator c.in-Applied.operands ∙ sym (ap (λ (l : List code.Expression). Applied c.in-Applied.place c.in-Applied.operator (plain_all l)) c.deref-in-Applied.ensures.value))) in
-    let ok : MayCheck c.args.heads.now c.args.unit (plain_scope c.args.scope.now) c.args.lo (Applied c.in-Applied.place c.in-Applied.operator (plain_all c.deref-in-Applied.result.now)) = subst (λ (x : Expression). MayCheck c.args.heads.now c.args.unit (plain_scope c.args.scope.now) c.args.lo x) (ap plain c.in-Applied.is ∙ plain-Applied c.in-Applied.place c.in-Applied.field-1 c.in-Applied.operator c.in-Applied.operands ∙ sym (ap (λ (l : List code.Expression). Applied c.in-Applied.place c.in-Applied.operator (plain_all l)) c.deref-in-Applied.ensures.value)) c.requires.able in
+    let ok : MayCheck c.args.context.now.heads.now c.args.context.now.unit (plain_scope c.args.scope.now) c.args.lo (Applied c.in-Applied.place c.in-Applied.operator (plain_all c.deref-in-Applied.result.now)) = subst (λ (x : Expression). MayCheck c.args.context.now.heads.now c.args.context.now.unit (plain_scope c.args.scope.now) c.args.lo x) (ap plain c.in-Applied.is ∙ plain-Applied c.in-Applied.place c.in-Applied.field-1 c.in-Applied.operator c.in-Applied.operands ∙ sym (ap (λ (l : List code.Expression). Applied c.in-Applied.place c.in-Applied.operator (plain_all l)) c.deref-in-Applied.ensures.value)) c.requires.able in
     let wide : HasWideWanted c.args.wanted = c.requires.wanted in
-    let marked : AreMarked (known c.args.heads.now c.args.unit) c.deref-in-Applied.result.now = marks.in_applied (known c.args.heads.now c.args.unit) c.args.e.now c.requires.marked c.in-Applied.place c.in-Applied.field-1 c.in-Applied.operator c.in-Applied.operands _ c.in-Applied.is c.deref-in-Applied.ensures.value in
+    let marked : AreMarked (known c.args.context.now.heads.now c.args.context.now.unit) c.deref-in-Applied.result.now = marks.in_applied (known c.args.context.now.heads.now c.args.context.now.unit) c.args.e.now c.requires.marked c.in-Applied.place c.in-Applied.field-1 c.in-Applied.operator c.in-Applied.operands _ c.in-Applied.is c.deref-in-Applied.ensures.value in
     search rules
 
 pub check_expression-returns-in-Applied : goal.check_expression-returns-in-Applied
 check_expression-returns-in-Applied t c =
-    subst (λ (x : Expression). Says c.check_applied.result (check (known c.args.heads.now c.args.unit) (plain_scope c.args.scope.now) c.args.tail c.args.lo (plain_wanted c.args.wanted) x)) (sym (ap plain c.in-Applied.is ∙ plain-Applied c.in-Applied.place c.in-Applied.field-1 c.in-Applied.operator c.in-Applied.operands ∙ sym (ap (λ (l : List code.Expression). Applied c.in-Applied.place c.in-Applied.operator (plain_all l)) c.deref-in-Applied.ensures.value))) (c.check_applied.ensures c.args.tail)
+    subst (λ (x : Expression). Says c.check_applied.result (check (known c.args.context.now.heads.now c.args.context.now.unit) (plain_scope c.args.scope.now) c.args.tail c.args.lo (plain_wanted c.args.wanted) x)) (sym (ap plain c.in-Applied.is ∙ plain-Applied c.in-Applied.place c.in-Applied.field-1 c.in-Applied.operator c.in-Applied.operands ∙ sym (ap (λ (l : List code.Expression). Applied c.in-Applied.place c.in-Applied.operator (plain_all l)) c.deref-in-Applied.ensures.value))) (c.check_applied.ensures c.args.tail)
 
 pub check_expression-check_called-requires : goal.check_expression-check_called-requires
 check_expression-check_called-requires t c =
     let smaller : 4 * nodes_in (plain_all c.deref-in-Called.result.now) + 3 < 4 * nodes (plain c.args.e.now) = omega (arith, ap nodes (ap plain c.in-Called.is ∙ plain-Called c.in-Called.place c.in-Called.field-1 c.in-Called.name c.in-Called.arguments ∙ sym (ap (λ (l : List code.Expression). Called c.in-Called.place c.in-Called.name (plain_all l)) c.deref-in-Called.ensures.value))) in
-    let ok : MayCheck c.args.heads.now c.args.unit (plain_scope c.args.scope.now) c.args.lo (Called c.in-Called.place c.in-Called.name (plain_all c.deref-in-Called.result.now)) = subst (λ (x : Expression). MayCheck c.args.heads.now c.args.unit (plain_scope c.args.scope.now) c.args.lo x) (ap plain c.in-Called.is ∙ plain-Called c.in-Called.place c.in-Called.field-1 c.in-Called.name c.in-Called.arguments ∙ sym (ap (λ (l : List code.Expression). Called c.in-Called.place c.in-Called.name (plain_all l)) c.deref-in-Called.ensures.value)) c.requires.able in
+    let ok : MayCheck c.args.context.now.heads.now c.args.context.now.unit (plain_scope c.args.scope.now) c.args.lo (Called c.in-Called.place c.in-Called.name (plain_all c.deref-in-Called.result.now)) = subst (λ (x : Expression). MayCheck c.args.context.now.heads.now c.args.context.now.unit (plain_scope c.args.scope.now) c.args.lo x) (ap plain c.in-Called.is ∙ plain-Called c.in-Called.place c.in-Called.field-1 c.in-Called.name c.in-Called.arguments ∙ sym (ap (λ (l : List code.Expression). Called c.in-Called.place c.in-Called.name (plain_all l)) c.deref-in-Called.ensures.value)) c.requires.able in
     let wide : HasWideWanted c.args.wanted = c.requires.wanted in
-    let marked : AreMarked (known c.args.heads.now c.args.unit) c.deref-in-Called.result.now = marks.in_called (known c.args.heads.now c.args.unit) c.args.e.now c.requires.marked c.in-Called.place c.in-Called.field-1 c.in-Called.name c.in-Called.arguments _ c.in-Called.is c.deref-in-Called.ensures.value in
+    let marked : AreMarked (known c.args.context.now.heads.now c.args.context.now.unit) c.deref-in-Called.result.now = marks.in_called (known c.args.context.now.heads.now c.args.context.now.unit) c.args.e.now c.requires.marked c.in-Called.place c.in-Called.field-1 c.in-Called.name c.in-Called.arguments _ c.in-Called.is c.deref-in-Called.ensures.value in
     search rules
 
 pub check_expression-returns-in-Called : goal.check_expression-returns-in-Called
 check_expression-returns-in-Called t c =
-    subst (λ (x : Expression). Says c.check_called.result (check (known c.args.heads.now c.args.unit) (plain_scope c.args.scope.now) c.args.tail c.args.lo (plain_wanted c.args.wanted) x)) (sym (ap plain c.in-Called.is ∙ plain-Called c.in-Called.place c.in-Called.field-1 c.in-Called.name c.in-Called.arguments ∙ sym (ap (λ (l : List code.Expression). Called c.in-Called.place c.in-Called.name (plain_all l)) c.deref-in-Called.ensures.value))) c.check_called.ensures
+    subst (λ (x : Expression). Says c.check_called.result (check (known c.args.context.now.heads.now c.args.context.now.unit) (plain_scope c.args.scope.now) c.args.tail c.args.lo (plain_wanted c.args.wanted) x)) (sym (ap plain c.in-Called.is ∙ plain-Called c.in-Called.place c.in-Called.field-1 c.in-Called.name c.in-Called.arguments ∙ sym (ap (λ (l : List code.Expression). Called c.in-Called.place c.in-Called.name (plain_all l)) c.deref-in-Called.ensures.value))) c.check_called.ensures
 
 pub check_expression-typed_sized-requires : goal.check_expression-typed_sized-requires
 check_expression-typed_sized-requires t c =

@@ -1,0 +1,12 @@
+//! What the walk over a body knows of the program.
+
+use crate::heads::Heads;
+use std::alloc::Global;
+
+/// The heads of the program, and the group of the function whose body is walked. All terms are allocated by `alloc`.
+#[derive(Clone, Copy)]
+pub struct Context<'a> {
+    pub alloc: Global,
+    pub heads: &'a Heads,
+    pub unit: u32,
+}
