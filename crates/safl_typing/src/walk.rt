@@ -36,7 +36,8 @@ use safl_check::Term;
 use safl_tree::Name;
 use safl_word::{Fault, Primitive, Rule, result_width};
 
-/// Checks an expression in a body of this group, where its sites are numbered from `lo` on.
+/// The width and the term of an expression with these variables in scope, or its first fault. Its call sites are numbered
+/// from `lo` on; `tail` says whether it stands in tail position, and `wanted` at which width it is expected.
 #[cycle(walk)]
 pub fn check_expression(
     context: &Context,
