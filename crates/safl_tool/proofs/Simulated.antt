@@ -18,7 +18,7 @@ use Rattle.safl_tool.specs.Limits.{source_max}
 use Rattle.safl_tool.specs.Lines.{count_line, argument_line, memory_line}
 use Rattle.safl_tool.specs.Sources.{IsCompiled, IsFaulty, IsFaultLine}
 use Rattle.safl_tool.specs.Arguments.{AreRead, HaveFault}
-use Rattle.safl_tool.specs.Simulating.{IsValue, HasValue, Simulates, IsMisgiven, SimSays, IsSimLine, end_status, outcome_text}
+use Rattle.safl_tool.specs.Simulating.{IsValue, HasValue, Simulates, IsMisgiven, SimSays, IsGivenLine, end_status, outcome_text}
 use Rattle.safl_tool.specs.Outside.{ShelfState, SinkState, OfFile}
 use Rattle.safl_tool.specs.Refusals.{RefusesSource, RefusesReading, RefusesArguments, RefusesRun, Explains, Prints, PrintFails}
 use Rattle.safl_tool.specs.declared.status.Status.{Status}
@@ -133,13 +133,13 @@ run_explains Says IsLine input holds args source has memory memory_is fault faul
 
 module _ (old new : ShelfState) (before after : SinkState) (input : List ℕ) (limit : ℕ) (args : List (List ℕ)) where
   -- what was not read, or not run, explains the call
-  pub sim_unread : (r : Refusal) → after ≡ before → RefusesReading source_max old new input r → Explains (SimSays old new before after input limit args) (IsSimLine old.holds input args) input [] r
+  pub sim_unread : (r : Refusal) → after ≡ before → RefusesReading source_max old new input r → Explains (SimSays old new before after input limit args) (IsGivenLine old.holds input args) input [] r
   sim_unread r same h =
-      reading_explains (SimSays old new before after input limit args) (IsSimLine old.holds input args) input [] source_max old new tt refl (λ rose. (rose, same)) refl (λ long. (long, same)) refl r h
+      reading_explains (SimSays old new before after input limit args) (IsGivenLine old.holds input args) input [] source_max old new tt refl (λ rose. (rose, same)) refl (λ long. (long, same)) refl r h
 
-  pub sim_unrun : (source : List ℕ) (r : Refusal) → after ≡ before → IfSome old.holds (HasFile input source) → RefusesRun source args r → Explains (SimSays old new before after input limit args) (IsSimLine old.holds input args) input [] r
+  pub sim_unrun : (source : List ℕ) (r : Refusal) → after ≡ before → IfSome old.holds (HasFile input source) → RefusesRun source args r → Explains (SimSays old new before after input limit args) (IsGivenLine old.holds input args) input [] r
   sim_unrun source r same has h =
-      run_explains (SimSays old new before after input limit args) (IsSimLine old.holds input args) input old.holds args source has tt refl (λ faulty. (faulty, same)) (λ line is. is) (λ bad. (bad, same)) (λ line is. is) r h
+      run_explains (SimSays old new before after input limit args) (IsGivenLine old.holds input args) input old.holds args source has tt refl (λ faulty. (faulty, same)) (λ line is. is) (λ bad. (bad, same)) (λ line is. is) r h
 
   -- what was printed, or not
   pub sim_printed : (source : List ℕ) (answer : Option Done) (s : Status) → IfSome old.holds (HasFile input source) → Simulates source args limit answer → s ≡ end_status answer → Prints (outcome_text limit answer) before after → SimSays old new before after input limit args s
@@ -149,7 +149,7 @@ module _ (old new : ShelfState) (before after : SinkState) (input : List ℕ) (l
       subst (λ x. SimSays old new before after input limit args x) (sym is) (d, of_file old.holds input source (λ y. Simulates y args limit (Some d)) has m, p)
 
   pub sim_unprinted : (source : List ℕ) (answer : Option Done) (r : Refusal) → IfSome old.holds (HasFile input source) → Simulates source args limit answer → PrintFails (outcome_text limit answer) before after r
-      → Explains (SimSays old new before after input limit args) (IsSimLine old.holds input args) input [] r
+      → Explains (SimSays old new before after input limit args) (IsGivenLine old.holds input args) input [] r
   sim_unprinted source answer r has m p =
-      printing_explains (SimSays old new before after input limit args) (IsSimLine old.holds input args) input [] (outcome_text limit answer) before after tt refl
+      printing_explains (SimSays old new before after input limit args) (IsGivenLine old.holds input args) input [] (outcome_text limit answer) before after tt refl
       (λ rose part. (answer, of_file old.holds input source (λ y. Simulates y args limit answer) has m, rose, part)) refl r p

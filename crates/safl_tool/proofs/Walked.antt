@@ -15,7 +15,8 @@ use Rattle.safl_machine.specs.Walking.{IsWalk, IsShort}
 use Rattle.safl_machine.specs.declared.walking.Walked.{Walked}
 use Rattle.safl_tool.specs.Limits.{source_max}
 use Rattle.safl_tool.specs.Outside.{ShelfState, SinkState, OfFile}
-use Rattle.safl_tool.specs.Walking.{MainGives, WalksFrom, Walks, WalkSays, IsWalkLine, result_status, walked_text}
+use Rattle.safl_tool.specs.Simulating.{IsGivenLine}
+use Rattle.safl_tool.specs.Walking.{MainGives, WalksFrom, Walks, WalkSays, result_status, walked_text}
 use Rattle.safl_check.specs.Program.{Program}
 use Rattle.safl_unit.specs.Names.{Names}
 use Rattle.safl_source.specs.Sources.{IsSourceOf}
@@ -90,13 +91,13 @@ module _ (c : CheckedProgram) (words : List Word) (m n : Shown) (seed steps : �
 
 module _ (old new : ShelfState) (before after : SinkState) (input : List ℕ) (seed steps : ℕ) (args : List (List ℕ)) where
   -- what was not read, or not walked, explains the call
-  pub walk_unread : (r : Refusal) → after ≡ before → RefusesReading source_max old new input r → Explains (WalkSays old new before after input seed steps args) (IsWalkLine old.holds input args) input [] r
+  pub walk_unread : (r : Refusal) → after ≡ before → RefusesReading source_max old new input r → Explains (WalkSays old new before after input seed steps args) (IsGivenLine old.holds input args) input [] r
   walk_unread r same h =
-      reading_explains (WalkSays old new before after input seed steps args) (IsWalkLine old.holds input args) input [] source_max old new tt refl (λ rose. (rose, same)) refl (λ long. (long, same)) refl r h
+      reading_explains (WalkSays old new before after input seed steps args) (IsGivenLine old.holds input args) input [] source_max old new tt refl (λ rose. (rose, same)) refl (λ long. (long, same)) refl r h
 
-  pub walk_unrun : (source : List ℕ) (r : Refusal) → after ≡ before → IfSome old.holds (HasFile input source) → RefusesRun source args r → Explains (WalkSays old new before after input seed steps args) (IsWalkLine old.holds input args) input [] r
+  pub walk_unrun : (source : List ℕ) (r : Refusal) → after ≡ before → IfSome old.holds (HasFile input source) → RefusesRun source args r → Explains (WalkSays old new before after input seed steps args) (IsGivenLine old.holds input args) input [] r
   walk_unrun source r same has h =
-      run_explains (WalkSays old new before after input seed steps args) (IsWalkLine old.holds input args) input old.holds args source has tt refl (λ faulty. (faulty, same)) (λ line is. is) (λ bad. (bad, same)) (λ line is. is) r h
+      run_explains (WalkSays old new before after input seed steps args) (IsGivenLine old.holds input args) input old.holds args source has tt refl (λ faulty. (faulty, same)) (λ line is. is) (λ bad. (bad, same)) (λ line is. is) r h
 
   -- what was printed, or not
   says : (s : Status) (r : Option Word) (w : Walked) → w.result ≡ r → s ≡ result_status r → OfFile old.holds input (λ source. Walks source args seed steps w) → Prints (walked_text steps w) before after → WalkSays old new before after input seed steps args s
@@ -107,9 +108,9 @@ module _ (old new : ShelfState) (before after : SinkState) (input : List ℕ) (s
   walk_printed source w s has m is p = says s w.result w refl is (of_file old.holds input source (λ y. Walks y args seed steps w) has m) p
 
   pub walk_unprinted : (source : List ℕ) (w : Walked) (r : Refusal) → IfSome old.holds (HasFile input source) → Walks source args seed steps w → PrintFails (walked_text steps w) before after r
-      → Explains (WalkSays old new before after input seed steps args) (IsWalkLine old.holds input args) input [] r
+      → Explains (WalkSays old new before after input seed steps args) (IsGivenLine old.holds input args) input [] r
   walk_unprinted source w r has m p =
-      printing_explains (WalkSays old new before after input seed steps args) (IsWalkLine old.holds input args) input [] (walked_text steps w) before after tt refl
+      printing_explains (WalkSays old new before after input seed steps args) (IsGivenLine old.holds input args) input [] (walked_text steps w) before after tt refl
       (λ rose part. (w, of_file old.holds input source (λ y. Walks y args seed steps w) has m, rose, part)) refl r p
 
 -- what refuses the arguments of a source that was read refuses its walk

@@ -14,8 +14,8 @@ use Rattle.safl_source.specs.Sources.{IsSourceOf}
 use Rattle.safl_source.specs.Circuits.{IsCircuitOf}
 use Rattle.safl_tool.specs.Sources.{IsFaulty, IsFaultLine}
 use Rattle.safl_tool.specs.Checking.{CheckSays, IsCheckLine}
-use Rattle.safl_tool.specs.Simulating.{SimSays, IsSimLine}
-use Rattle.safl_tool.specs.Walking.{WalkSays, IsWalkLine}
+use Rattle.safl_tool.specs.Simulating.{SimSays, IsGivenLine}
+use Rattle.safl_tool.specs.Walking.{WalkSays}
 use Rattle.safl_tool.specs.Running.{RunSays, IsRunLine}
 use Rattle.safl_tool.specs.Commands.{Command, Check, Build, Sim, Walk, Run}
 use Rattle.safl_tool.specs.Limits.{source_max}
@@ -92,8 +92,8 @@ abbrev pub IsLine : Option Command → Option Files → Status → List ℕ → 
 IsLine None holds s line = (s ≡ status.Usage) × (line ≡ usage_line)
 IsLine (Some (Check input)) holds s line = IsCheckLine holds input s line
 IsLine (Some (Build input output)) holds s line = IsBuildLine holds input output s line
-IsLine (Some (Sim input limit args)) holds s line = IsSimLine holds input args s line
-IsLine (Some (Walk input seed steps args)) holds s line = IsWalkLine holds input args s line
+IsLine (Some (Sim input limit args)) holds s line = IsGivenLine holds input args s line
+IsLine (Some (Walk input seed steps args)) holds s line = IsGivenLine holds input args s line
 IsLine (Some (Run input limit args)) holds s line = IsRunLine holds input args s line
 
 -- the whole line was sent, or the count rose and a prefix of it was

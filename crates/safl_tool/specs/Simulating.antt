@@ -88,16 +88,16 @@ SimSays old new before after input limit args status.BadArgs =
 SimSays old new before after input limit args status.ProbeFault = ⊥
 SimSays old new before after input limit args status.TooLong = OfFile old.holds input (λ source. source_max < length source) × (after ≡ before)
 
--- the line that a status of `sim` sends
-abbrev pub IsSimLine : Option Files → List ℕ → List (List ℕ) → Status → List ℕ → Type 0
-IsSimLine holds input args status.Ok line = ⊥
-IsSimLine holds input args status.SourceRefused line = OfFile holds input (IsFaultLine input line)
-IsSimLine holds input args status.Usage line = ⊥
-IsSimLine holds input args status.ReadFault line = line ≡ read_line input
-IsSimLine holds input args status.WriteFault line = line ≡ output_line
-IsSimLine holds input args status.NoMemory line = line ≡ memory_line
-IsSimLine holds input args status.NoResult line = ⊥
-IsSimLine holds input args status.VerilogRefused line = ⊥
-IsSimLine holds input args status.BadArgs line = OfFile holds input (λ source. IsMisgiven source args line)
-IsSimLine holds input args status.ProbeFault line = ⊥
-IsSimLine holds input args status.TooLong line = line ≡ long_line input source_max
+-- the line that a status of a command sends that reads a source and main's arguments
+abbrev pub IsGivenLine : Option Files → List ℕ → List (List ℕ) → Status → List ℕ → Type 0
+IsGivenLine holds input args status.Ok line = ⊥
+IsGivenLine holds input args status.SourceRefused line = OfFile holds input (IsFaultLine input line)
+IsGivenLine holds input args status.Usage line = ⊥
+IsGivenLine holds input args status.ReadFault line = line ≡ read_line input
+IsGivenLine holds input args status.WriteFault line = line ≡ output_line
+IsGivenLine holds input args status.NoMemory line = line ≡ memory_line
+IsGivenLine holds input args status.NoResult line = ⊥
+IsGivenLine holds input args status.VerilogRefused line = ⊥
+IsGivenLine holds input args status.BadArgs line = OfFile holds input (λ source. IsMisgiven source args line)
+IsGivenLine holds input args status.ProbeFault line = ⊥
+IsGivenLine holds input args status.TooLong line = line ≡ long_line input source_max

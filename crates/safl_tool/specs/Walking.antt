@@ -17,7 +17,7 @@ use Rattle.safl_tool.specs.Sources.{IsFaulty, IsFaultLine}
 use Rattle.safl_tool.specs.Arguments.{AreRead}
 use Rattle.safl_tool.specs.Simulating.{IsMisgiven}
 use Rattle.safl_tool.specs.Limits.{source_max}
-use Rattle.safl_tool.specs.Lines.{memory_line, read_line, long_line, output_line, walk_lines, short_line}
+use Rattle.safl_tool.specs.Lines.{walk_lines, short_line}
 use Rattle.safl_tool.specs.Outside.{ShelfState, SinkState, OfFile}
 use Rattle.safl_tool.specs.declared.status.Status.{Status}
 use Rattle.safl_tool.specs.declared.status.Status.TheVariants as status
@@ -89,17 +89,3 @@ WalkSays old new before after input seed steps args status.BadArgs =
     OfFile old.holds input (λ source. (line : List ℕ) × IsMisgiven source args line) × (after ≡ before)
 WalkSays old new before after input seed steps args status.ProbeFault = ⊥
 WalkSays old new before after input seed steps args status.TooLong = OfFile old.holds input (λ source. source_max < length source) × (after ≡ before)
-
--- the line that a status of `walk` sends
-abbrev pub IsWalkLine : Option Files → List ℕ → List (List ℕ) → Status → List ℕ → Type 0
-IsWalkLine holds input args status.Ok line = ⊥
-IsWalkLine holds input args status.SourceRefused line = OfFile holds input (IsFaultLine input line)
-IsWalkLine holds input args status.Usage line = ⊥
-IsWalkLine holds input args status.ReadFault line = line ≡ read_line input
-IsWalkLine holds input args status.WriteFault line = line ≡ output_line
-IsWalkLine holds input args status.NoMemory line = line ≡ memory_line
-IsWalkLine holds input args status.NoResult line = ⊥
-IsWalkLine holds input args status.VerilogRefused line = ⊥
-IsWalkLine holds input args status.BadArgs line = OfFile holds input (λ source. IsMisgiven source args line)
-IsWalkLine holds input args status.ProbeFault line = ⊥
-IsWalkLine holds input args status.TooLong line = line ≡ long_line input source_max

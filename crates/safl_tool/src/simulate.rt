@@ -10,7 +10,7 @@ ghost use Rattle.safl_tool.specs.Lines.{done_lines, late_line};
 ghost use Rattle.safl_tool.specs.Outside.{OfFile};
 ghost use Rattle.safl_tool.specs.Refusals.{Explains, RefusesArguments, RefusesRun, Prints, PrintFails};
 ghost use Rattle.safl_tool.specs.Running.{Gives};
-ghost use Rattle.safl_tool.specs.Simulating.{SimSays, IsSimLine, Simulates, IsEnd, end_status, outcome_text};
+ghost use Rattle.safl_tool.specs.Simulating.{SimSays, IsGivenLine, Simulates, IsEnd, end_status, outcome_text};
 
 use crate::arguments::read_arguments;
 use crate::print::print;
@@ -48,7 +48,7 @@ pub fn sim<S: Shelf, O: Sink>(
         (record { holds = S.holds shelf.new; read_faults = S.read_faults shelf.new; write_faults = S.write_faults shelf.new; strays = S.strays shelf.new })
         (record { sent = O.sent out.old; faults = O.faults out.old }) (record { sent = O.sent out.new; faults = O.faults out.new })
         input.now limit (map string_bytes args.now))
-        (IsSimLine (S.holds shelf.old) input.now (map string_bytes args.now)) input.now []) }
+        (IsGivenLine (S.holds shelf.old) input.now (map string_bytes args.now)) input.now []) }
     ensures no_stray { OfFile (S.holds shelf.old) input.now (λ source. Unit {0}) → OnSome (S.holds shelf.old) (S.strays shelf.new ≡ S.strays shelf.old) }
 {
     let source = match read_input(alloc, shelf, input, SOURCE_MAX) {

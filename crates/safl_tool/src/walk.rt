@@ -6,7 +6,8 @@ ghost use Rattle.safl_tool.specs.Limits.{source_max};
 ghost use Rattle.safl_tool.specs.Lines.{walk_lines, short_line};
 ghost use Rattle.safl_tool.specs.Outside.{OfFile};
 ghost use Rattle.safl_tool.specs.Refusals.{Explains, RefusesRun, Prints, PrintFails};
-ghost use Rattle.safl_tool.specs.Walking.{Walks, WalksFrom, WalkSays, IsWalkEnd, IsWalkLine, result_status, walked_text};
+ghost use Rattle.safl_tool.specs.Simulating.{IsGivenLine};
+ghost use Rattle.safl_tool.specs.Walking.{Walks, WalksFrom, WalkSays, IsWalkEnd, result_status, walked_text};
 
 use crate::arguments::read_arguments;
 use crate::print::print;
@@ -41,7 +42,7 @@ pub fn walk_source<S: Shelf, O: Sink>(
         (record { holds = S.holds shelf.new; read_faults = S.read_faults shelf.new; write_faults = S.write_faults shelf.new; strays = S.strays shelf.new })
         (record { sent = O.sent out.old; faults = O.faults out.old }) (record { sent = O.sent out.new; faults = O.faults out.new })
         input.now seed steps (map string_bytes args.now))
-        (IsWalkLine (S.holds shelf.old) input.now (map string_bytes args.now)) input.now []) }
+        (IsGivenLine (S.holds shelf.old) input.now (map string_bytes args.now)) input.now []) }
     ensures no_stray { OfFile (S.holds shelf.old) input.now (λ source. Unit {0}) → OnSome (S.holds shelf.old) (S.strays shelf.new ≡ S.strays shelf.old) }
 {
     let source = match read_input(alloc, shelf, input, SOURCE_MAX) {
