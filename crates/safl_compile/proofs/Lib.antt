@@ -34,3 +34,7 @@ pub mod Stepping
 pub mod Following
 pub mod Whole
 pub mod Arranging
+pub mod Legal
+pub mod Apart
+pub mod Titles
+pub mod Adding

@@ -1,7 +1,8 @@
 -- The lines of a circuit in the order in which they are declared.
-use Rattle.std.specs.Prelude.{◌≡◌, ℕ, ◌<◌, List, [], ◌∷◌, ◌++◌, map, length, Some, false, cond, ◌==◌, codes, slice_get}
+use Rattle.std.specs.Prelude.{◌≡◌, ℕ, ◌<◌, List, [], ◌∷◌, ◌++◌, map, length, Some, None, false, cond, ◌==◌, codes, slice_get}
 use Rattle.safl_check.specs.Program.{Program, unit_for}
 use Rattle.safl_net.specs.Netlist.{Netlist, Signal}
+use Rattle.safl_net.specs.Making.{refusal}
 use Rattle.safl_unit.specs.Equations.{Choice, many}
 use Rattle.safl_unit.specs.Names.{Names, of_function, of_param, of_site}
 use Rattle.safl_unit.specs.Layout.{Line, lines, named, site_lines}
@@ -14,6 +15,10 @@ use Rattle.safl_compile.specs.Ties.{sig_of, numbered, unit_ties, member_ties, fu
 -- a net with more signals
 abbrev pub with_signals : Netlist → List Signal → Netlist
 with_signals n gs = record { signals = n.signals ++ gs; outputs = n.outputs }
+
+-- each of these signals may be added after those before it: the net does not refuse its name
+pub record MayAdd (n : Netlist) (gs : List Signal) : Type 0 where
+  pub each : (before after : List Signal) (g : Signal) → gs ≡ before ++ g ∷ after → refusal (with_signals n before) g.name ≡ None
 
 -- the registers that stand with a function: those of its unit, where it is the first member, and its own
 abbrev pub unit_head : Program → Names → ℕ → List Line

@@ -1,23 +1,24 @@
 //! The ports, registers and named wires of a circuit.
 
-ghost use Rattle.std.specs.Prelude.{◌≡◌, ◌+◌, ◌*◌, ◌<◌, ◌≤◌, ◌++◌, [], ◌∷◌, suc, map, length, Some, false, cond, slice_get, codes, IfOk, OnOk};
+ghost use Rattle.std.specs.Prelude.{◌≡◌, ◌+◌, ◌*◌, ◌<◌, ◌≤◌, ◌++◌, [], ◌∷◌, suc, map, length, Some, None, false, cond, slice_get, codes, IfOk, OnOk};
 ghost use Rattle.safl_check.specs.Program.{arity};
 ghost use Rattle.safl_check.specs.Checked.{program_of, param_names};
 ghost use Rattle.safl_unit.specs.Equations.{many};
 ghost use Rattle.safl_unit.specs.Names.{names_of, of_function};
 ghost use Rattle.safl_unit.specs.Layout.{lines, named, site_lines, function_wires, site_wires, layout_wires};
 ghost use Rattle.safl_net.specs.Names.{IsTidy};
+ghost use Rattle.safl_net.specs.Making.{refusal};
 ghost use Rattle.safl_net.specs.Settled.{IsSettled};
 ghost use Rattle.safl_gates.specs.Sources.{HasRoom};
 ghost use Rattle.safl_compile.specs.Cycles.{choice_of, PinsFit};
 ghost use Rattle.safl_compile.specs.Ties.{sig_of, numbered, unit_ties};
 ghost use Rattle.safl_compile.specs.Finished.{input_line, open_register, open_wire, declared_net, ArePins};
-ghost use Rattle.safl_compile.specs.Declaring.{with_signals, unit_head, at_line, argument_lines, function_lines, port_lines, arbiter_line, Pinned, FunctionsPinned, SitePinned, SitesPinned};
+ghost use Rattle.safl_compile.specs.Declaring.{with_signals, MayAdd, unit_head, at_line, argument_lines, function_lines, port_lines, arbiter_line, Pinned, FunctionsPinned, SitePinned, SitesPinned};
 
 use crate::names::{argument_name, has_peers, headed, main_function, numbered};
 use crate::parts::{Bank, MemberPins, Pins, SitePins, UnitPins};
 use safl_check::Checked;
-use safl_net::{Net, Sig};
+use safl_net::{Net, NetErr, Sig};
 use safl_sites::Planned;
 use safl_word::{NoMemory, Word};
 use std::alloc::Global;
@@ -27,12 +28,14 @@ fn add_input(net: &mut Net, name: &str, width: u8) -> Result<Sig, NoMemory>
     requires some { 1 ≤ width }
     requires most { width ≤ 128 }
     requires room { HasRoom net.old 1 }
+    requires free { refusal net.old name.now ≡ None }
     ensures added { OnOk result (net.new ≡ with_signals net.old (input_line (name.now, width) ∷ [])) }
     ensures next { IfOk result (λ s. s.0 ≡ length net.old.signals) }
 {
     match net.input(name, width) {
         Ok(s) => Ok(s),
-        Err(_) => Err(NoMemory),
+        Err(NetErr::NoMemory) => Err(NoMemory),
+        Err(NetErr::BadName | NetErr::NameTaken) => unreachable!(),
     }
 }
 
@@ -41,24 +44,28 @@ fn add_register(net: &mut Net, name: &str, width: u8) -> Result<Sig, NoMemory>
     requires some { 1 ≤ width }
     requires most { width ≤ 128 }
     requires room { HasRoom net.old 1 }
+    requires free { refusal net.old name.now ≡ None }
     ensures added { OnOk result (net.new ≡ with_signals net.old (open_register (name.now, width) ∷ [])) }
     ensures next { IfOk result (λ s. s.0 ≡ length net.old.signals) }
 {
     match net.reg(name, Word::from_low_bits(width, 0)) {
         Ok(s) => Ok(s),
-        Err(_) => Err(NoMemory),
+        Err(NetErr::NoMemory) => Err(NoMemory),
+        Err(NetErr::BadName | NetErr::NameTaken) => unreachable!(),
     }
 }
 
 // The next signal, a wire of width 1.
 fn add_wire(net: &mut Net, name: &str) -> Result<Sig, NoMemory>
     requires room { HasRoom net.old 1 }
+    requires free { refusal net.old name.now ≡ None }
     ensures added { OnOk result (net.new ≡ with_signals net.old (open_wire (name.now, 1) ∷ [])) }
     ensures next { IfOk result (λ s. s.0 ≡ length net.old.signals) }
 {
     match net.wire(name, 1) {
         Ok(s) => Ok(s),
-        Err(_) => Err(NoMemory),
+        Err(NetErr::NoMemory) => Err(NoMemory),
+        Err(NetErr::BadName | NetErr::NameTaken) => unreachable!(),
     }
 }
 
@@ -73,6 +80,7 @@ fn add_unit(
     requires function { f < (program_of c.now).functions }
     requires before { length units.now ≡ f }
     requires room { HasRoom net.old 3 }
+    requires free { MayAdd net.old (map open_register (unit_head (program_of c.now) (names_of c.now) f)) }
     ensures added { OnOk result (net.new ≡ with_signals net.old (map open_register (unit_head (program_of c.now) (names_of c.now) f))) }
     ensures order { IfOk result (λ u. map sig_of (unit_ties (program_of c.now) (names_of c.now) f (Some u)) ≡ numbered (length net.old.signals) (length (unit_head (program_of c.now) (names_of c.now) f))) }
     ensures same { IfOk result (λ u. ((program_of c.now).unit f ≡ f → ⊥) → slice_get units.now ((program_of c.now).unit f) ≡ Some u) }
@@ -93,6 +101,7 @@ fn add_unit(
 fn add_at(alloc: Global, net: &mut Net, c: &Checked, f: u32, run: Sig) -> Result<Sig, NoMemory>
     requires function { f < (program_of c.now).functions }
     requires room { HasRoom net.old 1 }
+    requires free { MayAdd net.old (map open_register (at_line (program_of c.now) (names_of c.now) f)) }
     ensures added { OnOk result (net.new ≡ with_signals net.old (map open_register (at_line (program_of c.now) (names_of c.now) f))) }
     ensures order { IfOk result (λ s. cond (many (program_of c.now) f) (s ∷ []) [] ≡ numbered (length net.old.signals) (length (at_line (program_of c.now) (names_of c.now) f))) }
     ensures lone { IfOk result (λ s. many (program_of c.now) f ≡ false → s ≡ run) }
@@ -108,6 +117,7 @@ fn add_at(alloc: Global, net: &mut Net, c: &Checked, f: u32, run: Sig) -> Result
 fn add_arguments(alloc: Global, net: &mut Net, c: &Checked, f: u32) -> Result<Vec<Sig>, NoMemory>
     requires function { f < (program_of c.now).functions }
     requires room { HasRoom net.old (arity (program_of c.now) f) }
+    requires free { MayAdd net.old (map open_register (argument_lines (program_of c.now) (names_of c.now) f)) }
     ensures added { OnOk result (net.new ≡ with_signals net.old (map open_register (argument_lines (program_of c.now) (names_of c.now) f))) }
     ensures order { IfOk result (λ v. v.items ≡ numbered (length net.old.signals) (arity (program_of c.now) f)) }
 {
@@ -139,6 +149,7 @@ fn add_function(
     requires function { f < (program_of c.now).functions }
     requires before { length units.now ≡ f }
     requires room { HasRoom net.old (4 + arity (program_of c.now) f) }
+    requires free { MayAdd net.old (map open_register (function_lines (program_of c.now) (names_of c.now) f)) }
     ensures added { OnOk result (net.new ≡ with_signals net.old (map open_register (function_lines (program_of c.now) (names_of c.now) f))) }
     ensures pinned { IfOk result (λ r. Pinned (program_of c.now) (names_of c.now) f (length net.old.signals) units.now r.unit r.member) }
 {
@@ -159,7 +170,8 @@ struct Functions {
 }
 
 fn add_functions(alloc: Global, net: &mut Net, c: &Checked) -> Result<Functions, NoMemory>
-    requires { HasRoom net.old (20 * (program_of c.now).functions) }
+    requires room { HasRoom net.old (20 * (program_of c.now).functions) }
+    requires free { MayAdd net.old (map open_register (lines (function_lines (program_of c.now) (names_of c.now)) (program_of c.now).functions)) }
     ensures added { OnOk result (net.new ≡ with_signals net.old (map open_register (lines (function_lines (program_of c.now) (names_of c.now)) (program_of c.now).functions))) }
     ensures pinned { IfOk result (λ r. FunctionsPinned (program_of c.now) (names_of c.now) (length net.old.signals) (program_of c.now).functions r.units.items r.members.items) }
 {
@@ -185,6 +197,7 @@ fn add_site(
     requires most { k ≤ (program_of p.now.program).sites }
     requires units { length units.now ≡ (program_of p.now.program).functions }
     requires room { HasRoom net.old 3 }
+    requires free { MayAdd net.old (map open_register (site_lines (program_of p.now.program) (choice_of p.now) k)) }
     ensures added { OnOk result (net.new ≡ with_signals net.old (map open_register (site_lines (program_of p.now.program) (choice_of p.now) k))) }
     ensures pinned { IfOk result (λ s. SitePinned (program_of p.now.program) (choice_of p.now) k (length net.old.signals) units.now s) }
 {
@@ -210,6 +223,7 @@ fn add_sites(
 ) -> Result<Vec<SitePins>, NoMemory>
     requires units { length units.now ≡ (program_of p.now.program).functions }
     requires room { HasRoom net.old (3 * (program_of p.now.program).sites + 3) }
+    requires free { MayAdd net.old (map open_register (lines (site_lines (program_of p.now.program) (choice_of p.now)) (suc (program_of p.now.program).sites))) }
     ensures added { OnOk result (net.new ≡ with_signals net.old (map open_register (lines (site_lines (program_of p.now.program) (choice_of p.now)) (suc (program_of p.now.program).sites)))) }
     ensures pinned { IfOk result (λ s. SitesPinned (program_of p.now.program) (choice_of p.now) (length net.old.signals) (suc (program_of p.now.program).sites) units.now s.items) }
 {
@@ -232,6 +246,7 @@ fn add_sites(
 fn add_body_wires(alloc: Global, net: &mut Net, c: &Checked, f: u32) -> Result<(), NoMemory>
     requires function { f < (program_of c.now).functions }
     requires room { HasRoom net.old 2 }
+    requires free { MayAdd net.old (map open_wire (function_wires (names_of c.now) f)) }
     ensures { OnOk result (net.new ≡ with_signals net.old (map open_wire (function_wires (names_of c.now) f))) }
 {
     let name = c.name(f);
@@ -242,7 +257,8 @@ fn add_body_wires(alloc: Global, net: &mut Net, c: &Checked, f: u32) -> Result<(
 
 // The named wires of all functions.
 fn add_all_body_wires(alloc: Global, net: &mut Net, c: &Checked) -> Result<(), NoMemory>
-    requires { HasRoom net.old (2 * (program_of c.now).functions) }
+    requires room { HasRoom net.old (2 * (program_of c.now).functions) }
+    requires free { MayAdd net.old (map open_wire (lines (function_wires (names_of c.now)) (program_of c.now).functions)) }
     ensures { OnOk result (net.new ≡ with_signals net.old (map open_wire (lines (function_wires (names_of c.now)) (program_of c.now).functions))) }
 {
     for f in 0..c.functions() {
@@ -262,6 +278,7 @@ fn add_arbiter_wire(
     requires callee { callee ≡ (program_of p.now.program).callee k }
     requires function { callee < (program_of p.now.program).functions }
     requires room { HasRoom net.old 1 }
+    requires free { MayAdd net.old (map open_wire (arbiter_line (program_of p.now.program) (choice_of p.now) k)) }
     ensures { OnOk result (net.new ≡ with_signals net.old (map open_wire (arbiter_line (program_of p.now.program) (choice_of p.now) k))) }
 {
     if !p.arbiter(callee) {
@@ -276,6 +293,7 @@ fn add_call_wires(alloc: Global, net: &mut Net, p: &Planned, k: u32) -> Result<(
     requires least { 1 ≤ k }
     requires most { k ≤ (program_of p.now.program).sites }
     requires room { HasRoom net.old 4 }
+    requires free { MayAdd net.old (map open_wire (site_wires (program_of p.now.program) (choice_of p.now) k)) }
     ensures { OnOk result (net.new ≡ with_signals net.old (map open_wire (site_wires (program_of p.now.program) (choice_of p.now) k))) }
 {
     let c = p.checked();
@@ -290,7 +308,8 @@ fn add_call_wires(alloc: Global, net: &mut Net, p: &Planned, k: u32) -> Result<(
 
 // The named wires of all sites.
 fn add_all_call_wires(alloc: Global, net: &mut Net, p: &Planned) -> Result<(), NoMemory>
-    requires { HasRoom net.old (4 * (program_of p.now.program).sites + 4) }
+    requires room { HasRoom net.old (4 * (program_of p.now.program).sites + 4) }
+    requires free { MayAdd net.old (map open_wire (lines (site_wires (program_of p.now.program) (choice_of p.now)) (suc (program_of p.now.program).sites))) }
     ensures { OnOk result (net.new ≡ with_signals net.old (map open_wire (lines (site_wires (program_of p.now.program) (choice_of p.now)) (suc (program_of p.now.program).sites)))) }
 {
     let c = p.checked();
@@ -305,6 +324,7 @@ fn add_all_call_wires(alloc: Global, net: &mut Net, p: &Planned) -> Result<(), N
 fn add_ports(alloc: Global, net: &mut Net, c: &Checked, f: u32) -> Result<Vec<Sig>, NoMemory>
     requires function { f < (program_of c.now).functions }
     requires room { HasRoom net.old (arity (program_of c.now) f) }
+    requires free { MayAdd net.old (map input_line (port_lines (program_of c.now) (names_of c.now) f)) }
     ensures added { OnOk result (net.new ≡ with_signals net.old (map input_line (port_lines (program_of c.now) (names_of c.now) f))) }
     ensures order { IfOk result (λ v. v.items ≡ numbered (length net.old.signals) (arity (program_of c.now) f)) }
 {
@@ -320,7 +340,8 @@ fn add_ports(alloc: Global, net: &mut Net, c: &Checked, f: u32) -> Result<Vec<Si
 
 // All named wires.
 fn add_wires(alloc: Global, net: &mut Net, p: &Planned) -> Result<(), NoMemory>
-    requires { HasRoom net.old (2 * (program_of p.now.program).functions + 4 * (program_of p.now.program).sites + 5) }
+    requires room { HasRoom net.old (2 * (program_of p.now.program).functions + 4 * (program_of p.now.program).sites + 5) }
+    requires free { MayAdd net.old (map open_wire (layout_wires (program_of p.now.program) (names_of p.now.program) (choice_of p.now))) }
     ensures { OnOk result (net.new ≡ with_signals net.old (map open_wire (layout_wires (program_of p.now.program) (names_of p.now.program) (choice_of p.now)))) }
 {
     add_all_body_wires(alloc, net, p.checked())?;

@@ -4,6 +4,8 @@ use Rattle.safl_unit.specs.Layout.{lines, function_wires}
 use Rattle.safl_compile.specs.Finished.{open_wire}
 use Rattle.safl_compile.proofs.Declaring.{lines_count}
 use Rattle.safl_compile.proofs.Pinning.{lines_start, lines_next, body_wires_count}
+use Rattle.safl_compile.proofs.Adding.{lines_at}
+use Rattle.safl_check.specs.Checked.{program_of}
 use Rattle.safl_compile.proofs.declare.add_all_body_wires.Goals as goal
 
 pub loop-f-init : goal.loop-f-init
@@ -15,8 +17,14 @@ add_body_wires-requires-clause-room c =
     let b = body_wires_count (names_of c.args.c.now) c.loop-f.f in
     let l = c.loop-f-test.true in
     let e = c.functions-f-end.ensures.count in
-    let r = c.requires in
+    let r = c.requires.room in
     omega (arith, a, b, l, e, r)
+
+pub add_body_wires-requires-clause-free : goal.add_body_wires-requires-clause-free
+add_body_wires-requires-clause-free c =
+    let l = c.loop-f-test.true in
+    let e = c.functions-f-end.ensures.count in
+    lines_at open_wire c.args.net.now c.loop-f.net (function_wires (names_of c.args.c.now)) c.loop-f.f (program_of c.args.c.now).functions (omega (arith, l, e)) c.requires.free c.loop-f.invariant
 
 pub loop-f-preserved : goal.loop-f-preserved
 loop-f-preserved c = lines_next c.args.net.now c.loop-f.net c.add_body_wires.new.net open_wire (function_wires (names_of c.args.c.now)) c.loop-f.f c.loop-f.invariant c.in_ok-add_body_wires.ensures

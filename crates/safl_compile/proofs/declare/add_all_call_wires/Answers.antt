@@ -1,10 +1,11 @@
-use Rattle.std.proofs.Common.{◌∙◌, refl, ap, arith}
+use Rattle.std.proofs.Common.{suc, ◌∙◌, refl, ap, arith}
 use Rattle.safl_check.specs.Checked.{program_of}
 use Rattle.safl_unit.specs.Layout.{lines, site_wires}
 use Rattle.safl_compile.specs.Cycles.{choice_of}
 use Rattle.safl_compile.specs.Finished.{open_wire}
 use Rattle.safl_compile.proofs.Declaring.{lines_count}
 use Rattle.safl_compile.proofs.Pinning.{lines_from_one, lines_next, few_calls}
+use Rattle.safl_compile.proofs.Adding.{lines_at}
 use Rattle.safl_compile.proofs.declare.add_all_call_wires.Goals as goal
 
 pub loop-k-init : goal.loop-k-init
@@ -16,8 +17,14 @@ add_call_wires-requires-clause-room c =
     let b = few_calls (program_of c.args.p.now.program) (choice_of c.args.p.now) c.loop-k.k in
     let l = c.loop-k-test.true in
     let e = c.sites-k-end.ensures ∙ ap (λ x. (program_of x).sites) c.checked-c.ensures.same in
-    let r = c.requires in
+    let r = c.requires.room in
     omega (arith, a, b, l, e, r)
+
+pub add_call_wires-requires-clause-free : goal.add_call_wires-requires-clause-free
+add_call_wires-requires-clause-free c =
+    let l = c.loop-k-test.true in
+    let e = c.sites-k-end.ensures ∙ ap (λ x. (program_of x).sites) c.checked-c.ensures.same in
+    lines_at open_wire c.args.net.now c.loop-k.net (site_wires (program_of c.args.p.now.program) (choice_of c.args.p.now)) c.loop-k.k (suc (program_of c.args.p.now.program).sites) (omega (arith, l, e)) c.requires.free c.loop-k.invariant
 
 pub loop-k-preserved : goal.loop-k-preserved
 loop-k-preserved c =

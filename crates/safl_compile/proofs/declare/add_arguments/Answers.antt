@@ -4,7 +4,8 @@ use Rattle.safl_check.specs.Checked.{program_of}
 use Rattle.safl_unit.specs.Names.{names_of, of_param}
 use Rattle.safl_compile.specs.Finished.{open_register}
 use Rattle.safl_compile.specs.Declaring.{with_signals, argument_lines}
-use Rattle.safl_compile.proofs.Declaring.{name_text, param_text, param_step, param_count, numbered_next, take_whole, param_lines_long}
+use Rattle.safl_compile.proofs.Declaring.{name_text, param_text, param_step, param_count, numbered_next, take_whole, param_lines_long, named_get, map_get}
+use Rattle.safl_compile.proofs.Adding.{named_so, line_at}
 use Rattle.safl_compile.proofs.declare.add_arguments.Goals as goal
 
 pub argument_name-requires-clause-function : goal.argument_name-requires-clause-function
@@ -12,6 +13,18 @@ argument_name-requires-clause-function c = name_text c.args.c.now c.args.f _ c.n
 
 pub argument_name-requires-clause-param : goal.argument_name-requires-clause-param
 argument_name-requires-clause-param c = param_text c.args.c.now c.args.f c.loop-i.i _ c.param_name.ensures
+
+pub add_register-requires-clause-free : goal.add_register-requires-clause-free
+add_register-requires-clause-free c =
+    let C = program_of c.args.c.now in
+    let D = names_of c.args.c.now in
+    let named : c.as_str.result.now ≡ of_param D c.args.f c.param_name.result.now =
+    c.as_str.ensures.value ∙ c.in_ok-name.ensures ∙ ap (λ (z : List ℕ). codes "arg$" ++ (z ++ (codes "$" ++ c.param_name.result.now))) c.name.ensures in
+    named_so c.loop-i.net c.as_str.result.now (of_param D c.args.f c.param_name.result.now) named
+    (line_at open_register c.args.net.now c.loop-i.net (argument_lines C D c.args.f) c.loop-i.i (of_param D c.args.f c.param_name.result.now, c.param_width.result)
+    (named_get (map (of_param D c.args.f) (D.params c.args.f)) (C.params c.args.f) c.loop-i.i (of_param D c.args.f c.param_name.result.now) c.param_width.result
+    (map_get (of_param D c.args.f) (D.params c.args.f) c.loop-i.i c.param_name.result.now c.param_name.ensures) c.param_width.ensures)
+    c.requires.free c.loop-i.invariant.net)
 
 pub loop-i-preserved : goal.loop-i-preserved
 loop-i-preserved c =

@@ -1,3 +1,9 @@
+use Rattle.safl_check.specs.Checked.{program_of}
+use Rattle.safl_unit.specs.Names.{names_of}
+use Rattle.safl_compile.specs.Finished.{open_register}
+use Rattle.safl_compile.specs.Declaring.{unit_head, at_line, argument_lines}
+use Rattle.std.proofs.Common.{◌++◌}
+use Rattle.safl_compile.proofs.Adding.{lines_first, lines_rest}
 use Rattle.safl_compile.proofs.Pinning.{pinned}
 use Rattle.safl_compile.proofs.declare.add_function.Goals as goal
 
@@ -8,3 +14,18 @@ returns-clause-pinned c =
     c.in_ok-unit.ensures.added c.in_ok-unit.ensures.order c.in_ok-unit.ensures.same
     c.in_ok-at.ensures.added c.in_ok-at.ensures.order c.in_ok-at.ensures.lone
     c.in_ok-args.ensures.added c.in_ok-args.ensures.order
+
+pub add_at-requires-clause-free : goal.add_at-requires-clause-free
+add_at-requires-clause-free c =
+    let C = program_of c.args.c.now in
+    let D = names_of c.args.c.now in
+    lines_first open_register c.add_unit.new.net (at_line C D c.args.f) (argument_lines C D c.args.f)
+    (lines_rest open_register c.args.net.now c.add_unit.new.net (unit_head C D c.args.f) (at_line C D c.args.f ++ argument_lines C D c.args.f) c.requires.free c.in_ok-unit.ensures.added)
+
+pub add_arguments-requires-clause-free : goal.add_arguments-requires-clause-free
+add_arguments-requires-clause-free c =
+    let C = program_of c.args.c.now in
+    let D = names_of c.args.c.now in
+    lines_rest open_register c.add_unit.new.net c.add_at.new.net (at_line C D c.args.f) (argument_lines C D c.args.f)
+    (lines_rest open_register c.args.net.now c.add_unit.new.net (unit_head C D c.args.f) (at_line C D c.args.f ++ argument_lines C D c.args.f) c.requires.free c.in_ok-unit.ensures.added)
+    c.in_ok-at.ensures.added

@@ -6,6 +6,7 @@ use Rattle.safl_compile.specs.Finished.{open_register}
 use Rattle.safl_compile.specs.Declaring.{function_lines}
 use Rattle.safl_compile.proofs.Declaring.{lines_count}
 use Rattle.safl_compile.proofs.Pinning.{lines_start, lines_next, none_pinned_at, more_pinned_at, functions_count}
+use Rattle.safl_compile.proofs.Adding.{lines_at}
 use Rattle.safl_compile.proofs.declare.add_functions.Goals as goal
 
 pub loop-f-init : goal.loop-f-init
@@ -22,6 +23,12 @@ add_function-requires-clause-room c =
     let e = c.functions-f-end.ensures.count in
     let r = c.requires in
     omega (arith, a, b, l, e, r)
+
+pub add_function-requires-clause-free : goal.add_function-requires-clause-free
+add_function-requires-clause-free c =
+    let l = c.loop-f-test.true in
+    let e = c.functions-f-end.ensures.count in
+    lines_at open_register c.args.net.now c.loop-f.net (function_lines (program_of c.args.c.now) (names_of c.args.c.now)) c.loop-f.f (program_of c.args.c.now).functions (omega (arith, l, e)) c.requires.free c.loop-f.invariant.net
 
 pub loop-f-preserved : goal.loop-f-preserved
 loop-f-preserved c =

@@ -4,11 +4,23 @@ use Rattle.safl_check.specs.Checked.{program_of}
 use Rattle.safl_unit.specs.Names.{names_of}
 use Rattle.safl_compile.specs.Finished.{input_line}
 use Rattle.safl_compile.specs.Declaring.{with_signals, port_lines}
-use Rattle.safl_compile.proofs.Declaring.{param_text, param_step, param_count, numbered_next, take_whole, param_lines_long}
+use Rattle.safl_compile.proofs.Declaring.{param_text, param_step, param_count, numbered_next, take_whole, param_lines_long, named_get, map_get}
+use Rattle.safl_compile.proofs.Adding.{named_so, line_at}
 use Rattle.safl_compile.proofs.declare.add_ports.Goals as goal
 
 pub headed-requires : goal.headed-requires
 headed-requires c = param_text c.args.c.now c.args.f c.loop-i.i _ c.param_name.ensures
+
+pub add_input-requires-clause-free : goal.add_input-requires-clause-free
+add_input-requires-clause-free c =
+    let C = program_of c.args.c.now in
+    let D = names_of c.args.c.now in
+    let named : c.as_str.result.now ≡ codes "in$" ++ c.param_name.result.now = c.as_str.ensures.value ∙ c.in_ok-name.ensures in
+    named_so c.loop-i.net c.as_str.result.now (codes "in$" ++ c.param_name.result.now) named
+    (line_at input_line c.args.net.now c.loop-i.net (port_lines C D c.args.f) c.loop-i.i (codes "in$" ++ c.param_name.result.now, c.param_width.result)
+    (named_get (map (λ (x : List ℕ). codes "in$" ++ x) (D.params c.args.f)) (C.params c.args.f) c.loop-i.i (codes "in$" ++ c.param_name.result.now) c.param_width.result
+    (map_get (λ (x : List ℕ). codes "in$" ++ x) (D.params c.args.f) c.loop-i.i c.param_name.result.now c.param_name.ensures) c.param_width.ensures)
+    c.requires.free c.loop-i.invariant.net)
 
 pub loop-i-preserved : goal.loop-i-preserved
 loop-i-preserved c =

@@ -1,10 +1,11 @@
-use Rattle.std.proofs.Common.{◌++◌, ◌∷◌, [], ◌∙◌, refl, ap, arith}
+use Rattle.std.proofs.Common.{suc, ◌++◌, ◌∷◌, [], ◌∙◌, refl, ap, arith}
 use Rattle.safl_check.specs.Checked.{program_of}
 use Rattle.safl_unit.specs.Layout.{lines, site_lines}
 use Rattle.safl_compile.specs.Cycles.{choice_of}
 use Rattle.safl_compile.specs.Finished.{open_register}
 use Rattle.safl_compile.proofs.Declaring.{lines_count}
 use Rattle.safl_compile.proofs.Pinning.{lines_from_one, lines_next, few_sites, none_sited_at, more_sited_at}
+use Rattle.safl_compile.proofs.Adding.{lines_at}
 use Rattle.safl_compile.proofs.declare.add_sites.Goals as goal
 
 pub loop-k-init : goal.loop-k-init
@@ -21,6 +22,12 @@ add_site-requires-clause-room c =
     let e = c.sites-k-end.ensures ∙ ap (λ x. (program_of x).sites) c.checked-c.ensures.same in
     let r = c.requires.room in
     omega (arith, a, b, l, e, r)
+
+pub add_site-requires-clause-free : goal.add_site-requires-clause-free
+add_site-requires-clause-free c =
+    let l = c.loop-k-test.true in
+    let e = c.sites-k-end.ensures ∙ ap (λ x. (program_of x).sites) c.checked-c.ensures.same in
+    lines_at open_register c.args.net.now c.loop-k.net (site_lines (program_of c.args.p.now.program) (choice_of c.args.p.now)) c.loop-k.k (suc (program_of c.args.p.now.program).sites) (omega (arith, l, e)) c.requires.free c.loop-k.invariant.net
 
 pub loop-k-preserved : goal.loop-k-preserved
 loop-k-preserved c = record {

@@ -9,20 +9,20 @@ use Rattle.safl_compile.proofs.Declaring.{lines_count}
 use Rattle.safl_compile.proofs.Pinning.{body_wires_count, few_calls}
 use Rattle.safl_compile.proofs.declare.add_wires.Goals as goal
 
-pub add_all_call_wires-requires : goal.add_all_call_wires-requires
-add_all_call_wires-requires c =
+pub add_all_call_wires-requires-clause-room : goal.add_all_call_wires-requires-clause-room
+add_all_call_wires-requires-clause-room c =
     let bodies = subst (λ (x : CheckedProgram). c.add_all_body_wires.new.net ≡ with_signals c.args.net.now (map open_wire (lines (function_wires (names_of x)) (program_of x).functions))) c.checked.ensures.same c.in_ok-add_all_body_wires.ensures in
     let a = lines_count c.args.net.now c.add_all_body_wires.new.net open_wire (lines (function_wires (names_of c.args.p.now.program)) (program_of c.args.p.now.program).functions) bodies in
     let b = body_wires_count (names_of c.args.p.now.program) (program_of c.args.p.now.program).functions in
-    let r = c.requires in
+    let r = c.requires.room in
     omega (arith, a, b, r)
 
-pub add_wire-requires : goal.add_wire-requires
-add_wire-requires c =
+pub add_wire-requires-clause-room : goal.add_wire-requires-clause-room
+add_wire-requires-clause-room c =
     let bodies = subst (λ (x : CheckedProgram). c.add_all_body_wires.new.net ≡ with_signals c.args.net.now (map open_wire (lines (function_wires (names_of x)) (program_of x).functions))) c.checked.ensures.same c.in_ok-add_all_body_wires.ensures in
     let a = lines_count c.args.net.now c.add_all_body_wires.new.net open_wire (lines (function_wires (names_of c.args.p.now.program)) (program_of c.args.p.now.program).functions) bodies in
     let b = body_wires_count (names_of c.args.p.now.program) (program_of c.args.p.now.program).functions in
     let d = lines_count c.add_all_body_wires.new.net c.add_all_call_wires.new.net open_wire (lines (site_wires (program_of c.args.p.now.program) (choice_of c.args.p.now)) (suc (program_of c.args.p.now.program).sites)) c.in_ok-add_all_call_wires.ensures in
     let e = few_calls (program_of c.args.p.now.program) (choice_of c.args.p.now) (suc (program_of c.args.p.now.program).sites) in
-    let r = c.requires in
-    record { room = omega (arith, a, b, d, e, r) }
+    let r = c.requires.room in
+    omega (arith, a, b, d, e, r)

@@ -1,4 +1,4 @@
-use Rattle.std.proofs.Common.{◌≡◌, ◌≤◌, List, suc, map, length, subst, ap, ◌∙◌, arith}
+use Rattle.std.proofs.Common.{◌≡◌, ◌≤◌, List, suc, map, length, subst, sym, ap, ◌∙◌, arith}
 use Rattle.safl_check.specs.Program.{arity}
 use Rattle.safl_check.specs.Checked.{CheckedProgram, IsChecked, program_of}
 use Rattle.safl_unit.specs.Names.{names_of}
@@ -7,14 +7,15 @@ use Rattle.safl_compile.specs.declared.parts.UnitPins.{UnitPins}
 use Rattle.safl_compile.specs.Cycles.{choice_of}
 use Rattle.safl_compile.specs.Ties.{numbered}
 use Rattle.safl_compile.specs.Finished.{input_line, open_register}
-use Rattle.safl_compile.specs.Declaring.{with_signals, function_lines, port_lines, FunctionsPinned, SitesPinned}
+use Rattle.safl_compile.specs.Declaring.{with_signals, MayAdd, function_lines, port_lines, FunctionsPinned, SitesPinned}
 use Rattle.safl_compile.proofs.Declared.{inputs_few, registers_few, sites_few, net_declared, pins_are}
 use Rattle.safl_compile.proofs.Fitting.{pins_fit}
 use Rattle.safl_compile.proofs.Tidying.{declared_tidy, declared_settled}
+use Rattle.safl_compile.proofs.Adding.{may_now, may_declare, may_ports, may_functions, may_sites, may_wires}
 use Rattle.safl_compile.proofs.declare.declare.Goals as goal
 
-pub add_functions-requires : goal.add_functions-requires
-add_functions-requires c =
+pub add_functions-requires-clause-room : goal.add_functions-requires-clause-room
+add_functions-requires-clause-room c =
     let same = c.checked-c.ensures.same in
     let checked = subst IsChecked same c.functions-functions.ensures.checked in
     let ports = subst (λ (x : CheckedProgram). c.add_ports.new.net ≡ with_signals c.add_input.new.net (map input_line (port_lines (program_of x) (names_of x) (program_of x).main))) same
@@ -35,8 +36,8 @@ add_sites-requires-clause-room c =
     let k = checked.limits.sites in
     omega (arith, fewer, k)
 
-pub add_wires-requires : goal.add_wires-requires
-add_wires-requires c =
+pub add_wires-requires-clause-room : goal.add_wires-requires-clause-room
+add_wires-requires-clause-room c =
     let same = c.checked-c.ensures.same in
     let checked = subst IsChecked same c.functions-functions.ensures.checked in
     let ports = subst (λ (x : CheckedProgram). c.add_ports.new.net ≡ with_signals c.add_input.new.net (map input_line (port_lines (program_of x) (names_of x) (program_of x).main))) same
@@ -102,3 +103,36 @@ returns-clause-settled c =
     (c.in_ok-words.ensures.added ∙ ap (λ f. with_signals c.add_input.new.net (map input_line (port_lines (program_of c.checked-c.result.now) (names_of c.checked-c.result.now) f))) c.main_function-main.ensures.number) in
     let functions = subst (λ (x : CheckedProgram). c.add_functions.new.net ≡ with_signals c.add_ports.new.net (map open_register (lines (function_lines (program_of x) (names_of x)) (program_of x).functions))) same c.in_ok-functions.ensures.added in
     declared_settled (program_of c.args.p.now.program) (names_of c.args.p.now.program) (choice_of c.args.p.now) c.add_wires.new.net (net_declared c.args.p.now.program checked (choice_of c.args.p.now) c.new-net.result c.add_input.new.net c.add_ports.new.net c.add_functions.new.net c.add_sites.new.net c.add_wires.new.net c.new-net.ensures c.in_ok-start.ensures.added ports functions c.in_ok-sites.ensures.added c.in_ok-add_wires.ensures)
+
+pub add_input-requires-clause-free : goal.add_input-requires-clause-free
+add_input-requires-clause-free c = may_now c.new-net.result _ _ (may_declare c.checked-c.result.now c.functions-functions.ensures.checked (choice_of c.args.p.now) c.new-net.result c.new-net.ensures)
+
+pub add_ports-requires-clause-free : goal.add_ports-requires-clause-free
+add_ports-requires-clause-free c =
+    let x = c.checked-c.result.now in
+    subst (λ f. MayAdd c.add_input.new.net (map input_line (port_lines (program_of x) (names_of x) f))) (sym c.main_function-main.ensures.number)
+    (may_ports x c.functions-functions.ensures.checked (choice_of c.args.p.now) c.new-net.result c.add_input.new.net c.new-net.ensures c.in_ok-start.ensures.added)
+
+pub add_functions-requires-clause-free : goal.add_functions-requires-clause-free
+add_functions-requires-clause-free c =
+    let x = c.checked-c.result.now in
+    let ports = c.in_ok-words.ensures.added ∙ ap (λ f. with_signals c.add_input.new.net (map input_line (port_lines (program_of x) (names_of x) f))) c.main_function-main.ensures.number in
+    may_functions x c.functions-functions.ensures.checked (choice_of c.args.p.now) c.new-net.result c.add_input.new.net c.add_ports.new.net c.new-net.ensures c.in_ok-start.ensures.added ports
+
+pub add_sites-requires-clause-free : goal.add_sites-requires-clause-free
+add_sites-requires-clause-free c =
+    let same = c.checked-c.ensures.same in
+    let checked = subst IsChecked same c.functions-functions.ensures.checked in
+    let ports = subst (λ (x : CheckedProgram). c.add_ports.new.net ≡ with_signals c.add_input.new.net (map input_line (port_lines (program_of x) (names_of x) (program_of x).main))) same
+    (c.in_ok-words.ensures.added ∙ ap (λ f. with_signals c.add_input.new.net (map input_line (port_lines (program_of c.checked-c.result.now) (names_of c.checked-c.result.now) f))) c.main_function-main.ensures.number) in
+    let functions = subst (λ (x : CheckedProgram). c.add_functions.new.net ≡ with_signals c.add_ports.new.net (map open_register (lines (function_lines (program_of x) (names_of x)) (program_of x).functions))) same c.in_ok-functions.ensures.added in
+    may_sites c.args.p.now.program checked (choice_of c.args.p.now) c.new-net.result c.add_input.new.net c.add_ports.new.net c.new-net.ensures c.in_ok-start.ensures.added ports c.add_functions.new.net functions
+
+pub add_wires-requires-clause-free : goal.add_wires-requires-clause-free
+add_wires-requires-clause-free c =
+    let same = c.checked-c.ensures.same in
+    let checked = subst IsChecked same c.functions-functions.ensures.checked in
+    let ports = subst (λ (x : CheckedProgram). c.add_ports.new.net ≡ with_signals c.add_input.new.net (map input_line (port_lines (program_of x) (names_of x) (program_of x).main))) same
+    (c.in_ok-words.ensures.added ∙ ap (λ f. with_signals c.add_input.new.net (map input_line (port_lines (program_of c.checked-c.result.now) (names_of c.checked-c.result.now) f))) c.main_function-main.ensures.number) in
+    let functions = subst (λ (x : CheckedProgram). c.add_functions.new.net ≡ with_signals c.add_ports.new.net (map open_register (lines (function_lines (program_of x) (names_of x)) (program_of x).functions))) same c.in_ok-functions.ensures.added in
+    may_wires c.args.p.now.program checked (choice_of c.args.p.now) c.new-net.result c.add_input.new.net c.add_ports.new.net c.new-net.ensures c.in_ok-start.ensures.added ports c.add_functions.new.net c.add_sites.new.net functions c.in_ok-sites.ensures.added
