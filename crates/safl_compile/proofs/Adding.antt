@@ -118,14 +118,14 @@ module _ (C : Program) (D : Names) (P : Choice) (n : Netlist) where
 
 -- ---- the signals of a circuit
 
-unnamed : (g h : Signal) (b : Bool) → (g.name ≡ h.name → ⊥) → b ≡ false → (bytes_eq g.name h.name || b) ≡ false
+pub unnamed : (g h : Signal) (b : Bool) → (g.name ≡ h.name → ⊥) → b ≡ false → (bytes_eq g.name h.name || b) ≡ false
 unnamed g h b f e = by (bytes_eq g.name h.name) refl
   where
     by : (t : Bool) → bytes_eq g.name h.name ≡ t → (t || b) ≡ false
     by true q = absurd (f ((bytes_eq-Decides g.name h.name).0 q))
     by false q = e
 
-abbrev lines_of : List Signal → List Line
+abbrev pub lines_of : List Signal → List Line
 lines_of gs = map (λ (g : Signal). (g.name, g.width)) gs
 
 each_after : (Q : Line → Type 0) (a b : List Signal) (g : Signal) → Each Q (lines_of (a ++ g ∷ b)) → Q (g.name, g.width)
@@ -136,7 +136,7 @@ fresh : (a b : List Signal) (g : Signal) → Differ (lines_of (a ++ g ∷ b)) �
 fresh [] b g h = refl
 fresh (x ∷ a) b g h = unnamed g x (named_signal a g.name) (λ e. each_after (Other (x.name, x.width)) a b g h.0 (sym e)) (fresh a b g h.1)
 
-unrefused : (a b : Bool) → a ≡ true → b ≡ false → cond a (cond b (Some NameTaken) None) (Some BadName) ≡ None
+pub unrefused : (a b : Bool) → a ≡ true → b ≡ false → cond a (cond b (Some NameTaken) None) (Some BadName) ≡ None
 unrefused true false e f = refl
 unrefused true true e f = absurd (cc)
 unrefused false b e f = absurd (cc)
@@ -169,10 +169,10 @@ module _ (c : CheckedProgram) (checked : IsChecked c) (P : Choice) where
   abbrev registers : List Line
   registers = lines (function_lines C D) C.functions ++ lines (site_lines C P) (suc C.sites)
 
-  abbrev signals : List Signal
+  abbrev pub signals : List Signal
   signals = map input_line (layout_inputs C D) ++ (map open_register registers ++ map open_wire (layout_wires C D P))
 
-  lines_are : lines_of signals ≡ all_lines C D P (titled c checked)
+  pub lines_are : lines_of signals ≡ all_lines C D P (titled c checked)
   lines_are =
       map_more (λ (g : Signal). (g.name, g.width)) (map input_line (layout_inputs C D)) (map open_register registers ++ map open_wire (layout_wires C D P))
       ∙ ap (λ l. l ++ lines_of (map open_register registers ++ map open_wire (layout_wires C D P))) (lines_back input_line (layout_inputs C D) (λ l. refl))

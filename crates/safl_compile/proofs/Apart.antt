@@ -1,4 +1,4 @@
--- The names of a circuit's signals are good and all different.
+-- Lines of different names, and what a name shows by its head.
 use Rattle.std.proofs.Common.{◌≡◌, ℕ, zero, suc, ◌<◌, ◌≤◌, List, [], ◌∷◌, ◌++◌, map, length, Some, Bool, true, false, cond, slice_get, bytes_eq, refl, sym, ap, ◌∙◌, arith}
 use Rattle.std.specs.Prelude.{codes}
 use Rattle.safl_net.specs.Names.{is_good, is_reserved, is_identifier, are_parts}

@@ -33,7 +33,7 @@ use Rattle.safl_compile.proofs.Declaring.{map_long, map_get}
 use Rattle.safl_compile.proofs.Tables.{get_front}
 use Rattle.safl_compile.proofs.Lining.{register_lines, there}
 use Rattle.safl_compile.proofs.Listing.{wire_lines, bodies_long, calls_long}
-use Rattle.safl_compile.proofs.Setting.{kinded, takes_kept, kinds_list, kinds_long, kinds_outputs, registers_set, wires_set, IsOpen, settles_nexts, settles_copies, says_nexts, says_copies, tidy_kinds}
+use Rattle.safl_compile.proofs.Setting.{kinded, takes_kept, kinds_list, kinds_long, kinds_names, kinds_outputs, registers_set, wires_set, IsOpen, settles_nexts, settles_copies, says_nexts, says_copies, tidy_kinds}
 
 -- ---- ties that are numbered from i on
 
@@ -367,6 +367,7 @@ module _ (c : CheckedProgram) (h : IsChecked c) (P : Choice) (old : Netlist) (p 
           signals = ap (λ (n : Netlist). n.signals) is_whole ∙ whole_signals;
           outputs = ap (λ (n : Netlist). n.outputs) is_whole ∙ kinds_outputs half p.first_wire (map copy_kind copies) ∙ kinds_outputs old p.first_register (map next_kind nexts) ∙ grown.outputs;
           count = ap (λ (n : Netlist). length n.signals) is_whole ∙ kinds_long half p.first_wire (map copy_kind copies) ∙ kinds_long old p.first_register (map next_kind nexts);
+          names = ap (λ (n : Netlist). map (λ (g : Signal). g.name) n.signals) is_whole ∙ kinds_names half p.first_wire (map copy_kind copies) ∙ kinds_names old p.first_register (map next_kind nexts);
           settles = subst (λ n. Settles old n) (sym is_whole) settles_whole;
           says = subst (λ n. Says old n) (sym is_whole) (says_on (says_nexts old p.first_register nexts open_registers) (says_copies half p.first_wire copies open_wires));
         }

@@ -38,3 +38,4 @@ pub mod Legal
 pub mod Apart
 pub mod Titles
 pub mod Adding
+pub mod Outputs

@@ -52,6 +52,15 @@ pub kinds_long : (n : Netlist) (t : ℕ) (ks : List Kind) → length (with_kinds
 kinds_long n t [] = refl
 kinds_long n t (k ∷ ks) = kinds_long (with_kind n t k) (suc t) ks ∙ set_long n.signals t k
 
+set_names : (gs : List Signal) (t : ℕ) (k : Kind) → map (λ (g : Signal). g.name) (set_kind gs t k) ≡ map (λ (g : Signal). g.name) gs
+set_names [] t k = refl
+set_names (g ∷ gs) zero k = refl
+set_names (g ∷ gs) (suc t) k = ap (λ l. g.name ∷ l) (set_names gs t k)
+
+pub kinds_names : (n : Netlist) (t : ℕ) (ks : List Kind) → map (λ (g : Signal). g.name) (with_kinds n t ks).signals ≡ map (λ (g : Signal). g.name) n.signals
+kinds_names n t [] = refl
+kinds_names n t (k ∷ ks) = kinds_names (with_kind n t k) (suc t) ks ∙ set_names n.signals t k
+
 pub kinds_outputs : (n : Netlist) (t : ℕ) (ks : List Kind) → (with_kinds n t ks).outputs ≡ n.outputs
 kinds_outputs n t [] = refl
 kinds_outputs n t (k ∷ ks) = kinds_outputs (with_kind n t k) (suc t) ks

@@ -1,4 +1,4 @@
--- The names of a circuit's layout are good and all different.
+-- The names of a circuit's layout are good, and all different.
 use Rattle.std.proofs.Common.{◌≡◌, ℕ, suc, ◌<◌, ◌≤◌, List, [], ◌∷◌, ◌++◌, length-append, Some, true, false, cond, ◌==◌, nat_lt, slice_get, decimal, refl, sym, ap, ◌∙◌, arith}
 use Rattle.std.specs.Prelude.{codes}
 use Rattle.std.specs.List.{list_all}

@@ -49,5 +49,6 @@ pub record IsSet (C : Program) (D : Names) (P : Choice) (p : Pins) (next : Bank)
   pub signals : new.signals ≡ (map input_line (layout_inputs C D) ++ (map set_register (register_ties C D P next) ++ map set_wire (wire_ties C D P p.first_wire T))) ++ more
   pub outputs : new.outputs ≡ []
   pub count : length new.signals ≡ length old.signals
+  pub names : map (λ g. g.name) new.signals ≡ map (λ g. g.name) old.signals
   pub settles : Settles old new
   pub says : Says old new

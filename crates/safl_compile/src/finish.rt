@@ -4,7 +4,7 @@ ghost use Rattle.std.specs.Prelude.{◌≡◌, ℕ, suc, ◌+◌, ◌*◌, ◌<�
 ghost use Rattle.safl_check.specs.Program.{arity};
 ghost use Rattle.safl_check.specs.Checked.{program_of};
 ghost use Rattle.safl_net.specs.Netlist.{Reg, Wire};
-ghost use Rattle.safl_net.specs.Making.{with_kind, with_output};
+ghost use Rattle.safl_net.specs.Making.{with_kind, with_output, refusal};
 ghost use Rattle.safl_net.specs.Names.{is_temp, IsTidy};
 ghost use Rattle.safl_net.specs.Settled.{IsSettled};
 ghost use Rattle.safl_net.specs.Growth.{Grows};
@@ -19,7 +19,7 @@ ghost use Rattle.safl_compile.specs.Setting.{with_kinds, next_kind, copy_kind, T
 use crate::names::{has_peers, main_function};
 use crate::parts::{Bank, Controls, Pins, UnitPins};
 use safl_check::Checked;
-use safl_net::{Net, Op, Sig};
+use safl_net::{Net, NetErr, Op, Sig};
 use safl_sites::Planned;
 use safl_word::NoMemory;
 use std::alloc::{AllocError, Global};
@@ -258,12 +258,14 @@ fn add_output(net: &mut Net, name: &str, s: Sig) -> Result<(), NoMemory>
     requires lasting { is_temp name.now ≡ false }
     requires known { s.0 < length net.old.signals }
     requires room { length net.old.outputs < 4294967295 }
+    requires free { refusal net.old name.now ≡ None }
     ensures tidy { IsTidy net.new }
     ensures added { OnOk result (net.new ≡ with_output net.old name.now s.0) }
 {
     match net.output(name, s) {
         Ok(()) => Ok(()),
-        Err(_) => Err(NoMemory),
+        Err(NetErr::NoMemory) => Err(NoMemory),
+        Err(NetErr::BadName | NetErr::NameTaken) => unreachable!(),
     }
 }
 
@@ -287,6 +289,7 @@ pub fn finish(
     ensures done { OnOk result (Finishes (program_of p.now.program) (names_of p.now.program) (choice_of p.now) pins.now next.now controls.now net.old net.new) }
 {
     let c = p.checked();
+    let _functions = c.functions();
     let main = main_function(c);
     let unit = pins.bank.units[main as usize];
     set_all(alloc, net, p, pins, next, controls)?;

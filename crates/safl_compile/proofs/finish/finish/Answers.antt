@@ -1,12 +1,13 @@
-use Rattle.std.proofs.Common.{◌≡◌, ℕ, ◌<◌, List, Some, length, slice_get, slice_index_or, refl, sym, ap, ◌∙◌, arith}
+use Rattle.std.proofs.Common.{subst, ◌≡◌, ℕ, ◌<◌, List, Some, length, slice_get, slice_index_or, refl, sym, ap, ◌∙◌, arith}
 use Rattle.std.proofs.lemmas.Option.{slice_get_read}
-use Rattle.safl_check.specs.Checked.{CheckedProgram, program_of}
+use Rattle.safl_check.specs.Checked.{CheckedProgram, IsChecked, program_of}
 use Rattle.safl_net.specs.Netlist.{Netlist}
 use Rattle.safl_net.proofs.Growth.{within}
 use Rattle.safl_unit.specs.Names.{names_of}
 use Rattle.safl_compile.specs.Cycles.{choice_of}
 use Rattle.safl_compile.specs.declared.parts.UnitPins.{UnitPins}
 use Rattle.safl_compile.proofs.Finishing.{finishes}
+use Rattle.safl_compile.proofs.Outputs.{done_free, result_free}
 use Rattle.safl_compile.proofs.finish.finish.Goals as goal
 
 -- the registers of main's unit
@@ -39,3 +40,14 @@ returns-clause-done c =
     c.requires.pins.units_length c.index-unit.ensures in
     finishes (program_of c.args.p.now.program) (names_of c.args.p.now.program) (choice_of c.args.p.now) c.args.pins.now c.args.next.now c.args.controls.now c.index-unit.result.now c.args.net.now c.set_all.new.net c.add_output.new.net c.add_output-2.new.net
     c.in_ok-set_all.ensures.set c.requires.settled at c.in_ok-add_output.ensures.added c.in_ok-add_output-2.ensures.added
+
+pub add_output-requires-clause-free : goal.add_output-requires-clause-free
+add_output-requires-clause-free c =
+    let set = c.in_ok-set_all.ensures.set in
+    done_free c.args.p.now.program (subst IsChecked c.checked-c.ensures.same c.functions-functions.ensures.checked) (choice_of c.args.p.now) c.args.net.now c.set_all.new.net c.requires.grown set.names set.outputs
+
+pub add_output-requires-2-clause-free : goal.add_output-requires-2-clause-free
+add_output-requires-2-clause-free c =
+    let set = c.in_ok-set_all.ensures.set in
+    result_free c.args.p.now.program (subst IsChecked c.checked-c.ensures.same c.functions-functions.ensures.checked) (choice_of c.args.p.now) c.args.net.now c.set_all.new.net c.requires.grown set.names c.add_output.new.net
+    c.index-unit.result.now.fin.0 set.outputs c.in_ok-add_output.ensures.added
