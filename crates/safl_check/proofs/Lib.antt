@@ -9,4 +9,5 @@ pub mod Order
 pub mod Widths
 pub mod Values
 pub mod TreeLemmas
+pub mod SlotLemmas
 pub mod CheckedLemmas

@@ -11,12 +11,12 @@ trees_row : (n : Count) (row : Row_of-Term n) → trees row ≡ forest (items-th
 trees_row n end_of-Term = refl
 trees_row n (more_of-Term t rest) = ap (plain.Cons (tree t)) (trees_row _ rest)
 
-abbrev row_of : Term → (n : Count) × Row_of-Term n
+abbrev pub row_of : Term → (n : Count) × Row_of-Term n
 row_of (Loop' o shape row) = (_, row)
 row_of _ = (_, end_of-Term)
 
 -- the plain list of a term's list
-listed : (o : ℕ) (ts : Vec Term Global) → trees (row_of (Loop o ts)).1 ≡ forest ts.items
+pub listed : (o : ℕ) (ts : Vec Term Global) → trees (row_of (Loop o ts)).1 ≡ forest ts.items
 listed o ts = let row = row_of (Loop o ts) in trees_row row.0 row.1 ∙ ap forest (items_hidden-the_row-Term-0 ts)
 
 pub tree-Op : (o : Primitive) (ts : Vec Term Global) → tree (Op o ts) ≡ plain.Op o (forest ts.items)

@@ -1,5 +1,6 @@
 -- A checked program, with its names, and the program in numbers that it is.
 use Rattle.std.specs.Prelude.{◌≡◌, ℕ, zero, suc, ◌-◌, ◌<◌, ◌≤◌, List, [], length, map, sum_by, Some, slice_get, true, codes}
+use Rattle.std.specs.List.{All}
 use Rattle.std.specs.Option.{option_map_or}
 use Rattle.std.specs.String.{string_bytes}
 use Rattle.safl_word.specs.Words.{no_word, max_width}
@@ -8,6 +9,7 @@ use Rattle.safl_check.specs.declared.checked.Site.{Site}
 use Rattle.safl_word.specs.Tokens.{IsName}
 use Rattle.safl_check.specs.Program.{Program, arity}
 use Rattle.safl_check.specs.Sizes.{nodes}
+use Rattle.safl_check.specs.Slots.{HasSlots}
 use Rattle.safl_check.specs.Terms as plain
 use Rattle.safl_check.specs.Tree.{tree}
 use Rattle.safl_check.specs.WellFormed.{IsWellFormed, Spans}
@@ -73,6 +75,10 @@ pub record HasWordWidths (C : Program) : Type 0 where
   pub results : (f : ℕ) → f < C.functions → (1 ≤ C.result f) × (C.result f ≤ max_width)
   pub params : (f i w : ℕ) → slice_get (C.params f) i ≡ Some w → (1 ≤ w) × (w ≤ max_width)
 
+-- a body's lets name their slots; the parameters come first
+abbrev pub BodyHasSlots : Function → Type 0
+BodyHasSlots f = HasSlots (length f.params.items) f.body
+
 -- the program is well formed, within limits, and in the order of the text
 pub record IsChecked (c : CheckedProgram) : Type 0 where
   pub formed : IsWellFormed (program_of c)
@@ -84,3 +90,4 @@ pub record IsChecked (c : CheckedProgram) : Type 0 where
   pub first_site : first_site_of c 0 ≡ 1
   pub own_sites : (f : ℕ) → f < (program_of c).functions → Spans (program_of c) f true (first_site_of c f) (first_site_of c (suc f)) ((program_of c).body f)
   pub names : AreNamed c
+  pub slots : All BodyHasSlots c.functions

@@ -1,5 +1,6 @@
 pub mod Terms
 pub mod Tree
+pub mod Slots
 pub mod Program
 pub mod Readiness
 pub mod Meaning

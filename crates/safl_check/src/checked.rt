@@ -56,6 +56,7 @@ impl Checked {
     ghost use Rattle.std.specs.Prelude.{◌≡◌, ◌+◌, ◌<◌, ◌≤◌, suc, slice_get, Some};
     ghost use Rattle.safl_check.specs.Checked.{IsChecked, program_of, name_of, param_names, first_site_of};
     ghost use Rattle.safl_check.specs.Program.{arity};
+    ghost use Rattle.safl_check.specs.Slots.{HasSlots};
     ghost use Rattle.safl_check.specs.Tree.{tree};
 
     /// The program of these functions and sites, which are in order.
@@ -136,7 +137,8 @@ impl Checked {
     /// The body of a function.
     pub fn body(&self, f: u32) -> &Term
         requires { f < (program_of self.now).functions }
-        ensures { tree result.now ≡ (program_of self.now).body f }
+        ensures term { tree result.now ≡ (program_of self.now).body f }
+        ensures slots { HasSlots (arity (program_of self.now) f) result.now }
     {
         &self.functions[f as usize].body
     }

@@ -124,6 +124,9 @@ module _ (ds : List Definition) (hs : List code_head.Head) (fs : List Function) 
   pub formed_here : IsFormedDefinition d
   formed_here = left_here.formed.0
 
+  pub params_here : plain_slots h.params.items ≡ params_of d
+  params_here = (is_paired (heads ds) i walked.group lo d (drop (i + 1) ds) h (drop (i + 1) hs) left_here).params
+
   pub may_check_here : (whole : List code_head.Head) → AreKnown (heads ds) whole → MayCheck whole h.unit (plain_slots h.params.items) lo (plain b)
   may_check_here whole k = may_check (heads ds) i walked.group lo d (drop (i + 1) ds) h (drop (i + 1) hs) left_here b body whole k
 

@@ -1,12 +1,14 @@
 //! A checked function, from its definition.
 
-ghost use Rattle.std.specs.Prelude.{◌≡◌, IfOk, map, string_bytes};
+ghost use Rattle.std.specs.Prelude.{◌≡◌, IfOk, length, map, string_bytes};
 ghost use Rattle.safl_word.specs.Tokens.{IsName};
+ghost use Rattle.safl_check.specs.Checked.{BodyHasSlots};
+ghost use Rattle.safl_check.specs.Slots.{HasSlots};
 ghost use Rattle.safl_check.specs.Tree.{tree};
 ghost use Rattle.safl_tree.specs.Shown.{shows_def, shows_params};
 ghost use Rattle.safl_tree.specs.Printable.{IsFormedDefinition, AreFormedParameters};
 ghost use Rattle.safl_typing.specs.Forms.{shown_function, shown_param};
-ghost use Rattle.safl_typing.specs.Heads.{slot_of};
+ghost use Rattle.safl_typing.specs.Heads.{slot_of, params_of};
 ghost use Rattle.safl_typing.specs.Walk.{function};
 
 use safl_check::{Function, Parameter, Term};
@@ -22,8 +24,10 @@ pub fn function_of(
     first_site: u32,
     body: Term,
 ) -> Result<Function, NoMemory>
-    requires { IsFormedDefinition (shows_def def.now) }
-    ensures { IfOk result (λ f. shown_function f ≡ function unit first_site (shows_def def.now) (tree body)) }
+    requires formed { IsFormedDefinition (shows_def def.now) }
+    requires slots { HasSlots (length (params_of (shows_def def.now))) body }
+    ensures shown { IfOk result (λ f. shown_function f ≡ function unit first_site (shows_def def.now) (tree body)) }
+    ensures slots { IfOk result BodyHasSlots }
 {
     let name = text_of(alloc, &def.name)?;
     let params = parameters_of(alloc, &def.params)?;

@@ -1,9 +1,11 @@
 //! The functions of a program, in the order of the text.
 
-ghost use Rattle.std.specs.Prelude.{◌≡◌, [], None};
+ghost use Rattle.std.specs.Prelude.{◌≡◌, [], None, IfOk};
+ghost use Rattle.std.specs.List.{All};
+ghost use Rattle.safl_check.specs.Checked.{BodyHasSlots};
 ghost use Rattle.safl_tree.specs.Shown.{shows_def, shows_defs};
 ghost use Rattle.safl_tree.specs.Printable.{IsFormedDefinition, IsFormedProgram};
-ghost use Rattle.safl_typing.specs.Heads.{heads};
+ghost use Rattle.safl_typing.specs.Heads.{heads, params_of};
 ghost use Rattle.safl_typing.specs.Marks.{IsMarked};
 ghost use Rattle.safl_typing.specs.MayWalk.{MayCheck};
 ghost use Rattle.safl_typing.specs.Plain.{plain};
@@ -35,7 +37,8 @@ pub fn check_functions(
     requires formed { IsFormedProgram (shows_defs defs.now) }
     requires heads { plain_heads all_heads.now ≡ heads (shows_defs defs.now) }
     requires within { limits (shows_defs defs.now) ≡ None }
-    ensures { SaysFunctions result (functions_from (heads (shows_defs defs.now)) [] 0 0 1 (shows_defs defs.now)) }
+    ensures says { SaysFunctions result (functions_from (heads (shows_defs defs.now)) [] 0 0 1 (shows_defs defs.now)) }
+    ensures slots { IfOk result (λ fs. All BodyHasSlots fs.items) }
 {
     let mut functions = Vec::new(alloc);
     let mut first_site = 1;
@@ -63,9 +66,11 @@ fn check_function(
     body: &Expression,
 ) -> Result<Function, CheckErr>
     requires formed { IsFormedDefinition (shows_def def.now) }
+    requires params { plain_slots head.now.params.items ≡ params_of (shows_def def.now) }
     requires able { MayCheck heads.now head.now.unit (plain_slots head.now.params.items) first_site (plain body.now) }
     requires marked { IsMarked (known heads.now head.now.unit) body.now }
-    ensures { SaysFunction result (checked_function (known heads.now head.now.unit) (plain_slots head.now.params.items) first_site (shows_def def.now) (plain body.now)) }
+    ensures says { SaysFunction result (checked_function (known heads.now head.now.unit) (plain_slots head.now.params.items) first_site (shows_def def.now) (plain body.now)) }
+    ensures slots { IfOk result BodyHasSlots }
 {
     let unit = head.unit;
     let context = Context { alloc, heads, unit };

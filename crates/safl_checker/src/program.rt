@@ -1,6 +1,8 @@
 //! From a program's tree to its numbered form.
 
 ghost use Rattle.std.specs.Prelude.{◌≡◌, [], None, Ok, map, IfOk, OnOk, IfErr};
+ghost use Rattle.std.specs.List.{All};
+ghost use Rattle.safl_check.specs.Checked.{BodyHasSlots};
 ghost use Rattle.safl_tree.specs.Shown.{shows_defs, shows_program};
 ghost use Rattle.safl_tree.specs.Printable.{IsFormedProgram};
 ghost use Rattle.safl_typing.specs.Heads.{heads};
@@ -24,7 +26,7 @@ use std::alloc::Global;
 
 /// The checked program of a tree: functions numbered from 0 and sites from 1 in the order of the text. Refused is the
 /// first fault of E05 to E16 in the order of checking; there is one exactly where the program has no numbered form.
-/// NoMemory is answered too for a body of more than 2,000 levels, which no source has.
+/// NoMemory is answered too for a body of more than 2,000 levels; a source's have at most 1,100.
 pub fn check(alloc: Global, program: Program) -> Result<Checked, CheckErr>
     requires { IsFormedProgram (shows_program program) }
     ensures form { IfOk result (λ c. IsFormOf (shows_program program) (shown c)) }
@@ -68,6 +70,7 @@ fn checked_of(alloc: Global, defs: &[Def], functions: Vec<Function>) -> Result<C
     requires formed { IsFormedProgram (shows_defs defs.now) }
     requires within { limits (shows_defs defs.now) ≡ None }
     requires functions { functions_from (heads (shows_defs defs.now)) [] 0 0 1 (shows_defs defs.now) ≡ Ok (map shown_function functions.items) }
+    requires slots { All BodyHasSlots functions.items }
     ensures form { IfOk result (λ c. IsFormOf (shows_defs defs.now) (shown c)) }
     ensures refused { IfErr result (RefusesProgram (shows_defs defs.now)) }
 {

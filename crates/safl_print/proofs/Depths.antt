@@ -1,9 +1,10 @@
 -- No expression is deeper than a bound whose text keeps the levels, and whose left operands are shallow.
-use Rattle.std.proofs.Common.{◌≡◌, ℕ, suc, ◌+◌, ◌*◌, ◌≤◌, max, leb, Bool, true, false, cond, refl, arith, ◌↔◌}
+use Rattle.std.proofs.Common.{◌≡◌, ℕ, suc, ◌+◌, ◌*◌, ◌≤◌, max, leb, Bool, true, false, cond, List, [], ◌∷◌, refl, arith, ◌↔◌}
+use Rattle.std.specs.List.{AllByRecursion}
 use Rattle.safl_word.specs.declared.primitive.Primitive.{Primitive}
 use Rattle.safl_word.specs.declared.primitive.Primitive.TheVariants as prims
-use Rattle.safl_tree.specs.Tree.{Tree, Number, Sized, Variable, Choice, Binding, Cases, Applied, Called, Trees, no_tree, a_tree, Binds, no_bind, a_bind, Arms, default_arm, an_arm, depth, deepest, deepest_bind, deepest_arm}
-use Rattle.safl_tree.specs.Printable.{own, own_of, lifted, levels, most, most_operand, most_bind, most_arm, below_of, left_place, right_place, is_binary, IsShallow, AreShallow, AreShallowBinds, AreShallowArms, OfBinary, LeftShallow, KeepsLevels}
+use Rattle.safl_tree.specs.Tree.{Definition, Tree, Number, Sized, Variable, Choice, Binding, Cases, Applied, Called, Trees, no_tree, a_tree, Binds, no_bind, a_bind, Arms, default_arm, an_arm, depth, deepest, deepest_bind, deepest_arm}
+use Rattle.safl_tree.specs.Printable.{own, own_of, lifted, levels, most, most_operand, most_bind, most_arm, below_of, left_place, right_place, is_binary, IsShallow, AreShallow, AreShallowBinds, AreShallowArms, OfBinary, LeftShallow, KeepsLevels, AllKeepLevels}
 use Rattle.safl_print.specs.Keeps.{Keeps}
 use Rattle.safl_print.proofs.Operators.{own_small}
 
@@ -90,3 +91,7 @@ mutual
 
 pub keeps_levels : (t : Tree) → Keeps 100 1100 t ↔ KeepsLevels t
 keeps_levels t = (λ k. (k.0, k.1), λ k. (k.0, k.1, (let h = deep t k.1 in omega (arith, h, k.0, own_small t))))
+
+pub bodies_shallow : (p : List Definition) → AllKeepLevels p → AllByRecursion (λ d. depth d.body ≤ 1100) p
+bodies_shallow [] k = tt
+bodies_shallow (d ∷ ds) k = (((keeps_levels d.body).1 k.0).2, bodies_shallow ds k.1)

@@ -1,6 +1,7 @@
 -- What is claimed of printed texts.
-use Rattle.std.specs.Prelude.{◌≡◌, ℕ, List}
-use Rattle.safl_tree.specs.Tree.{Definition}
+use Rattle.std.specs.Prelude.{◌≡◌, ℕ, ◌≤◌, List}
+use Rattle.std.specs.List.{AllByRecursion}
+use Rattle.safl_tree.specs.Tree.{Definition, depth}
 use Rattle.safl_tree.specs.Source.{SpellsProgram}
 use Rattle.safl_tree.specs.Printable.{IsPrintable}
 use Rattle.safl_print.specs.Printed.{printed}
@@ -13,3 +14,7 @@ SpelledBy text p = (q : List Definition) × SpellsProgram text q × (unplaced_pr
 -- the text of a printable program spells it, places aside
 abbrev pub PrintedSpells : Type 0
 PrintedSpells = (p : List Definition) → IsPrintable p → SpelledBy (printed p) p
+
+-- no body of a program that a text spells is deeper than 1,100
+abbrev pub SourcesAreShallow : Type 0
+SourcesAreShallow = (text : List ℕ) (p : List Definition) → SpellsProgram text p → AllByRecursion (λ d. depth d.body ≤ 1100) p

@@ -60,6 +60,30 @@ fn parentheses_nest(rt: HostRuntime) -> Result<(), Fail> {
     Ok(())
 }
 
+// A source that is as deep as one can be, 898 expressions: on each of 100 levels an operator of each kind stands to the
+// right of another, and a call opens the next level; on the last one as many factors follow as a product may have.
+fn deepest(alloc: Global) -> Result<Vec<u8>, AllocError> {
+    let head = b"fun f(b:1):8 = 0 - ext(b, 8)\nfun main(a:1, b:1, c:1, y:8):1 = ";
+    let mut source = Vec::from_slice(alloc, head)?;
+    repeat(&mut source, 99, b"a|b^c&y==y<<y+y*f(")?;
+    source.extend_from_slice(b"a|b^c&y==y<<y+y")?;
+    repeat(&mut source, 99, b"*y")?;
+    repeat(&mut source, 99, b")")?;
+    Ok(source)
+}
+
+#[test]
+fn operators_and_calls_nest(rt: HostRuntime) -> Result<(), Fail> {
+    let alloc = rt.alloc();
+    let mut shelf = shelf_with(alloc, &deepest(alloc)?)?;
+    let words = ["sim", "p", "--cycles", "1000", "0", "1", "1", "1"];
+    let ended = call(alloc, &words, &mut shelf)?;
+    let lines = b"result 0\ncycle 200\n";
+    assert_eq!(rt; ended.status, Status::Ok);
+    assert!(rt; ended.out.bytes() == lines.as_slice());
+    Ok(())
+}
+
 #[test]
 fn sums_are_long(rt: HostRuntime) -> Result<(), Fail> {
     let alloc = rt.alloc();

@@ -4,6 +4,7 @@ use Rattle.std.specs.Prelude.{slice_get, codes}
 use Rattle.std.specs.Option.{option_map}
 use Rattle.std.specs.String.{string_bytes}
 use Rattle.std.proofs.lemmas.Option.{slice_get_cases, slice_get_within, slice_get-map}
+use Rattle.std.specs.List.{All}
 use Rattle.safl_word.specs.Words.{no_word, max_width}
 use Rattle.safl_word.specs.Tokens.{IsName}
 use Rattle.safl_check.specs.declared.checked.Function.{Function}
@@ -14,7 +15,7 @@ use Rattle.safl_check.specs.Terms as plain
 use Rattle.safl_check.specs.Tree.{tree}
 use Rattle.safl_check.specs.WellFormed.{Spans, HasWidth, IsNumbered, IsWellFormed}
 use Rattle.safl_check.specs.Checked as checked
-use Rattle.safl_check.specs.Checked.{CheckedProgram, of_function, of_site, main_of, program_of, name_of, first_site_of, IsWithinLimits, AreNamed, HasWordWidths, IsChecked}
+use Rattle.safl_check.specs.Checked.{CheckedProgram, of_function, of_site, main_of, program_of, name_of, first_site_of, IsWithinLimits, AreNamed, HasWordWidths, BodyHasSlots, IsChecked}
 use Rattle.safl_tree.specs.Tree.{Definition, Parameter}
 use Rattle.safl_tree.specs.Printable.{AreFormedParameters, IsFormedDefinition, AreFormedDefinitions, IsFormedProgram}
 use Rattle.safl_typing.specs.Rewriting.{rewritten}
@@ -378,9 +379,9 @@ module _ (c : CheckedProgram) (ds : List Definition) (b : IsBased c ds) where
       subst (λ (z : ℕ). Spans (program_of c) f true z (first_site_of c (suc f)) ((program_of c).body f)) (sym q.first)
       (subst (λ (z : ℕ). Spans (program_of c) f true h.first z ((program_of c).body f)) (sym q.next) (body_spans f h))
 
-  is_checked : IsChecked c
+  is_checked : All BodyHasSlots c.functions → IsChecked c
   unfolding program_of
-  is_checked = record {
+  is_checked slotted = record {
     formed = well_formed;
     widths = word_widths;
     limits = limited;
@@ -388,7 +389,8 @@ module _ (c : CheckedProgram) (ds : List Definition) (b : IsBased c ds) where
     first_site = first_is;
     own_sites = own_sites;
     names = all_named;
+    slots = slotted;
   }
 
-pub form_checked : (ds : List Definition) (c : CheckedProgram) → IsFormedProgram ds → IsFormOf ds (shown c) → IsChecked c
+pub form_checked : (ds : List Definition) (c : CheckedProgram) → IsFormedProgram ds → IsFormOf ds (shown c) → All BodyHasSlots c.functions → IsChecked c
 form_checked ds c formed form = is_checked c ds (based ds c formed form)

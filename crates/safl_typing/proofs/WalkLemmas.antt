@@ -260,7 +260,7 @@ pub slots_length : (ss : List code_slot.Slot) → length (plain_slots ss) ≡ le
 slots_length [] = refl
 slots_length (s ∷ ss) = ap (λ n. suc n) (slots_length ss)
 
-append_length : (a b : List Slot) → length (a ++ b) ≡ length a + length b
+pub append_length : (a b : List Slot) → length (a ++ b) ≡ length a + length b
 append_length [] b = omega arith
 append_length (x ∷ a) b = let i = append_length a b in omega (arith, i)
 

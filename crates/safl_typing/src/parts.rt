@@ -1,6 +1,8 @@
 //! Terms of several expressions, and terms made of their parts.
 
-ghost use Rattle.std.specs.Prelude.{◌≡◌, ℕ, ◌++◌, List, [], ◌∷◌, IfOk, OnOk, Ok};
+ghost use Rattle.std.specs.Prelude.{◌≡◌, ℕ, ◌+◌, ◌++◌, List, [], ◌∷◌, length, IfOk, OnOk, Ok};
+ghost use Rattle.std.specs.List.{AllByRecursion};
+ghost use Rattle.safl_check.specs.Slots.{HasSlots};
 ghost use Rattle.safl_check.specs.Terms.{Nil, Cons, If, Let, Op, Call, Loop};
 ghost use Rattle.safl_check.specs.Tree.{tree, forest};
 ghost use Rattle.safl_typing.specs.Rewriting.{no_expression};
@@ -35,7 +37,8 @@ pub struct TypedAlike {
 
 /// No expressions.
 pub fn none_typed(alloc: Global) -> TypedAll
-    ensures { plain_all_typed result ≡ record { widths = []; terms = Nil } }
+    ensures none { plain_all_typed result ≡ record { widths = []; terms = Nil } }
+    ensures slots { (n : ℕ) → AllByRecursion (HasSlots n) result.terms.items }
 {
     TypedAll {
         widths: Vec::new(alloc),
@@ -45,7 +48,8 @@ pub fn none_typed(alloc: Global) -> TypedAll
 
 /// No operands: E14 where no width is expected.
 pub fn none_alike(alloc: Global, place: u32, wanted: Wanted) -> Result<TypedAlike, CheckErr>
-    ensures { (k : plain_heads.Known) (s : List plain_heads.Slot) (lo : ℕ) → SaysAlike result (check_alike k s lo place (plain_wanted wanted) no_expression) }
+    ensures says { (k : plain_heads.Known) (s : List plain_heads.Slot) (lo : ℕ) → SaysAlike result (check_alike k s lo place (plain_wanted wanted) no_expression) }
+    ensures slots { IfOk result (λ t. (n : ℕ) → AllByRecursion (HasSlots n) t.terms.items) }
 {
     match wanted {
         Wanted::Any => Err(refused(Rule::E14, place)),
@@ -58,7 +62,8 @@ pub fn none_alike(alloc: Global, place: u32, wanted: Wanted) -> Result<TypedAlik
 
 /// An expression, and those that follow it.
 pub fn put_first(first: Typed, rest: TypedAll) -> Result<TypedAll, CheckErr>
-    ensures { SaysAll result (Ok (record { widths = first.width ∷ rest.widths.items; terms = Cons (tree first.term) (forest rest.terms.items) })) }
+    ensures says { SaysAll result (Ok (record { widths = first.width ∷ rest.widths.items; terms = Cons (tree first.term) (forest rest.terms.items) })) }
+    ensures slots { IfOk result (λ t. (n : ℕ) → HasSlots n first.term → AllByRecursion (HasSlots n) rest.terms.items → AllByRecursion (HasSlots n) t.terms.items) }
 {
     let mut all = rest;
     all.widths.insert(0, first.width)?;
@@ -68,7 +73,8 @@ pub fn put_first(first: Typed, rest: TypedAll) -> Result<TypedAll, CheckErr>
 
 /// An operand, and those that follow it.
 pub fn put_operand(width: u8, first: Term, rest: Vec<Term>) -> Result<TypedAlike, CheckErr>
-    ensures { SaysAlike result (Ok (record { width = width; terms = Cons (tree first) (forest rest.items) })) }
+    ensures says { SaysAlike result (Ok (record { width = width; terms = Cons (tree first) (forest rest.items) })) }
+    ensures slots { IfOk result (λ t. (n : ℕ) → HasSlots n first → AllByRecursion (HasSlots n) rest.items → AllByRecursion (HasSlots n) t.terms.items) }
 {
     let mut terms = rest;
     terms.insert(0, first)?;
@@ -83,7 +89,8 @@ pub fn make_if(
     first: Term,
     second: Term,
 ) -> Result<Typed, CheckErr>
-    ensures { Says result (Ok (record { width = width; term = If (tree test) (tree first) (tree second) })) }
+    ensures says { Says result (Ok (record { width = width; term = If (tree test) (tree first) (tree second) })) }
+    ensures slots { IfOk result (λ t. (n : ℕ) → HasSlots n test → HasSlots n first → HasSlots n second → HasSlots n t.term) }
 {
     let test = Box::new(alloc, test)?;
     let first = Box::new(alloc, first)?;
@@ -100,7 +107,8 @@ pub fn make_let(
     bound: Vec<Term>,
     body: Term,
 ) -> Result<Typed, CheckErr>
-    ensures { Says result (Ok (record { width = width; term = Let (forest bound.items) (tree body) })) }
+    ensures says { Says result (Ok (record { width = width; term = Let (forest bound.items) (tree body) })) }
+    ensures slots { IfOk result (λ t. AllByRecursion (HasSlots slot) bound.items → HasSlots (slot + length bound.items) body → HasSlots slot t.term) }
 {
     let body = Box::new(alloc, body)?;
     let term = Term::Let(slot, bound, body);
@@ -111,6 +119,7 @@ pub fn make_let(
 pub fn make_operation(width: u8, operator: Primitive, operands: Vec<Term>) -> Typed
     ensures width { result.width ≡ width }
     ensures term { tree result.term ≡ Op operator (forest operands.items) }
+    ensures slots { (n : ℕ) → AllByRecursion (HasSlots n) operands.items → HasSlots n result.term }
 {
     let term = Term::Op(operator, operands);
     Typed { width, term }
@@ -124,7 +133,8 @@ pub fn settled_operation(
     operator: Primitive,
     operands: Vec<Term>,
 ) -> Result<Typed, CheckErr>
-    ensures { Says result (settle place (plain_wanted wanted) width (Op operator (forest operands.items))) }
+    ensures says { Says result (settle place (plain_wanted wanted) width (Op operator (forest operands.items))) }
+    ensures slots { IfOk result (λ t. (n : ℕ) → AllByRecursion (HasSlots n) operands.items → HasSlots n t.term) }
 {
     settled(place, wanted, width, Term::Op(operator, operands))
 }
@@ -138,7 +148,8 @@ pub fn settled_call(
     site: u32,
     arguments: Vec<Term>,
 ) -> Result<Typed, CheckErr>
-    ensures { Says result (settle place (plain_wanted wanted) width (Call function site (forest arguments.items))) }
+    ensures says { Says result (settle place (plain_wanted wanted) width (Call function site (forest arguments.items))) }
+    ensures slots { IfOk result (λ t. (n : ℕ) → AllByRecursion (HasSlots n) arguments.items → HasSlots n t.term) }
 {
     settled(place, wanted, width, Term::Call(function, site, arguments))
 }
@@ -151,7 +162,8 @@ pub fn settled_loop(
     function: u32,
     arguments: Vec<Term>,
 ) -> Result<Typed, CheckErr>
-    ensures { Says result (settle place (plain_wanted wanted) width (Loop function (forest arguments.items))) }
+    ensures says { Says result (settle place (plain_wanted wanted) width (Loop function (forest arguments.items))) }
+    ensures slots { IfOk result (λ t. (n : ℕ) → AllByRecursion (HasSlots n) arguments.items → HasSlots n t.term) }
 {
     settled(place, wanted, width, Term::Loop(function, arguments))
 }

@@ -16,7 +16,7 @@ use safl_tree::{Arm, Bind, Expr, Name, Node};
 use safl_word::NoMemory;
 use std::alloc::Global;
 
-// How deep expressions may be. Sources stay below 1,100 levels.
+// How deep expressions may be. A source's are at most 1,100 deep, by a law on what keeps the levels.
 const LEVELS_MAX: u32 = 2_000;
 
 /// The expression in which each `case` is rewritten, of a body of this group. NoMemory is answered too where it would

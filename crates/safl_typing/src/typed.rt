@@ -1,6 +1,7 @@
 //! What the walk gives: a width with a term, or a fault.
 
-ghost use Rattle.std.specs.Prelude.{◌≡◌, ◌<◌, ◌^◌, ◌&&◌, length};
+ghost use Rattle.std.specs.Prelude.{◌≡◌, ℕ, ◌<◌, ◌^◌, ◌&&◌, length, IfOk};
+ghost use Rattle.safl_check.specs.Slots.{HasSlots};
 ghost use Rattle.safl_check.specs.Tree.{tree};
 ghost use Rattle.safl_typing.specs.Typing.{innermost};
 ghost use Rattle.safl_typing.specs.Walk.{fault, settle, number, sized, variable, is_known, is_any, wanted_by};
@@ -113,7 +114,8 @@ pub fn as_operand(shifted: Option<u8>, flexible: bool) -> Wanted
 
 /// An expression whose width was found: E12 where another is expected.
 pub fn settled(place: u32, wanted: Wanted, width: u8, term: Term) -> Result<Typed, CheckErr>
-    ensures { Says result (settle place (plain_wanted wanted) width (tree term)) }
+    ensures says { Says result (settle place (plain_wanted wanted) width (tree term)) }
+    ensures slots { IfOk result (λ t. (n : ℕ) → HasSlots n term → HasSlots n t.term) }
 {
     match wanted {
         Wanted::Any => Ok(Typed { width, term }),
@@ -134,7 +136,8 @@ pub fn settled(place: u32, wanted: Wanted, width: u8, term: Term) -> Result<Type
 /// A number: E14 where no width is expected, E13 where it does not fit the expected one.
 pub fn typed_number(place: u32, value: Raw, wanted: Wanted) -> Result<Typed, CheckErr>
     requires { HasWideWanted wanted }
-    ensures { Says result (number place value (plain_wanted wanted)) }
+    ensures says { Says result (number place value (plain_wanted wanted)) }
+    ensures slots { IfOk result (λ t. (n : ℕ) → HasSlots n t.term) }
 {
     match wanted {
         Wanted::Any => Err(refused(Rule::E14, place)),
@@ -151,7 +154,8 @@ pub fn typed_number(place: u32, value: Raw, wanted: Wanted) -> Result<Typed, Che
 /// A sized number: E13 where the value does not fit the width.
 pub fn typed_sized(place: u32, width: u8, value: Raw, wanted: Wanted) -> Result<Typed, CheckErr>
     requires { HasWidthOfWord width }
-    ensures { Says result (sized place width value (plain_wanted wanted)) }
+    ensures says { Says result (sized place width value (plain_wanted wanted)) }
+    ensures slots { IfOk result (λ t. (n : ℕ) → HasSlots n t.term) }
 {
     match Word::new(width, value) {
         Some(word) => settled(place, wanted, width, Term::Const(word)),
@@ -167,7 +171,8 @@ pub fn typed_variable(
     wanted: Wanted,
 ) -> Result<Typed, CheckErr>
     requires { length (plain_scope scope.now) < 2 ^ 32 }
-    ensures { Says result (variable place (plain_wanted wanted) (innermost name.now 0 (plain_scope scope.now))) }
+    ensures says { Says result (variable place (plain_wanted wanted) (innermost name.now 0 (plain_scope scope.now))) }
+    ensures slots { IfOk result (λ t. (n : ℕ) → HasSlots n t.term) }
 {
     match find_variable(scope, name) {
         Some(found) => settled(place, wanted, found.width, Term::Var(found.slot)),

@@ -1,6 +1,8 @@
 //! The walk over an expression: its width and its term, or the first fault.
 
-ghost use Rattle.std.specs.Prelude.{◌≡◌, ◌+◌, ◌<◌, ◌^◌, ◌&&◌, ◌==◌, Bool, length};
+ghost use Rattle.std.specs.Prelude.{◌≡◌, ◌+◌, ◌<◌, ◌^◌, ◌&&◌, ◌==◌, Bool, IfOk, length};
+ghost use Rattle.std.specs.List.{AllByRecursion};
+ghost use Rattle.safl_check.specs.Slots.{HasSlots};
 ghost use Rattle.safl_check.specs.Tree.{tree};
 ghost use Rattle.safl_word.specs.declared.fault.Rule.TheVariants as rules;
 ghost use Rattle.safl_typing.specs.declared.typed.CheckErr.TheVariants as errors;
@@ -50,7 +52,8 @@ pub fn check_expression(
     requires able { MayCheck context.now.heads.now context.now.unit (plain_scope scope.now) lo (plain e.now) }
     requires marked { IsMarked (seen context.now) e.now }
     requires wanted { HasWideWanted wanted }
-    ensures { Says result (check (seen context.now) (plain_scope scope.now) tail lo (plain_wanted wanted) (plain e.now)) }
+    ensures says { Says result (check (seen context.now) (plain_scope scope.now) tail lo (plain_wanted wanted) (plain e.now)) }
+    ensures slots { IfOk result (λ t. HasSlots (length (plain_scope scope.now)) t.term) }
 {
     match e {
         Expression::Number(place, value) => typed_number(*place, *value, wanted),
@@ -87,7 +90,8 @@ fn check_choice(
     requires able { MayCheck context.now.heads.now context.now.unit (plain_scope scope.now) lo (Choice place (plain condition.now) (plain first.now) (plain second.now)) }
     requires marked { IsMarked (seen context.now) condition.now × IsMarked (seen context.now) first.now × IsMarked (seen context.now) second.now }
     requires wanted { HasWideWanted wanted }
-    ensures { Says result (check (seen context.now) (plain_scope scope.now) tail lo (plain_wanted wanted) (Choice place (plain condition.now) (plain first.now) (plain second.now))) }
+    ensures says { Says result (check (seen context.now) (plain_scope scope.now) tail lo (plain_wanted wanted) (Choice place (plain condition.now) (plain first.now) (plain second.now))) }
+    ensures slots { IfOk result (λ t. HasSlots (length (plain_scope scope.now)) t.term) }
 {
     let flexible = are_both_flexible(first, second);
     let known = has_width(wanted, flexible);
@@ -114,8 +118,10 @@ fn check_branches(
 ) -> Result<Typed, CheckErr>
     requires able { MayWalk context.now.heads.now (plain_scope scope.now) lo (IsInRange (plain first.now) × IsInRange (plain second.now)) (sites (seen context.now) (plain first.now) + sites (seen context.now) (plain second.now)) (nodes (plain first.now) + nodes (plain second.now)) }
     requires marked { IsMarked (seen context.now) first.now × IsMarked (seen context.now) second.now }
+    requires slots { HasSlots (length (plain_scope scope.now)) test }
     requires wanted { HasWideWanted wanted }
-    ensures { Says result (branches (is_any (plain_wanted wanted) && flexible (plain first.now)) (plain_wanted wanted) (λ v. check (seen context.now) (plain_scope scope.now) tail lo v (plain first.now)) (λ v. check (seen context.now) (plain_scope scope.now) tail (lo + sites (seen context.now) (plain first.now)) v (plain second.now)) (tree test)) }
+    ensures says { Says result (branches (is_any (plain_wanted wanted) && flexible (plain first.now)) (plain_wanted wanted) (λ v. check (seen context.now) (plain_scope scope.now) tail lo v (plain first.now)) (λ v. check (seen context.now) (plain_scope scope.now) tail (lo + sites (seen context.now) (plain first.now)) v (plain second.now)) (tree test)) }
+    ensures slots { IfOk result (λ t. HasSlots (length (plain_scope scope.now)) t.term) }
 {
     let next = add_sites(lo, first);
     let flexible = is_flexible(first);
@@ -147,7 +153,8 @@ fn check_binding(
     requires able { MayCheck context.now.heads.now context.now.unit (plain_scope scope.now) lo (Binding place (plain_bindings bound.now) (plain body.now)) }
     requires marked { BoundMarked (seen context.now) bound.now × IsMarked (seen context.now) body.now }
     requires wanted { HasWideWanted wanted }
-    ensures { Says result (check (seen context.now) (plain_scope scope.now) tail lo (plain_wanted wanted) (Binding place (plain_bindings bound.now) (plain body.now))) }
+    ensures says { Says result (check (seen context.now) (plain_scope scope.now) tail lo (plain_wanted wanted) (Binding place (plain_bindings bound.now) (plain body.now))) }
+    ensures slots { IfOk result (λ t. HasSlots (length (plain_scope scope.now)) t.term) }
 {
     let flexible = is_flexible(body);
     let known = has_width(wanted, flexible);
@@ -175,7 +182,8 @@ fn check_bound(
 ) -> Result<TypedAll, CheckErr>
     requires able { MayBind context.now.heads.now context.now.unit (plain_scope scope.now) lo (plain_bindings bound.now) }
     requires marked { BoundMarked (seen context.now) bound.now }
-    ensures { SaysAll result (check_bound (seen context.now) (plain_scope scope.now) lo (plain_bindings bound.now)) }
+    ensures says { SaysAll result (check_bound (seen context.now) (plain_scope scope.now) lo (plain_bindings bound.now)) }
+    ensures slots { IfOk result (λ t. AllByRecursion (HasSlots (length (plain_scope scope.now))) t.terms.items) }
 {
     let Some((first, rest)) = bound.split_first() else {
         return Ok(none_typed(context.alloc));
@@ -201,7 +209,8 @@ fn check_applied(
     requires able { MayCheck context.now.heads.now context.now.unit (plain_scope scope.now) lo (Applied place operator (plain_all operands.now)) }
     requires marked { AreMarked (seen context.now) operands.now }
     requires wanted { HasWideWanted wanted }
-    ensures { (tail : Bool) → Says result (check (seen context.now) (plain_scope scope.now) tail lo (plain_wanted wanted) (Applied place operator (plain_all operands.now))) }
+    ensures says { (tail : Bool) → Says result (check (seen context.now) (plain_scope scope.now) tail lo (plain_wanted wanted) (Applied place operator (plain_all operands.now))) }
+    ensures slots { IfOk result (λ t. HasSlots (length (plain_scope scope.now)) t.term) }
 {
     match shape_of(operator) {
         Shape::Alike => {
@@ -240,7 +249,8 @@ fn check_alike(
     requires able { MayCheckAll context.now.heads.now context.now.unit (plain_scope scope.now) lo (plain_all es.now) }
     requires marked { AreMarked (seen context.now) es.now }
     requires wanted { HasWideWanted wanted }
-    ensures { SaysAlike result (check_alike (seen context.now) (plain_scope scope.now) lo place (plain_wanted wanted) (plain_all es.now)) }
+    ensures says { SaysAlike result (check_alike (seen context.now) (plain_scope scope.now) lo place (plain_wanted wanted) (plain_all es.now)) }
+    ensures slots { IfOk result (λ t. AllByRecursion (HasSlots (length (plain_scope scope.now))) t.terms.items) }
 {
     let Some((first, rest)) = es.split_first() else {
         return none_alike(context.alloc, place, wanted);
@@ -271,7 +281,8 @@ fn check_shift(
 ) -> Result<TypedAlike, CheckErr>
     requires able { MayCheckAll context.now.heads.now context.now.unit (plain_scope scope.now) lo (plain_all es.now) }
     requires marked { AreMarked (seen context.now) es.now }
-    ensures { SaysAlike result (check_shift (seen context.now) (plain_scope scope.now) lo place (plain_all es.now)) }
+    ensures says { SaysAlike result (check_shift (seen context.now) (plain_scope scope.now) lo place (plain_all es.now)) }
+    ensures slots { IfOk result (λ t. AllByRecursion (HasSlots (length (plain_scope scope.now))) t.terms.items) }
 {
     let Some((first, rest)) = es.split_first() else {
         return Err(refused(Rule::E14, place));
@@ -296,7 +307,8 @@ fn check_operands(
     requires able { MayCheckAll context.now.heads.now context.now.unit (plain_scope scope.now) lo (plain_all es.now) }
     requires marked { AreMarked (seen context.now) es.now }
     requires shifted { HasWideWritten shifted }
-    ensures { SaysAll result (check_all (seen context.now) (plain_scope scope.now) lo (operands_wanted shifted (plain_all es.now)) (plain_all es.now)) }
+    ensures says { SaysAll result (check_all (seen context.now) (plain_scope scope.now) lo (operands_wanted shifted (plain_all es.now)) (plain_all es.now)) }
+    ensures slots { IfOk result (λ t. AllByRecursion (HasSlots (length (plain_scope scope.now))) t.terms.items) }
 {
     let Some((first, rest)) = es.split_first() else {
         return Ok(none_typed(context.alloc));
@@ -324,7 +336,8 @@ fn check_called(
     requires able { MayCheck context.now.heads.now context.now.unit (plain_scope scope.now) lo (Called place name.now (plain_all arguments.now)) }
     requires marked { AreMarked (seen context.now) arguments.now }
     requires wanted { HasWideWanted wanted }
-    ensures { Says result (check (seen context.now) (plain_scope scope.now) tail lo (plain_wanted wanted) (Called place name.now (plain_all arguments.now))) }
+    ensures says { Says result (check (seen context.now) (plain_scope scope.now) tail lo (plain_wanted wanted) (Called place name.now (plain_all arguments.now))) }
+    ensures slots { IfOk result (λ t. HasSlots (length (plain_scope scope.now)) t.term) }
 {
     match find_callee(context.heads, context.unit, name) {
         Callee::Member(n) => {
@@ -359,7 +372,8 @@ fn check_counted(
     requires marked { AreMarked (seen context.now) es.now }
     requires wide { WideSlots (plain_head head.now).params }
     requires counted { length head.now.params.items < 2 ^ 32 }
-    ensures { SaysAll result (unless (needs (length (plain_head head.now).params == count (plain_all es.now)) (fault_with rules.E11 place (length (plain_head head.now).params) (count (plain_all es.now)))) (check_all (seen context.now) (plain_scope scope.now) lo (exactly (widths_of (plain_head head.now).params)) (plain_all es.now))) }
+    ensures says { SaysAll result (unless (needs (length (plain_head head.now).params == count (plain_all es.now)) (fault_with rules.E11 place (length (plain_head head.now).params) (count (plain_all es.now)))) (check_all (seen context.now) (plain_scope scope.now) lo (exactly (widths_of (plain_head head.now).params)) (plain_all es.now))) }
+    ensures slots { IfOk result (λ t. AllByRecursion (HasSlots (length (plain_scope scope.now))) t.terms.items) }
 {
     let same = are_as_many(&head.params, es);
     if !same {
@@ -380,7 +394,8 @@ fn check_arguments(
     requires able { MayCheckAll context.now.heads.now context.now.unit (plain_scope scope.now) lo (plain_all es.now) }
     requires marked { AreMarked (seen context.now) es.now }
     requires params { WideSlots (plain_slots params.now) }
-    ensures { SaysAll result (check_all (seen context.now) (plain_scope scope.now) lo (exactly (widths_of (plain_slots params.now))) (plain_all es.now)) }
+    ensures says { SaysAll result (check_all (seen context.now) (plain_scope scope.now) lo (exactly (widths_of (plain_slots params.now))) (plain_all es.now)) }
+    ensures slots { IfOk result (λ t. AllByRecursion (HasSlots (length (plain_scope scope.now))) t.terms.items) }
 {
     let Some((first, rest)) = es.split_first() else {
         return Ok(none_typed(context.alloc));

@@ -18,7 +18,7 @@ pub new-requires : goal.new-requires
 new-requires c =
     let sites = c.in_ok-sites.ensures ∙ ap (λ (l : List Function). all_sites 0 (map shown_function l)) c.deref.ensures.value in
     let form = form_shown c.walk_law.ensures (shows_defs c.args.defs.now) c.args.functions.items c.in_ok-sites.sites.items c.requires.formed c.requires.within c.requires.functions (sym c.in_default.ensures) sites in
-    c.forms_are_checked_law.ensures (shows_defs c.args.defs.now) _ c.requires.formed form
+    c.forms_are_checked_law.ensures (shows_defs c.args.defs.now) _ c.requires.formed form c.requires.slots
 
 pub returns-clause-form : goal.returns-clause-form
 returns-clause-form c =

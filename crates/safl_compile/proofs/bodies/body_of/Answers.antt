@@ -20,7 +20,7 @@ lower-requires-clause-able c =
     (subst (λ (x : CheckedProgram). InEachCycle (program_of x) (choice_of c.args.p.now) c.body_path.new.net c.args.pins.now (λ v r i. on v c.in_ok-run.run' ≡ path (program_of x) r c.args.f)) same (c.in_ok-run.ensures.shows (choice_of c.args.p.now)))
     (subst (λ (x : CheckedProgram). ArePorts x c.args.returns.now.ports.items c.args.f c.in_ok-ports.ports) same (subst (λ (xs : List SitePorts). ArePorts c.checked-c.result.now xs c.args.f c.in_ok-ports.ports) c.as_slice.ensures.value c.in_ok-ports.ensures))
     (slice_get_read c.args.pins.now.bank.members.items (length c.args.pins.now.bank.members.items) c.args.f c.index.result.now refl (omega (arith, b, l)) c.index.ensures)
-    c.deref.ensures.value (c.body.ensures ∙ ap (λ (x : CheckedProgram). (program_of x).body c.args.f) same) c.requires.room
+    c.deref.ensures.value (c.body.ensures.term ∙ ap (λ (x : CheckedProgram). (program_of x).body c.args.f) same) c.requires.room
 
 pub returns-clause-built : goal.returns-clause-built
 returns-clause-built c =
@@ -33,7 +33,7 @@ returns-clause-built c =
     (subst (λ (x : CheckedProgram). InEachCycle (program_of x) (choice_of c.args.p.now) c.body_path.new.net c.args.pins.now (λ v r i. on v c.in_ok-run.run' ≡ path (program_of x) r c.args.f)) same (c.in_ok-run.ensures.shows (choice_of c.args.p.now)))
     (subst (λ (x : CheckedProgram). ArePorts x c.args.returns.now.ports.items c.args.f c.in_ok-ports.ports) same (subst (λ (xs : List SitePorts). ArePorts c.checked-c.result.now xs c.args.f c.in_ok-ports.ports) c.as_slice.ensures.value c.in_ok-ports.ensures))
     (slice_get_read c.args.pins.now.bank.members.items (length c.args.pins.now.bank.members.items) c.args.f c.index.result.now refl (omega (arith, b, l)) c.index.ensures)
-    c.deref.ensures.value (c.body.ensures ∙ ap (λ (x : CheckedProgram). (program_of x).body c.args.f) same)
+    c.deref.ensures.value (c.body.ensures.term ∙ ap (λ (x : CheckedProgram). (program_of x).body c.args.f) same)
     c.lower.new.net c.lower.ensures.kept c.lower.result c.lower.ensures.done
 
 pub returns-clause-done : goal.returns-clause-done
@@ -47,5 +47,5 @@ returns-clause-done c =
     (subst (λ (x : CheckedProgram). InEachCycle (program_of x) (choice_of c.args.p.now) c.body_path.new.net c.args.pins.now (λ v r i. on v c.in_ok-run.run' ≡ path (program_of x) r c.args.f)) same (c.in_ok-run.ensures.shows (choice_of c.args.p.now)))
     (subst (λ (x : CheckedProgram). ArePorts x c.args.returns.now.ports.items c.args.f c.in_ok-ports.ports) same (subst (λ (xs : List SitePorts). ArePorts c.checked-c.result.now xs c.args.f c.in_ok-ports.ports) c.as_slice.ensures.value c.in_ok-ports.ensures))
     (slice_get_read c.args.pins.now.bank.members.items (length c.args.pins.now.bank.members.items) c.args.f c.index.result.now refl (omega (arith, b, l)) c.index.ensures)
-    c.deref.ensures.value (c.body.ensures ∙ ap (λ (x : CheckedProgram). (program_of x).body c.args.f) same)
+    c.deref.ensures.value (c.body.ensures.term ∙ ap (λ (x : CheckedProgram). (program_of x).body c.args.f) same)
     c.lower.new.net c.lower.ensures.kept c.lower.result c.lower.ensures.done

@@ -19,15 +19,15 @@ pub call-evaluate-requires : goal.call-evaluate-requires
 call-evaluate-requires t c =
     let C = program_of c.args.c.now in
     let i = c.loop-calls.invariant in
-    let few : nodes (tree c.body.result.now) ≤ 50000 = subst (λ x. nodes x ≤ 50000) (sym c.body.ensures) (Steps.few_nodes c.args.c.now c.requires.checked c.loop-calls.function) in
+    let few : nodes (tree c.body.result.now) ≤ 50000 = subst (λ x. nodes x ≤ 50000) (sym c.body.ensures.term) (Steps.few_nodes c.args.c.now c.requires.checked c.loop-calls.function) in
     let smaller : 150001 * (c.loop-calls.calls - 1) + 3 * nodes (tree c.body.result.now) < 150001 * c.args.left = omega (arith, few, i.within, c.loop-calls-test.true) in
-    (search rules, (c.requires.checked, Steps.typed_as (sym c.deref.ensures.value) (sym c.body.ensures) (Steps.typed_function C c.loop-calls.function c.loop-calls.words.items c.requires.checked.formed i.function i.fit)))
+    (search rules, (c.requires.checked, Steps.typed_as (sym c.deref.ensures.value) (sym c.body.ensures.term) (Steps.typed_function C c.loop-calls.function c.loop-calls.words.items c.requires.checked.formed i.function i.fit)))
 
 pub call-returns-in-Done : goal.call-returns-in-Done
 call-returns-in-Done t c =
     let C = program_of c.args.c.now in
     sym (ap (finished C) c.in-Done.is)
-    ∙ (Steps.one_step C c.loop-calls.calls c.loop-calls.function c.loop-calls.words.items _ _ _ (omega (arith, c.loop-calls-test.true)) c.deref.ensures.value c.body.ensures c.in_ok-answer.ensures
+    ∙ (Steps.one_step C c.loop-calls.calls c.loop-calls.function c.loop-calls.words.items _ _ _ (omega (arith, c.loop-calls-test.true)) c.deref.ensures.value c.body.ensures.term c.in_ok-answer.ensures
     ∙ sym c.loop-calls.invariant.same)
 
 pub call-loop-calls-preserved : goal.call-loop-calls-preserved
@@ -39,14 +39,14 @@ call-loop-calls-preserved t c =
       function = goes.0;
       fit = goes.1;
       within = omega (arith, goes.2, i.within);
-      same = i.same ∙ (sym (Steps.one_step C c.loop-calls.calls c.loop-calls.function c.loop-calls.words.items _ _ _ (omega (arith, c.loop-calls-test.true)) c.deref.ensures.value c.body.ensures c.in_ok-answer.ensures) ∙ ap (finished C) c.in-Tail.is);
+      same = i.same ∙ (sym (Steps.one_step C c.loop-calls.calls c.loop-calls.function c.loop-calls.words.items _ _ _ (omega (arith, c.loop-calls-test.true)) c.deref.ensures.value c.body.ensures.term c.in_ok-answer.ensures) ∙ ap (finished C) c.in-Tail.is);
     }
 
 pub call-returns-in-Spent : goal.call-returns-in-Spent
 call-returns-in-Spent t c =
     let C = program_of c.args.c.now in
     sym (ap (finished C) c.in-Spent.is)
-    ∙ (Steps.one_step C c.loop-calls.calls c.loop-calls.function c.loop-calls.words.items _ _ _ (omega (arith, c.loop-calls-test.true)) c.deref.ensures.value c.body.ensures c.in_ok-answer.ensures
+    ∙ (Steps.one_step C c.loop-calls.calls c.loop-calls.function c.loop-calls.words.items _ _ _ (omega (arith, c.loop-calls-test.true)) c.deref.ensures.value c.body.ensures.term c.in_ok-answer.ensures
     ∙ sym c.loop-calls.invariant.same)
 
 pub call-returns : goal.call-returns

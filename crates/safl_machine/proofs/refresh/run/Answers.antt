@@ -9,5 +9,5 @@ pub evaluate-requires-clause-can : goal.evaluate-requires-clause-can
 evaluate-requires-clause-can c =
     let same = c.copy_from_slice.ensures.after ∙ c.words-words.ensures.words in
     let long : length c.copy_from_slice.new.self ≡ length c.words-words.result.now = ap (λ (l : List Word). length l) c.copy_from_slice.ensures.after in
-    can_is refl (sym (take_at c.copy_from_slice.new.self _ (length c.words-words.result.now) long ∙ same)) (sym c.body.ensures)
+    can_is refl (sym (take_at c.copy_from_slice.new.self _ (length c.words-words.result.now) long ∙ same)) (sym c.body.ensures.term)
     (body_can c.args.c.now c.args.stages.now _ c.args.args.now c.args.f c.functions-functions.ensures.checked c.requires.function c.requires.fits c.requires.back c.requires.stages c.requires.asks)

@@ -1,4 +1,6 @@
-use Rattle.std.proofs.Common.{◌∙◌, ap, sym}
+use Rattle.std.proofs.Common.{◌+◌, length, ◌∙◌, ap, sym, subst}
+use Rattle.safl_check.specs.Slots.{HasSlots}
+use Rattle.safl_check.proofs.SlotLemmas.{slots-Let}
 use Rattle.safl_check.specs.declared.term.Term as declared
 use Rattle.safl_check.specs.Terms.{Let}
 use Rattle.safl_check.specs.Tree.{tree, forest}
@@ -6,7 +8,10 @@ use Rattle.safl_check.proofs.TreeLemmas.{tree-Let}
 use Rattle.safl_typing.proofs.SaysLemmas.{same_term}
 use Rattle.safl_typing.proofs.parts.make_let.Goals as goal
 
-pub returns : goal.returns
-returns c =
+pub returns-clause-says : goal.returns-clause-says
+returns-clause-says c =
     let e = tree-Let c.args.slot c.args.bound c.in_ok-body.body ∙ ap (λ (z : declared.Term). Let (forest c.args.bound.items) (tree z)) c.in_ok-body.ensures.ok in
     same_term c.args.width _ _ (sym e)
+
+pub returns-clause-slots : goal.returns-clause-slots
+returns-clause-slots c h i = slots-Let c.args.slot c.args.bound c.in_ok-body.body h (subst (HasSlots (c.args.slot + length c.args.bound.items)) (sym c.in_ok-body.ensures.ok) i)

@@ -1,5 +1,9 @@
+use Rattle.safl_check.proofs.SlotLemmas.{slots-Op}
 use Rattle.safl_check.proofs.TreeLemmas.{tree-Op}
 use Rattle.safl_typing.proofs.parts.make_operation.Goals as goal
 
 pub returns-clause-term : goal.returns-clause-term
 returns-clause-term c = tree-Op c.args.operator c.args.operands
+
+pub returns-clause-slots : goal.returns-clause-slots
+returns-clause-slots c n h = slots-Op n c.args.operator c.args.operands h

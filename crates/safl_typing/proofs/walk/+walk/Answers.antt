@@ -1,6 +1,9 @@
 use Rattle.std.proofs.Common.{rules, ◌≡◌, ℕ, ◌+◌, ◌*◌, ◌<◌, ◌^◌, ◌++◌, List, ◌∷◌, length, Bool, false, Option, refl, sym, ap, subst, ◌∙◌, arith}
 use Rattle.std.specs.Prelude.{Result, Err, ◌&&◌, ◌==◌}
-use Rattle.std.proofs.lemmas.Result.{err_from_is_err_and}
+use Rattle.std.proofs.lemmas.Result.{err_from_is_err_and, IfOk-weaker}
+use Rattle.std.specs.List.{AllByRecursion}
+use Rattle.safl_check.specs.Slots.{HasSlots}
+use Rattle.safl_typing.proofs.LetSlots.{body_sees}
 use Rattle.safl_word.specs.declared.fault.Rule.TheVariants as faults
 use Rattle.safl_word.specs.declared.fault.Fault.{Fault}
 use Rattle.safl_word.specs.Primitives.{result_width}
@@ -43,23 +46,23 @@ check_operands-check_operands-requires t c =
     let marked : AreMarked (known c.args.context.now.heads.now c.args.context.now.unit) c.in-Some.rest.now = marks.rest_marked (known c.args.context.now.heads.now c.args.context.now.unit) c.args.es.now c.in-Some.first.now c.in-Some.rest.now c.in-Some.ensures.cases.0 c.requires.marked in
     search rules
 
-pub check_operands-returns-in_default : goal.check_operands-returns-in_default
-check_operands-returns-in_default t c =
-    walk.none_is (known c.args.context.now.heads.now c.args.context.now.unit) (plain_scope c.args.scope.now) c.args.lo (operands_wanted c.args.shifted (plain_all c.args.es.now)) c.args.es.now c.in_default.ensures.cases ∙ walk.ok_all _ _ (sym c.none_typed.ensures)
+pub check_operands-returns-in_default-clause-says : goal.check_operands-returns-in_default-clause-says
+check_operands-returns-in_default-clause-says t c =
+    walk.none_is (known c.args.context.now.heads.now c.args.context.now.unit) (plain_scope c.args.scope.now) c.args.lo (operands_wanted c.args.shifted (plain_all c.args.es.now)) c.args.es.now c.in_default.ensures.cases ∙ walk.ok_all _ _ (sym c.none_typed.ensures.none)
 
-pub check_operands-returns-in_err-x : goal.check_operands-returns-in_err-x
-check_operands-returns-in_err-x t c =
+pub check_operands-returns-in_err-x-clause-says : goal.check_operands-returns-in_err-x-clause-says
+check_operands-returns-in_err-x-clause-says t c =
     let p = err_from_is_err_and c.from_residual.result c.from_residual.ensures.1 in
-    rw (p.1, p.2) (fails c.in_err-x.field-0.0 _ _ _ (walk.operands_is (known c.args.context.now.heads.now c.args.context.now.unit) (plain_scope c.args.scope.now) c.args.lo c.args.shifted c.args.es.now c.in-Some.first.now c.in-Some.rest.now (plain_wanted c.as_operand-wanted.result) c.add_sites-next.result c.in-Some.ensures.cases.0 (c.as_operand-wanted.ensures ∙ ap (λ (b : Bool). operand_wanted c.args.shifted b) (c.is_flexible-flexible.ensures (known c.args.context.now.heads.now c.args.context.now.unit) (marks.first_marked (known c.args.context.now.heads.now c.args.context.now.unit) c.args.es.now c.in-Some.first.now c.in-Some.rest.now c.in-Some.ensures.cases.0 c.requires.marked))) (walk.next_of c.args.context.now.heads.now c.args.context.now.unit (plain_scope c.args.scope.now) c.args.lo c.args.es.now c.in-Some.first.now c.in-Some.rest.now c.add_sites-next.result c.in-Some.ensures.cases.0 (c.add_sites-next.ensures (known c.args.context.now.heads.now c.args.context.now.unit) (marks.first_marked (known c.args.context.now.heads.now c.args.context.now.unit) c.args.es.now c.in-Some.first.now c.in-Some.rest.now c.in-Some.ensures.cases.0 c.requires.marked)) c.requires.able)) c.in_err-x.ensures)
+    rw (p.1, p.2) (fails c.in_err-x.field-0.0 _ _ _ (walk.operands_is (known c.args.context.now.heads.now c.args.context.now.unit) (plain_scope c.args.scope.now) c.args.lo c.args.shifted c.args.es.now c.in-Some.first.now c.in-Some.rest.now (plain_wanted c.as_operand-wanted.result) c.add_sites-next.result c.in-Some.ensures.cases.0 (c.as_operand-wanted.ensures ∙ ap (λ (b : Bool). operand_wanted c.args.shifted b) (c.is_flexible-flexible.ensures (known c.args.context.now.heads.now c.args.context.now.unit) (marks.first_marked (known c.args.context.now.heads.now c.args.context.now.unit) c.args.es.now c.in-Some.first.now c.in-Some.rest.now c.in-Some.ensures.cases.0 c.requires.marked))) (walk.next_of c.args.context.now.heads.now c.args.context.now.unit (plain_scope c.args.scope.now) c.args.lo c.args.es.now c.in-Some.first.now c.in-Some.rest.now c.add_sites-next.result c.in-Some.ensures.cases.0 (c.add_sites-next.ensures (known c.args.context.now.heads.now c.args.context.now.unit) (marks.first_marked (known c.args.context.now.heads.now c.args.context.now.unit) c.args.es.now c.in-Some.first.now c.in-Some.rest.now c.in-Some.ensures.cases.0 c.requires.marked)) c.requires.able)) c.in_err-x.ensures.says)
 
-pub check_operands-returns-in_err-others : goal.check_operands-returns-in_err-others
-check_operands-returns-in_err-others t c =
+pub check_operands-returns-in_err-others-clause-says : goal.check_operands-returns-in_err-others-clause-says
+check_operands-returns-in_err-others-clause-says t c =
     let p = err_from_is_err_and c.from_residual-in_err-others.result c.from_residual-in_err-others.ensures.1 in
-    rw (p.1, p.2) (fails c.in_err-others.field-0.0 _ _ _ (goes _ _ _ (plain_typed c.in_ok-x.x) (walk.operands_is (known c.args.context.now.heads.now c.args.context.now.unit) (plain_scope c.args.scope.now) c.args.lo c.args.shifted c.args.es.now c.in-Some.first.now c.in-Some.rest.now (plain_wanted c.as_operand-wanted.result) c.add_sites-next.result c.in-Some.ensures.cases.0 (c.as_operand-wanted.ensures ∙ ap (λ (b : Bool). operand_wanted c.args.shifted b) (c.is_flexible-flexible.ensures (known c.args.context.now.heads.now c.args.context.now.unit) (marks.first_marked (known c.args.context.now.heads.now c.args.context.now.unit) c.args.es.now c.in-Some.first.now c.in-Some.rest.now c.in-Some.ensures.cases.0 c.requires.marked))) (walk.next_of c.args.context.now.heads.now c.args.context.now.unit (plain_scope c.args.scope.now) c.args.lo c.args.es.now c.in-Some.first.now c.in-Some.rest.now c.add_sites-next.result c.in-Some.ensures.cases.0 (c.add_sites-next.ensures (known c.args.context.now.heads.now c.args.context.now.unit) (marks.first_marked (known c.args.context.now.heads.now c.args.context.now.unit) c.args.es.now c.in-Some.first.now c.in-Some.rest.now c.in-Some.ensures.cases.0 c.requires.marked)) c.requires.able)) c.in_ok-x.ensures) c.in_err-others.ensures)
+    rw (p.1, p.2) (fails c.in_err-others.field-0.0 _ _ _ (goes _ _ _ (plain_typed c.in_ok-x.x) (walk.operands_is (known c.args.context.now.heads.now c.args.context.now.unit) (plain_scope c.args.scope.now) c.args.lo c.args.shifted c.args.es.now c.in-Some.first.now c.in-Some.rest.now (plain_wanted c.as_operand-wanted.result) c.add_sites-next.result c.in-Some.ensures.cases.0 (c.as_operand-wanted.ensures ∙ ap (λ (b : Bool). operand_wanted c.args.shifted b) (c.is_flexible-flexible.ensures (known c.args.context.now.heads.now c.args.context.now.unit) (marks.first_marked (known c.args.context.now.heads.now c.args.context.now.unit) c.args.es.now c.in-Some.first.now c.in-Some.rest.now c.in-Some.ensures.cases.0 c.requires.marked))) (walk.next_of c.args.context.now.heads.now c.args.context.now.unit (plain_scope c.args.scope.now) c.args.lo c.args.es.now c.in-Some.first.now c.in-Some.rest.now c.add_sites-next.result c.in-Some.ensures.cases.0 (c.add_sites-next.ensures (known c.args.context.now.heads.now c.args.context.now.unit) (marks.first_marked (known c.args.context.now.heads.now c.args.context.now.unit) c.args.es.now c.in-Some.first.now c.in-Some.rest.now c.in-Some.ensures.cases.0 c.requires.marked)) c.requires.able)) c.in_ok-x.ensures.says) c.in_err-others.ensures.says)
 
-pub check_operands-returns : goal.check_operands-returns
-check_operands-returns t c =
-    subst (λ (z : Result TypedAll Fault). SaysAll c.put_first.result z) (sym (goes _ _ _ (plain_all_typed c.in_ok-others.others) (goes _ _ _ (plain_typed c.in_ok-x.x) (walk.operands_is (known c.args.context.now.heads.now c.args.context.now.unit) (plain_scope c.args.scope.now) c.args.lo c.args.shifted c.args.es.now c.in-Some.first.now c.in-Some.rest.now (plain_wanted c.as_operand-wanted.result) c.add_sites-next.result c.in-Some.ensures.cases.0 (c.as_operand-wanted.ensures ∙ ap (λ (b : Bool). operand_wanted c.args.shifted b) (c.is_flexible-flexible.ensures (known c.args.context.now.heads.now c.args.context.now.unit) (marks.first_marked (known c.args.context.now.heads.now c.args.context.now.unit) c.args.es.now c.in-Some.first.now c.in-Some.rest.now c.in-Some.ensures.cases.0 c.requires.marked))) (walk.next_of c.args.context.now.heads.now c.args.context.now.unit (plain_scope c.args.scope.now) c.args.lo c.args.es.now c.in-Some.first.now c.in-Some.rest.now c.add_sites-next.result c.in-Some.ensures.cases.0 (c.add_sites-next.ensures (known c.args.context.now.heads.now c.args.context.now.unit) (marks.first_marked (known c.args.context.now.heads.now c.args.context.now.unit) c.args.es.now c.in-Some.first.now c.in-Some.rest.now c.in-Some.ensures.cases.0 c.requires.marked)) c.requires.able)) c.in_ok-x.ensures) c.in_ok-others.ensures)) c.put_first.ensures
+pub check_operands-returns-clause-says : goal.check_operands-returns-clause-says
+check_operands-returns-clause-says t c =
+    subst (λ (z : Result TypedAll Fault). SaysAll c.put_first.result z) (sym (goes _ _ _ (plain_all_typed c.in_ok-others.others) (goes _ _ _ (plain_typed c.in_ok-x.x) (walk.operands_is (known c.args.context.now.heads.now c.args.context.now.unit) (plain_scope c.args.scope.now) c.args.lo c.args.shifted c.args.es.now c.in-Some.first.now c.in-Some.rest.now (plain_wanted c.as_operand-wanted.result) c.add_sites-next.result c.in-Some.ensures.cases.0 (c.as_operand-wanted.ensures ∙ ap (λ (b : Bool). operand_wanted c.args.shifted b) (c.is_flexible-flexible.ensures (known c.args.context.now.heads.now c.args.context.now.unit) (marks.first_marked (known c.args.context.now.heads.now c.args.context.now.unit) c.args.es.now c.in-Some.first.now c.in-Some.rest.now c.in-Some.ensures.cases.0 c.requires.marked))) (walk.next_of c.args.context.now.heads.now c.args.context.now.unit (plain_scope c.args.scope.now) c.args.lo c.args.es.now c.in-Some.first.now c.in-Some.rest.now c.add_sites-next.result c.in-Some.ensures.cases.0 (c.add_sites-next.ensures (known c.args.context.now.heads.now c.args.context.now.unit) (marks.first_marked (known c.args.context.now.heads.now c.args.context.now.unit) c.args.es.now c.in-Some.first.now c.in-Some.rest.now c.in-Some.ensures.cases.0 c.requires.marked)) c.requires.able)) c.in_ok-x.ensures.says) c.in_ok-others.ensures.says)) c.put_first.ensures.says
 
 pub check_arguments-check_expression-requires : goal.check_arguments-check_expression-requires
 check_arguments-check_expression-requires t c =
@@ -79,27 +82,27 @@ check_arguments-check_arguments-requires t c =
     let marked : AreMarked (known c.args.context.now.heads.now c.args.context.now.unit) c.in-Some.rest.now = marks.rest_marked (known c.args.context.now.heads.now c.args.context.now.unit) c.args.es.now c.in-Some.first.now c.in-Some.rest.now c.in-Some.ensures.cases.0 c.requires.marked in
     search rules
 
-pub check_arguments-returns-in_default : goal.check_arguments-returns-in_default
-check_arguments-returns-in_default t c =
-    walk.none_is (known c.args.context.now.heads.now c.args.context.now.unit) (plain_scope c.args.scope.now) c.args.lo (exactly (widths_of (plain_slots c.args.params.now))) c.args.es.now c.in_default.ensures.cases ∙ walk.ok_all _ _ (sym c.none_typed.ensures)
+pub check_arguments-returns-in_default-clause-says : goal.check_arguments-returns-in_default-clause-says
+check_arguments-returns-in_default-clause-says t c =
+    walk.none_is (known c.args.context.now.heads.now c.args.context.now.unit) (plain_scope c.args.scope.now) c.args.lo (exactly (widths_of (plain_slots c.args.params.now))) c.args.es.now c.in_default.ensures.cases ∙ walk.ok_all _ _ (sym c.none_typed.ensures.none)
 
-pub check_arguments-returns-in_default-split_first : goal.check_arguments-returns-in_default-split_first
-check_arguments-returns-in_default-split_first t c =
-    walk.arguments_none (known c.args.context.now.heads.now c.args.context.now.unit) (plain_scope c.args.scope.now) c.args.lo c.args.params.now (plain_all c.args.es.now) c.in_default-split_first.ensures.cases ∙ walk.ok_all _ _ (sym c.none_typed-in_default-split_first.ensures)
+pub check_arguments-returns-in_default-split_first-clause-says : goal.check_arguments-returns-in_default-split_first-clause-says
+check_arguments-returns-in_default-split_first-clause-says t c =
+    walk.arguments_none (known c.args.context.now.heads.now c.args.context.now.unit) (plain_scope c.args.scope.now) c.args.lo c.args.params.now (plain_all c.args.es.now) c.in_default-split_first.ensures.cases ∙ walk.ok_all _ _ (sym c.none_typed-in_default-split_first.ensures.none)
 
-pub check_arguments-returns-in_err-x : goal.check_arguments-returns-in_err-x
-check_arguments-returns-in_err-x t c =
+pub check_arguments-returns-in_err-x-clause-says : goal.check_arguments-returns-in_err-x-clause-says
+check_arguments-returns-in_err-x-clause-says t c =
     let p = err_from_is_err_and c.from_residual.result c.from_residual.ensures.1 in
-    rw (p.1, p.2) (fails c.in_err-x.field-0.0 _ _ _ (walk.arguments_is (known c.args.context.now.heads.now c.args.context.now.unit) (plain_scope c.args.scope.now) c.args.lo c.args.params.now c.in-Some-split_first.param.now c.in-Some-split_first.others.now c.args.es.now c.in-Some.first.now c.in-Some.rest.now c.add_sites-next.result c.in-Some-split_first.ensures.cases.0 c.in-Some.ensures.cases.0 (walk.next_of c.args.context.now.heads.now c.args.context.now.unit (plain_scope c.args.scope.now) c.args.lo c.args.es.now c.in-Some.first.now c.in-Some.rest.now c.add_sites-next.result c.in-Some.ensures.cases.0 (c.add_sites-next.ensures (known c.args.context.now.heads.now c.args.context.now.unit) (marks.first_marked (known c.args.context.now.heads.now c.args.context.now.unit) c.args.es.now c.in-Some.first.now c.in-Some.rest.now c.in-Some.ensures.cases.0 c.requires.marked)) c.requires.able)) c.in_err-x.ensures)
+    rw (p.1, p.2) (fails c.in_err-x.field-0.0 _ _ _ (walk.arguments_is (known c.args.context.now.heads.now c.args.context.now.unit) (plain_scope c.args.scope.now) c.args.lo c.args.params.now c.in-Some-split_first.param.now c.in-Some-split_first.others.now c.args.es.now c.in-Some.first.now c.in-Some.rest.now c.add_sites-next.result c.in-Some-split_first.ensures.cases.0 c.in-Some.ensures.cases.0 (walk.next_of c.args.context.now.heads.now c.args.context.now.unit (plain_scope c.args.scope.now) c.args.lo c.args.es.now c.in-Some.first.now c.in-Some.rest.now c.add_sites-next.result c.in-Some.ensures.cases.0 (c.add_sites-next.ensures (known c.args.context.now.heads.now c.args.context.now.unit) (marks.first_marked (known c.args.context.now.heads.now c.args.context.now.unit) c.args.es.now c.in-Some.first.now c.in-Some.rest.now c.in-Some.ensures.cases.0 c.requires.marked)) c.requires.able)) c.in_err-x.ensures.says)
 
-pub check_arguments-returns-in_err-r : goal.check_arguments-returns-in_err-r
-check_arguments-returns-in_err-r t c =
+pub check_arguments-returns-in_err-r-clause-says : goal.check_arguments-returns-in_err-r-clause-says
+check_arguments-returns-in_err-r-clause-says t c =
     let p = err_from_is_err_and c.from_residual-in_err-r.result c.from_residual-in_err-r.ensures.1 in
-    rw (p.1, p.2) (fails c.in_err-r.field-0.0 _ _ _ (goes _ _ _ (plain_typed c.in_ok-x.x) (walk.arguments_is (known c.args.context.now.heads.now c.args.context.now.unit) (plain_scope c.args.scope.now) c.args.lo c.args.params.now c.in-Some-split_first.param.now c.in-Some-split_first.others.now c.args.es.now c.in-Some.first.now c.in-Some.rest.now c.add_sites-next.result c.in-Some-split_first.ensures.cases.0 c.in-Some.ensures.cases.0 (walk.next_of c.args.context.now.heads.now c.args.context.now.unit (plain_scope c.args.scope.now) c.args.lo c.args.es.now c.in-Some.first.now c.in-Some.rest.now c.add_sites-next.result c.in-Some.ensures.cases.0 (c.add_sites-next.ensures (known c.args.context.now.heads.now c.args.context.now.unit) (marks.first_marked (known c.args.context.now.heads.now c.args.context.now.unit) c.args.es.now c.in-Some.first.now c.in-Some.rest.now c.in-Some.ensures.cases.0 c.requires.marked)) c.requires.able)) c.in_ok-x.ensures) c.in_err-r.ensures)
+    rw (p.1, p.2) (fails c.in_err-r.field-0.0 _ _ _ (goes _ _ _ (plain_typed c.in_ok-x.x) (walk.arguments_is (known c.args.context.now.heads.now c.args.context.now.unit) (plain_scope c.args.scope.now) c.args.lo c.args.params.now c.in-Some-split_first.param.now c.in-Some-split_first.others.now c.args.es.now c.in-Some.first.now c.in-Some.rest.now c.add_sites-next.result c.in-Some-split_first.ensures.cases.0 c.in-Some.ensures.cases.0 (walk.next_of c.args.context.now.heads.now c.args.context.now.unit (plain_scope c.args.scope.now) c.args.lo c.args.es.now c.in-Some.first.now c.in-Some.rest.now c.add_sites-next.result c.in-Some.ensures.cases.0 (c.add_sites-next.ensures (known c.args.context.now.heads.now c.args.context.now.unit) (marks.first_marked (known c.args.context.now.heads.now c.args.context.now.unit) c.args.es.now c.in-Some.first.now c.in-Some.rest.now c.in-Some.ensures.cases.0 c.requires.marked)) c.requires.able)) c.in_ok-x.ensures.says) c.in_err-r.ensures.says)
 
-pub check_arguments-returns : goal.check_arguments-returns
-check_arguments-returns t c =
-    subst (λ (z : Result TypedAll Fault). SaysAll c.put_first.result z) (sym (goes _ _ _ (plain_all_typed c.in_ok-r.r) (goes _ _ _ (plain_typed c.in_ok-x.x) (walk.arguments_is (known c.args.context.now.heads.now c.args.context.now.unit) (plain_scope c.args.scope.now) c.args.lo c.args.params.now c.in-Some-split_first.param.now c.in-Some-split_first.others.now c.args.es.now c.in-Some.first.now c.in-Some.rest.now c.add_sites-next.result c.in-Some-split_first.ensures.cases.0 c.in-Some.ensures.cases.0 (walk.next_of c.args.context.now.heads.now c.args.context.now.unit (plain_scope c.args.scope.now) c.args.lo c.args.es.now c.in-Some.first.now c.in-Some.rest.now c.add_sites-next.result c.in-Some.ensures.cases.0 (c.add_sites-next.ensures (known c.args.context.now.heads.now c.args.context.now.unit) (marks.first_marked (known c.args.context.now.heads.now c.args.context.now.unit) c.args.es.now c.in-Some.first.now c.in-Some.rest.now c.in-Some.ensures.cases.0 c.requires.marked)) c.requires.able)) c.in_ok-x.ensures) c.in_ok-r.ensures)) c.put_first.ensures
+pub check_arguments-returns-clause-says : goal.check_arguments-returns-clause-says
+check_arguments-returns-clause-says t c =
+    subst (λ (z : Result TypedAll Fault). SaysAll c.put_first.result z) (sym (goes _ _ _ (plain_all_typed c.in_ok-r.r) (goes _ _ _ (plain_typed c.in_ok-x.x) (walk.arguments_is (known c.args.context.now.heads.now c.args.context.now.unit) (plain_scope c.args.scope.now) c.args.lo c.args.params.now c.in-Some-split_first.param.now c.in-Some-split_first.others.now c.args.es.now c.in-Some.first.now c.in-Some.rest.now c.add_sites-next.result c.in-Some-split_first.ensures.cases.0 c.in-Some.ensures.cases.0 (walk.next_of c.args.context.now.heads.now c.args.context.now.unit (plain_scope c.args.scope.now) c.args.lo c.args.es.now c.in-Some.first.now c.in-Some.rest.now c.add_sites-next.result c.in-Some.ensures.cases.0 (c.add_sites-next.ensures (known c.args.context.now.heads.now c.args.context.now.unit) (marks.first_marked (known c.args.context.now.heads.now c.args.context.now.unit) c.args.es.now c.in-Some.first.now c.in-Some.rest.now c.in-Some.ensures.cases.0 c.requires.marked)) c.requires.able)) c.in_ok-x.ensures.says) c.in_ok-r.ensures.says)) c.put_first.ensures.says
 
 pub check_shift-check_expression-requires : goal.check_shift-check_expression-requires
 check_shift-check_expression-requires t c =
@@ -112,31 +115,31 @@ pub check_shift-check_operands-requires : goal.check_shift-check_operands-requir
 check_shift-check_operands-requires t c =
     let smaller : 4 * nodes_in (plain_all c.in-Some.rest.now) + 1 < 4 * nodes_in (plain_all c.args.es.now) + 1 = walk.less_rest c.args.es.now c.in-Some.first.now c.in-Some.rest.now c.in-Some.ensures.cases.0 in
     let ok : MayCheckAll c.args.context.now.heads.now c.args.context.now.unit (plain_scope c.args.scope.now) c.add_sites-next.result (plain_all c.in-Some.rest.now) = walk.rest_of c.args.context.now.heads.now c.args.context.now.unit (plain_scope c.args.scope.now) c.args.lo c.args.es.now c.in-Some.first.now c.in-Some.rest.now c.add_sites-next.result c.in-Some.ensures.cases.0 (c.add_sites-next.ensures (known c.args.context.now.heads.now c.args.context.now.unit) (marks.first_marked (known c.args.context.now.heads.now c.args.context.now.unit) c.args.es.now c.in-Some.first.now c.in-Some.rest.now c.in-Some.ensures.cases.0 c.requires.marked)) c.requires.able in
-    let wide : HasWidthOfWord c.in_ok-x.x.width = walk.found_wide c.args.context.now.heads.now c.args.context.now.unit (plain_scope c.args.scope.now) false c.args.lo wants.Any (plain c.in-Some.first.now) (plain_typed c.in_ok-x.x) (walk.first_of c.args.context.now.heads.now c.args.context.now.unit (plain_scope c.args.scope.now) c.args.lo c.args.es.now c.in-Some.first.now c.in-Some.rest.now c.in-Some.ensures.cases.0 c.requires.able) tt c.in_ok-x.ensures in
+    let wide : HasWidthOfWord c.in_ok-x.x.width = walk.found_wide c.args.context.now.heads.now c.args.context.now.unit (plain_scope c.args.scope.now) false c.args.lo wants.Any (plain c.in-Some.first.now) (plain_typed c.in_ok-x.x) (walk.first_of c.args.context.now.heads.now c.args.context.now.unit (plain_scope c.args.scope.now) c.args.lo c.args.es.now c.in-Some.first.now c.in-Some.rest.now c.in-Some.ensures.cases.0 c.requires.able) tt c.in_ok-x.ensures.says in
     let marked : AreMarked (known c.args.context.now.heads.now c.args.context.now.unit) c.in-Some.rest.now = marks.rest_marked (known c.args.context.now.heads.now c.args.context.now.unit) c.args.es.now c.in-Some.first.now c.in-Some.rest.now c.in-Some.ensures.cases.0 c.requires.marked in
     search rules
 
-pub check_shift-returns-in_default : goal.check_shift-returns-in_default
-check_shift-returns-in_default t c =
+pub check_shift-returns-in_default-clause-says : goal.check_shift-returns-in_default-clause-says
+check_shift-returns-in_default-clause-says t c =
     subst (λ (z : Expressions). SaysAlike (Err c.refused.result) (check_shift (known c.args.context.now.heads.now c.args.context.now.unit) (plain_scope c.args.scope.now) c.args.lo c.args.place z)) (sym (walk.no_list c.args.es.now c.in_default.ensures.cases)) (walk.refused_is c.refused.result _ _ c.refused.ensures refl)
 
-pub check_shift-returns-in_err-x : goal.check_shift-returns-in_err-x
-check_shift-returns-in_err-x t c =
+pub check_shift-returns-in_err-x-clause-says : goal.check_shift-returns-in_err-x-clause-says
+check_shift-returns-in_err-x-clause-says t c =
     let p = err_from_is_err_and c.from_residual.result c.from_residual.ensures.1 in
-    rw (p.1, p.2) (fails c.in_err-x.field-0.0 _ _ _ (walk.shift_is (known c.args.context.now.heads.now c.args.context.now.unit) (plain_scope c.args.scope.now) c.args.lo c.args.place c.args.es.now c.in-Some.first.now c.in-Some.rest.now c.add_sites-next.result c.in-Some.ensures.cases.0 (walk.next_of c.args.context.now.heads.now c.args.context.now.unit (plain_scope c.args.scope.now) c.args.lo c.args.es.now c.in-Some.first.now c.in-Some.rest.now c.add_sites-next.result c.in-Some.ensures.cases.0 (c.add_sites-next.ensures (known c.args.context.now.heads.now c.args.context.now.unit) (marks.first_marked (known c.args.context.now.heads.now c.args.context.now.unit) c.args.es.now c.in-Some.first.now c.in-Some.rest.now c.in-Some.ensures.cases.0 c.requires.marked)) c.requires.able)) c.in_err-x.ensures)
+    rw (p.1, p.2) (fails c.in_err-x.field-0.0 _ _ _ (walk.shift_is (known c.args.context.now.heads.now c.args.context.now.unit) (plain_scope c.args.scope.now) c.args.lo c.args.place c.args.es.now c.in-Some.first.now c.in-Some.rest.now c.add_sites-next.result c.in-Some.ensures.cases.0 (walk.next_of c.args.context.now.heads.now c.args.context.now.unit (plain_scope c.args.scope.now) c.args.lo c.args.es.now c.in-Some.first.now c.in-Some.rest.now c.add_sites-next.result c.in-Some.ensures.cases.0 (c.add_sites-next.ensures (known c.args.context.now.heads.now c.args.context.now.unit) (marks.first_marked (known c.args.context.now.heads.now c.args.context.now.unit) c.args.es.now c.in-Some.first.now c.in-Some.rest.now c.in-Some.ensures.cases.0 c.requires.marked)) c.requires.able)) c.in_err-x.ensures.says)
 
-pub check_shift-returns-in_err-r : goal.check_shift-returns-in_err-r
-check_shift-returns-in_err-r t c =
+pub check_shift-returns-in_err-r-clause-says : goal.check_shift-returns-in_err-r-clause-says
+check_shift-returns-in_err-r-clause-says t c =
     let p = err_from_is_err_and c.from_residual-in_err-r.result c.from_residual-in_err-r.ensures.1 in
-    rw (p.1, p.2) (fails c.in_err-r.field-0.0 _ _ _ (goes _ _ _ (plain_typed c.in_ok-x.x) (walk.shift_is (known c.args.context.now.heads.now c.args.context.now.unit) (plain_scope c.args.scope.now) c.args.lo c.args.place c.args.es.now c.in-Some.first.now c.in-Some.rest.now c.add_sites-next.result c.in-Some.ensures.cases.0 (walk.next_of c.args.context.now.heads.now c.args.context.now.unit (plain_scope c.args.scope.now) c.args.lo c.args.es.now c.in-Some.first.now c.in-Some.rest.now c.add_sites-next.result c.in-Some.ensures.cases.0 (c.add_sites-next.ensures (known c.args.context.now.heads.now c.args.context.now.unit) (marks.first_marked (known c.args.context.now.heads.now c.args.context.now.unit) c.args.es.now c.in-Some.first.now c.in-Some.rest.now c.in-Some.ensures.cases.0 c.requires.marked)) c.requires.able)) c.in_ok-x.ensures) c.in_err-r.ensures)
+    rw (p.1, p.2) (fails c.in_err-r.field-0.0 _ _ _ (goes _ _ _ (plain_typed c.in_ok-x.x) (walk.shift_is (known c.args.context.now.heads.now c.args.context.now.unit) (plain_scope c.args.scope.now) c.args.lo c.args.place c.args.es.now c.in-Some.first.now c.in-Some.rest.now c.add_sites-next.result c.in-Some.ensures.cases.0 (walk.next_of c.args.context.now.heads.now c.args.context.now.unit (plain_scope c.args.scope.now) c.args.lo c.args.es.now c.in-Some.first.now c.in-Some.rest.now c.add_sites-next.result c.in-Some.ensures.cases.0 (c.add_sites-next.ensures (known c.args.context.now.heads.now c.args.context.now.unit) (marks.first_marked (known c.args.context.now.heads.now c.args.context.now.unit) c.args.es.now c.in-Some.first.now c.in-Some.rest.now c.in-Some.ensures.cases.0 c.requires.marked)) c.requires.able)) c.in_ok-x.ensures.says) c.in_err-r.ensures.says)
 
-pub check_shift-returns : goal.check_shift-returns
-check_shift-returns t c =
-    subst (λ (z : Result TypedAlike Fault). SaysAlike c.put_operand.result z) (sym (goes _ _ _ (plain_all_typed c.in_ok-r.r) (goes _ _ _ (plain_typed c.in_ok-x.x) (walk.shift_is (known c.args.context.now.heads.now c.args.context.now.unit) (plain_scope c.args.scope.now) c.args.lo c.args.place c.args.es.now c.in-Some.first.now c.in-Some.rest.now c.add_sites-next.result c.in-Some.ensures.cases.0 (walk.next_of c.args.context.now.heads.now c.args.context.now.unit (plain_scope c.args.scope.now) c.args.lo c.args.es.now c.in-Some.first.now c.in-Some.rest.now c.add_sites-next.result c.in-Some.ensures.cases.0 (c.add_sites-next.ensures (known c.args.context.now.heads.now c.args.context.now.unit) (marks.first_marked (known c.args.context.now.heads.now c.args.context.now.unit) c.args.es.now c.in-Some.first.now c.in-Some.rest.now c.in-Some.ensures.cases.0 c.requires.marked)) c.requires.able)) c.in_ok-x.ensures) c.in_ok-r.ensures)) c.put_operand.ensures
+pub check_shift-returns-clause-says : goal.check_shift-returns-clause-says
+check_shift-returns-clause-says t c =
+    subst (λ (z : Result TypedAlike Fault). SaysAlike c.put_operand.result z) (sym (goes _ _ _ (plain_all_typed c.in_ok-r.r) (goes _ _ _ (plain_typed c.in_ok-x.x) (walk.shift_is (known c.args.context.now.heads.now c.args.context.now.unit) (plain_scope c.args.scope.now) c.args.lo c.args.place c.args.es.now c.in-Some.first.now c.in-Some.rest.now c.add_sites-next.result c.in-Some.ensures.cases.0 (walk.next_of c.args.context.now.heads.now c.args.context.now.unit (plain_scope c.args.scope.now) c.args.lo c.args.es.now c.in-Some.first.now c.in-Some.rest.now c.add_sites-next.result c.in-Some.ensures.cases.0 (c.add_sites-next.ensures (known c.args.context.now.heads.now c.args.context.now.unit) (marks.first_marked (known c.args.context.now.heads.now c.args.context.now.unit) c.args.es.now c.in-Some.first.now c.in-Some.rest.now c.in-Some.ensures.cases.0 c.requires.marked)) c.requires.able)) c.in_ok-x.ensures.says) c.in_ok-r.ensures.says)) c.put_operand.ensures.says
 
-pub check_alike-returns-in_default : goal.check_alike-returns-in_default
-check_alike-returns-in_default t c =
-    subst (λ (z : Expressions). SaysAlike c.none_alike.result (check_alike (known c.args.context.now.heads.now c.args.context.now.unit) (plain_scope c.args.scope.now) c.args.lo c.args.place (plain_wanted c.args.wanted) z)) (sym (walk.no_list c.args.es.now c.in_default.ensures.cases)) (c.none_alike.ensures (known c.args.context.now.heads.now c.args.context.now.unit) (plain_scope c.args.scope.now) c.args.lo)
+pub check_alike-returns-in_default-clause-says : goal.check_alike-returns-in_default-clause-says
+check_alike-returns-in_default-clause-says t c =
+    subst (λ (z : Expressions). SaysAlike c.none_alike.result (check_alike (known c.args.context.now.heads.now c.args.context.now.unit) (plain_scope c.args.scope.now) c.args.lo c.args.place (plain_wanted c.args.wanted) z)) (sym (walk.no_list c.args.es.now c.in_default.ensures.cases)) (c.none_alike.ensures.says (known c.args.context.now.heads.now c.args.context.now.unit) (plain_scope c.args.scope.now) c.args.lo)
 
 pub check_alike-check_alike-requires : goal.check_alike-check_alike-requires
 check_alike-check_alike-requires t c =
@@ -150,23 +153,23 @@ pub check_alike-check_expression-requires : goal.check_alike-check_expression-re
 check_alike-check_expression-requires t c =
     let smaller : 4 * nodes (plain c.in-Some.first.now) < 4 * nodes_in (plain_all c.args.es.now) + 1 = walk.less_first c.args.es.now c.in-Some.first.now c.in-Some.rest.now c.in-Some.ensures.cases.0 in
     let ok : MayCheck c.args.context.now.heads.now c.args.context.now.unit (plain_scope c.args.scope.now) c.args.lo (plain c.in-Some.first.now) = walk.first_of c.args.context.now.heads.now c.args.context.now.unit (plain_scope c.args.scope.now) c.args.lo c.args.es.now c.in-Some.first.now c.in-Some.rest.now c.in-Some.ensures.cases.0 c.requires.able in
-    let wide : HasWidthOfWord c.in_ok-r.r.width = walk.alike_wide c.args.context.now.heads.now c.args.context.now.unit (plain_scope c.args.scope.now) c.add_sites-next.result c.args.place c.args.wanted (plain_all c.in-Some.rest.now) (plain_alike c.in_ok-r.r) (walk.rest_of c.args.context.now.heads.now c.args.context.now.unit (plain_scope c.args.scope.now) c.args.lo c.args.es.now c.in-Some.first.now c.in-Some.rest.now c.add_sites-next.result c.in-Some.ensures.cases.0 (c.add_sites-next.ensures (known c.args.context.now.heads.now c.args.context.now.unit) (marks.first_marked (known c.args.context.now.heads.now c.args.context.now.unit) c.args.es.now c.in-Some.first.now c.in-Some.rest.now c.in-Some.ensures.cases.0 c.requires.marked)) c.requires.able) c.requires.wanted c.in_ok-r.ensures in
+    let wide : HasWidthOfWord c.in_ok-r.r.width = walk.alike_wide c.args.context.now.heads.now c.args.context.now.unit (plain_scope c.args.scope.now) c.add_sites-next.result c.args.place c.args.wanted (plain_all c.in-Some.rest.now) (plain_alike c.in_ok-r.r) (walk.rest_of c.args.context.now.heads.now c.args.context.now.unit (plain_scope c.args.scope.now) c.args.lo c.args.es.now c.in-Some.first.now c.in-Some.rest.now c.add_sites-next.result c.in-Some.ensures.cases.0 (c.add_sites-next.ensures (known c.args.context.now.heads.now c.args.context.now.unit) (marks.first_marked (known c.args.context.now.heads.now c.args.context.now.unit) c.args.es.now c.in-Some.first.now c.in-Some.rest.now c.in-Some.ensures.cases.0 c.requires.marked)) c.requires.able) c.requires.wanted c.in_ok-r.ensures.says in
     let marked : IsMarked (known c.args.context.now.heads.now c.args.context.now.unit) c.in-Some.first.now = marks.first_marked (known c.args.context.now.heads.now c.args.context.now.unit) c.args.es.now c.in-Some.first.now c.in-Some.rest.now c.in-Some.ensures.cases.0 c.requires.marked in
     search rules
 
-pub check_alike-returns-in_err-r : goal.check_alike-returns-in_err-r
-check_alike-returns-in_err-r t c =
+pub check_alike-returns-in_err-r-clause-says : goal.check_alike-returns-in_err-r-clause-says
+check_alike-returns-in_err-r-clause-says t c =
     let p = err_from_is_err_and c.from_residual.result c.from_residual.ensures.1 in
-    rw (p.1, p.2) (fails c.in_err-r.field-0.0 _ _ _ (walk.alike_later (known c.args.context.now.heads.now c.args.context.now.unit) (plain_scope c.args.scope.now) c.args.lo c.args.place (plain_wanted c.args.wanted) c.args.es.now c.in-Some.first.now c.in-Some.rest.now c.add_sites-next.result c.in-Some.ensures.cases.0 (sym (c.comes_later-later.ensures ∙ ap (λ (b : Bool). is_any (plain_wanted c.args.wanted) && b) (c.is_flexible-flexible.ensures (known c.args.context.now.heads.now c.args.context.now.unit) (marks.first_marked (known c.args.context.now.heads.now c.args.context.now.unit) c.args.es.now c.in-Some.first.now c.in-Some.rest.now c.in-Some.ensures.cases.0 c.requires.marked))) ∙ c.if-later.true) (walk.next_of c.args.context.now.heads.now c.args.context.now.unit (plain_scope c.args.scope.now) c.args.lo c.args.es.now c.in-Some.first.now c.in-Some.rest.now c.add_sites-next.result c.in-Some.ensures.cases.0 (c.add_sites-next.ensures (known c.args.context.now.heads.now c.args.context.now.unit) (marks.first_marked (known c.args.context.now.heads.now c.args.context.now.unit) c.args.es.now c.in-Some.first.now c.in-Some.rest.now c.in-Some.ensures.cases.0 c.requires.marked)) c.requires.able)) c.in_err-r.ensures)
+    rw (p.1, p.2) (fails c.in_err-r.field-0.0 _ _ _ (walk.alike_later (known c.args.context.now.heads.now c.args.context.now.unit) (plain_scope c.args.scope.now) c.args.lo c.args.place (plain_wanted c.args.wanted) c.args.es.now c.in-Some.first.now c.in-Some.rest.now c.add_sites-next.result c.in-Some.ensures.cases.0 (sym (c.comes_later-later.ensures ∙ ap (λ (b : Bool). is_any (plain_wanted c.args.wanted) && b) (c.is_flexible-flexible.ensures (known c.args.context.now.heads.now c.args.context.now.unit) (marks.first_marked (known c.args.context.now.heads.now c.args.context.now.unit) c.args.es.now c.in-Some.first.now c.in-Some.rest.now c.in-Some.ensures.cases.0 c.requires.marked))) ∙ c.if-later.true) (walk.next_of c.args.context.now.heads.now c.args.context.now.unit (plain_scope c.args.scope.now) c.args.lo c.args.es.now c.in-Some.first.now c.in-Some.rest.now c.add_sites-next.result c.in-Some.ensures.cases.0 (c.add_sites-next.ensures (known c.args.context.now.heads.now c.args.context.now.unit) (marks.first_marked (known c.args.context.now.heads.now c.args.context.now.unit) c.args.es.now c.in-Some.first.now c.in-Some.rest.now c.in-Some.ensures.cases.0 c.requires.marked)) c.requires.able)) c.in_err-r.ensures.says)
 
-pub check_alike-returns-in_err-x : goal.check_alike-returns-in_err-x
-check_alike-returns-in_err-x t c =
+pub check_alike-returns-in_err-x-clause-says : goal.check_alike-returns-in_err-x-clause-says
+check_alike-returns-in_err-x-clause-says t c =
     let p = err_from_is_err_and c.from_residual-in_err-x.result c.from_residual-in_err-x.ensures.1 in
-    rw (p.1, p.2) (fails c.in_err-x.field-0.0 _ _ _ (goes _ _ _ (plain_alike c.in_ok-r.r) (walk.alike_later (known c.args.context.now.heads.now c.args.context.now.unit) (plain_scope c.args.scope.now) c.args.lo c.args.place (plain_wanted c.args.wanted) c.args.es.now c.in-Some.first.now c.in-Some.rest.now c.add_sites-next.result c.in-Some.ensures.cases.0 (sym (c.comes_later-later.ensures ∙ ap (λ (b : Bool). is_any (plain_wanted c.args.wanted) && b) (c.is_flexible-flexible.ensures (known c.args.context.now.heads.now c.args.context.now.unit) (marks.first_marked (known c.args.context.now.heads.now c.args.context.now.unit) c.args.es.now c.in-Some.first.now c.in-Some.rest.now c.in-Some.ensures.cases.0 c.requires.marked))) ∙ c.if-later.true) (walk.next_of c.args.context.now.heads.now c.args.context.now.unit (plain_scope c.args.scope.now) c.args.lo c.args.es.now c.in-Some.first.now c.in-Some.rest.now c.add_sites-next.result c.in-Some.ensures.cases.0 (c.add_sites-next.ensures (known c.args.context.now.heads.now c.args.context.now.unit) (marks.first_marked (known c.args.context.now.heads.now c.args.context.now.unit) c.args.es.now c.in-Some.first.now c.in-Some.rest.now c.in-Some.ensures.cases.0 c.requires.marked)) c.requires.able)) c.in_ok-r.ensures) c.in_err-x.ensures)
+    rw (p.1, p.2) (fails c.in_err-x.field-0.0 _ _ _ (goes _ _ _ (plain_alike c.in_ok-r.r) (walk.alike_later (known c.args.context.now.heads.now c.args.context.now.unit) (plain_scope c.args.scope.now) c.args.lo c.args.place (plain_wanted c.args.wanted) c.args.es.now c.in-Some.first.now c.in-Some.rest.now c.add_sites-next.result c.in-Some.ensures.cases.0 (sym (c.comes_later-later.ensures ∙ ap (λ (b : Bool). is_any (plain_wanted c.args.wanted) && b) (c.is_flexible-flexible.ensures (known c.args.context.now.heads.now c.args.context.now.unit) (marks.first_marked (known c.args.context.now.heads.now c.args.context.now.unit) c.args.es.now c.in-Some.first.now c.in-Some.rest.now c.in-Some.ensures.cases.0 c.requires.marked))) ∙ c.if-later.true) (walk.next_of c.args.context.now.heads.now c.args.context.now.unit (plain_scope c.args.scope.now) c.args.lo c.args.es.now c.in-Some.first.now c.in-Some.rest.now c.add_sites-next.result c.in-Some.ensures.cases.0 (c.add_sites-next.ensures (known c.args.context.now.heads.now c.args.context.now.unit) (marks.first_marked (known c.args.context.now.heads.now c.args.context.now.unit) c.args.es.now c.in-Some.first.now c.in-Some.rest.now c.in-Some.ensures.cases.0 c.requires.marked)) c.requires.able)) c.in_ok-r.ensures.says) c.in_err-x.ensures.says)
 
-pub check_alike-returns-then-later : goal.check_alike-returns-then-later
-check_alike-returns-then-later t c =
-    subst (λ (z : Result TypedAlike Fault). SaysAlike c.put_operand.result z) (sym (goes _ _ _ (plain_typed c.in_ok-x.x) (goes _ _ _ (plain_alike c.in_ok-r.r) (walk.alike_later (known c.args.context.now.heads.now c.args.context.now.unit) (plain_scope c.args.scope.now) c.args.lo c.args.place (plain_wanted c.args.wanted) c.args.es.now c.in-Some.first.now c.in-Some.rest.now c.add_sites-next.result c.in-Some.ensures.cases.0 (sym (c.comes_later-later.ensures ∙ ap (λ (b : Bool). is_any (plain_wanted c.args.wanted) && b) (c.is_flexible-flexible.ensures (known c.args.context.now.heads.now c.args.context.now.unit) (marks.first_marked (known c.args.context.now.heads.now c.args.context.now.unit) c.args.es.now c.in-Some.first.now c.in-Some.rest.now c.in-Some.ensures.cases.0 c.requires.marked))) ∙ c.if-later.true) (walk.next_of c.args.context.now.heads.now c.args.context.now.unit (plain_scope c.args.scope.now) c.args.lo c.args.es.now c.in-Some.first.now c.in-Some.rest.now c.add_sites-next.result c.in-Some.ensures.cases.0 (c.add_sites-next.ensures (known c.args.context.now.heads.now c.args.context.now.unit) (marks.first_marked (known c.args.context.now.heads.now c.args.context.now.unit) c.args.es.now c.in-Some.first.now c.in-Some.rest.now c.in-Some.ensures.cases.0 c.requires.marked)) c.requires.able)) c.in_ok-r.ensures) c.in_ok-x.ensures)) c.put_operand.ensures
+pub check_alike-returns-then-later-clause-says : goal.check_alike-returns-then-later-clause-says
+check_alike-returns-then-later-clause-says t c =
+    subst (λ (z : Result TypedAlike Fault). SaysAlike c.put_operand.result z) (sym (goes _ _ _ (plain_typed c.in_ok-x.x) (goes _ _ _ (plain_alike c.in_ok-r.r) (walk.alike_later (known c.args.context.now.heads.now c.args.context.now.unit) (plain_scope c.args.scope.now) c.args.lo c.args.place (plain_wanted c.args.wanted) c.args.es.now c.in-Some.first.now c.in-Some.rest.now c.add_sites-next.result c.in-Some.ensures.cases.0 (sym (c.comes_later-later.ensures ∙ ap (λ (b : Bool). is_any (plain_wanted c.args.wanted) && b) (c.is_flexible-flexible.ensures (known c.args.context.now.heads.now c.args.context.now.unit) (marks.first_marked (known c.args.context.now.heads.now c.args.context.now.unit) c.args.es.now c.in-Some.first.now c.in-Some.rest.now c.in-Some.ensures.cases.0 c.requires.marked))) ∙ c.if-later.true) (walk.next_of c.args.context.now.heads.now c.args.context.now.unit (plain_scope c.args.scope.now) c.args.lo c.args.es.now c.in-Some.first.now c.in-Some.rest.now c.add_sites-next.result c.in-Some.ensures.cases.0 (c.add_sites-next.ensures (known c.args.context.now.heads.now c.args.context.now.unit) (marks.first_marked (known c.args.context.now.heads.now c.args.context.now.unit) c.args.es.now c.in-Some.first.now c.in-Some.rest.now c.in-Some.ensures.cases.0 c.requires.marked)) c.requires.able)) c.in_ok-r.ensures.says) c.in_ok-x.ensures.says)) c.put_operand.ensures.says
 
 pub check_alike-check_expression-requires-2 : goal.check_alike-check_expression-requires-2
 check_alike-check_expression-requires-2 t c =
@@ -180,23 +183,23 @@ pub check_alike-check_alike-requires-2 : goal.check_alike-check_alike-requires-2
 check_alike-check_alike-requires-2 t c =
     let smaller : 4 * nodes_in (plain_all c.in-Some.rest.now) + 1 < 4 * nodes_in (plain_all c.args.es.now) + 1 = walk.less_rest c.args.es.now c.in-Some.first.now c.in-Some.rest.now c.in-Some.ensures.cases.0 in
     let ok : MayCheckAll c.args.context.now.heads.now c.args.context.now.unit (plain_scope c.args.scope.now) c.add_sites-next.result (plain_all c.in-Some.rest.now) = walk.rest_of c.args.context.now.heads.now c.args.context.now.unit (plain_scope c.args.scope.now) c.args.lo c.args.es.now c.in-Some.first.now c.in-Some.rest.now c.add_sites-next.result c.in-Some.ensures.cases.0 (c.add_sites-next.ensures (known c.args.context.now.heads.now c.args.context.now.unit) (marks.first_marked (known c.args.context.now.heads.now c.args.context.now.unit) c.args.es.now c.in-Some.first.now c.in-Some.rest.now c.in-Some.ensures.cases.0 c.requires.marked)) c.requires.able in
-    let wide : HasWidthOfWord c.in_ok-x-2.x.width = walk.found_wide c.args.context.now.heads.now c.args.context.now.unit (plain_scope c.args.scope.now) false c.args.lo c.args.wanted (plain c.in-Some.first.now) (plain_typed c.in_ok-x-2.x) (walk.first_of c.args.context.now.heads.now c.args.context.now.unit (plain_scope c.args.scope.now) c.args.lo c.args.es.now c.in-Some.first.now c.in-Some.rest.now c.in-Some.ensures.cases.0 c.requires.able) c.requires.wanted c.in_ok-x-2.ensures in
+    let wide : HasWidthOfWord c.in_ok-x-2.x.width = walk.found_wide c.args.context.now.heads.now c.args.context.now.unit (plain_scope c.args.scope.now) false c.args.lo c.args.wanted (plain c.in-Some.first.now) (plain_typed c.in_ok-x-2.x) (walk.first_of c.args.context.now.heads.now c.args.context.now.unit (plain_scope c.args.scope.now) c.args.lo c.args.es.now c.in-Some.first.now c.in-Some.rest.now c.in-Some.ensures.cases.0 c.requires.able) c.requires.wanted c.in_ok-x-2.ensures.says in
     let marked : AreMarked (known c.args.context.now.heads.now c.args.context.now.unit) c.in-Some.rest.now = marks.rest_marked (known c.args.context.now.heads.now c.args.context.now.unit) c.args.es.now c.in-Some.first.now c.in-Some.rest.now c.in-Some.ensures.cases.0 c.requires.marked in
     search rules
 
-pub check_alike-returns-in_err-x-2 : goal.check_alike-returns-in_err-x-2
-check_alike-returns-in_err-x-2 t c =
+pub check_alike-returns-in_err-x-2-clause-says : goal.check_alike-returns-in_err-x-2-clause-says
+check_alike-returns-in_err-x-2-clause-says t c =
     let p = err_from_is_err_and c.from_residual-in_err-x-2.result c.from_residual-in_err-x-2.ensures.1 in
-    rw (p.1, p.2) (fails c.in_err-x-2.field-0.0 _ _ _ (walk.alike_first (known c.args.context.now.heads.now c.args.context.now.unit) (plain_scope c.args.scope.now) c.args.lo c.args.place (plain_wanted c.args.wanted) c.args.es.now c.in-Some.first.now c.in-Some.rest.now c.add_sites-next.result c.in-Some.ensures.cases.0 (sym (c.comes_later-later.ensures ∙ ap (λ (b : Bool). is_any (plain_wanted c.args.wanted) && b) (c.is_flexible-flexible.ensures (known c.args.context.now.heads.now c.args.context.now.unit) (marks.first_marked (known c.args.context.now.heads.now c.args.context.now.unit) c.args.es.now c.in-Some.first.now c.in-Some.rest.now c.in-Some.ensures.cases.0 c.requires.marked))) ∙ c.if-later.false) (walk.next_of c.args.context.now.heads.now c.args.context.now.unit (plain_scope c.args.scope.now) c.args.lo c.args.es.now c.in-Some.first.now c.in-Some.rest.now c.add_sites-next.result c.in-Some.ensures.cases.0 (c.add_sites-next.ensures (known c.args.context.now.heads.now c.args.context.now.unit) (marks.first_marked (known c.args.context.now.heads.now c.args.context.now.unit) c.args.es.now c.in-Some.first.now c.in-Some.rest.now c.in-Some.ensures.cases.0 c.requires.marked)) c.requires.able)) c.in_err-x-2.ensures)
+    rw (p.1, p.2) (fails c.in_err-x-2.field-0.0 _ _ _ (walk.alike_first (known c.args.context.now.heads.now c.args.context.now.unit) (plain_scope c.args.scope.now) c.args.lo c.args.place (plain_wanted c.args.wanted) c.args.es.now c.in-Some.first.now c.in-Some.rest.now c.add_sites-next.result c.in-Some.ensures.cases.0 (sym (c.comes_later-later.ensures ∙ ap (λ (b : Bool). is_any (plain_wanted c.args.wanted) && b) (c.is_flexible-flexible.ensures (known c.args.context.now.heads.now c.args.context.now.unit) (marks.first_marked (known c.args.context.now.heads.now c.args.context.now.unit) c.args.es.now c.in-Some.first.now c.in-Some.rest.now c.in-Some.ensures.cases.0 c.requires.marked))) ∙ c.if-later.false) (walk.next_of c.args.context.now.heads.now c.args.context.now.unit (plain_scope c.args.scope.now) c.args.lo c.args.es.now c.in-Some.first.now c.in-Some.rest.now c.add_sites-next.result c.in-Some.ensures.cases.0 (c.add_sites-next.ensures (known c.args.context.now.heads.now c.args.context.now.unit) (marks.first_marked (known c.args.context.now.heads.now c.args.context.now.unit) c.args.es.now c.in-Some.first.now c.in-Some.rest.now c.in-Some.ensures.cases.0 c.requires.marked)) c.requires.able)) c.in_err-x-2.ensures.says)
 
-pub check_alike-returns-in_err-r-2 : goal.check_alike-returns-in_err-r-2
-check_alike-returns-in_err-r-2 t c =
+pub check_alike-returns-in_err-r-2-clause-says : goal.check_alike-returns-in_err-r-2-clause-says
+check_alike-returns-in_err-r-2-clause-says t c =
     let p = err_from_is_err_and c.from_residual-in_err-r-2.result c.from_residual-in_err-r-2.ensures.1 in
-    rw (p.1, p.2) (fails c.in_err-r-2.field-0.0 _ _ _ (goes _ _ _ (plain_typed c.in_ok-x-2.x) (walk.alike_first (known c.args.context.now.heads.now c.args.context.now.unit) (plain_scope c.args.scope.now) c.args.lo c.args.place (plain_wanted c.args.wanted) c.args.es.now c.in-Some.first.now c.in-Some.rest.now c.add_sites-next.result c.in-Some.ensures.cases.0 (sym (c.comes_later-later.ensures ∙ ap (λ (b : Bool). is_any (plain_wanted c.args.wanted) && b) (c.is_flexible-flexible.ensures (known c.args.context.now.heads.now c.args.context.now.unit) (marks.first_marked (known c.args.context.now.heads.now c.args.context.now.unit) c.args.es.now c.in-Some.first.now c.in-Some.rest.now c.in-Some.ensures.cases.0 c.requires.marked))) ∙ c.if-later.false) (walk.next_of c.args.context.now.heads.now c.args.context.now.unit (plain_scope c.args.scope.now) c.args.lo c.args.es.now c.in-Some.first.now c.in-Some.rest.now c.add_sites-next.result c.in-Some.ensures.cases.0 (c.add_sites-next.ensures (known c.args.context.now.heads.now c.args.context.now.unit) (marks.first_marked (known c.args.context.now.heads.now c.args.context.now.unit) c.args.es.now c.in-Some.first.now c.in-Some.rest.now c.in-Some.ensures.cases.0 c.requires.marked)) c.requires.able)) c.in_ok-x-2.ensures) c.in_err-r-2.ensures)
+    rw (p.1, p.2) (fails c.in_err-r-2.field-0.0 _ _ _ (goes _ _ _ (plain_typed c.in_ok-x-2.x) (walk.alike_first (known c.args.context.now.heads.now c.args.context.now.unit) (plain_scope c.args.scope.now) c.args.lo c.args.place (plain_wanted c.args.wanted) c.args.es.now c.in-Some.first.now c.in-Some.rest.now c.add_sites-next.result c.in-Some.ensures.cases.0 (sym (c.comes_later-later.ensures ∙ ap (λ (b : Bool). is_any (plain_wanted c.args.wanted) && b) (c.is_flexible-flexible.ensures (known c.args.context.now.heads.now c.args.context.now.unit) (marks.first_marked (known c.args.context.now.heads.now c.args.context.now.unit) c.args.es.now c.in-Some.first.now c.in-Some.rest.now c.in-Some.ensures.cases.0 c.requires.marked))) ∙ c.if-later.false) (walk.next_of c.args.context.now.heads.now c.args.context.now.unit (plain_scope c.args.scope.now) c.args.lo c.args.es.now c.in-Some.first.now c.in-Some.rest.now c.add_sites-next.result c.in-Some.ensures.cases.0 (c.add_sites-next.ensures (known c.args.context.now.heads.now c.args.context.now.unit) (marks.first_marked (known c.args.context.now.heads.now c.args.context.now.unit) c.args.es.now c.in-Some.first.now c.in-Some.rest.now c.in-Some.ensures.cases.0 c.requires.marked)) c.requires.able)) c.in_ok-x-2.ensures.says) c.in_err-r-2.ensures.says)
 
-pub check_alike-returns : goal.check_alike-returns
-check_alike-returns t c =
-    subst (λ (z : Result TypedAlike Fault). SaysAlike c.put_operand-2.result z) (sym (goes _ _ _ (plain_alike c.in_ok-r-2.r) (goes _ _ _ (plain_typed c.in_ok-x-2.x) (walk.alike_first (known c.args.context.now.heads.now c.args.context.now.unit) (plain_scope c.args.scope.now) c.args.lo c.args.place (plain_wanted c.args.wanted) c.args.es.now c.in-Some.first.now c.in-Some.rest.now c.add_sites-next.result c.in-Some.ensures.cases.0 (sym (c.comes_later-later.ensures ∙ ap (λ (b : Bool). is_any (plain_wanted c.args.wanted) && b) (c.is_flexible-flexible.ensures (known c.args.context.now.heads.now c.args.context.now.unit) (marks.first_marked (known c.args.context.now.heads.now c.args.context.now.unit) c.args.es.now c.in-Some.first.now c.in-Some.rest.now c.in-Some.ensures.cases.0 c.requires.marked))) ∙ c.if-later.false) (walk.next_of c.args.context.now.heads.now c.args.context.now.unit (plain_scope c.args.scope.now) c.args.lo c.args.es.now c.in-Some.first.now c.in-Some.rest.now c.add_sites-next.result c.in-Some.ensures.cases.0 (c.add_sites-next.ensures (known c.args.context.now.heads.now c.args.context.now.unit) (marks.first_marked (known c.args.context.now.heads.now c.args.context.now.unit) c.args.es.now c.in-Some.first.now c.in-Some.rest.now c.in-Some.ensures.cases.0 c.requires.marked)) c.requires.able)) c.in_ok-x-2.ensures) c.in_ok-r-2.ensures)) c.put_operand-2.ensures
+pub check_alike-returns-clause-says : goal.check_alike-returns-clause-says
+check_alike-returns-clause-says t c =
+    subst (λ (z : Result TypedAlike Fault). SaysAlike c.put_operand-2.result z) (sym (goes _ _ _ (plain_alike c.in_ok-r-2.r) (goes _ _ _ (plain_typed c.in_ok-x-2.x) (walk.alike_first (known c.args.context.now.heads.now c.args.context.now.unit) (plain_scope c.args.scope.now) c.args.lo c.args.place (plain_wanted c.args.wanted) c.args.es.now c.in-Some.first.now c.in-Some.rest.now c.add_sites-next.result c.in-Some.ensures.cases.0 (sym (c.comes_later-later.ensures ∙ ap (λ (b : Bool). is_any (plain_wanted c.args.wanted) && b) (c.is_flexible-flexible.ensures (known c.args.context.now.heads.now c.args.context.now.unit) (marks.first_marked (known c.args.context.now.heads.now c.args.context.now.unit) c.args.es.now c.in-Some.first.now c.in-Some.rest.now c.in-Some.ensures.cases.0 c.requires.marked))) ∙ c.if-later.false) (walk.next_of c.args.context.now.heads.now c.args.context.now.unit (plain_scope c.args.scope.now) c.args.lo c.args.es.now c.in-Some.first.now c.in-Some.rest.now c.add_sites-next.result c.in-Some.ensures.cases.0 (c.add_sites-next.ensures (known c.args.context.now.heads.now c.args.context.now.unit) (marks.first_marked (known c.args.context.now.heads.now c.args.context.now.unit) c.args.es.now c.in-Some.first.now c.in-Some.rest.now c.in-Some.ensures.cases.0 c.requires.marked)) c.requires.able)) c.in_ok-x-2.ensures.says) c.in_ok-r-2.ensures.says)) c.put_operand-2.ensures.says
 
 pub check_bound-check_expression-requires : goal.check_bound-check_expression-requires
 check_bound-check_expression-requires t c =
@@ -213,26 +216,26 @@ check_bound-check_bound-requires t c =
     let marked : BoundMarked (known c.args.context.now.heads.now c.args.context.now.unit) c.in-Some.rest.now = marks.others_marked (known c.args.context.now.heads.now c.args.context.now.unit) c.args.bound.now c.in-Some.first.now c.in-Some.rest.now c.in-Some.ensures.cases.0 c.requires.marked in
     search rules
 
-pub check_bound-returns-in_default : goal.check_bound-returns-in_default
-check_bound-returns-in_default t c =
-    walk.no_bound (known c.args.context.now.heads.now c.args.context.now.unit) (plain_scope c.args.scope.now) c.args.lo c.args.bound.now c.in_default.ensures.cases ∙ walk.ok_all _ _ (sym c.none_typed.ensures)
+pub check_bound-returns-in_default-clause-says : goal.check_bound-returns-in_default-clause-says
+check_bound-returns-in_default-clause-says t c =
+    walk.no_bound (known c.args.context.now.heads.now c.args.context.now.unit) (plain_scope c.args.scope.now) c.args.lo c.args.bound.now c.in_default.ensures.cases ∙ walk.ok_all _ _ (sym c.none_typed.ensures.none)
 
-pub check_bound-returns-in_err-x : goal.check_bound-returns-in_err-x
-check_bound-returns-in_err-x t c =
+pub check_bound-returns-in_err-x-clause-says : goal.check_bound-returns-in_err-x-clause-says
+check_bound-returns-in_err-x-clause-says t c =
     let p = err_from_is_err_and c.from_residual.result c.from_residual.ensures.1 in
-    rw (p.1, p.2) (fails c.in_err-x.field-0.0 _ _ _ (walk.bound_is (known c.args.context.now.heads.now c.args.context.now.unit) (plain_scope c.args.scope.now) c.args.lo c.args.bound.now c.in-Some.first.now c.in-Some.rest.now (plain_wanted c.as_written-wanted.result) c.add_sites-next.result c.in-Some.ensures.cases.0 c.as_written-wanted.ensures (walk.bound_next c.args.context.now.heads.now c.args.context.now.unit (plain_scope c.args.scope.now) c.args.lo c.args.bound.now c.in-Some.first.now c.in-Some.rest.now c.add_sites-next.result c.in-Some.ensures.cases.0 (c.add_sites-next.ensures (known c.args.context.now.heads.now c.args.context.now.unit) (marks.value_marked (known c.args.context.now.heads.now c.args.context.now.unit) c.args.bound.now c.in-Some.first.now c.in-Some.rest.now c.in-Some.ensures.cases.0 c.requires.marked)) c.requires.able)) c.in_err-x.ensures)
+    rw (p.1, p.2) (fails c.in_err-x.field-0.0 _ _ _ (walk.bound_is (known c.args.context.now.heads.now c.args.context.now.unit) (plain_scope c.args.scope.now) c.args.lo c.args.bound.now c.in-Some.first.now c.in-Some.rest.now (plain_wanted c.as_written-wanted.result) c.add_sites-next.result c.in-Some.ensures.cases.0 c.as_written-wanted.ensures (walk.bound_next c.args.context.now.heads.now c.args.context.now.unit (plain_scope c.args.scope.now) c.args.lo c.args.bound.now c.in-Some.first.now c.in-Some.rest.now c.add_sites-next.result c.in-Some.ensures.cases.0 (c.add_sites-next.ensures (known c.args.context.now.heads.now c.args.context.now.unit) (marks.value_marked (known c.args.context.now.heads.now c.args.context.now.unit) c.args.bound.now c.in-Some.first.now c.in-Some.rest.now c.in-Some.ensures.cases.0 c.requires.marked)) c.requires.able)) c.in_err-x.ensures.says)
 
-pub check_bound-returns-in_err-others : goal.check_bound-returns-in_err-others
-check_bound-returns-in_err-others t c =
+pub check_bound-returns-in_err-others-clause-says : goal.check_bound-returns-in_err-others-clause-says
+check_bound-returns-in_err-others-clause-says t c =
     let p = err_from_is_err_and c.from_residual-in_err-others.result c.from_residual-in_err-others.ensures.1 in
-    rw (p.1, p.2) (fails c.in_err-others.field-0.0 _ _ _ (goes _ _ _ (plain_typed c.in_ok-x.x) (walk.bound_is (known c.args.context.now.heads.now c.args.context.now.unit) (plain_scope c.args.scope.now) c.args.lo c.args.bound.now c.in-Some.first.now c.in-Some.rest.now (plain_wanted c.as_written-wanted.result) c.add_sites-next.result c.in-Some.ensures.cases.0 c.as_written-wanted.ensures (walk.bound_next c.args.context.now.heads.now c.args.context.now.unit (plain_scope c.args.scope.now) c.args.lo c.args.bound.now c.in-Some.first.now c.in-Some.rest.now c.add_sites-next.result c.in-Some.ensures.cases.0 (c.add_sites-next.ensures (known c.args.context.now.heads.now c.args.context.now.unit) (marks.value_marked (known c.args.context.now.heads.now c.args.context.now.unit) c.args.bound.now c.in-Some.first.now c.in-Some.rest.now c.in-Some.ensures.cases.0 c.requires.marked)) c.requires.able)) c.in_ok-x.ensures) c.in_err-others.ensures)
+    rw (p.1, p.2) (fails c.in_err-others.field-0.0 _ _ _ (goes _ _ _ (plain_typed c.in_ok-x.x) (walk.bound_is (known c.args.context.now.heads.now c.args.context.now.unit) (plain_scope c.args.scope.now) c.args.lo c.args.bound.now c.in-Some.first.now c.in-Some.rest.now (plain_wanted c.as_written-wanted.result) c.add_sites-next.result c.in-Some.ensures.cases.0 c.as_written-wanted.ensures (walk.bound_next c.args.context.now.heads.now c.args.context.now.unit (plain_scope c.args.scope.now) c.args.lo c.args.bound.now c.in-Some.first.now c.in-Some.rest.now c.add_sites-next.result c.in-Some.ensures.cases.0 (c.add_sites-next.ensures (known c.args.context.now.heads.now c.args.context.now.unit) (marks.value_marked (known c.args.context.now.heads.now c.args.context.now.unit) c.args.bound.now c.in-Some.first.now c.in-Some.rest.now c.in-Some.ensures.cases.0 c.requires.marked)) c.requires.able)) c.in_ok-x.ensures.says) c.in_err-others.ensures.says)
 
-pub check_bound-returns : goal.check_bound-returns
-check_bound-returns t c =
-    subst (λ (z : Result TypedAll Fault). SaysAll c.put_first.result z) (sym (goes _ _ _ (plain_all_typed c.in_ok-others.others) (goes _ _ _ (plain_typed c.in_ok-x.x) (walk.bound_is (known c.args.context.now.heads.now c.args.context.now.unit) (plain_scope c.args.scope.now) c.args.lo c.args.bound.now c.in-Some.first.now c.in-Some.rest.now (plain_wanted c.as_written-wanted.result) c.add_sites-next.result c.in-Some.ensures.cases.0 c.as_written-wanted.ensures (walk.bound_next c.args.context.now.heads.now c.args.context.now.unit (plain_scope c.args.scope.now) c.args.lo c.args.bound.now c.in-Some.first.now c.in-Some.rest.now c.add_sites-next.result c.in-Some.ensures.cases.0 (c.add_sites-next.ensures (known c.args.context.now.heads.now c.args.context.now.unit) (marks.value_marked (known c.args.context.now.heads.now c.args.context.now.unit) c.args.bound.now c.in-Some.first.now c.in-Some.rest.now c.in-Some.ensures.cases.0 c.requires.marked)) c.requires.able)) c.in_ok-x.ensures) c.in_ok-others.ensures)) c.put_first.ensures
+pub check_bound-returns-clause-says : goal.check_bound-returns-clause-says
+check_bound-returns-clause-says t c =
+    subst (λ (z : Result TypedAll Fault). SaysAll c.put_first.result z) (sym (goes _ _ _ (plain_all_typed c.in_ok-others.others) (goes _ _ _ (plain_typed c.in_ok-x.x) (walk.bound_is (known c.args.context.now.heads.now c.args.context.now.unit) (plain_scope c.args.scope.now) c.args.lo c.args.bound.now c.in-Some.first.now c.in-Some.rest.now (plain_wanted c.as_written-wanted.result) c.add_sites-next.result c.in-Some.ensures.cases.0 c.as_written-wanted.ensures (walk.bound_next c.args.context.now.heads.now c.args.context.now.unit (plain_scope c.args.scope.now) c.args.lo c.args.bound.now c.in-Some.first.now c.in-Some.rest.now c.add_sites-next.result c.in-Some.ensures.cases.0 (c.add_sites-next.ensures (known c.args.context.now.heads.now c.args.context.now.unit) (marks.value_marked (known c.args.context.now.heads.now c.args.context.now.unit) c.args.bound.now c.in-Some.first.now c.in-Some.rest.now c.in-Some.ensures.cases.0 c.requires.marked)) c.requires.able)) c.in_ok-x.ensures.says) c.in_ok-others.ensures.says)) c.put_first.ensures.says
 
-pub check_choice-returns-then-not-known : goal.check_choice-returns-then-not-known
-check_choice-returns-then-not-known t c =
+pub check_choice-returns-then-not-known-clause-says : goal.check_choice-returns-then-not-known-clause-says
+check_choice-returns-then-not-known-clause-says t c =
     walk.refused_is c.refused.result _ _ c.refused.ensures (walk.choice_not (known c.args.context.now.heads.now c.args.context.now.unit) (plain_scope c.args.scope.now) c.args.tail c.args.lo (plain_wanted c.args.wanted) c.args.place (plain c.args.condition.now) (plain c.args.first.now) (plain c.args.second.now) (sym (c.has_width-known.ensures ∙ ap (λ (b : Bool). is_known (plain_wanted c.args.wanted) b) (c.are_both_flexible-flexible.ensures (known c.args.context.now.heads.now c.args.context.now.unit) c.requires.marked.1 c.requires.marked.2)) ∙ c.if-not-known.true))
 
 pub check_choice-check_expression-requires : goal.check_choice-check_expression-requires
@@ -251,14 +254,14 @@ check_choice-check_branches-requires t c =
     let marked : IsMarked (known c.args.context.now.heads.now c.args.context.now.unit) c.args.first.now × IsMarked (known c.args.context.now.heads.now c.args.context.now.unit) c.args.second.now = (c.requires.marked.1, c.requires.marked.2) in
     search rules
 
-pub check_choice-returns-in_err-x : goal.check_choice-returns-in_err-x
-check_choice-returns-in_err-x t c =
+pub check_choice-returns-in_err-x-clause-says : goal.check_choice-returns-in_err-x-clause-says
+check_choice-returns-in_err-x-clause-says t c =
     let p = err_from_is_err_and c.from_residual.result c.from_residual.ensures.1 in
-    rw (p.1, p.2) (fails c.in_err-x.field-0.0 _ _ _ (walk.choice_is (known c.args.context.now.heads.now c.args.context.now.unit) (plain_scope c.args.scope.now) c.args.tail c.args.lo (plain_wanted c.args.wanted) c.args.place (plain c.args.condition.now) (plain c.args.first.now) (plain c.args.second.now) c.add_sites-next.result (sym (c.has_width-known.ensures ∙ ap (λ (b : Bool). is_known (plain_wanted c.args.wanted) b) (c.are_both_flexible-flexible.ensures (known c.args.context.now.heads.now c.args.context.now.unit) c.requires.marked.1 c.requires.marked.2)) ∙ c.if-not-known.false) (walk.next_site c.args.lo (sites (known c.args.context.now.heads.now c.args.context.now.unit) (plain c.args.condition.now)) c.add_sites-next.result (c.add_sites-next.ensures (known c.args.context.now.heads.now c.args.context.now.unit) c.requires.marked.0) (omega (arith, c.requires.able.within)))) c.in_err-x.ensures)
+    rw (p.1, p.2) (fails c.in_err-x.field-0.0 _ _ _ (walk.choice_is (known c.args.context.now.heads.now c.args.context.now.unit) (plain_scope c.args.scope.now) c.args.tail c.args.lo (plain_wanted c.args.wanted) c.args.place (plain c.args.condition.now) (plain c.args.first.now) (plain c.args.second.now) c.add_sites-next.result (sym (c.has_width-known.ensures ∙ ap (λ (b : Bool). is_known (plain_wanted c.args.wanted) b) (c.are_both_flexible-flexible.ensures (known c.args.context.now.heads.now c.args.context.now.unit) c.requires.marked.1 c.requires.marked.2)) ∙ c.if-not-known.false) (walk.next_site c.args.lo (sites (known c.args.context.now.heads.now c.args.context.now.unit) (plain c.args.condition.now)) c.add_sites-next.result (c.add_sites-next.ensures (known c.args.context.now.heads.now c.args.context.now.unit) c.requires.marked.0) (omega (arith, c.requires.able.within)))) c.in_err-x.ensures.says)
 
-pub check_choice-returns : goal.check_choice-returns
-check_choice-returns t c =
-    subst (λ (z : Result Typed Fault). Says c.check_branches.result z) (sym (goes _ _ _ (plain_typed c.in_ok-x.x) (walk.choice_is (known c.args.context.now.heads.now c.args.context.now.unit) (plain_scope c.args.scope.now) c.args.tail c.args.lo (plain_wanted c.args.wanted) c.args.place (plain c.args.condition.now) (plain c.args.first.now) (plain c.args.second.now) c.add_sites-next.result (sym (c.has_width-known.ensures ∙ ap (λ (b : Bool). is_known (plain_wanted c.args.wanted) b) (c.are_both_flexible-flexible.ensures (known c.args.context.now.heads.now c.args.context.now.unit) c.requires.marked.1 c.requires.marked.2)) ∙ c.if-not-known.false) (walk.next_site c.args.lo (sites (known c.args.context.now.heads.now c.args.context.now.unit) (plain c.args.condition.now)) c.add_sites-next.result (c.add_sites-next.ensures (known c.args.context.now.heads.now c.args.context.now.unit) c.requires.marked.0) (omega (arith, c.requires.able.within)))) c.in_ok-x.ensures)) c.check_branches.ensures
+pub check_choice-returns-clause-says : goal.check_choice-returns-clause-says
+check_choice-returns-clause-says t c =
+    subst (λ (z : Result Typed Fault). Says c.check_branches.result z) (sym (goes _ _ _ (plain_typed c.in_ok-x.x) (walk.choice_is (known c.args.context.now.heads.now c.args.context.now.unit) (plain_scope c.args.scope.now) c.args.tail c.args.lo (plain_wanted c.args.wanted) c.args.place (plain c.args.condition.now) (plain c.args.first.now) (plain c.args.second.now) c.add_sites-next.result (sym (c.has_width-known.ensures ∙ ap (λ (b : Bool). is_known (plain_wanted c.args.wanted) b) (c.are_both_flexible-flexible.ensures (known c.args.context.now.heads.now c.args.context.now.unit) c.requires.marked.1 c.requires.marked.2)) ∙ c.if-not-known.false) (walk.next_site c.args.lo (sites (known c.args.context.now.heads.now c.args.context.now.unit) (plain c.args.condition.now)) c.add_sites-next.result (c.add_sites-next.ensures (known c.args.context.now.heads.now c.args.context.now.unit) c.requires.marked.0) (omega (arith, c.requires.able.within)))) c.in_ok-x.ensures.says)) c.check_branches.ensures.says
 
 pub check_branches-check_expression-requires : goal.check_branches-check_expression-requires
 check_branches-check_expression-requires t c =
@@ -273,22 +276,22 @@ pub check_branches-check_expression-requires-then-later : goal.check_branches-ch
 check_branches-check_expression-requires-then-later t c =
     let smaller : 4 * nodes (plain c.args.first.now) < 4 * (nodes (plain c.args.first.now) + nodes (plain c.args.second.now)) + 1 = omega arith in
     let ok : MayCheck c.args.context.now.heads.now c.args.context.now.unit (plain_scope c.args.scope.now) c.args.lo (plain c.args.first.now) = walk.may_part c.args.context.now.heads.now (plain_scope c.args.scope.now) c.args.lo _ _ c.args.lo (sites (known c.args.context.now.heads.now c.args.context.now.unit) (plain c.args.first.now)) (nodes (plain c.args.first.now)) c.requires.able c.requires.able.range.0 (omega (arith, c.requires.able.within)) (omega arith) in
-    let wide : HasWidthOfWord c.in_ok-z.z.width = walk.found_wide c.args.context.now.heads.now c.args.context.now.unit (plain_scope c.args.scope.now) c.args.tail c.add_sites-next.result c.args.wanted (plain c.args.second.now) (plain_typed c.in_ok-z.z) (walk.may_part c.args.context.now.heads.now (plain_scope c.args.scope.now) c.args.lo _ _ c.add_sites-next.result (sites (known c.args.context.now.heads.now c.args.context.now.unit) (plain c.args.second.now)) (nodes (plain c.args.second.now)) c.requires.able c.requires.able.range.1 (omega (arith, c.requires.able.within, (c.add_sites-next.ensures (known c.args.context.now.heads.now c.args.context.now.unit) c.requires.marked.0))) (omega arith)) c.requires.wanted c.in_ok-z.ensures in
+    let wide : HasWidthOfWord c.in_ok-z.z.width = walk.found_wide c.args.context.now.heads.now c.args.context.now.unit (plain_scope c.args.scope.now) c.args.tail c.add_sites-next.result c.args.wanted (plain c.args.second.now) (plain_typed c.in_ok-z.z) (walk.may_part c.args.context.now.heads.now (plain_scope c.args.scope.now) c.args.lo _ _ c.add_sites-next.result (sites (known c.args.context.now.heads.now c.args.context.now.unit) (plain c.args.second.now)) (nodes (plain c.args.second.now)) c.requires.able c.requires.able.range.1 (omega (arith, c.requires.able.within, (c.add_sites-next.ensures (known c.args.context.now.heads.now c.args.context.now.unit) c.requires.marked.0))) (omega arith)) c.requires.wanted c.in_ok-z.ensures.says in
     search rules
 
-pub check_branches-returns-in_err-z : goal.check_branches-returns-in_err-z
-check_branches-returns-in_err-z t c =
+pub check_branches-returns-in_err-z-clause-says : goal.check_branches-returns-in_err-z-clause-says
+check_branches-returns-in_err-z-clause-says t c =
     let p = err_from_is_err_and c.from_residual.result c.from_residual.ensures.1 in
-    rw (p.1, p.2) (fails c.in_err-z.field-0.0 _ _ _ (walk.branches_later (known c.args.context.now.heads.now c.args.context.now.unit) (plain_scope c.args.scope.now) c.args.tail c.args.lo (plain_wanted c.args.wanted) (plain c.args.first.now) (plain c.args.second.now) (tree c.args.test) c.add_sites-next.result (sym (c.comes_later-later.ensures ∙ ap (λ (b : Bool). is_any (plain_wanted c.args.wanted) && b) (c.is_flexible-flexible.ensures (known c.args.context.now.heads.now c.args.context.now.unit) c.requires.marked.0)) ∙ c.if-later.true) (walk.next_site c.args.lo (sites (known c.args.context.now.heads.now c.args.context.now.unit) (plain c.args.first.now)) c.add_sites-next.result (c.add_sites-next.ensures (known c.args.context.now.heads.now c.args.context.now.unit) c.requires.marked.0) (omega (arith, c.requires.able.within)))) c.in_err-z.ensures)
+    rw (p.1, p.2) (fails c.in_err-z.field-0.0 _ _ _ (walk.branches_later (known c.args.context.now.heads.now c.args.context.now.unit) (plain_scope c.args.scope.now) c.args.tail c.args.lo (plain_wanted c.args.wanted) (plain c.args.first.now) (plain c.args.second.now) (tree c.args.test) c.add_sites-next.result (sym (c.comes_later-later.ensures ∙ ap (λ (b : Bool). is_any (plain_wanted c.args.wanted) && b) (c.is_flexible-flexible.ensures (known c.args.context.now.heads.now c.args.context.now.unit) c.requires.marked.0)) ∙ c.if-later.true) (walk.next_site c.args.lo (sites (known c.args.context.now.heads.now c.args.context.now.unit) (plain c.args.first.now)) c.add_sites-next.result (c.add_sites-next.ensures (known c.args.context.now.heads.now c.args.context.now.unit) c.requires.marked.0) (omega (arith, c.requires.able.within)))) c.in_err-z.ensures.says)
 
-pub check_branches-returns-in_err-y : goal.check_branches-returns-in_err-y
-check_branches-returns-in_err-y t c =
+pub check_branches-returns-in_err-y-clause-says : goal.check_branches-returns-in_err-y-clause-says
+check_branches-returns-in_err-y-clause-says t c =
     let p = err_from_is_err_and c.from_residual-in_err-y.result c.from_residual-in_err-y.ensures.1 in
-    rw (p.1, p.2) (fails c.in_err-y.field-0.0 _ _ _ (goes _ _ _ (plain_typed c.in_ok-z.z) (walk.branches_later (known c.args.context.now.heads.now c.args.context.now.unit) (plain_scope c.args.scope.now) c.args.tail c.args.lo (plain_wanted c.args.wanted) (plain c.args.first.now) (plain c.args.second.now) (tree c.args.test) c.add_sites-next.result (sym (c.comes_later-later.ensures ∙ ap (λ (b : Bool). is_any (plain_wanted c.args.wanted) && b) (c.is_flexible-flexible.ensures (known c.args.context.now.heads.now c.args.context.now.unit) c.requires.marked.0)) ∙ c.if-later.true) (walk.next_site c.args.lo (sites (known c.args.context.now.heads.now c.args.context.now.unit) (plain c.args.first.now)) c.add_sites-next.result (c.add_sites-next.ensures (known c.args.context.now.heads.now c.args.context.now.unit) c.requires.marked.0) (omega (arith, c.requires.able.within)))) c.in_ok-z.ensures) c.in_err-y.ensures)
+    rw (p.1, p.2) (fails c.in_err-y.field-0.0 _ _ _ (goes _ _ _ (plain_typed c.in_ok-z.z) (walk.branches_later (known c.args.context.now.heads.now c.args.context.now.unit) (plain_scope c.args.scope.now) c.args.tail c.args.lo (plain_wanted c.args.wanted) (plain c.args.first.now) (plain c.args.second.now) (tree c.args.test) c.add_sites-next.result (sym (c.comes_later-later.ensures ∙ ap (λ (b : Bool). is_any (plain_wanted c.args.wanted) && b) (c.is_flexible-flexible.ensures (known c.args.context.now.heads.now c.args.context.now.unit) c.requires.marked.0)) ∙ c.if-later.true) (walk.next_site c.args.lo (sites (known c.args.context.now.heads.now c.args.context.now.unit) (plain c.args.first.now)) c.add_sites-next.result (c.add_sites-next.ensures (known c.args.context.now.heads.now c.args.context.now.unit) c.requires.marked.0) (omega (arith, c.requires.able.within)))) c.in_ok-z.ensures.says) c.in_err-y.ensures.says)
 
-pub check_branches-returns-then-later : goal.check_branches-returns-then-later
-check_branches-returns-then-later t c =
-    subst (λ (z : Result Typed Fault). Says c.make_if.result z) (sym (goes _ _ _ (plain_typed c.in_ok-y.y) (goes _ _ _ (plain_typed c.in_ok-z.z) (walk.branches_later (known c.args.context.now.heads.now c.args.context.now.unit) (plain_scope c.args.scope.now) c.args.tail c.args.lo (plain_wanted c.args.wanted) (plain c.args.first.now) (plain c.args.second.now) (tree c.args.test) c.add_sites-next.result (sym (c.comes_later-later.ensures ∙ ap (λ (b : Bool). is_any (plain_wanted c.args.wanted) && b) (c.is_flexible-flexible.ensures (known c.args.context.now.heads.now c.args.context.now.unit) c.requires.marked.0)) ∙ c.if-later.true) (walk.next_site c.args.lo (sites (known c.args.context.now.heads.now c.args.context.now.unit) (plain c.args.first.now)) c.add_sites-next.result (c.add_sites-next.ensures (known c.args.context.now.heads.now c.args.context.now.unit) c.requires.marked.0) (omega (arith, c.requires.able.within)))) c.in_ok-z.ensures) c.in_ok-y.ensures)) c.make_if.ensures
+pub check_branches-returns-then-later-clause-says : goal.check_branches-returns-then-later-clause-says
+check_branches-returns-then-later-clause-says t c =
+    subst (λ (z : Result Typed Fault). Says c.make_if.result z) (sym (goes _ _ _ (plain_typed c.in_ok-y.y) (goes _ _ _ (plain_typed c.in_ok-z.z) (walk.branches_later (known c.args.context.now.heads.now c.args.context.now.unit) (plain_scope c.args.scope.now) c.args.tail c.args.lo (plain_wanted c.args.wanted) (plain c.args.first.now) (plain c.args.second.now) (tree c.args.test) c.add_sites-next.result (sym (c.comes_later-later.ensures ∙ ap (λ (b : Bool). is_any (plain_wanted c.args.wanted) && b) (c.is_flexible-flexible.ensures (known c.args.context.now.heads.now c.args.context.now.unit) c.requires.marked.0)) ∙ c.if-later.true) (walk.next_site c.args.lo (sites (known c.args.context.now.heads.now c.args.context.now.unit) (plain c.args.first.now)) c.add_sites-next.result (c.add_sites-next.ensures (known c.args.context.now.heads.now c.args.context.now.unit) c.requires.marked.0) (omega (arith, c.requires.able.within)))) c.in_ok-z.ensures.says) c.in_ok-y.ensures.says)) c.make_if.ensures.says
 
 pub check_branches-check_expression-requires-2 : goal.check_branches-check_expression-requires-2
 check_branches-check_expression-requires-2 t c =
@@ -303,27 +306,27 @@ pub check_branches-check_expression-requires-3 : goal.check_branches-check_expre
 check_branches-check_expression-requires-3 t c =
     let smaller : 4 * nodes (plain c.args.second.now) < 4 * (nodes (plain c.args.first.now) + nodes (plain c.args.second.now)) + 1 = omega arith in
     let ok : MayCheck c.args.context.now.heads.now c.args.context.now.unit (plain_scope c.args.scope.now) c.add_sites-next.result (plain c.args.second.now) = walk.may_part c.args.context.now.heads.now (plain_scope c.args.scope.now) c.args.lo _ _ c.add_sites-next.result (sites (known c.args.context.now.heads.now c.args.context.now.unit) (plain c.args.second.now)) (nodes (plain c.args.second.now)) c.requires.able c.requires.able.range.1 (omega (arith, c.requires.able.within, (c.add_sites-next.ensures (known c.args.context.now.heads.now c.args.context.now.unit) c.requires.marked.0))) (omega arith) in
-    let wide : HasWidthOfWord c.in_ok-y-2.y.width = walk.found_wide c.args.context.now.heads.now c.args.context.now.unit (plain_scope c.args.scope.now) c.args.tail c.args.lo c.args.wanted (plain c.args.first.now) (plain_typed c.in_ok-y-2.y) (walk.may_part c.args.context.now.heads.now (plain_scope c.args.scope.now) c.args.lo _ _ c.args.lo (sites (known c.args.context.now.heads.now c.args.context.now.unit) (plain c.args.first.now)) (nodes (plain c.args.first.now)) c.requires.able c.requires.able.range.0 (omega (arith, c.requires.able.within)) (omega arith)) c.requires.wanted c.in_ok-y-2.ensures in
+    let wide : HasWidthOfWord c.in_ok-y-2.y.width = walk.found_wide c.args.context.now.heads.now c.args.context.now.unit (plain_scope c.args.scope.now) c.args.tail c.args.lo c.args.wanted (plain c.args.first.now) (plain_typed c.in_ok-y-2.y) (walk.may_part c.args.context.now.heads.now (plain_scope c.args.scope.now) c.args.lo _ _ c.args.lo (sites (known c.args.context.now.heads.now c.args.context.now.unit) (plain c.args.first.now)) (nodes (plain c.args.first.now)) c.requires.able c.requires.able.range.0 (omega (arith, c.requires.able.within)) (omega arith)) c.requires.wanted c.in_ok-y-2.ensures.says in
     let first_marked : IsMarked (known c.args.context.now.heads.now c.args.context.now.unit) c.args.first.now = c.requires.marked.0 in
     let second_marked : IsMarked (known c.args.context.now.heads.now c.args.context.now.unit) c.args.second.now = c.requires.marked.1 in
     search rules
 
-pub check_branches-returns-in_err-y-2 : goal.check_branches-returns-in_err-y-2
-check_branches-returns-in_err-y-2 t c =
+pub check_branches-returns-in_err-y-2-clause-says : goal.check_branches-returns-in_err-y-2-clause-says
+check_branches-returns-in_err-y-2-clause-says t c =
     let p = err_from_is_err_and c.from_residual-in_err-y-2.result c.from_residual-in_err-y-2.ensures.1 in
-    rw (p.1, p.2) (fails c.in_err-y-2.field-0.0 _ _ _ (walk.branches_first (known c.args.context.now.heads.now c.args.context.now.unit) (plain_scope c.args.scope.now) c.args.tail c.args.lo (plain_wanted c.args.wanted) (plain c.args.first.now) (plain c.args.second.now) (tree c.args.test) c.add_sites-next.result (sym (c.comes_later-later.ensures ∙ ap (λ (b : Bool). is_any (plain_wanted c.args.wanted) && b) (c.is_flexible-flexible.ensures (known c.args.context.now.heads.now c.args.context.now.unit) c.requires.marked.0)) ∙ c.if-later.false) (walk.next_site c.args.lo (sites (known c.args.context.now.heads.now c.args.context.now.unit) (plain c.args.first.now)) c.add_sites-next.result (c.add_sites-next.ensures (known c.args.context.now.heads.now c.args.context.now.unit) c.requires.marked.0) (omega (arith, c.requires.able.within)))) c.in_err-y-2.ensures)
+    rw (p.1, p.2) (fails c.in_err-y-2.field-0.0 _ _ _ (walk.branches_first (known c.args.context.now.heads.now c.args.context.now.unit) (plain_scope c.args.scope.now) c.args.tail c.args.lo (plain_wanted c.args.wanted) (plain c.args.first.now) (plain c.args.second.now) (tree c.args.test) c.add_sites-next.result (sym (c.comes_later-later.ensures ∙ ap (λ (b : Bool). is_any (plain_wanted c.args.wanted) && b) (c.is_flexible-flexible.ensures (known c.args.context.now.heads.now c.args.context.now.unit) c.requires.marked.0)) ∙ c.if-later.false) (walk.next_site c.args.lo (sites (known c.args.context.now.heads.now c.args.context.now.unit) (plain c.args.first.now)) c.add_sites-next.result (c.add_sites-next.ensures (known c.args.context.now.heads.now c.args.context.now.unit) c.requires.marked.0) (omega (arith, c.requires.able.within)))) c.in_err-y-2.ensures.says)
 
-pub check_branches-returns-in_err-z-2 : goal.check_branches-returns-in_err-z-2
-check_branches-returns-in_err-z-2 t c =
+pub check_branches-returns-in_err-z-2-clause-says : goal.check_branches-returns-in_err-z-2-clause-says
+check_branches-returns-in_err-z-2-clause-says t c =
     let p = err_from_is_err_and c.from_residual-in_err-z-2.result c.from_residual-in_err-z-2.ensures.1 in
-    rw (p.1, p.2) (fails c.in_err-z-2.field-0.0 _ _ _ (goes _ _ _ (plain_typed c.in_ok-y-2.y) (walk.branches_first (known c.args.context.now.heads.now c.args.context.now.unit) (plain_scope c.args.scope.now) c.args.tail c.args.lo (plain_wanted c.args.wanted) (plain c.args.first.now) (plain c.args.second.now) (tree c.args.test) c.add_sites-next.result (sym (c.comes_later-later.ensures ∙ ap (λ (b : Bool). is_any (plain_wanted c.args.wanted) && b) (c.is_flexible-flexible.ensures (known c.args.context.now.heads.now c.args.context.now.unit) c.requires.marked.0)) ∙ c.if-later.false) (walk.next_site c.args.lo (sites (known c.args.context.now.heads.now c.args.context.now.unit) (plain c.args.first.now)) c.add_sites-next.result (c.add_sites-next.ensures (known c.args.context.now.heads.now c.args.context.now.unit) c.requires.marked.0) (omega (arith, c.requires.able.within)))) c.in_ok-y-2.ensures) c.in_err-z-2.ensures)
+    rw (p.1, p.2) (fails c.in_err-z-2.field-0.0 _ _ _ (goes _ _ _ (plain_typed c.in_ok-y-2.y) (walk.branches_first (known c.args.context.now.heads.now c.args.context.now.unit) (plain_scope c.args.scope.now) c.args.tail c.args.lo (plain_wanted c.args.wanted) (plain c.args.first.now) (plain c.args.second.now) (tree c.args.test) c.add_sites-next.result (sym (c.comes_later-later.ensures ∙ ap (λ (b : Bool). is_any (plain_wanted c.args.wanted) && b) (c.is_flexible-flexible.ensures (known c.args.context.now.heads.now c.args.context.now.unit) c.requires.marked.0)) ∙ c.if-later.false) (walk.next_site c.args.lo (sites (known c.args.context.now.heads.now c.args.context.now.unit) (plain c.args.first.now)) c.add_sites-next.result (c.add_sites-next.ensures (known c.args.context.now.heads.now c.args.context.now.unit) c.requires.marked.0) (omega (arith, c.requires.able.within)))) c.in_ok-y-2.ensures.says) c.in_err-z-2.ensures.says)
 
-pub check_branches-returns : goal.check_branches-returns
-check_branches-returns t c =
-    subst (λ (z : Result Typed Fault). Says c.make_if-2.result z) (sym (goes _ _ _ (plain_typed c.in_ok-z-2.z) (goes _ _ _ (plain_typed c.in_ok-y-2.y) (walk.branches_first (known c.args.context.now.heads.now c.args.context.now.unit) (plain_scope c.args.scope.now) c.args.tail c.args.lo (plain_wanted c.args.wanted) (plain c.args.first.now) (plain c.args.second.now) (tree c.args.test) c.add_sites-next.result (sym (c.comes_later-later.ensures ∙ ap (λ (b : Bool). is_any (plain_wanted c.args.wanted) && b) (c.is_flexible-flexible.ensures (known c.args.context.now.heads.now c.args.context.now.unit) c.requires.marked.0)) ∙ c.if-later.false) (walk.next_site c.args.lo (sites (known c.args.context.now.heads.now c.args.context.now.unit) (plain c.args.first.now)) c.add_sites-next.result (c.add_sites-next.ensures (known c.args.context.now.heads.now c.args.context.now.unit) c.requires.marked.0) (omega (arith, c.requires.able.within)))) c.in_ok-y-2.ensures) c.in_ok-z-2.ensures)) c.make_if-2.ensures
+pub check_branches-returns-clause-says : goal.check_branches-returns-clause-says
+check_branches-returns-clause-says t c =
+    subst (λ (z : Result Typed Fault). Says c.make_if-2.result z) (sym (goes _ _ _ (plain_typed c.in_ok-z-2.z) (goes _ _ _ (plain_typed c.in_ok-y-2.y) (walk.branches_first (known c.args.context.now.heads.now c.args.context.now.unit) (plain_scope c.args.scope.now) c.args.tail c.args.lo (plain_wanted c.args.wanted) (plain c.args.first.now) (plain c.args.second.now) (tree c.args.test) c.add_sites-next.result (sym (c.comes_later-later.ensures ∙ ap (λ (b : Bool). is_any (plain_wanted c.args.wanted) && b) (c.is_flexible-flexible.ensures (known c.args.context.now.heads.now c.args.context.now.unit) c.requires.marked.0)) ∙ c.if-later.false) (walk.next_site c.args.lo (sites (known c.args.context.now.heads.now c.args.context.now.unit) (plain c.args.first.now)) c.add_sites-next.result (c.add_sites-next.ensures (known c.args.context.now.heads.now c.args.context.now.unit) c.requires.marked.0) (omega (arith, c.requires.able.within)))) c.in_ok-y-2.ensures.says) c.in_ok-z-2.ensures.says)) c.make_if-2.ensures.says
 
-pub check_binding-returns-then-not-known : goal.check_binding-returns-then-not-known
-check_binding-returns-then-not-known t c =
+pub check_binding-returns-then-not-known-clause-says : goal.check_binding-returns-then-not-known-clause-says
+check_binding-returns-then-not-known-clause-says t c =
     walk.refused_is c.refused.result _ _ c.refused.ensures (walk.binding_not (known c.args.context.now.heads.now c.args.context.now.unit) (plain_scope c.args.scope.now) c.args.tail c.args.lo (plain_wanted c.args.wanted) c.args.place (plain_bindings c.args.bound.now) (plain c.args.body.now) (sym (c.has_width-known.ensures ∙ ap (λ (b : Bool). is_known (plain_wanted c.args.wanted) b) (c.is_flexible-flexible.ensures (known c.args.context.now.heads.now c.args.context.now.unit) c.requires.marked.1)) ∙ c.if-not-known.true))
 
 pub check_binding-check_bound-requires : goal.check_binding-check_bound-requires
@@ -337,15 +340,15 @@ pub check_binding-check_expression-requires : goal.check_binding-check_expressio
 check_binding-check_expression-requires t c =
     let smaller : 4 * nodes (plain c.args.body.now) < 4 * (nodes_bound (plain_bindings c.args.bound.now) + nodes (plain c.args.body.now)) + 3 = omega arith in
     let own : plain_slots c.deref-2.result.now ≡ slots (plain_bindings c.args.bound.now) c.in_ok-all.all.widths.items = ap (λ (l : List code_slot.Slot). plain_slots l) c.deref-2.ensures.value ∙ c.in_ok-own.ensures ∙ ap (λ (ws : List ℕ). slots (plain_bindings c.args.bound.now) ws) c.deref.ensures.value in
-    let ok : MayCheck c.args.context.now.heads.now c.args.context.now.unit (plain_scope c.args.scope.now ++ plain_slots c.deref-2.result.now) c.add_bound_sites-next.result (plain c.args.body.now) = walk.may_below c.args.context.now.heads.now c.args.context.now.unit (plain_scope c.args.scope.now) (plain_scope c.args.scope.now ++ plain_slots c.deref-2.result.now) c.args.lo c.args.place (plain_bindings c.args.bound.now) (plain c.args.body.now) (plain_all_typed c.in_ok-all.all) c.add_bound_sites-next.result c.requires.able (c.add_bound_sites-next.ensures (known c.args.context.now.heads.now c.args.context.now.unit) c.requires.marked.0) c.in_ok-all.ensures (ap (λ (l : List Slot). plain_scope c.args.scope.now ++ l) own) in
+    let ok : MayCheck c.args.context.now.heads.now c.args.context.now.unit (plain_scope c.args.scope.now ++ plain_slots c.deref-2.result.now) c.add_bound_sites-next.result (plain c.args.body.now) = walk.may_below c.args.context.now.heads.now c.args.context.now.unit (plain_scope c.args.scope.now) (plain_scope c.args.scope.now ++ plain_slots c.deref-2.result.now) c.args.lo c.args.place (plain_bindings c.args.bound.now) (plain c.args.body.now) (plain_all_typed c.in_ok-all.all) c.add_bound_sites-next.result c.requires.able (c.add_bound_sites-next.ensures (known c.args.context.now.heads.now c.args.context.now.unit) c.requires.marked.0) c.in_ok-all.ensures.says (ap (λ (l : List Slot). plain_scope c.args.scope.now ++ l) own) in
     let marked : IsMarked (known c.args.context.now.heads.now c.args.context.now.unit) c.args.body.now = c.requires.marked.1 in
     let wide : HasWideWanted c.args.wanted = c.requires.wanted in
     search rules
 
-pub check_binding-returns-in_err-all : goal.check_binding-returns-in_err-all
-check_binding-returns-in_err-all t c =
+pub check_binding-returns-in_err-all-clause-says : goal.check_binding-returns-in_err-all-clause-says
+check_binding-returns-in_err-all-clause-says t c =
     let p = err_from_is_err_and c.from_residual.result c.from_residual.ensures.1 in
-    rw (p.1, p.2) (fails c.in_err-all.field-0.0 _ _ _ (walk.binding_is (known c.args.context.now.heads.now c.args.context.now.unit) (plain_scope c.args.scope.now) c.args.tail c.args.lo (plain_wanted c.args.wanted) c.args.place (plain_bindings c.args.bound.now) (plain c.args.body.now) c.add_bound_sites-next.result (sym (c.has_width-known.ensures ∙ ap (λ (b : Bool). is_known (plain_wanted c.args.wanted) b) (c.is_flexible-flexible.ensures (known c.args.context.now.heads.now c.args.context.now.unit) c.requires.marked.1)) ∙ c.if-not-known.false) (sym c.find_repeated.ensures ∙ ap twice_at c.in_default.is) (walk.next_site c.args.lo (sites_bound (known c.args.context.now.heads.now c.args.context.now.unit) (plain_bindings c.args.bound.now)) c.add_bound_sites-next.result (c.add_bound_sites-next.ensures (known c.args.context.now.heads.now c.args.context.now.unit) c.requires.marked.0) (omega (arith, c.requires.able.within)))) c.in_err-all.ensures)
+    rw (p.1, p.2) (fails c.in_err-all.field-0.0 _ _ _ (walk.binding_is (known c.args.context.now.heads.now c.args.context.now.unit) (plain_scope c.args.scope.now) c.args.tail c.args.lo (plain_wanted c.args.wanted) c.args.place (plain_bindings c.args.bound.now) (plain c.args.body.now) c.add_bound_sites-next.result (sym (c.has_width-known.ensures ∙ ap (λ (b : Bool). is_known (plain_wanted c.args.wanted) b) (c.is_flexible-flexible.ensures (known c.args.context.now.heads.now c.args.context.now.unit) c.requires.marked.1)) ∙ c.if-not-known.false) (sym c.find_repeated.ensures ∙ ap twice_at c.in_default.is) (walk.next_site c.args.lo (sites_bound (known c.args.context.now.heads.now c.args.context.now.unit) (plain_bindings c.args.bound.now)) c.add_bound_sites-next.result (c.add_bound_sites-next.ensures (known c.args.context.now.heads.now c.args.context.now.unit) c.requires.marked.0) (omega (arith, c.requires.able.within)))) c.in_err-all.ensures.says)
 
 pub check_applied-check_alike-requires : goal.check_applied-check_alike-requires
 check_applied-check_alike-requires t c =
@@ -375,45 +378,45 @@ check_applied-check_operands-requires t c =
     let marked : AreMarked (known c.args.context.now.heads.now c.args.context.now.unit) c.args.operands.now = c.requires.marked in
     search rules
 
-pub check_applied-returns-in_err-r-in-Alike : goal.check_applied-returns-in_err-r-in-Alike
-check_applied-returns-in_err-r-in-Alike t c =
+pub check_applied-returns-in_err-r-in-Alike-clause-says : goal.check_applied-returns-in_err-r-in-Alike-clause-says
+check_applied-returns-in_err-r-in-Alike-clause-says t c =
     let p = err_from_is_err_and c.from_residual.result c.from_residual.ensures.1 in
-    rw (p.1, p.2) (λ (tail : Bool). fails c.in_err-r-in-Alike.field-0.0 _ _ _ (walk.alike_is (known c.args.context.now.heads.now c.args.context.now.unit) (plain_scope c.args.scope.now) tail c.args.lo (plain_wanted c.args.wanted) c.args.place c.args.operator (plain_all c.args.operands.now) (sym (ap plain_shape c.in-Alike.is) ∙ c.shape_of.ensures)) c.in_err-r-in-Alike.ensures)
+    rw (p.1, p.2) (λ (tail : Bool). fails c.in_err-r-in-Alike.field-0.0 _ _ _ (walk.alike_is (known c.args.context.now.heads.now c.args.context.now.unit) (plain_scope c.args.scope.now) tail c.args.lo (plain_wanted c.args.wanted) c.args.place c.args.operator (plain_all c.args.operands.now) (sym (ap plain_shape c.in-Alike.is) ∙ c.shape_of.ensures)) c.in_err-r-in-Alike.ensures.says)
 
-pub check_applied-returns-in_ok-r-in-Alike : goal.check_applied-returns-in_ok-r-in-Alike
-check_applied-returns-in_ok-r-in-Alike t c =
-    λ (tail : Bool). goes _ _ _ (plain_alike c.in_ok-r-in-Alike.r) (walk.alike_is (known c.args.context.now.heads.now c.args.context.now.unit) (plain_scope c.args.scope.now) tail c.args.lo (plain_wanted c.args.wanted) c.args.place c.args.operator (plain_all c.args.operands.now) (sym (ap plain_shape c.in-Alike.is) ∙ c.shape_of.ensures)) c.in_ok-r-in-Alike.ensures ∙ walk.ok_typed _ _ (walk.same_typed _ _ _ _ (sym c.make_operation.ensures.width) (sym c.make_operation.ensures.term))
+pub check_applied-returns-in_ok-r-in-Alike-clause-says : goal.check_applied-returns-in_ok-r-in-Alike-clause-says
+check_applied-returns-in_ok-r-in-Alike-clause-says t c =
+    λ (tail : Bool). goes _ _ _ (plain_alike c.in_ok-r-in-Alike.r) (walk.alike_is (known c.args.context.now.heads.now c.args.context.now.unit) (plain_scope c.args.scope.now) tail c.args.lo (plain_wanted c.args.wanted) c.args.place c.args.operator (plain_all c.args.operands.now) (sym (ap plain_shape c.in-Alike.is) ∙ c.shape_of.ensures)) c.in_ok-r-in-Alike.ensures.says ∙ walk.ok_typed _ _ (walk.same_typed _ _ _ _ (sym c.make_operation.ensures.width) (sym c.make_operation.ensures.term))
 
-pub check_applied-returns-in_err-r-in-Comparing : goal.check_applied-returns-in_err-r-in-Comparing
-check_applied-returns-in_err-r-in-Comparing t c =
+pub check_applied-returns-in_err-r-in-Comparing-clause-says : goal.check_applied-returns-in_err-r-in-Comparing-clause-says
+check_applied-returns-in_err-r-in-Comparing-clause-says t c =
     let p = err_from_is_err_and c.from_residual-in_err-r-in-Comparing.result c.from_residual-in_err-r-in-Comparing.ensures.1 in
-    rw (p.1, p.2) (λ (tail : Bool). fails c.in_err-r-in-Comparing.field-0.0 _ _ _ (walk.comparing_is (known c.args.context.now.heads.now c.args.context.now.unit) (plain_scope c.args.scope.now) tail c.args.lo (plain_wanted c.args.wanted) c.args.place c.args.operator (plain_all c.args.operands.now) (sym (ap plain_shape c.in-Comparing.is) ∙ c.shape_of.ensures)) c.in_err-r-in-Comparing.ensures)
+    rw (p.1, p.2) (λ (tail : Bool). fails c.in_err-r-in-Comparing.field-0.0 _ _ _ (walk.comparing_is (known c.args.context.now.heads.now c.args.context.now.unit) (plain_scope c.args.scope.now) tail c.args.lo (plain_wanted c.args.wanted) c.args.place c.args.operator (plain_all c.args.operands.now) (sym (ap plain_shape c.in-Comparing.is) ∙ c.shape_of.ensures)) c.in_err-r-in-Comparing.ensures.says)
 
-pub check_applied-returns-in_ok-r-in-Comparing : goal.check_applied-returns-in_ok-r-in-Comparing
-check_applied-returns-in_ok-r-in-Comparing t c =
-    λ (tail : Bool). subst (λ (z : Result Typed Fault). Says c.settled_operation.result z) (sym (goes _ _ _ (plain_alike c.in_ok-r-in-Comparing.r) (walk.comparing_is (known c.args.context.now.heads.now c.args.context.now.unit) (plain_scope c.args.scope.now) tail c.args.lo (plain_wanted c.args.wanted) c.args.place c.args.operator (plain_all c.args.operands.now) (sym (ap plain_shape c.in-Comparing.is) ∙ c.shape_of.ensures)) c.in_ok-r-in-Comparing.ensures)) c.settled_operation.ensures
+pub check_applied-returns-in_ok-r-in-Comparing-clause-says : goal.check_applied-returns-in_ok-r-in-Comparing-clause-says
+check_applied-returns-in_ok-r-in-Comparing-clause-says t c =
+    λ (tail : Bool). subst (λ (z : Result Typed Fault). Says c.settled_operation.result z) (sym (goes _ _ _ (plain_alike c.in_ok-r-in-Comparing.r) (walk.comparing_is (known c.args.context.now.heads.now c.args.context.now.unit) (plain_scope c.args.scope.now) tail c.args.lo (plain_wanted c.args.wanted) c.args.place c.args.operator (plain_all c.args.operands.now) (sym (ap plain_shape c.in-Comparing.is) ∙ c.shape_of.ensures)) c.in_ok-r-in-Comparing.ensures.says)) c.settled_operation.ensures.says
 
-pub check_applied-returns-in_err-r-in-Shifting : goal.check_applied-returns-in_err-r-in-Shifting
-check_applied-returns-in_err-r-in-Shifting t c =
+pub check_applied-returns-in_err-r-in-Shifting-clause-says : goal.check_applied-returns-in_err-r-in-Shifting-clause-says
+check_applied-returns-in_err-r-in-Shifting-clause-says t c =
     let p = err_from_is_err_and c.from_residual-in_err-r-in-Shifting.result c.from_residual-in_err-r-in-Shifting.ensures.1 in
-    rw (p.1, p.2) (λ (tail : Bool). fails c.in_err-r-in-Shifting.field-0.0 _ _ _ (walk.shifting_is (known c.args.context.now.heads.now c.args.context.now.unit) (plain_scope c.args.scope.now) tail c.args.lo (plain_wanted c.args.wanted) c.args.place c.args.operator (plain_all c.args.operands.now) (sym (ap plain_shape c.in-Shifting.is) ∙ c.shape_of.ensures)) c.in_err-r-in-Shifting.ensures)
+    rw (p.1, p.2) (λ (tail : Bool). fails c.in_err-r-in-Shifting.field-0.0 _ _ _ (walk.shifting_is (known c.args.context.now.heads.now c.args.context.now.unit) (plain_scope c.args.scope.now) tail c.args.lo (plain_wanted c.args.wanted) c.args.place c.args.operator (plain_all c.args.operands.now) (sym (ap plain_shape c.in-Shifting.is) ∙ c.shape_of.ensures)) c.in_err-r-in-Shifting.ensures.says)
 
-pub check_applied-returns-in_ok-r-in-Shifting : goal.check_applied-returns-in_ok-r-in-Shifting
-check_applied-returns-in_ok-r-in-Shifting t c =
-    λ (tail : Bool). subst (λ (z : Result Typed Fault). Says c.settled_operation-in-Shifting.result z) (sym (goes _ _ _ (plain_alike c.in_ok-r-in-Shifting.r) (walk.shifting_is (known c.args.context.now.heads.now c.args.context.now.unit) (plain_scope c.args.scope.now) tail c.args.lo (plain_wanted c.args.wanted) c.args.place c.args.operator (plain_all c.args.operands.now) (sym (ap plain_shape c.in-Shifting.is) ∙ c.shape_of.ensures)) c.in_ok-r-in-Shifting.ensures)) c.settled_operation-in-Shifting.ensures
+pub check_applied-returns-in_ok-r-in-Shifting-clause-says : goal.check_applied-returns-in_ok-r-in-Shifting-clause-says
+check_applied-returns-in_ok-r-in-Shifting-clause-says t c =
+    λ (tail : Bool). subst (λ (z : Result Typed Fault). Says c.settled_operation-in-Shifting.result z) (sym (goes _ _ _ (plain_alike c.in_ok-r-in-Shifting.r) (walk.shifting_is (known c.args.context.now.heads.now c.args.context.now.unit) (plain_scope c.args.scope.now) tail c.args.lo (plain_wanted c.args.wanted) c.args.place c.args.operator (plain_all c.args.operands.now) (sym (ap plain_shape c.in-Shifting.is) ∙ c.shape_of.ensures)) c.in_ok-r-in-Shifting.ensures.says)) c.settled_operation-in-Shifting.ensures.says
 
-pub check_applied-returns-in_err-r-in-Resizing : goal.check_applied-returns-in_err-r-in-Resizing
-check_applied-returns-in_err-r-in-Resizing t c =
+pub check_applied-returns-in_err-r-in-Resizing-clause-says : goal.check_applied-returns-in_err-r-in-Resizing-clause-says
+check_applied-returns-in_err-r-in-Resizing-clause-says t c =
     let p = err_from_is_err_and c.from_residual-in_err-r-in-Resizing.result c.from_residual-in_err-r-in-Resizing.ensures.1 in
-    rw (p.1, p.2) (λ (tail : Bool). fails c.in_err-r-in-Resizing.field-0.0 _ _ _ (walk.resizing_is (known c.args.context.now.heads.now c.args.context.now.unit) (plain_scope c.args.scope.now) tail c.args.lo (plain_wanted c.args.wanted) c.args.place c.args.operator (plain_all c.args.operands.now) (sym (ap plain_shape c.in-Resizing.is) ∙ c.shape_of.ensures)) c.in_err-r-in-Resizing.ensures)
+    rw (p.1, p.2) (λ (tail : Bool). fails c.in_err-r-in-Resizing.field-0.0 _ _ _ (walk.resizing_is (known c.args.context.now.heads.now c.args.context.now.unit) (plain_scope c.args.scope.now) tail c.args.lo (plain_wanted c.args.wanted) c.args.place c.args.operator (plain_all c.args.operands.now) (sym (ap plain_shape c.in-Resizing.is) ∙ c.shape_of.ensures)) c.in_err-r-in-Resizing.ensures.says)
 
-pub check_applied-returns-in-Some : goal.check_applied-returns-in-Some
-check_applied-returns-in-Some t c =
-    λ (tail : Bool). subst (λ (z : Result Typed Fault). Says c.settled_operation-in-Some.result z) (sym (goes _ _ _ (plain_all_typed c.in_ok-r-in-Resizing.r) (walk.resizing_is (known c.args.context.now.heads.now c.args.context.now.unit) (plain_scope c.args.scope.now) tail c.args.lo (plain_wanted c.args.wanted) c.args.place c.args.operator (plain_all c.args.operands.now) (sym (ap plain_shape c.in-Resizing.is) ∙ c.shape_of.ensures)) c.in_ok-r-in-Resizing.ensures ∙ ap (λ (o : Option ℕ). resized c.args.place (plain_wanted c.args.wanted) c.args.operator o (forest c.in_ok-r-in-Resizing.r.terms.items)) ((sym (c.result_width.ensures ∙ ap (λ (ws : List ℕ). result_width c.args.operator ws) c.deref.ensures.value)) ∙ c.in-Some.is))) c.settled_operation-in-Some.ensures
+pub check_applied-returns-in-Some-clause-says : goal.check_applied-returns-in-Some-clause-says
+check_applied-returns-in-Some-clause-says t c =
+    λ (tail : Bool). subst (λ (z : Result Typed Fault). Says c.settled_operation-in-Some.result z) (sym (goes _ _ _ (plain_all_typed c.in_ok-r-in-Resizing.r) (walk.resizing_is (known c.args.context.now.heads.now c.args.context.now.unit) (plain_scope c.args.scope.now) tail c.args.lo (plain_wanted c.args.wanted) c.args.place c.args.operator (plain_all c.args.operands.now) (sym (ap plain_shape c.in-Resizing.is) ∙ c.shape_of.ensures)) c.in_ok-r-in-Resizing.ensures.says ∙ ap (λ (o : Option ℕ). resized c.args.place (plain_wanted c.args.wanted) c.args.operator o (forest c.in_ok-r-in-Resizing.r.terms.items)) ((sym (c.result_width.ensures ∙ ap (λ (ws : List ℕ). result_width c.args.operator ws) c.deref.ensures.value)) ∙ c.in-Some.is))) c.settled_operation-in-Some.ensures.says
 
-pub check_applied-returns-in-None : goal.check_applied-returns-in-None
-check_applied-returns-in-None t c =
-    λ (tail : Bool). walk.refused_is c.refused.result _ _ c.refused.ensures (goes _ _ _ (plain_all_typed c.in_ok-r-in-Resizing.r) (walk.resizing_is (known c.args.context.now.heads.now c.args.context.now.unit) (plain_scope c.args.scope.now) tail c.args.lo (plain_wanted c.args.wanted) c.args.place c.args.operator (plain_all c.args.operands.now) (sym (ap plain_shape c.in-Resizing.is) ∙ c.shape_of.ensures)) c.in_ok-r-in-Resizing.ensures ∙ ap (λ (o : Option ℕ). resized c.args.place (plain_wanted c.args.wanted) c.args.operator o (forest c.in_ok-r-in-Resizing.r.terms.items)) ((sym (c.result_width.ensures ∙ ap (λ (ws : List ℕ). result_width c.args.operator ws) c.deref.ensures.value)) ∙ c.in-None.is))
+pub check_applied-returns-in-None-clause-says : goal.check_applied-returns-in-None-clause-says
+check_applied-returns-in-None-clause-says t c =
+    λ (tail : Bool). walk.refused_is c.refused.result _ _ c.refused.ensures (goes _ _ _ (plain_all_typed c.in_ok-r-in-Resizing.r) (walk.resizing_is (known c.args.context.now.heads.now c.args.context.now.unit) (plain_scope c.args.scope.now) tail c.args.lo (plain_wanted c.args.wanted) c.args.place c.args.operator (plain_all c.args.operands.now) (sym (ap plain_shape c.in-Resizing.is) ∙ c.shape_of.ensures)) c.in_ok-r-in-Resizing.ensures.says ∙ ap (λ (o : Option ℕ). resized c.args.place (plain_wanted c.args.wanted) c.args.operator o (forest c.in_ok-r-in-Resizing.r.terms.items)) ((sym (c.result_width.ensures ∙ ap (λ (ws : List ℕ). result_width c.args.operator ws) c.deref.ensures.value)) ∙ c.in-None.is))
 
 pub check_called-get-head-requires : goal.check_called-get-head-requires
 check_called-get-head-requires t c =
@@ -428,14 +431,14 @@ check_called-check_counted-requires t c =
     let marked : AreMarked (known c.args.context.now.heads.now c.args.context.now.unit) c.args.arguments.now = c.requires.marked in
     search rules
 
-pub check_called-returns-in_err-all-in-Member : goal.check_called-returns-in_err-all-in-Member
-check_called-returns-in_err-all-in-Member t c =
+pub check_called-returns-in_err-all-in-Member-clause-says : goal.check_called-returns-in_err-all-in-Member-clause-says
+check_called-returns-in_err-all-in-Member-clause-says t c =
     let p = err_from_is_err_and c.from_residual.result c.from_residual.ensures.1 in
-    rw (p.1, p.2) (fails c.in_err-all-in-Member.field-0.0 _ _ _ (walk.loop_is (known c.args.context.now.heads.now c.args.context.now.unit) (plain_scope c.args.scope.now) c.args.tail c.args.lo (plain_wanted c.args.wanted) c.args.place c.args.name.now (plain_all c.args.arguments.now) c.in-Member.n (plain_head c.get-head.result.now) (walk.callee_member c.args.context.now.heads.now (known c.args.context.now.heads.now c.args.context.now.unit) c.args.name.now c.find_callee.result c.in-Member.n c.get-head.result.now c.find_callee.ensures.found c.find_callee.ensures.one c.in-Member.is (got c.args.context.now.heads.now c.in-Member.n c.get-head.result.now c.get-head.ensures)) c.if-not-tail.false) c.in_err-all-in-Member.ensures)
+    rw (p.1, p.2) (fails c.in_err-all-in-Member.field-0.0 _ _ _ (walk.loop_is (known c.args.context.now.heads.now c.args.context.now.unit) (plain_scope c.args.scope.now) c.args.tail c.args.lo (plain_wanted c.args.wanted) c.args.place c.args.name.now (plain_all c.args.arguments.now) c.in-Member.n (plain_head c.get-head.result.now) (walk.callee_member c.args.context.now.heads.now (known c.args.context.now.heads.now c.args.context.now.unit) c.args.name.now c.find_callee.result c.in-Member.n c.get-head.result.now c.find_callee.ensures.found c.find_callee.ensures.one c.in-Member.is (got c.args.context.now.heads.now c.in-Member.n c.get-head.result.now c.get-head.ensures)) c.if-not-tail.false) c.in_err-all-in-Member.ensures.says)
 
-pub check_called-returns-in_ok-all-in-Member : goal.check_called-returns-in_ok-all-in-Member
-check_called-returns-in_ok-all-in-Member t c =
-    subst (λ (z : Result Typed Fault). Says c.settled_loop.result z) (sym (goes _ _ _ (plain_all_typed c.in_ok-all-in-Member.all) (walk.loop_is (known c.args.context.now.heads.now c.args.context.now.unit) (plain_scope c.args.scope.now) c.args.tail c.args.lo (plain_wanted c.args.wanted) c.args.place c.args.name.now (plain_all c.args.arguments.now) c.in-Member.n (plain_head c.get-head.result.now) (walk.callee_member c.args.context.now.heads.now (known c.args.context.now.heads.now c.args.context.now.unit) c.args.name.now c.find_callee.result c.in-Member.n c.get-head.result.now c.find_callee.ensures.found c.find_callee.ensures.one c.in-Member.is (got c.args.context.now.heads.now c.in-Member.n c.get-head.result.now c.get-head.ensures)) c.if-not-tail.false) c.in_ok-all-in-Member.ensures)) c.settled_loop.ensures
+pub check_called-returns-in_ok-all-in-Member-clause-says : goal.check_called-returns-in_ok-all-in-Member-clause-says
+check_called-returns-in_ok-all-in-Member-clause-says t c =
+    subst (λ (z : Result Typed Fault). Says c.settled_loop.result z) (sym (goes _ _ _ (plain_all_typed c.in_ok-all-in-Member.all) (walk.loop_is (known c.args.context.now.heads.now c.args.context.now.unit) (plain_scope c.args.scope.now) c.args.tail c.args.lo (plain_wanted c.args.wanted) c.args.place c.args.name.now (plain_all c.args.arguments.now) c.in-Member.n (plain_head c.get-head.result.now) (walk.callee_member c.args.context.now.heads.now (known c.args.context.now.heads.now c.args.context.now.unit) c.args.name.now c.find_callee.result c.in-Member.n c.get-head.result.now c.find_callee.ensures.found c.find_callee.ensures.one c.in-Member.is (got c.args.context.now.heads.now c.in-Member.n c.get-head.result.now c.get-head.ensures)) c.if-not-tail.false) c.in_ok-all-in-Member.ensures.says)) c.settled_loop.ensures.says
 
 pub check_called-get-head-requires-in-Above : goal.check_called-get-head-requires-in-Above
 check_called-get-head-requires-in-Above t c =
@@ -449,25 +452,25 @@ check_called-check_counted-requires-in-Above t c =
     let few : length c.get-head-in-Above.result.now.params.items < 2 ^ 32 = walk.few_params c.args.context.now.heads.now c.in-Above.n c.get-head-in-Above.result.now c.requires.able.params (subst (IsOneOf c.args.context.now.heads.now) c.in-Above.is c.find_callee.ensures.one) (got c.args.context.now.heads.now c.in-Above.n c.get-head-in-Above.result.now c.get-head-in-Above.ensures) in
     search rules
 
-pub check_called-returns-in_err-all-in-Above : goal.check_called-returns-in_err-all-in-Above
-check_called-returns-in_err-all-in-Above t c =
+pub check_called-returns-in_err-all-in-Above-clause-says : goal.check_called-returns-in_err-all-in-Above-clause-says
+check_called-returns-in_err-all-in-Above-clause-says t c =
     let p = err_from_is_err_and c.from_residual-in_err-all-in-Above.result c.from_residual-in_err-all-in-Above.ensures.1 in
-    rw (p.1, p.2) (fails c.in_err-all-in-Above.field-0.0 _ _ _ (walk.call_is (known c.args.context.now.heads.now c.args.context.now.unit) (plain_scope c.args.scope.now) c.args.tail c.args.lo (plain_wanted c.args.wanted) c.args.place c.args.name.now (plain_all c.args.arguments.now) c.in-Above.n (plain_head c.get-head-in-Above.result.now) (c.args.lo + 1) (walk.callee_above c.args.context.now.heads.now (known c.args.context.now.heads.now c.args.context.now.unit) c.args.name.now c.find_callee.result c.in-Above.n c.get-head-in-Above.result.now c.find_callee.ensures.found c.find_callee.ensures.one c.in-Above.is (got c.args.context.now.heads.now c.in-Above.n c.get-head-in-Above.result.now c.get-head-in-Above.ensures)) (omega arith)) c.in_err-all-in-Above.ensures)
+    rw (p.1, p.2) (fails c.in_err-all-in-Above.field-0.0 _ _ _ (walk.call_is (known c.args.context.now.heads.now c.args.context.now.unit) (plain_scope c.args.scope.now) c.args.tail c.args.lo (plain_wanted c.args.wanted) c.args.place c.args.name.now (plain_all c.args.arguments.now) c.in-Above.n (plain_head c.get-head-in-Above.result.now) (c.args.lo + 1) (walk.callee_above c.args.context.now.heads.now (known c.args.context.now.heads.now c.args.context.now.unit) c.args.name.now c.find_callee.result c.in-Above.n c.get-head-in-Above.result.now c.find_callee.ensures.found c.find_callee.ensures.one c.in-Above.is (got c.args.context.now.heads.now c.in-Above.n c.get-head-in-Above.result.now c.get-head-in-Above.ensures)) (omega arith)) c.in_err-all-in-Above.ensures.says)
 
-pub check_called-returns-in_ok-all-in-Above : goal.check_called-returns-in_ok-all-in-Above
-check_called-returns-in_ok-all-in-Above t c =
-    subst (λ (z : Result Typed Fault). Says c.settled_call.result z) (sym (goes _ _ _ (plain_all_typed c.in_ok-all-in-Above.all) (walk.call_is (known c.args.context.now.heads.now c.args.context.now.unit) (plain_scope c.args.scope.now) c.args.tail c.args.lo (plain_wanted c.args.wanted) c.args.place c.args.name.now (plain_all c.args.arguments.now) c.in-Above.n (plain_head c.get-head-in-Above.result.now) (c.args.lo + 1) (walk.callee_above c.args.context.now.heads.now (known c.args.context.now.heads.now c.args.context.now.unit) c.args.name.now c.find_callee.result c.in-Above.n c.get-head-in-Above.result.now c.find_callee.ensures.found c.find_callee.ensures.one c.in-Above.is (got c.args.context.now.heads.now c.in-Above.n c.get-head-in-Above.result.now c.get-head-in-Above.ensures)) (omega arith)) c.in_ok-all-in-Above.ensures)) c.settled_call.ensures
+pub check_called-returns-in_ok-all-in-Above-clause-says : goal.check_called-returns-in_ok-all-in-Above-clause-says
+check_called-returns-in_ok-all-in-Above-clause-says t c =
+    subst (λ (z : Result Typed Fault). Says c.settled_call.result z) (sym (goes _ _ _ (plain_all_typed c.in_ok-all-in-Above.all) (walk.call_is (known c.args.context.now.heads.now c.args.context.now.unit) (plain_scope c.args.scope.now) c.args.tail c.args.lo (plain_wanted c.args.wanted) c.args.place c.args.name.now (plain_all c.args.arguments.now) c.in-Above.n (plain_head c.get-head-in-Above.result.now) (c.args.lo + 1) (walk.callee_above c.args.context.now.heads.now (known c.args.context.now.heads.now c.args.context.now.unit) c.args.name.now c.find_callee.result c.in-Above.n c.get-head-in-Above.result.now c.find_callee.ensures.found c.find_callee.ensures.one c.in-Above.is (got c.args.context.now.heads.now c.in-Above.n c.get-head-in-Above.result.now c.get-head-in-Above.ensures)) (omega arith)) c.in_ok-all-in-Above.ensures.says)) c.settled_call.ensures.says
 
 pub check_called-overflow_add-first : goal.check_called-overflow_add-first
 check_called-overflow_add-first t c =
     omega (arith, c.requires.able.within)
 
-pub check_called-returns-then-not-tail : goal.check_called-returns-then-not-tail
-check_called-returns-then-not-tail t c =
+pub check_called-returns-then-not-tail-clause-says : goal.check_called-returns-then-not-tail-clause-says
+check_called-returns-then-not-tail-clause-says t c =
     walk.refused_is c.refused.result _ _ c.refused.ensures (walk.not_tail (known c.args.context.now.heads.now c.args.context.now.unit) (plain_scope c.args.scope.now) c.args.tail c.args.lo (plain_wanted c.args.wanted) c.args.place c.args.name.now (plain_all c.args.arguments.now) c.in-Member.n (walk.head_at c.args.context.now.heads.now c.in-Member.n) (walk.member_is c.args.context.now.heads.now (known c.args.context.now.heads.now c.args.context.now.unit) c.args.name.now c.find_callee.result c.in-Member.n c.find_callee.ensures.found c.find_callee.ensures.one c.in-Member.is) c.if-not-tail.true)
 
-pub check_called-returns-in-Unknown : goal.check_called-returns-in-Unknown
-check_called-returns-in-Unknown t c =
+pub check_called-returns-in-Unknown-clause-says : goal.check_called-returns-in-Unknown-clause-says
+check_called-returns-in-Unknown-clause-says t c =
     walk.refused_is c.refused-in-Unknown.result _ _ c.refused-in-Unknown.ensures (walk.unknown_is (known c.args.context.now.heads.now c.args.context.now.unit) (plain_scope c.args.scope.now) c.args.tail c.args.lo (plain_wanted c.args.wanted) c.args.place c.args.name.now (plain_all c.args.arguments.now) (sym c.find_callee.ensures.found ∙ ap (plain_callee c.args.context.now.heads.now) c.in-Unknown.is))
 
 pub check_counted-wrong_count-requires-clause-params : goal.check_counted-wrong_count-requires-clause-params
@@ -478,8 +481,8 @@ pub check_counted-wrong_count-requires-clause-arguments : goal.check_counted-wro
 check_counted-wrong_count-requires-clause-arguments t c =
     omega (arith, c.requires.able.room, walk.few_arguments (plain_all c.args.es.now), walk.count_all c.args.es.now)
 
-pub check_counted-returns-then-not-same : goal.check_counted-returns-then-not-same
-check_counted-returns-then-not-same t c =
+pub check_counted-returns-then-not-same-clause-says : goal.check_counted-returns-then-not-same-clause-says
+check_counted-returns-then-not-same-clause-says t c =
     walk.refused_is c.wrong_count.result _ _ c.wrong_count.ensures (ap (λ (b : Bool). unless (needs b (fault_with faults.E11 c.args.place (length (plain_slots c.args.head.now.params.items)) (count (plain_all c.args.es.now)))) (check_all (known c.args.context.now.heads.now c.args.context.now.unit) (plain_scope c.args.scope.now) c.args.lo (exactly (widths_of (plain_slots c.args.head.now.params.items))) (plain_all c.args.es.now))) (sym (c.are_as_many-same.ensures ∙ ap (λ (l : List code_slot.Slot). length (plain_slots l) == count (plain_all c.args.es.now)) c.deref.ensures.value) ∙ c.if-not-same.true) ∙ ap (λ (l : List code_slot.Slot). walk.refusal (fault_with faults.E11 c.args.place (length (plain_slots l)) (count (plain_all c.args.es.now)))) (sym c.deref-then-not-same.ensures.value))
 
 pub check_counted-check_arguments-requires : goal.check_counted-check_arguments-requires
@@ -490,10 +493,10 @@ check_counted-check_arguments-requires t c =
     let marked : AreMarked (known c.args.context.now.heads.now c.args.context.now.unit) c.args.es.now = c.requires.marked in
     search rules
 
-pub check_counted-returns : goal.check_counted-returns
-check_counted-returns t c =
+pub check_counted-returns-clause-says : goal.check_counted-returns-clause-says
+check_counted-returns-clause-says t c =
     subst (λ (z : Result TypedAll Fault). SaysAll c.check_arguments.result z) (sym (ap (λ (b : Bool). unless (needs b (fault_with faults.E11 c.args.place (length (plain_slots c.args.head.now.params.items)) (count (plain_all c.args.es.now)))) (check_all (known c.args.context.now.heads.now c.args.context.now.unit) (plain_scope c.args.scope.now) c.args.lo (exactly (widths_of (plain_slots c.args.head.now.params.items))) (plain_all c.args.es.now))) (sym (c.are_as_many-same.ensures ∙ ap (λ (l : List code_slot.Slot). length (plain_slots l) == count (plain_all c.args.es.now)) c.deref.ensures.value) ∙ c.if-not-same.false)))
-    (subst (λ (l : List code_slot.Slot). SaysAll c.check_arguments.result (check_all (known c.args.context.now.heads.now c.args.context.now.unit) (plain_scope c.args.scope.now) c.args.lo (exactly (widths_of (plain_slots l))) (plain_all c.args.es.now))) c.deref-2.ensures.value c.check_arguments.ensures)
+    (subst (λ (l : List code_slot.Slot). SaysAll c.check_arguments.result (check_all (known c.args.context.now.heads.now c.args.context.now.unit) (plain_scope c.args.scope.now) c.args.lo (exactly (widths_of (plain_slots l))) (plain_all c.args.es.now))) c.deref-2.ensures.value c.check_arguments.ensures.says)
 
 pub check_expression-check_choice-requires : goal.check_expression-check_choice-requires
 check_expression-check_choice-requires t c =
@@ -503,9 +506,9 @@ check_expression-check_choice-requires t c =
     let marked : IsMarked (known c.args.context.now.heads.now c.args.context.now.unit) c.deref.result.now × IsMarked (known c.args.context.now.heads.now c.args.context.now.unit) c.deref-in-Choice.result.now × IsMarked (known c.args.context.now.heads.now c.args.context.now.unit) c.deref-in-Choice-2.result.now = marks.in_choice (known c.args.context.now.heads.now c.args.context.now.unit) c.args.e.now c.requires.marked c.in-Choice.place c.in-Choice.field-1 c.in-Choice.condition c.in-Choice.first c.in-Choice.second _ _ _ c.in-Choice.is c.deref.ensures c.deref-in-Choice.ensures c.deref-in-Choice-2.ensures in
     search rules
 
-pub check_expression-returns-in-Choice : goal.check_expression-returns-in-Choice
-check_expression-returns-in-Choice t c =
-    subst (λ (x : Expression). Says c.check_choice.result (check (known c.args.context.now.heads.now c.args.context.now.unit) (plain_scope c.args.scope.now) c.args.tail c.args.lo (plain_wanted c.args.wanted) x)) (sym (walk.choice_same (plain c.args.e.now) c.in-Choice.place c.in-Choice.condition.value c.in-Choice.first.value c.in-Choice.second.value c.deref.result.now c.deref-in-Choice.result.now c.deref-in-Choice-2.result.now (ap plain c.in-Choice.is) c.deref.ensures c.deref-in-Choice.ensures c.deref-in-Choice-2.ensures)) c.check_choice.ensures
+pub check_expression-returns-in-Choice-clause-says : goal.check_expression-returns-in-Choice-clause-says
+check_expression-returns-in-Choice-clause-says t c =
+    subst (λ (x : Expression). Says c.check_choice.result (check (known c.args.context.now.heads.now c.args.context.now.unit) (plain_scope c.args.scope.now) c.args.tail c.args.lo (plain_wanted c.args.wanted) x)) (sym (walk.choice_same (plain c.args.e.now) c.in-Choice.place c.in-Choice.condition.value c.in-Choice.first.value c.in-Choice.second.value c.deref.result.now c.deref-in-Choice.result.now c.deref-in-Choice-2.result.now (ap plain c.in-Choice.is) c.deref.ensures c.deref-in-Choice.ensures c.deref-in-Choice-2.ensures)) c.check_choice.ensures.says
 
 pub check_expression-check_binding-requires : goal.check_expression-check_binding-requires
 check_expression-check_binding-requires t c =
@@ -515,9 +518,9 @@ check_expression-check_binding-requires t c =
     let marked : BoundMarked (known c.args.context.now.heads.now c.args.context.now.unit) c.deref-in-Binding.result.now × IsMarked (known c.args.context.now.heads.now c.args.context.now.unit) c.deref-in-Binding-2.result.now = marks.in_binding (known c.args.context.now.heads.now c.args.context.now.unit) c.args.e.now c.requires.marked c.in-Binding.place c.in-Binding.field-1 c.in-Binding.bound c.in-Binding.body _ _ c.in-Binding.is c.deref-in-Binding.ensures.value c.deref-in-Binding-2.ensures in
     search rules
 
-pub check_expression-returns-in-Binding : goal.check_expression-returns-in-Binding
-check_expression-returns-in-Binding t c =
-    subst (λ (x : Expression). Says c.check_binding.result (check (known c.args.context.now.heads.now c.args.context.now.unit) (plain_scope c.args.scope.now) c.args.tail c.args.lo (plain_wanted c.args.wanted) x)) (sym (walk.binding_same (plain c.args.e.now) c.in-Binding.place c.in-Binding.bound.items c.deref-in-Binding.result.now c.in-Binding.body.value c.deref-in-Binding-2.result.now (ap plain c.in-Binding.is ∙ plain-Binding c.in-Binding.place c.in-Binding.field-1 c.in-Binding.bound c.in-Binding.body) c.deref-in-Binding.ensures.value c.deref-in-Binding-2.ensures)) c.check_binding.ensures
+pub check_expression-returns-in-Binding-clause-says : goal.check_expression-returns-in-Binding-clause-says
+check_expression-returns-in-Binding-clause-says t c =
+    subst (λ (x : Expression). Says c.check_binding.result (check (known c.args.context.now.heads.now c.args.context.now.unit) (plain_scope c.args.scope.now) c.args.tail c.args.lo (plain_wanted c.args.wanted) x)) (sym (walk.binding_same (plain c.args.e.now) c.in-Binding.place c.in-Binding.bound.items c.deref-in-Binding.result.now c.in-Binding.body.value c.deref-in-Binding-2.result.now (ap plain c.in-Binding.is ∙ plain-Binding c.in-Binding.place c.in-Binding.field-1 c.in-Binding.bound c.in-Binding.body) c.deref-in-Binding.ensures.value c.deref-in-Binding-2.ensures)) c.check_binding.ensures.says
 
 pub check_expression-check_applied-requires : goal.check_expression-check_applied-requires
 check_expression-check_applied-requires t c =
@@ -527,9 +530,9 @@ check_expression-check_applied-requires t c =
     let marked : AreMarked (known c.args.context.now.heads.now c.args.context.now.unit) c.deref-in-Applied.result.now = marks.in_applied (known c.args.context.now.heads.now c.args.context.now.unit) c.args.e.now c.requires.marked c.in-Applied.place c.in-Applied.field-1 c.in-Applied.operator c.in-Applied.operands _ c.in-Applied.is c.deref-in-Applied.ensures.value in
     search rules
 
-pub check_expression-returns-in-Applied : goal.check_expression-returns-in-Applied
-check_expression-returns-in-Applied t c =
-    subst (λ (x : Expression). Says c.check_applied.result (check (known c.args.context.now.heads.now c.args.context.now.unit) (plain_scope c.args.scope.now) c.args.tail c.args.lo (plain_wanted c.args.wanted) x)) (sym (ap plain c.in-Applied.is ∙ plain-Applied c.in-Applied.place c.in-Applied.field-1 c.in-Applied.operator c.in-Applied.operands ∙ sym (ap (λ (l : List code.Expression). Applied c.in-Applied.place c.in-Applied.operator (plain_all l)) c.deref-in-Applied.ensures.value))) (c.check_applied.ensures c.args.tail)
+pub check_expression-returns-in-Applied-clause-says : goal.check_expression-returns-in-Applied-clause-says
+check_expression-returns-in-Applied-clause-says t c =
+    subst (λ (x : Expression). Says c.check_applied.result (check (known c.args.context.now.heads.now c.args.context.now.unit) (plain_scope c.args.scope.now) c.args.tail c.args.lo (plain_wanted c.args.wanted) x)) (sym (ap plain c.in-Applied.is ∙ plain-Applied c.in-Applied.place c.in-Applied.field-1 c.in-Applied.operator c.in-Applied.operands ∙ sym (ap (λ (l : List code.Expression). Applied c.in-Applied.place c.in-Applied.operator (plain_all l)) c.deref-in-Applied.ensures.value))) (c.check_applied.ensures.says c.args.tail)
 
 pub check_expression-check_called-requires : goal.check_expression-check_called-requires
 check_expression-check_called-requires t c =
@@ -539,9 +542,9 @@ check_expression-check_called-requires t c =
     let marked : AreMarked (known c.args.context.now.heads.now c.args.context.now.unit) c.deref-in-Called.result.now = marks.in_called (known c.args.context.now.heads.now c.args.context.now.unit) c.args.e.now c.requires.marked c.in-Called.place c.in-Called.field-1 c.in-Called.name c.in-Called.arguments _ c.in-Called.is c.deref-in-Called.ensures.value in
     search rules
 
-pub check_expression-returns-in-Called : goal.check_expression-returns-in-Called
-check_expression-returns-in-Called t c =
-    subst (λ (x : Expression). Says c.check_called.result (check (known c.args.context.now.heads.now c.args.context.now.unit) (plain_scope c.args.scope.now) c.args.tail c.args.lo (plain_wanted c.args.wanted) x)) (sym (ap plain c.in-Called.is ∙ plain-Called c.in-Called.place c.in-Called.field-1 c.in-Called.name c.in-Called.arguments ∙ sym (ap (λ (l : List code.Expression). Called c.in-Called.place c.in-Called.name (plain_all l)) c.deref-in-Called.ensures.value))) c.check_called.ensures
+pub check_expression-returns-in-Called-clause-says : goal.check_expression-returns-in-Called-clause-says
+check_expression-returns-in-Called-clause-says t c =
+    subst (λ (x : Expression). Says c.check_called.result (check (known c.args.context.now.heads.now c.args.context.now.unit) (plain_scope c.args.scope.now) c.args.tail c.args.lo (plain_wanted c.args.wanted) x)) (sym (ap plain c.in-Called.is ∙ plain-Called c.in-Called.place c.in-Called.field-1 c.in-Called.name c.in-Called.arguments ∙ sym (ap (λ (l : List code.Expression). Called c.in-Called.place c.in-Called.name (plain_all l)) c.deref-in-Called.ensures.value))) c.check_called.ensures.says
 
 pub check_expression-typed_sized-requires : goal.check_expression-typed_sized-requires
 check_expression-typed_sized-requires t c =
@@ -551,3 +554,34 @@ check_expression-typed_sized-requires t c =
 pub check_expression-typed_variable-requires : goal.check_expression-typed_variable-requires
 check_expression-typed_variable-requires t c =
     omega (arith, c.requires.able.room)
+
+pub check_arguments-returns-in_default-clause-slots : goal.check_arguments-returns-in_default-clause-slots
+check_arguments-returns-in_default-clause-slots t c = c.none_typed.ensures.slots (length (plain_scope c.args.scope.now))
+
+pub check_arguments-returns-in_default-split_first-clause-slots : goal.check_arguments-returns-in_default-split_first-clause-slots
+check_arguments-returns-in_default-split_first-clause-slots t c = c.none_typed-in_default-split_first.ensures.slots (length (plain_scope c.args.scope.now))
+
+pub check_bound-returns-in_default-clause-slots : goal.check_bound-returns-in_default-clause-slots
+check_bound-returns-in_default-clause-slots t c = c.none_typed.ensures.slots (length (plain_scope c.args.scope.now))
+
+pub check_operands-returns-in_default-clause-slots : goal.check_operands-returns-in_default-clause-slots
+check_operands-returns-in_default-clause-slots t c = c.none_typed.ensures.slots (length (plain_scope c.args.scope.now))
+
+pub check_alike-returns-in_default-clause-slots : goal.check_alike-returns-in_default-clause-slots
+check_alike-returns-in_default-clause-slots t c = IfOk-weaker c.none_alike.result _ _ (λ x h. h (length (plain_scope c.args.scope.now))) c.none_alike.ensures.slots
+
+pub check_branches-returns-then-later-clause-slots : goal.check_branches-returns-then-later-clause-slots
+check_branches-returns-then-later-clause-slots t c = IfOk-weaker c.make_if.result _ _ (λ x h. h (length (plain_scope c.args.scope.now)) c.requires.slots c.in_ok-y.ensures.slots c.in_ok-z.ensures.slots) c.make_if.ensures.slots
+
+pub check_branches-returns-clause-slots : goal.check_branches-returns-clause-slots
+check_branches-returns-clause-slots t c = IfOk-weaker c.make_if-2.result _ _ (λ x h. h (length (plain_scope c.args.scope.now)) c.requires.slots c.in_ok-y-2.ensures.slots c.in_ok-z-2.ensures.slots) c.make_if-2.ensures.slots
+
+pub check_binding-returns-clause-slots : goal.check_binding-returns-clause-slots
+check_binding-returns-clause-slots t c =
+    let own : plain_slots c.deref-2.result.now ≡ slots (plain_bindings c.args.bound.now) c.in_ok-all.all.widths.items = ap (λ (l : List code_slot.Slot). plain_slots l) c.deref-2.ensures.value ∙ c.in_ok-own.ensures ∙ ap (λ (ws : List ℕ). slots (plain_bindings c.args.bound.now) ws) c.deref.ensures.value in
+    let sees = body_sees (known c.args.context.now.heads.now c.args.context.now.unit) (plain_scope c.args.scope.now) (plain_slots c.deref-2.result.now) c.args.lo (plain_bindings c.args.bound.now) (plain_all_typed c.in_ok-all.all) c.in_ok-all.all.terms.items c.in_ok-all.ensures.says own refl in
+    IfOk-weaker c.make_let.result _ _
+    (λ x h. subst (λ (n : ℕ). AllByRecursion (HasSlots n) c.in_ok-all.all.terms.items → HasSlots (n + length c.in_ok-all.all.terms.items) c.in_ok-y.y.term → HasSlots n x.term) c.count.ensures h
+    c.in_ok-all.ensures.slots
+    (subst (λ (n : ℕ). HasSlots n c.in_ok-y.y.term) sees c.in_ok-y.ensures.slots))
+    c.make_let.ensures.slots
