@@ -13,3 +13,4 @@ mod PartLemmas
 mod StackLemmas
 mod DismantleLemmas
 mod TestLemmas
+mod DepthLemmas

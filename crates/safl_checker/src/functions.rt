@@ -1,23 +1,27 @@
 //! The functions of a program, in the order of the text.
 
-ghost use Rattle.std.specs.Prelude.{◌≡◌, [], None, IfOk};
+ghost use Rattle.std.specs.Prelude.{◌≡◌, ◌≤◌, [], None, IfOk, OnOk};
 ghost use Rattle.std.specs.List.{All};
 ghost use Rattle.safl_check.specs.Checked.{BodyHasSlots};
-ghost use Rattle.safl_tree.specs.Shown.{shows_def, shows_defs};
+ghost use Rattle.safl_tree.specs.Shown.{shows, shows_def, shows_defs};
+ghost use Rattle.safl_tree.specs.Tree.{depth};
 ghost use Rattle.safl_tree.specs.Printable.{IsFormedDefinition, IsFormedProgram};
 ghost use Rattle.safl_typing.specs.Heads.{heads, params_of};
 ghost use Rattle.safl_typing.specs.Marks.{IsMarked};
 ghost use Rattle.safl_typing.specs.MayWalk.{MayCheck};
+ghost use Rattle.safl_typing.specs.Rewriting.{rewritten};
 ghost use Rattle.safl_typing.specs.Plain.{plain};
 ghost use Rattle.safl_typing.specs.PlainHeads.{plain_heads, plain_slots, known};
 ghost use Rattle.safl_typing.specs.Walk.{limits, functions_from};
 ghost use Rattle.safl_checker.specs.Answers.{SaysFunctions};
 ghost use Rattle.safl_checker.specs.Functions.{SaysFunction, checked_function};
 
+use crate::depth::is_within;
 use crate::form::function_of;
 use crate::groups::find_group_fault;
 use safl_check::Function;
 use safl_tree::Def;
+use safl_tree::tree::Expr;
 use safl_typing::context::Context;
 use safl_typing::expression::Expression;
 use safl_typing::heads::{Head, Heads};
@@ -26,7 +30,11 @@ use safl_typing::rewrite::rewrite;
 use safl_typing::scope::Scope;
 use safl_typing::typed::{CheckErr, Wanted};
 use safl_typing::walk::check_expression;
+use safl_word::NoMemory;
 use std::alloc::Global;
+
+// How deep a body may be. A source's are at most 1,100 deep, by a law on what keeps the levels.
+const LEVELS_MAX: u32 = 2_000;
 
 /// The checked functions of definitions that pass no limit, or the first fault of a head or a body.
 pub fn check_functions(
@@ -48,12 +56,30 @@ pub fn check_functions(
         }
         let def = &defs[number];
         let head = all_heads.get(number);
-        let body = rewrite(alloc, all_heads, head.unit, &def.body)?;
+        let body = rewritten_body(alloc, all_heads, head.unit, &def.body)?;
         let function = check_function(alloc, all_heads, def, head, first_site, &body)?;
         functions.push(function)?;
         first_site = add_sites(first_site, &body);
     }
     Ok(functions)
+}
+
+// A body in which each `case` is rewritten. What follows recurses as deep as the body is, so that a body for which the
+// stack is taken to be too small is answered as want of memory.
+fn rewritten_body(
+    alloc: Global,
+    heads: &Heads,
+    unit: u32,
+    body: &Expr,
+) -> Result<Expression, NoMemory>
+    ensures shallow { OnOk result (depth (shows body.now) ≤ 2000) }
+    ensures rewritten { IfOk result (λ x. plain x ≡ rewritten (shows body.now)) }
+    ensures marked { IfOk result (IsMarked (known heads.now unit)) }
+{
+    if !is_within(body, LEVELS_MAX) {
+        return Err(NoMemory);
+    }
+    rewrite(alloc, heads, unit, body)
 }
 
 // The function of a definition with its own head, whose sites are numbered from `first_site` on.

@@ -1,6 +1,7 @@
 //! The checker of whole programs: from a tree to a checked program, or to its first fault.
 #![tactic(auto)]
 
+mod depth;
 mod dismantle;
 mod form;
 mod functions;

@@ -26,7 +26,7 @@ use std::alloc::Global;
 
 /// The checked program of a tree: functions numbered from 0 and sites from 1 in the order of the text. Refused is the
 /// first fault of E05 to E16 in the order of checking; there is one exactly where the program has no numbered form.
-/// NoMemory is answered too for a body of more than 2,000 levels; a source's have at most 1,100.
+/// NoMemory is answered too for a body that is more than 2,000 deep; a source's are at most 1,100 deep.
 pub fn check(alloc: Global, program: Program) -> Result<Checked, CheckErr>
     requires { IsFormedProgram (shows_program program) }
     ensures form { IfOk result (λ c. IsFormOf (shows_program program) (shown c)) }

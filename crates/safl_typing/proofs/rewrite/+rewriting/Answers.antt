@@ -11,26 +11,26 @@ use Rattle.safl_typing.proofs.MarkLemmas.{marked_push, bound_push}
 use Rattle.safl_typing.proofs.RewriteLemmas.{let_rewrites, case_rewrites, op_rewrites, call_rewrites, all_push, binds_push, arms_front, arms_whole}
 use Rattle.safl_typing.proofs.rewrite.+rewriting.Goals as goal
 
-pub rewrite_within-returns-in_ok-body-in-Let-clause-rewritten : goal.rewrite_within-returns-in_ok-body-in-Let-clause-rewritten
-rewrite_within-returns-in_ok-body-in-Let-clause-rewritten t c =
+pub rewrite-returns-in_ok-body-in-Let-clause-rewritten : goal.rewrite-returns-in_ok-body-in-Let-clause-rewritten
+rewrite-returns-in_ok-body-in-Let-clause-rewritten t c =
     let e = let_rewrites c.args.e.now.node c.args.e.now.place c.in-Let.binds c.in-Let.body _ _ _ _ c.in-Let.is c.deref-in-Let.ensures.value c.deref-in-Let-2.ensures c.in_ok-bound-in-Let.ensures.rewritten c.in_ok-body-in-Let.ensures.rewritten in
     ok_plain c.bind.result _ _ c.bind.ensures.made e
 
-pub rewrite_within-returns-in_ok-body-in-Case-clause-rewritten : goal.rewrite_within-returns-in_ok-body-in-Case-clause-rewritten
-rewrite_within-returns-in_ok-body-in-Case-clause-rewritten t c =
+pub rewrite-returns-in_ok-body-in-Case-clause-rewritten : goal.rewrite-returns-in_ok-body-in-Case-clause-rewritten
+rewrite-returns-in_ok-body-in-Case-clause-rewritten t c =
     let other : plain c.in_ok-other-in-Case.other ≡ rewritten (shows c.in-Case.other.value) = c.in_ok-other-in-Case.ensures.rewritten ∙ ap (λ (z : Expr). rewritten (shows z)) c.deref-in-Case-2.ensures in
     let arms = c.in_ok-body-in-Case.ensures.rewritten (shows c.in-Case.other.value) other in
     let e = case_rewrites c.args.e.now.node c.args.e.now.place c.in-Case.looked_at c.in-Case.arms c.in-Case.other c.in_ok-value-in-Case.value c.in_ok-body-in-Case.body _ _ c.in-Case.is c.deref-in-Case-3.ensures.value c.deref-in-Case.ensures c.in_ok-value-in-Case.ensures.rewritten arms in
     ok_plain c.scrutinise.result _ _ c.scrutinise.ensures.made e
 
-pub rewrite_within-returns-in_ok-operands-in-Op-clause-rewritten : goal.rewrite_within-returns-in_ok-operands-in-Op-clause-rewritten
-rewrite_within-returns-in_ok-operands-in-Op-clause-rewritten t c = c.operate.ensures.made ∙ op_rewrites c.args.e.now.node c.args.e.now.place c.in-Op.operator c.in-Op.operands c.in_ok-operands-in-Op.operands _ c.in-Op.is c.deref-in-Op.ensures.value c.in_ok-operands-in-Op.ensures.rewritten
+pub rewrite-returns-in_ok-operands-in-Op-clause-rewritten : goal.rewrite-returns-in_ok-operands-in-Op-clause-rewritten
+rewrite-returns-in_ok-operands-in-Op-clause-rewritten t c = c.operate.ensures.made ∙ op_rewrites c.args.e.now.node c.args.e.now.place c.in-Op.operator c.in-Op.operands c.in_ok-operands-in-Op.operands _ c.in-Op.is c.deref-in-Op.ensures.value c.in_ok-operands-in-Op.ensures.rewritten
 
-pub rewrite_within-returns-in_ok-copied-in-Call-clause-rewritten : goal.rewrite_within-returns-in_ok-copied-in-Call-clause-rewritten
-rewrite_within-returns-in_ok-copied-in-Call-clause-rewritten t c = c.call.ensures.made ∙ call_rewrites c.args.e.now.node c.args.e.now.place c.in-Call.name c.in_ok-copied-in-Call.field-0 c.in-Call.arguments c.in_ok-arguments-in-Call.arguments _ c.in-Call.is c.in_ok-copied-in-Call.ensures c.deref-in-Call.ensures.value c.in_ok-arguments-in-Call.ensures.rewritten
+pub rewrite-returns-in_ok-copied-in-Call-clause-rewritten : goal.rewrite-returns-in_ok-copied-in-Call-clause-rewritten
+rewrite-returns-in_ok-copied-in-Call-clause-rewritten t c = c.call.ensures.made ∙ call_rewrites c.args.e.now.node c.args.e.now.place c.in-Call.name c.in_ok-copied-in-Call.field-0 c.in-Call.arguments c.in_ok-arguments-in-Call.arguments _ c.in-Call.is c.in_ok-copied-in-Call.ensures c.deref-in-Call.ensures.value c.in_ok-arguments-in-Call.ensures.rewritten
 
-pub rewrite_within-returns-in_ok-copied-in-Call-clause-marked : goal.rewrite_within-returns-in_ok-copied-in-Call-clause-marked
-rewrite_within-returns-in_ok-copied-in-Call-clause-marked t c =
+pub rewrite-returns-in_ok-copied-in-Call-clause-marked : goal.rewrite-returns-in_ok-copied-in-Call-clause-marked
+rewrite-returns-in_ok-copied-in-Call-clause-marked t c =
     let one = c.sites_of_callee-own.ensures ∙ sym (site_plain c.args.heads.now c.find_callee.result c.find_callee.ensures.one) ∙ ap is_site c.find_callee.ensures.found ∙ ap (λ (x : List _). is_site (callee (known c.args.heads.now c.args.unit) x)) (sym c.in_ok-copied-in-Call.ensures) in
     c.call.ensures.marked (known c.args.heads.now c.args.unit) one c.in_ok-arguments-in-Call.ensures.marked
 
