@@ -8,7 +8,7 @@ use std::alloc::Global;
 use std::test::Fail;
 
 // A source that is accepted, with its numbers of functions and call sites.
-static ACCEPTED: [(&[u8], &[u8]); 34] = [
+static ACCEPTED: [(&[u8], &[u8]); 35] = [
     (b"fun main():8 = 7", b"functions 1\nsites 0\n"),
     (b"fun main():8 = 255", b"functions 1\nsites 0\n"),
     (b"fun main():8 = 8'd255", b"functions 1\nsites 0\n"),
@@ -50,6 +50,10 @@ static ACCEPTED: [(&[u8], &[u8]); 34] = [
     (
         b"fun main(a:8):8 = let x = a in let x:1 = x == 0 in if x then 1 else 2",
         b"functions 1\nsites 0\n",
+    ),
+    (
+        b"fun f(x:8):8 = x + 1\nfun main(a:8):8 = f(a) + f(a + 1)",
+        b"functions 2\nsites 2\n",
     ),
     (
         b"fun f(f:8):8 = f fun main(main:8):8 = f(main)",
@@ -106,7 +110,11 @@ static ACCEPTED: [(&[u8], &[u8]); 34] = [
 ];
 
 // Sources that are refused for names and slices, with their lines.
-static NAMES: [(&[u8], &[u8]); 23] = [
+static NAMES: [(&[u8], &[u8]); 24] = [
+    (
+        b"fun main(x:129):8 = 1",
+        b"p:1:12: E05 bad width or range\n",
+    ),
     (
         b"fun main(a:8):8 = bits(a, 8, 1)",
         b"p:1:19: E05 bad width or range\n",
