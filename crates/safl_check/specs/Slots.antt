@@ -10,8 +10,8 @@ count plain.Nil = 0
 count (plain.Cons t ts) = suc (count ts)
 
 unfoldable mutual
-  -- Each let names the slot of its first binding: the first free one, where the parts of the term see n slots. Its
-  -- bindings see n slots as well, and its body theirs too
+  -- In a term that sees n slots, each let names slot n, that of its first binding. Its bindings see n slots too, and its
+  -- body those of the bindings as well. All other parts see what their term sees
   pub HasSlots : ℕ → Term → Type 0
   HasSlots n (Const w) = Unit {0}
   HasSlots n (Var i) = Unit {0}

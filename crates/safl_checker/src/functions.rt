@@ -64,8 +64,8 @@ pub fn check_functions(
     Ok(functions)
 }
 
-// A body in which each `case` is rewritten. What follows recurses as deep as the body is, so that a body for which the
-// stack is taken to be too small is answered as want of memory.
+// A body in which each `case` is rewritten. What follows recurses as deep as the body is: one for which the stack is
+// taken to be too small is answered as want of memory.
 fn rewritten_body(
     alloc: Global,
     heads: &Heads,

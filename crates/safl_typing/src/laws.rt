@@ -17,8 +17,8 @@ pub fn one_form_law()
     ensures { OneForm }
 {}
 
-/// A program's form is well formed, within the limits, and in the order of the text: what is asked of every checked
-/// program holds of it.
+/// A program with a form, whose lets name their slots, is well formed, within the limits, and in the order of the text:
+/// what is asked of every checked program holds of it.
 pub fn forms_are_checked_law()
     ensures { FormsAreChecked }
 {}
