@@ -2,7 +2,7 @@
 """Times the program on sources of growing size: `build` and `sim`, and Icarus Verilog on the same files where it is there.
 It prints signals, bytes, and nodes and cycles a second of the processor. Then it times the plan of nearly 4,000 call sites
 alone.
-The programs are crates/safl/out/safl and crates/safl_plan_speed/out/safl_plan_speed, or SAFL and PLAN name them; one
+The programs are crates/safl/out/safl and crates/safl_bench_plan/out/safl_bench_plan, or SAFL and PLAN name them; one
 that isn't built is skipped."""
 import os
 import re
@@ -17,7 +17,7 @@ from bench import bench
 
 CRATES = os.path.join(os.path.dirname(os.path.abspath(__file__)), "../crates")
 PROGRAM = os.environ.get("SAFL", os.path.join(CRATES, "safl/out/safl"))
-PLAN = os.environ.get("PLAN", os.path.join(CRATES, "safl_plan_speed/out/safl_plan_speed"))
+PLAN = os.environ.get("PLAN", os.path.join(CRATES, "safl_bench_plan/out/safl_bench_plan"))
 CYCLES = 5000
 ARGS = ["9999", "3", "200"]
 

@@ -1,8 +1,8 @@
 #!/bin/bash
-# Says how fast the simulator is on the nets of safl_speed, in steps a second (a step is one wire in one cycle), and how many
-# bytes a signal of the largest takes. Skipped where the program isn't built (in crates/safl_speed: rt run, or name it in SPEED).
+# Says how fast the simulator is on the nets of safl_bench_sim, in steps a second (a step is one wire in one cycle), and how many
+# bytes a signal of the largest takes. Skipped where the program isn't built (in crates/safl_bench_sim: rt run, or name it in SPEED).
 cd "$(dirname "$0")/.." || exit 1
-program=${SPEED:-crates/safl_speed/out/safl_speed}
+program=${SPEED:-crates/safl_bench_sim/out/safl_bench_sim}
 if [ ! -x "$program" ]; then
     echo "speed_nets: skipped, as there is no program $program"
     exit 0
@@ -11,7 +11,7 @@ if ! command -v python3 >/dev/null; then
     echo "speed_nets: skipped, as there is no python3"
     exit 0
 fi
-python3 - "$(realpath "$program")" "$(realpath crates/safl_speed/stdout)" <<'PYTHON'
+python3 - "$(realpath "$program")" "$(realpath crates/safl_bench_sim/stdout)" <<'PYTHON'
 import os, re, sys, tempfile, time
 
 program, expected = sys.argv[1], open(sys.argv[2]).read().splitlines(keepends=True)

@@ -17,7 +17,7 @@ fn main(rt: HostRuntime) -> ExitCode {
     let mut out = StdSink::new(rt.stdout());
     let mut err = StdSink::new(rt.stderr());
     let status = run(rt.alloc(), &words, &mut shelf, &mut out, &mut err);
-    ExitCode::from(status as u8)
+    ExitCode::from(status.number())
 }
 
 // The words behind the program's name.

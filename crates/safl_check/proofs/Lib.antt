@@ -1,13 +1,14 @@
-pub mod Shows
-pub mod Unique
-pub mod Places
-pub mod Fuelled
-pub mod Bridge
-pub mod Once
-pub mod Picking
-pub mod Order
-pub mod Widths
-pub mod Values
-pub mod TreeLemmas
-pub mod SlotLemmas
-pub mod CheckedLemmas
+mod Remaining
+mod Walked
+mod PrepareLemmas
+mod FaultLemmas
+mod LimitLemmas
+mod GroupLemmas
+mod NumberedLemmas
+mod FormLemmas
+mod SiteLemmas
+mod OutcomeLemmas
+mod NamesakeLemmas
+mod PartLemmas
+mod StackLemmas
+mod TestLemmas

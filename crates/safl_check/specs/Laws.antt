@@ -1,19 +1,23 @@
--- What is claimed of the meaning of programs.
-use Rattle.std.specs.Prelude.{◌≡◌, ℕ, List, ◌↔◌}
-use Rattle.safl_word.specs.Words.{Word, IsWord}
-use Rattle.safl_check.specs.Program.{Program}
-use Rattle.safl_check.specs.Meaning.{Main, main_cost}
-use Rattle.safl_check.specs.Fuel.{GivesInCalls}
-use Rattle.safl_check.specs.WellFormed.{AreWordsOf}
+-- What is claimed of forms.
+use Rattle.std.specs.Prelude.{◌≡◌}
+use Rattle.safl_term.specs.Checked.{CheckedProgram, program_of, name_of, param_names}
+use Rattle.safl_typing.specs.Forms.{shown}
+use Rattle.safl_check.specs.Numbered.{program_in, name_in, param_names_in}
 
--- the derivations and the function are one meaning
-abbrev pub OneAnswer : Program → Type 0
-OneAnswer C = (args : List Word) (v : Word) (n : ℕ) → GivesInCalls C args v n ↔ ((d : Main C args v) × (main_cost C args d ≡ n))
+-- one form, one program in numbers and the same names
+pub record IsSameProgram (c d : CheckedProgram) : Type 0 where
+  pub program : program_of c ≡ program_of d
+  pub names : name_of c ≡ name_of d
+  pub params : param_names c ≡ param_names d
 
--- main gives at most one word, in one number of calls
-abbrev pub OnePair : Program → Type 0
-OnePair C = (args : List Word) (v w : Word) (m n : ℕ) → GivesInCalls C args v m → GivesInCalls C args w n → (v ≡ w) × (m ≡ n)
+abbrev pub FormsTellPrograms : Type 0
+FormsTellPrograms = (c d : CheckedProgram) → shown c ≡ shown d → IsSameProgram c d
 
--- on words of main's widths it gives a word of main's width
-abbrev pub GivesWords : Program → Type 0
-GivesWords C = (args : List Word) (v : Word) → AreWordsOf args (C.params C.main) → Main C args v → IsWord v × (v.width ≡ C.result C.main)
+-- a checked program is in numbers what its form is, with the same names
+pub record IsNumbered (c : CheckedProgram) : Type 0 where
+  pub program : program_of c ≡ program_in (shown c)
+  pub names : name_of c ≡ name_in (shown c)
+  pub params : param_names c ≡ param_names_in (shown c)
+
+abbrev pub FormsAreNumbered : Type 0
+FormsAreNumbered = (c : CheckedProgram) → IsNumbered c

@@ -1,12 +1,6 @@
-pub mod Terms
-pub mod Tree
-pub mod Slots
-pub mod Program
-pub mod Readiness
-pub mod Meaning
-pub mod Fuel
-pub mod Standing
-pub mod WellFormed
+pub mod Groups
+pub mod Answers
+pub mod Numbered
 pub mod Laws
-pub mod Sizes
-pub mod Checked
+pub mod Functions
+pub mod Parts

@@ -1,17 +1,13 @@
-//! Laws of programs and their meaning, over the definitions alone.
+//! What the numbered form of a program tells.
 
-ghost use Rattle.safl_check.specs.Laws.{GivesWords, OneAnswer, OnePair};
-ghost use Rattle.safl_check.specs.Program.{Program};
-ghost use Rattle.safl_check.specs.WellFormed.{IsWellFormed};
+ghost use Rattle.safl_check.specs.Laws.{FormsTellPrograms, FormsAreNumbered};
 
-/// The derivations and the function of a number of calls are one meaning, and by it main gives at most one
-/// word, in one number of calls.
-pub fn meaning_law()
-    ensures same { (C : Program) → OneAnswer C }
-    ensures pair { (C : Program) → OnePair C }
+/// Two checked programs that show one form are one program in numbers, with the same names.
+pub fn forms_tell_programs_law()
+    ensures { FormsTellPrograms }
 {}
 
-/// On words of main's widths a well-formed program gives a word of main's width.
-pub fn values_law()
-    ensures { (C : Program) → IsWellFormed C → GivesWords C }
+/// A checked program is in numbers the program that its form is, with the same names.
+pub fn forms_are_numbered_law()
+    ensures { FormsAreNumbered }
 {}

@@ -1,9 +1,19 @@
-//! Checked programs: their terms, their meaning, and what makes a program well formed.
+//! The checker of whole programs: from a tree to a checked program, or to its first fault.
 #![tactic(auto)]
 
-pub mod checked;
+mod form;
+mod functions;
+mod groups;
+mod heads;
 pub mod laws;
-pub mod term;
+mod limits;
+mod nodes;
+pub mod program;
+mod sites;
 
-pub use crate::checked::{Checked, Function, Parameter, Site};
-pub use crate::term::Term;
+pub use crate::program::check;
+pub use safl_term::{Checked, Function, Parameter, Site, Term};
+pub use safl_typing::typed::CheckErr;
+
+#[cfg(test)]
+mod tests;

@@ -1,5 +1,11 @@
-pub mod Machine
-pub mod Picks
-pub mod Starts
-pub mod Laws
-pub mod Interference
+pub mod Stages
+pub mod Evaluating
+pub mod Modes
+pub mod Knowing
+pub mod Shown
+pub mod Outcomes
+pub mod Testing
+pub mod Listing
+pub mod Picking
+pub mod Walking
+pub mod States

@@ -1,5 +1,5 @@
 -- What a new temporary adds to a net.
-use Rattle.std.proofs.Common.{◌≡◌, ℕ, List, [], ◌∷◌, ◌++◌, true, false, subst, Some, Bool, ◌&&◌, not, cond, Result, Ok, Err, IfOk, OnOk, OnErr, Option, length, take, slice_get, slice_index_or, suc, zero, ◌+◌, ◌<◌, refl, ap, sym, ◌∙◌, add-one, arith}
+use Rattle.std.proofs.Common.{◌≡◌, ℕ, List, [], ◌∷◌, ◌++◌, true, false, subst, Some, Bool, not, cond, Result, Ok, Err, IfOk, OnOk, OnErr, length, take, slice_get, slice_index_or, suc, zero, ◌+◌, ◌<◌, refl, ap, sym, ◌∙◌, add-one, arith}
 use Rattle.safl_net.specs.declared.cell.Sig.{Sig}
 use Rattle.safl_net.specs.declared.cell.Op.{Op}
 use Rattle.safl_net.specs.Netlist.{Netlist}
@@ -11,8 +11,7 @@ use Rattle.safl_net.proofs.Growth.{Made, made, sized_gives}
 use Rattle.safl_net.proofs.Settling.{settles_temp, settles_same, steady_new}
 use Rattle.safl_word.specs.Words.{Word}
 use Rattle.safl_net.proofs.Growth.{wired_before}
-use Rattle.safl_lower.specs.Bits.{on}
-use Rattle.safl_gates.specs.Tables.{on_in}
+use Rattle.safl_net.specs.Bits.{on}
 use Rattle.safl_gates.specs.Sources.{IsSource, AreSources, Builds}
 
 settles_made : {E : Type 0} (n m : Netlist) (r : Result Sig E) (op : Op) (xs : List Sig) → AreSteady n xs → OnOk r (m ≡ with_signal n (temporary n op xs)) → OnErr r (m ≡ n) → Settles n m
@@ -46,10 +45,11 @@ three_sources p q s = record { widths = (p.width, (q.width, (s.width, tt))); ste
 pub no_sources : (n : Netlist) → AreSources n [] []
 no_sources n = record { widths = tt; steady = tt }
 
-pub and_none_value : {E : Type 0} (k m : Netlist) (r : Result Sig E) (a other y : Sig) (b : Option Sig) → b ≡ Some y → Builds k m 1 → ((v : Val) → Wired k v → on v other ≡ not (on v y))
-    → IfOk r (λ s. (v : Val) → Wired m v → on v s ≡ (on v a && on v other)) → IfOk r (λ s. (v : Val) → Wired m v → on v s ≡ (on v a && not (on_in v b)))
-and_none_value k m (Ok s) a other y b e g f h = λ v w. h v w ∙ ap (λ (x : Bool). on v a && x) (f v (wired_before g.grows w)) ∙ ap (λ (o : Option Sig). on v a && not (on_in v o)) (sym e)
-and_none_value k m (Err e') a other y b e g f h = tt
+-- a gate of one bit and of another that is turned
+pub with_not : {E : Type 0} (f : Bool → Bool → Bool) (n m : Netlist) (r : Result Sig E) (a b turned : Sig) → Builds n m 1 → ((v : Val) → Wired n v → on v turned ≡ not (on v b))
+    → IfOk r (λ s. (v : Val) → Wired m v → on v s ≡ f (on v a) (on v turned)) → IfOk r (λ s. (v : Val) → Wired m v → on v s ≡ f (on v a) (not (on v b)))
+with_not f n m (Ok s) a b turned g t h = λ v w. h v w ∙ ap (f (on v a)) (t v (wired_before g.grows w))
+with_not f n m (Err e) a b turned g t h = tt
 
 -- ---- choosing between lists, one by one
 

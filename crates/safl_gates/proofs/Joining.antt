@@ -3,13 +3,11 @@ use Rattle.std.proofs.Common.{◌≡◌, ℕ, zero, suc, ◌<◌, List, [], ◌�
 use Rattle.std.proofs.Math.Dec.{eqb-suc-zero, eqb-zero-suc, eqb-suc-suc}
 use Rattle.std.proofs.lemmas.Bool.{eqb-true}
 use Rattle.safl_word.specs.Words.{Word}
-use Rattle.safl_check.specs.Readiness.{or_else}
+use Rattle.std.specs.Option.{option_or, unwrap_or}
 use Rattle.safl_net.specs.declared.cell.Sig.{Sig}
 use Rattle.safl_net.specs.Netlist.{Netlist}
 use Rattle.safl_net.specs.Growth.{Val, words}
-use Rattle.safl_lower.specs.Bits.{on}
-use Rattle.safl_lower.specs.Entries.{gate}
-use Rattle.safl_unit.specs.Equations.{or_word}
+use Rattle.safl_net.specs.Bits.{on, gate}
 use Rattle.safl_gates.specs.declared.loads.Load.{Load}
 use Rattle.safl_gates.specs.Sources.{IsSource, AreSources}
 use Rattle.safl_gates.specs.Tables.{taken, taken_in, taken_from, load_in, on_in, on_from, sig_in, LoadFits, FitsIn, SomeFit, IsBitIn, BitsFit}
@@ -22,24 +20,24 @@ first_fits {n} {o} {l} {ws} e h = subst (λ (x : Option Load). FitsIn n x ws) e 
 pub as_many : {n m : Netlist} {xs ys : List Sig} {ws : List ℕ} → AreSources n xs ws → AreSources m ys ws → length xs ≡ length ys
 as_many {n} {m} {xs} {ys} {ws} p q = sources_length n xs ws p ∙ sym (sources_length m ys ws q)
 
-gates_join : {A : Type 0} (p q : Bool) (a b : A) → gate (p || q) (Some (cond p a b)) ≡ or_else (gate p (Some a)) (gate q (Some b))
+gates_join : {A : Type 0} (p q : Bool) (a b : A) → gate (p || q) (Some (cond p a b)) ≡ option_or (gate p (Some a)) (gate q (Some b))
 gates_join true q a b = refl
 gates_join false true a b = refl
 gates_join false false a b = refl
 
 -- the earlier of two loads
 pub joined_shows : (v : Val) (any bit : Sig) (ws us : List Word) (o : Option Load) (l : Load) → o ≡ Some l → on v any ≡ (on v l.bit || on v bit) → ws ≡ cond (on v l.bit) (words v l.words.items) us
-    → gate (on v any) (Some ws) ≡ or_else (taken_in v o) (gate (on v bit) (Some us))
+    → gate (on v any) (Some ws) ≡ option_or (taken_in v o) (gate (on v bit) (Some us))
 joined_shows v any bit ws us o l e p q =
     ap (λ (b : Bool). gate b (Some ws)) p ∙ ap (λ (xs : List Word). gate (on v l.bit || on v bit) (Some xs)) q ∙ gates_join (on v l.bit) (on v bit) (words v l.words.items) us
-    ∙ ap (λ (x : Option Load). or_else (taken_in v x) (gate (on v bit) (Some us))) (sym e)
+    ∙ ap (λ (x : Option Load). option_or (taken_in v x) (gate (on v bit) (Some us))) (sym e)
 
-gate_words : {A : Type 0} (p : Bool) (a b : A) → cond p a b ≡ or_word (gate p (Some a)) b
+gate_words : {A : Type 0} (p : Bool) (a b : A) → cond p a b ≡ unwrap_or (gate p (Some a)) b
 gate_words true a b = refl
 gate_words false a b = refl
 
-pub words_show : (v : Val) (xs us : List Word) (o : Option Load) (l : Load) → o ≡ Some l → xs ≡ cond (on v l.bit) (words v l.words.items) us → xs ≡ or_word (taken_in v o) us
-words_show v xs us o l e q = q ∙ gate_words (on v l.bit) (words v l.words.items) us ∙ ap (λ (x : Option Load). or_word (taken_in v x) us) (sym e)
+pub words_show : (v : Val) (xs us : List Word) (o : Option Load) (l : Load) → o ≡ Some l → xs ≡ cond (on v l.bit) (words v l.words.items) us → xs ≡ unwrap_or (taken_in v o) us
+words_show v xs us o l e q = q ∙ gate_words (on v l.bit) (words v l.words.items) us ∙ ap (λ (x : Option Load). unwrap_or (taken_in v x) us) (sym e)
 
 -- ---- an entry is replaced
 
@@ -59,7 +57,7 @@ pub or_false : (b : Bool) → b ≡ (b || false)
 or_false true = refl
 or_false false = refl
 
-or_nothing : {A : Type 0} (o : Option A) → o ≡ or_else o None
+or_nothing : {A : Type 0} (o : Option A) → o ≡ option_or o None
 or_nothing None = refl
 or_nothing (Some x) = refl
 
@@ -80,14 +78,14 @@ bits_set_fit n xs p s l h q i = subst (λ (o : Option (Option Sig)). IsBitIn n (
     by true = q
     by false = h i
 
-pub loads_set : (v : Val) (xs : List (Option Load)) (p i : ℕ) (old : Option Load) (l : Load) (bit : Sig) (us : List Word) → p < length xs → slice_get xs p ≡ Some old → taken v l ≡ or_else (taken_in v old) (gate (on v bit) (Some us))
-    → taken_from v (slice_set xs p (Some l)) i ≡ or_else (taken_from v xs i) (gate ((i == p) && on v bit) (Some us))
+pub loads_set : (v : Val) (xs : List (Option Load)) (p i : ℕ) (old : Option Load) (l : Load) (bit : Sig) (us : List Word) → p < length xs → slice_get xs p ≡ Some old → taken v l ≡ option_or (taken_in v old) (gate (on v bit) (Some us))
+    → taken_from v (slice_set xs p (Some l)) i ≡ option_or (taken_from v xs i) (gate ((i == p) && on v bit) (Some us))
 loads_set v xs p i old l bit us m e h = ap (λ (o : Option (Option Load)). taken_in v (load_in o)) (get_set xs p i (Some l) m) ∙ by (i == p) refl
   where
-    by : (b : Bool) → (i == p) ≡ b → taken_in v (load_in (cond b (Some (Some l)) (slice_get xs i))) ≡ or_else (taken_from v xs i) (gate (b && on v bit) (Some us))
+    by : (b : Bool) → (i == p) ≡ b → taken_in v (load_in (cond b (Some (Some l)) (slice_get xs i))) ≡ option_or (taken_from v xs i) (gate (b && on v bit) (Some us))
     by true q =
         let k : slice_get xs i ≡ Some old = ap (slice_get xs) (eqb-true i p q) ∙ e in
-        h ∙ ap (λ (o : Option (Option Load)). or_else (taken_in v (load_in o)) (gate (on v bit) (Some us))) (sym k)
+        h ∙ ap (λ (o : Option (Option Load)). option_or (taken_in v (load_in o)) (gate (on v bit) (Some us))) (sym k)
     by false q = or_nothing (taken_from v xs i)
 
 pub loads_set_fit : (n : Netlist) (xs : List (Option Load)) (p : ℕ) (l : Load) (ws : ℕ → List ℕ) → p < length xs → SomeFit n xs ws → LoadFits n l (ws p) → SomeFit n (slice_set xs p (Some l)) ws

@@ -1,4 +1,5 @@
 pub mod Building
+pub mod BitWords
 pub mod Kept
 pub mod Cells
 pub mod Joining

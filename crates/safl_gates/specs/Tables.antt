@@ -4,8 +4,7 @@ use Rattle.safl_word.specs.Words.{Word}
 use Rattle.safl_net.specs.declared.cell.Sig.{Sig}
 use Rattle.safl_net.specs.Netlist.{Netlist}
 use Rattle.safl_net.specs.Growth.{Val, words}
-use Rattle.safl_lower.specs.Bits.{on}
-use Rattle.safl_lower.specs.Entries.{gate}
+use Rattle.safl_net.specs.Bits.{on, gate}
 use Rattle.safl_gates.specs.declared.loads.Load.{Load}
 use Rattle.safl_gates.specs.Sources.{IsSource, AreSources}
 

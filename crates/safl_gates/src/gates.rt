@@ -2,19 +2,20 @@
 
 ghost use Rattle.std.specs.Prelude.{◌≡◌, ℕ, ◌+◌, ◌≤◌, ◌&&◌, ◌||◌, List, not, cond, false, length, Some, IfOk};
 ghost use Rattle.safl_net.specs.Names.{IsTidy};
-ghost use Rattle.safl_net.specs.Widths.{op_width};
+ghost use Rattle.safl_word.specs.Primitives.{apply_prim};
+ghost use Rattle.safl_net.specs.Widths.{op_width, prim_width};
 ghost use Rattle.safl_net.specs.Valuations.{cell_word};
 ghost use Rattle.safl_net.specs.Growth.{Val, words, Wired};
-ghost use Rattle.safl_lower.specs.Bits.{on};
+ghost use Rattle.safl_net.specs.Bits.{on};
 ghost use Rattle.safl_gates.specs.Sources.{IsSource, AreSources, Builds, HasRoom};
 ghost use Rattle.safl_gates.specs.Tables.{IsBitIn, on_in};
 
 use safl_net::{Net, Op, Sig};
-use safl_word::{Primitive, Word};
-use std::alloc::{AllocError, Global};
+use safl_word::{NoMemory, Primitive, Word};
+use std::alloc::Global;
 
 // The temporary with this cell.
-fn cell(net: &mut Net, op: Op, operands: &[Sig]) -> Result<Sig, AllocError>
+fn cell(net: &mut Net, op: Op, operands: &[Sig]) -> Result<Sig, NoMemory>
     requires tidy { IsTidy net.old }
     requires operands { (ws : List ℕ) × (w : ℕ) × AreSources net.old operands.now ws × (op_width op ws ≡ Some w) }
     requires room { HasRoom net.old 1 }
@@ -26,8 +27,33 @@ fn cell(net: &mut Net, op: Op, operands: &[Sig]) -> Result<Sig, AllocError>
     net.temp(op, operands)
 }
 
+/// A word that never changes.
+pub fn constant(net: &mut Net, word: Word) -> Result<Sig, NoMemory>
+    requires tidy { IsTidy net.old }
+    requires room { HasRoom net.old 1 }
+    ensures tidy { IsTidy net.new }
+    ensures built { Builds net.old net.new 1 }
+    ensures fits { IfOk result (λ s. IsSource net.new s word.width) }
+    ensures value { IfOk result (λ s. (v : Val) → Wired net.new v → v s.0 ≡ word) }
+{
+    cell(net, Op::Const(word), &[])
+}
+
+/// The word of a primitive of which there is a cell: each but `Ext`.
+pub fn operate(net: &mut Net, primitive: Primitive, operands: &[Sig]) -> Result<Sig, NoMemory>
+    requires tidy { IsTidy net.old }
+    requires operands { (ws : List ℕ) × (w : ℕ) × AreSources net.old operands.now ws × (prim_width primitive ws ≡ Some w) }
+    requires room { HasRoom net.old 1 }
+    ensures tidy { IsTidy net.new }
+    ensures built { Builds net.old net.new 1 }
+    ensures fits { (ws : List ℕ) (w : ℕ) → AreSources net.old operands.now ws → prim_width primitive ws ≡ Some w → IfOk result (λ s. IsSource net.new s w) }
+    ensures value { IfOk result (λ s. (v : Val) → Wired net.new v → v s.0 ≡ apply_prim primitive (words v operands.now)) }
+{
+    cell(net, Op::Apply(primitive), operands)
+}
+
 /// The bit that never is 1.
-pub fn zero(net: &mut Net) -> Result<Sig, AllocError>
+pub fn zero(net: &mut Net) -> Result<Sig, NoMemory>
     requires tidy { IsTidy net.old }
     requires room { HasRoom net.old 1 }
     ensures tidy { IsTidy net.new }
@@ -35,11 +61,11 @@ pub fn zero(net: &mut Net) -> Result<Sig, AllocError>
     ensures fits { IfOk result (λ s. IsSource net.new s 1) }
     ensures value { IfOk result (λ s. (v : Val) → Wired net.new v → on v s ≡ false) }
 {
-    cell(net, Op::Const(Word::from_low_bits(1, 0)), &[])
+    constant(net, Word::from_low_bits(1, 0))
 }
 
 /// The bit that is 1 where the other is 0.
-pub fn inverse(net: &mut Net, a: Sig) -> Result<Sig, AllocError>
+pub fn inverse(net: &mut Net, a: Sig) -> Result<Sig, NoMemory>
     requires tidy { IsTidy net.old }
     requires bit { IsSource net.old a 1 }
     requires room { HasRoom net.old 1 }
@@ -48,11 +74,11 @@ pub fn inverse(net: &mut Net, a: Sig) -> Result<Sig, AllocError>
     ensures fits { IfOk result (λ s. IsSource net.new s 1) }
     ensures value { IfOk result (λ s. (v : Val) → Wired net.new v → on v s ≡ not (on v a)) }
 {
-    cell(net, Op::Apply(Primitive::Not), &[a])
+    operate(net, Primitive::Not, &[a])
 }
 
 /// The bit that is 1 where both are.
-pub fn both(net: &mut Net, a: Sig, b: Sig) -> Result<Sig, AllocError>
+pub fn both(net: &mut Net, a: Sig, b: Sig) -> Result<Sig, NoMemory>
     requires tidy { IsTidy net.old }
     requires first { IsSource net.old a 1 }
     requires second { IsSource net.old b 1 }
@@ -62,11 +88,11 @@ pub fn both(net: &mut Net, a: Sig, b: Sig) -> Result<Sig, AllocError>
     ensures fits { IfOk result (λ s. IsSource net.new s 1) }
     ensures value { IfOk result (λ s. (v : Val) → Wired net.new v → on v s ≡ (on v a && on v b)) }
 {
-    cell(net, Op::Apply(Primitive::And), &[a, b])
+    operate(net, Primitive::And, &[a, b])
 }
 
 /// The bit that is 1 where one is.
-pub fn either(net: &mut Net, a: Sig, b: Sig) -> Result<Sig, AllocError>
+pub fn either(net: &mut Net, a: Sig, b: Sig) -> Result<Sig, NoMemory>
     requires tidy { IsTidy net.old }
     requires first { IsSource net.old a 1 }
     requires second { IsSource net.old b 1 }
@@ -76,11 +102,41 @@ pub fn either(net: &mut Net, a: Sig, b: Sig) -> Result<Sig, AllocError>
     ensures fits { IfOk result (λ s. IsSource net.new s 1) }
     ensures value { IfOk result (λ s. (v : Val) → Wired net.new v → on v s ≡ (on v a || on v b)) }
 {
-    cell(net, Op::Apply(Primitive::Or), &[a, b])
+    operate(net, Primitive::Or, &[a, b])
+}
+
+/// The bit that is 1 if the first is and the second is not.
+pub fn and_not(net: &mut Net, a: Sig, b: Sig) -> Result<Sig, NoMemory>
+    requires tidy { IsTidy net.old }
+    requires first { IsSource net.old a 1 }
+    requires second { IsSource net.old b 1 }
+    requires room { HasRoom net.old 2 }
+    ensures tidy { IsTidy net.new }
+    ensures built { Builds net.old net.new 2 }
+    ensures fits { IfOk result (λ s. IsSource net.new s 1) }
+    ensures value { IfOk result (λ s. (v : Val) → Wired net.new v → on v s ≡ (on v a && not (on v b))) }
+{
+    let other = inverse(net, b)?;
+    both(net, a, other)
+}
+
+/// The bit that is 1 if the first is or the second is not.
+pub fn or_not(net: &mut Net, a: Sig, b: Sig) -> Result<Sig, NoMemory>
+    requires tidy { IsTidy net.old }
+    requires first { IsSource net.old a 1 }
+    requires second { IsSource net.old b 1 }
+    requires room { HasRoom net.old 2 }
+    ensures tidy { IsTidy net.new }
+    ensures built { Builds net.old net.new 2 }
+    ensures fits { IfOk result (λ s. IsSource net.new s 1) }
+    ensures value { IfOk result (λ s. (v : Val) → Wired net.new v → on v s ≡ (on v a || not (on v b))) }
+{
+    let other = inverse(net, b)?;
+    either(net, a, other)
 }
 
 /// The word of `a` where `c` is 1, else the word of `b`.
-pub fn mux(net: &mut Net, c: Sig, a: Sig, b: Sig) -> Result<Sig, AllocError>
+pub fn mux(net: &mut Net, c: Sig, a: Sig, b: Sig) -> Result<Sig, NoMemory>
     requires tidy { IsTidy net.old }
     requires test { IsSource net.old c 1 }
     requires branches { (w : ℕ) × IsSource net.old a w × IsSource net.old b w }
@@ -100,7 +156,7 @@ pub fn mux_all(
     c: Sig,
     a: &[Sig],
     b: &[Sig],
-) -> Result<Vec<Sig>, AllocError>
+) -> Result<Vec<Sig>, NoMemory>
     requires tidy { IsTidy net.old }
     requires test { IsSource net.old c 1 }
     requires branches { (ws : List ℕ) × AreSources net.old a.now ws × AreSources net.old b.now ws }
@@ -119,7 +175,7 @@ pub fn mux_all(
 }
 
 /// The bit that is 1 where one is, of which the first may not be there.
-pub fn or_some(net: &mut Net, a: Option<Sig>, b: Sig) -> Result<Sig, AllocError>
+pub fn or_some(net: &mut Net, a: Option<Sig>, b: Sig) -> Result<Sig, NoMemory>
     requires tidy { IsTidy net.old }
     requires first { IsBitIn net.old a }
     requires second { IsSource net.old b 1 }
@@ -136,7 +192,7 @@ pub fn or_some(net: &mut Net, a: Option<Sig>, b: Sig) -> Result<Sig, AllocError>
 }
 
 /// The bit that is 1 where the first is, and not the second, where there is one.
-pub fn and_none(net: &mut Net, a: Sig, b: Option<Sig>) -> Result<Sig, AllocError>
+pub fn and_none(net: &mut Net, a: Sig, b: Option<Sig>) -> Result<Sig, NoMemory>
     requires tidy { IsTidy net.old }
     requires first { IsSource net.old a 1 }
     requires second { IsBitIn net.old b }
@@ -148,9 +204,6 @@ pub fn and_none(net: &mut Net, a: Sig, b: Option<Sig>) -> Result<Sig, AllocError
 {
     match b {
         None => Ok(a),
-        Some(b) => {
-            let other = inverse(net, b)?;
-            both(net, a, other)
-        }
+        Some(b) => and_not(net, a, b),
     }
 }

@@ -1,18 +1,17 @@
 //! Bits and words by number, to which those of one number after another are joined: of several the first counts.
 
 ghost use Rattle.std.specs.Prelude.{◌≡◌, ℕ, ◌+◌, ◌<◌, ◌==◌, ◌&&◌, ◌||◌, List, Some, length, IfOk, OnOk};
-ghost use Rattle.safl_check.specs.Readiness.{or_else};
+ghost use Rattle.std.specs.Option.{option_or, unwrap_or};
 ghost use Rattle.safl_net.specs.Names.{IsTidy};
 ghost use Rattle.safl_net.specs.Growth.{Val, words, Wired};
-ghost use Rattle.safl_lower.specs.Bits.{on};
-ghost use Rattle.safl_lower.specs.Entries.{gate};
-ghost use Rattle.safl_unit.specs.Equations.{or_word};
+ghost use Rattle.safl_net.specs.Bits.{on, gate};
 ghost use Rattle.safl_gates.specs.Sources.{IsSource, AreSources, Builds, HasRoom};
 ghost use Rattle.safl_gates.specs.Tables.{taken, taken_in, taken_from, on_from, LoadFits, FitsIn, SomeFit, BitsFit};
 
 use crate::gates::{either, mux_all, or_some};
 use safl_net::{Net, Sig};
-use std::alloc::{AllocError, Global};
+use safl_word::NoMemory;
+use std::alloc::Global;
 
 /// Words that are taken where a bit is 1.
 #[derive(Drop)]
@@ -27,7 +26,7 @@ pub fn add_bit(
     bits: &mut Vec<Option<Sig>>,
     place: usize,
     bit: Sig,
-) -> Result<(), AllocError>
+) -> Result<(), NoMemory>
     requires tidy { IsTidy net.old }
     requires place { place < length bits.old.items }
     requires fits { BitsFit net.old bits.old.items }
@@ -52,7 +51,7 @@ pub fn add_load(
     place: usize,
     bit: Sig,
     operands: &[Sig],
-) -> Result<(), AllocError>
+) -> Result<(), NoMemory>
     requires tidy { IsTidy net.old }
     requires place { place < length loads.old.items }
     requires fits { (ws : ℕ → List ℕ) × SomeFit net.old loads.old.items ws × AreSources net.old operands.now (ws place) }
@@ -62,7 +61,7 @@ pub fn add_load(
     ensures built { Builds net.old net.new (1 + length operands.now) }
     ensures count { length loads.new.items ≡ length loads.old.items }
     ensures fits { (ws : ℕ → List ℕ) → SomeFit net.old loads.old.items ws → AreSources net.old operands.now (ws place) → OnOk result (SomeFit net.new loads.new.items ws) }
-    ensures shows { OnOk result ((v : Val) → Wired net.new v → (i : ℕ) → taken_from v loads.new.items i ≡ or_else (taken_from v loads.old.items i) (gate ((i == place) && on v bit) (Some (words v operands.now)))) }
+    ensures shows { OnOk result ((v : Val) → Wired net.new v → (i : ℕ) → taken_from v loads.new.items i ≡ option_or (taken_from v loads.old.items i) (gate ((i == place) && on v bit) (Some (words v operands.now)))) }
 {
     let joined = joined(alloc, net, &loads[place], bit, operands)?;
     loads[place] = Some(joined);
@@ -76,7 +75,7 @@ fn joined(
     load: &Option<Load>,
     bit: Sig,
     operands: &[Sig],
-) -> Result<Load, AllocError>
+) -> Result<Load, NoMemory>
     requires tidy { IsTidy net.old }
     requires fits { (ws : List ℕ) × FitsIn net.old load.now ws × AreSources net.old operands.now ws }
     requires bit { IsSource net.old bit 1 }
@@ -84,7 +83,7 @@ fn joined(
     ensures tidy { IsTidy net.new }
     ensures built { Builds net.old net.new (1 + length operands.now) }
     ensures fits { (ws : List ℕ) → FitsIn net.old load.now ws → AreSources net.old operands.now ws → IfOk result (λ l. LoadFits net.new l ws) }
-    ensures shows { IfOk result (λ l. (v : Val) → Wired net.new v → taken v l ≡ or_else (taken_in v load.now) (gate (on v bit) (Some (words v operands.now)))) }
+    ensures shows { IfOk result (λ l. (v : Val) → Wired net.new v → taken v l ≡ option_or (taken_in v load.now) (gate (on v bit) (Some (words v operands.now)))) }
 {
     match load {
         None => {
@@ -105,17 +104,20 @@ pub fn load_words(
     net: &mut Net,
     load: &Option<Load>,
     operands: &[Sig],
-) -> Result<Vec<Sig>, AllocError>
+) -> Result<Vec<Sig>, NoMemory>
     requires tidy { IsTidy net.old }
     requires fits { (ws : List ℕ) × FitsIn net.old load.now ws × AreSources net.old operands.now ws }
     requires room { HasRoom net.old (length operands.now) }
     ensures tidy { IsTidy net.new }
     ensures built { Builds net.old net.new (length operands.now) }
     ensures fits { (ws : List ℕ) → FitsIn net.old load.now ws → AreSources net.old operands.now ws → IfOk result (λ xs. AreSources net.new xs.items ws) }
-    ensures shows { IfOk result (λ xs. (v : Val) → Wired net.new v → words v xs.items ≡ or_word (taken_in v load.now) (words v operands.now)) }
+    ensures shows { IfOk result (λ xs. (v : Val) → Wired net.new v → words v xs.items ≡ unwrap_or (taken_in v load.now) (words v operands.now)) }
 {
     match load {
-        None => Vec::from_slice(alloc, operands),
+        None => {
+            let words = Vec::from_slice(alloc, operands)?;
+            Ok(words)
+        }
         Some(first) => mux_all(alloc, net, first.bit, &first.words, operands),
     }
 }

@@ -4,11 +4,11 @@ use Rattle.std.specs.Prelude.{slice_get}
 use Rattle.safl_word.specs.Words.{Word, choose, pick, slot}
 use Rattle.safl_word.specs.Primitives.{apply_prim, result_width}
 use Rattle.safl_word.proofs.Widths.{apply_width}
-use Rattle.safl_check.specs.Fuel.{Outcome, Nothing, Gave, Outcomes, NoWords, Words, with_word, with_words, with_rest, with_head, Apply, eval, eval_all, apply}
-use Rattle.safl_check.specs.Program.{Program}
-use Rattle.safl_check.specs.Terms.{Term, Const, Var, If, Let, Op, Call, Loop, Terms, Nil, Cons}
-use Rattle.safl_check.specs.WellFormed.{HasWidth, HaveWidths, IsWellFormed}
-use Rattle.safl_check.proofs.Widths.{widths_append}
+use Rattle.safl_term.specs.Fuel.{Outcome, Nothing, Gave, Outcomes, NoWords, Words, with_word, with_words, with_rest, with_head, Apply, eval, eval_all, apply}
+use Rattle.safl_term.specs.Program.{Program}
+use Rattle.safl_term.specs.Terms.{Term, Const, Var, If, Let, Op, Call, Loop, Terms, Nil, Cons}
+use Rattle.safl_term.specs.WellFormed.{HasWidth, HaveWidths, IsWellFormed}
+use Rattle.safl_term.proofs.Widths.{widths_append}
 use Rattle.safl_interpreter.specs.Interpreting.{widths, applied}
 
 -- ---- what gave a word

@@ -1,23 +1,23 @@
 -- What a term comes to, by its parts, and what is typed.
 use Rattle.std.proofs.Common.{◌≡◌, ℕ, zero, suc, ◌+◌, ◌<◌, ◌≤◌, List, [], ◌∷◌, ◌++◌, length, drop, get_or, Option, Some, Result, Ok, Err, IfOk, Vec, Global, ◌⊎◌, inl, inr, ⊎_elim, append_assoc, add-one, refl, sym, ap, ◌∙◌, subst, arith}
-use Rattle.std.proofs.lemmas.List.{append-nil, get_or_read}
+use Rattle.std.proofs.lemmas.List.{get_or_read}
 use Rattle.std.proofs.lemmas.List.Sums.{sum_by-cons}
 use Rattle.std.specs.Prelude.{slice_get, IsSome, sum_by, ◌-◌}
 use Rattle.std.specs.Option.{option_map_or}
 use Rattle.safl_word.specs.Words.{Word, no_word, pick}
 use Rattle.safl_word.specs.declared.primitive.Primitive.{Primitive}
 use Rattle.safl_word.specs.Primitives.{apply_prim, result_width}
-use Rattle.safl_check.specs.Checked.{CheckedProgram, IsChecked, program_of}
-use Rattle.safl_check.specs.Fuel.{Outcome, Nothing, Gave, Outcomes, NoWords, Words, with_word, with_words, with_rest, with_head, eval, eval_all, apply}
-use Rattle.safl_check.specs.Program.{Program}
-use Rattle.safl_check.specs.Sizes.{nodes, nodes_in}
-use Rattle.safl_check.specs.Terms.{Term, Const, Var, If, Let, Op, Call, Loop, Terms, Cons}
-use Rattle.safl_check.specs.Tree.{tree, forest}
-use Rattle.safl_check.specs.declared.checked.Function.{Function}
-use Rattle.safl_check.specs.declared.term.Term as declared
-use Rattle.safl_check.specs.WellFormed.{HasWidth, HaveWidths, IsWellFormed}
-use Rattle.safl_check.proofs.TreeLemmas.{tree-Call, tree-Loop}
-use Rattle.safl_check.proofs.Widths.{widths_append}
+use Rattle.safl_term.specs.Checked.{CheckedProgram, IsChecked, program_of}
+use Rattle.safl_term.specs.Fuel.{Outcome, Nothing, Gave, Outcomes, NoWords, Words, with_word, with_words, with_rest, with_head, eval, eval_all, apply}
+use Rattle.safl_term.specs.Program.{Program}
+use Rattle.safl_term.specs.Sizes.{nodes, nodes_in}
+use Rattle.safl_term.specs.Terms.{Term, Const, Var, If, Let, Op, Call, Loop, Terms, Cons}
+use Rattle.safl_term.specs.Tree.{tree, forest}
+use Rattle.safl_term.specs.declared.checked.Function.{Function}
+use Rattle.safl_term.specs.declared.term.Term as declared
+use Rattle.safl_term.specs.WellFormed.{HasWidth, HaveWidths, IsWellFormed}
+use Rattle.safl_term.proofs.TreeLemmas.{tree-Call, tree-Loop}
+use Rattle.safl_term.proofs.Widths.{widths_append}
 use Rattle.safl_interpreter.specs.declared.answer.Answer.{Answer}
 use Rattle.safl_interpreter.specs.declared.answer.Step.{Step}
 use Rattle.safl_interpreter.specs.declared.answer.Step.TheVariants.{Done, Tail, Spent}
@@ -81,9 +81,6 @@ slot_in (v ∷ env) (suc i) w e = omega (arith, slot_in env i w e)
 module _ {C : Program} {E : List Word} where
   pub var_place : (i : ℕ) → IsTyped C E (Var i) → i < length E
   var_place i h = slot_in E i h.width h.fits
-
-  pub typed_condition : (c a b : Term) → IsTyped C E (If c a b) → IsTyped C E c
-  typed_condition c a b h = record { width = 1; fits = h.fits.0 }
 
   pub typed_then : (c a b : Term) → IsTyped C E (If c a b) → IsTyped C E a
   typed_then c a b h = record { width = h.width; fits = h.fits.1 }
@@ -155,9 +152,6 @@ module _ (C : Program) (E : List Word) (n : ℕ) where
         pick_other w.bits (eval C (applied C) a m E) (eval C (applied C) b m E) other
         ∙ ap (λ x. with_word x (λ u k. pick u.bits (eval C (applied C) a k E) (eval C (applied C) b k E))) e
 
-    pub if_none : Nothing ≡ eval C (applied C) c n E → Nothing ≡ eval C (applied C) (If c a b) n E
-    if_none e = ap (λ x. with_word x (λ u k. pick u.bits (eval C (applied C) a k E) (eval C (applied C) b k E))) e
-
   module _ (ts : Terms) where
     pub let_in : (b : Term) (us : List Word) (m : ℕ) → Words us m ≡ eval_all C (applied C) ts n E → eval C (applied C) b m (E ++ us) ≡ eval C (applied C) (Let ts b) n E
     let_in b us m e = ap (λ x. with_words x (λ vs k. eval C (applied C) b k (E ++ vs))) e
@@ -188,10 +182,6 @@ abbrev pub after : List Word → Outcomes → Outcomes
 after us NoWords = NoWords
 after us (Words vs m) = Words (us ++ vs) m
 
-pub after_none : (x : Outcomes) → x ≡ after [] x
-after_none NoWords = refl
-after_none (Words vs m) = refl
-
 after_more : (us : List Word) (v : Word) (x : Outcomes) → after us (with_rest x v) ≡ after (us ++ (v ∷ [])) x
 after_more us v NoWords = refl
 after_more us v (Words vs m) = ap (λ l. Words l m) (sym (append_assoc us (v ∷ []) vs))
@@ -208,20 +198,6 @@ module _ (C : Program) (E : List Word) (ts : List declared.Term) (i : ℕ) (t : 
       ∙ (ap (λ x. after us (with_head x (λ k. eval_all C (applied C) (forest (drop (suc i) ts)) k E))) (sym e)
       ∙ (after_more us v (eval_all C (applied C) (forest (drop (suc i) ts)) m E)
       ∙ ap (λ k. after (us ++ (v ∷ [])) (eval_all C (applied C) (forest (drop k ts)) m E)) (sym (add-one i))))
-
-  pub all_stop : Nothing ≡ eval C (applied C) (tree t) n E → after us (eval_all C (applied C) (forest (drop i ts)) n E) ≡ NoWords
-  all_stop e =
-      ap (λ x. after us (eval_all C (applied C) x n E)) (drop_at ts i t at)
-      ∙ ap (λ x. after us (with_head x (λ k. eval_all C (applied C) (forest (drop (suc i) ts)) k E))) (sym e)
-
-drop_past : (ts : List declared.Term) (i : ℕ) → length ts ≤ i → drop i ts ≡ []
-drop_past [] zero l = refl
-drop_past [] (suc i) l = refl
-drop_past (t ∷ ts) zero l = absurd (omega (arith, l))
-drop_past (t ∷ ts) (suc i) l = drop_past ts i (omega (arith, l))
-
-pub all_done : (C : Program) (E : List Word) (ts : List declared.Term) (i : ℕ) → length ts ≤ i → (us : List Word) (n : ℕ) → after us (eval_all C (applied C) (forest (drop i ts)) n E) ≡ Words us n
-all_done C E ts i l us n = ap (λ (x : List declared.Term). after us (eval_all C (applied C) (forest x) n E)) (drop_past ts i l) ∙ ap (λ x. Words x n) (append-nil us)
 
 -- ---- steps
 

@@ -1,10 +1,10 @@
 -- What the interpreter finds, by the meaning that is given a number of calls.
 use Rattle.std.specs.Prelude.{◌≡◌, ℕ, ◌<◌, ◌≤◌, List, map, Option, Some, None}
 use Rattle.safl_word.specs.Words.{Word}
-use Rattle.safl_check.specs.Fuel.{Outcome, Nothing, Gave, Outcomes, NoWords, Words, Apply, eval, apply}
-use Rattle.safl_check.specs.Program.{Program}
-use Rattle.safl_check.specs.Terms.{Term, Terms}
-use Rattle.safl_check.specs.WellFormed.{HasWidth, HaveWidths}
+use Rattle.safl_term.specs.Fuel.{Outcome, Nothing, Gave, Outcomes, NoWords, Words, Apply, eval, apply}
+use Rattle.safl_term.specs.Program.{Program}
+use Rattle.safl_term.specs.Terms.{Term, Terms}
+use Rattle.safl_term.specs.WellFormed.{HasWidth, HaveWidths}
 use Rattle.safl_interpreter.specs.declared.answer.Answer.{Answer}
 use Rattle.safl_interpreter.specs.declared.answer.Operands.{Operands}
 use Rattle.safl_interpreter.specs.declared.answer.Step.{Step}

@@ -1,13 +1,13 @@
 //! Evaluation, by recursion over terms. Tail calls are made by a loop.
 
 ghost use Rattle.std.specs.Prelude.{◌≡◌, ◌<◌, IfOk};
-ghost use Rattle.safl_check.specs.Checked.{program_of, IsChecked};
-ghost use Rattle.safl_check.specs.Fuel.{eval, eval_all};
-ghost use Rattle.safl_check.specs.Tree.{tree, forest};
+ghost use Rattle.safl_term.specs.Checked.{program_of, IsChecked};
+ghost use Rattle.safl_term.specs.Fuel.{eval, eval_all};
+ghost use Rattle.safl_term.specs.Tree.{tree, forest};
 ghost use Rattle.safl_interpreter.specs.Interpreting.{widths, shown, shown_all, applied, IsStep, IsTyped, AreTyped};
 
 use crate::answer::{Answer, Operands, Step};
-use safl_check::{Checked, Term};
+use safl_term::{Checked, Term};
 use safl_word::{NoMemory, Word, apply};
 use std::alloc::Global;
 

@@ -1,13 +1,13 @@
 //! The meaning of main.
 
 ghost use Rattle.std.specs.Prelude.{◌≡◌, IfOk};
-ghost use Rattle.safl_check.specs.Checked.{program_of};
-ghost use Rattle.safl_check.specs.Fuel.{apply};
+ghost use Rattle.safl_term.specs.Checked.{program_of};
+ghost use Rattle.safl_term.specs.Fuel.{apply};
 ghost use Rattle.safl_interpreter.specs.Interpreting.{widths, shown};
 
 use crate::answer::Answer;
 use crate::evaluate::call;
-use safl_check::Checked;
+use safl_term::Checked;
 use safl_word::{NoMemory, Word};
 use std::alloc::Global;
 

@@ -6,6 +6,14 @@ use Rattle.safl_io.specs.Counts.{Rose}
 abbrev pub Files : Type 0
 Files = List (List ℕ × List ℕ)
 
+-- what a shelf tells of its files, how often a read and a write failed, and how often a name was used of which it tells that it
+-- holds no file
+pub record ShelfState : Type 0 where
+  pub holds : Option Files
+  pub read_faults : ℕ
+  pub write_faults : ℕ
+  pub strays : ℕ
+
 -- the file of a name: the bytes of the first pair with that name
 abbrev pub file_of : Files → List ℕ → Option (List ℕ)
 file_of [] name = None

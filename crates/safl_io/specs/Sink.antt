@@ -1,5 +1,10 @@
 -- What was sent to a sink.
-use Rattle.std.specs.Prelude.{ℕ, ◌≡◌, List, ◌++◌, take}
+use Rattle.std.specs.Prelude.{ℕ, ◌≡◌, List, Option, ◌++◌, take}
+
+-- what a sink tells of what was sent, and how often sending failed
+pub record SinkState : Type 0 where
+  pub sent : Option (List ℕ)
+  pub faults : ℕ
 
 -- these bytes were sent after the earlier ones
 abbrev pub Sends : List ℕ → List ℕ → List ℕ → Type 0

@@ -44,13 +44,7 @@ impl<'a, R: Files + Alloc> DirShelf<'a, R> {
 impl<'a, R: Files + Alloc> Shelf for DirShelf<'a, R> {
     ghost use Rattle.std.specs.Prelude.{None};
 
-    ghost holds = { λ _. None };
-
-    ghost read_faults = { λ counts. counts.reads };
-
-    ghost write_faults = { λ counts. counts.writes };
-
-    ghost strays = { λ _. 0 };
+    ghost told = { λ counts. record { holds = None; read_faults = counts.reads; write_faults = counts.writes; strays = 0 } };
 
     fn read_at(&mut self, name: &str, at: u64, buf: &mut [u8]) -> Result<usize, Failed> {
         match read_file_at(self.rt, name, at, buf) {

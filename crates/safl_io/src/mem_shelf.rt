@@ -1,7 +1,7 @@
 // A shelf in memory, for tests.
 ghost use Rattle.std.specs.Prelude.{◌≡◌, ◌≤◌, ◌-◌, ◌+◌, ◌++◌, ◌↔◌, ◌⊎◌, [], ◌∷◌, length, min, IfOk, IfSome, OnOk, OnErr, IsErr, IsNone, IsErrOf};
 ghost use Rattle.std.specs.Option.{option_copied};
-ghost use Rattle.safl_io.specs.Counts.{Rose};
+ghost use Rattle.safl_io.specs.Counts.{Rose, raised};
 ghost use Rattle.safl_io.specs.Told.{TellsOn};
 ghost use Rattle.safl_io.specs.Shelf.{file_of, Leaves, LeavesOldOrEmpty, Appends, AppendsPart, Reads, ReadsFrom, IsStray, CountsStray};
 ghost use Rattle.safl_io.specs.Calls.{Fails, called, no_calls, with_failing};
@@ -89,13 +89,12 @@ impl MemShelf {
 impl Shelf for MemShelf {
     ghost use Rattle.std.specs.Prelude.{Some};
 
-    ghost holds = { λ shelf. Some shelf.files };
-
-    ghost read_faults = { λ shelf. shelf.read_faults };
-
-    ghost write_faults = { λ shelf. shelf.write_faults };
-
-    ghost strays = { λ shelf. shelf.strays };
+    ghost told = { λ shelf. record {
+      holds = Some shelf.files;
+      read_faults = shelf.read_faults;
+      write_faults = shelf.write_faults;
+      strays = shelf.strays;
+    } };
 
     fn read_at(&mut self, name: &str, at: u64, buf: &mut [u8]) -> Result<usize, Failed>
         ensures within { IfOk result (λ count. count ≤ length buf.old) }
@@ -107,8 +106,11 @@ impl Shelf for MemShelf {
         ensures stray { CountsStray (Some self.old.files) name.now self.old.strays self.new.strays }
         ensures strays_later { self.old.strays ≤ self.new.strays }
 
-        // It fails exactly on a listed call or a missing name, and reads as much as there is room for.
+        // It fails exactly on a listed call or a missing name, counts one fault then and none else, and reads as much as
+        // there is room for.
         ensures fails { IsErr result ↔ FailsAt self.old name.now }
+        ensures counts { OnErr result (self.new.read_faults ≡ raised self.old.read_faults) }
+        ensures quiet { OnOk result (self.new.read_faults ≡ self.old.read_faults) }
         ensures all { IfOk result (λ count. IfSome (file_of self.old.files name.now) (λ file.
             count ≡ min (length buf.old) (length file - at))) }
         ensures called { self.new.calls ≡ called self.old.calls }
@@ -136,8 +138,11 @@ impl Shelf for MemShelf {
         ensures writes_later { self.old.write_faults ≤ self.new.write_faults }
         ensures same_strays { self.new.strays ≡ self.old.strays }
 
-        // It fails exactly on a listed call.
+        // It fails exactly on a listed call, and counts one fault then and none else.
         ensures fails { IsErrOf result OutErr.Failed ↔ Fails self.old.calls }
+        ensures counts { IsErrOf result OutErr.Failed → self.new.write_faults ≡ raised self.old.write_faults }
+        ensures quiet { OnOk result (self.new.write_faults ≡ self.old.write_faults) }
+        ensures starved { IsErrOf result OutErr.NoMemory → self.new.write_faults ≡ self.old.write_faults }
         ensures called { self.new.calls ≡ called self.old.calls }
     {
         if self.calls.next_fails() {
@@ -159,9 +164,12 @@ impl Shelf for MemShelf {
         ensures stray { CountsStray (Some self.old.files) name.now self.old.strays self.new.strays }
         ensures strays_later { self.old.strays ≤ self.new.strays }
 
-        // It fails exactly on a listed call or a missing name, want of memory aside.
+        // It fails exactly on a listed call or a missing name, lack of memory aside, and counts one fault then and none else.
         ensures fails { IsErrOf result OutErr.Failed → FailsAt self.old name.now }
         ensures succeeds { OnOk result (¬ FailsAt self.old name.now) }
+        ensures counts { IsErrOf result OutErr.Failed → self.new.write_faults ≡ raised self.old.write_faults }
+        ensures quiet { OnOk result (self.new.write_faults ≡ self.old.write_faults) }
+        ensures starved { IsErrOf result OutErr.NoMemory → self.new.write_faults ≡ self.old.write_faults }
         ensures half { IsErrOf result OutErr.Failed →
             AppendsHalf name.now bytes.now self.old.files self.new.files }
         ensures called { self.new.calls ≡ called self.old.calls }

@@ -1,6 +1,6 @@
 // A sink in memory, for tests.
 ghost use Rattle.std.specs.Prelude.{◌≡◌, ◌≤◌, ◌++◌, ◌↔◌, [], ◌∷◌, OnOk, OnErr, IsErrOf};
-ghost use Rattle.safl_io.specs.Counts.{Rose};
+ghost use Rattle.safl_io.specs.Counts.{Rose, raised};
 ghost use Rattle.safl_io.specs.Sink.{Sends, SendsPart};
 ghost use Rattle.safl_io.specs.Calls.{Fails, called, no_calls, with_failing};
 ghost use Rattle.safl_io.specs.MemSink.{SendsHalf};
@@ -60,9 +60,7 @@ impl MemSink {
 impl Sink for MemSink {
     ghost use Rattle.std.specs.Prelude.{Some};
 
-    ghost sent = { λ sink. Some sink.bytes };
-
-    ghost faults = { λ sink. sink.faults };
+    ghost told = { λ sink. record { sent = Some sink.bytes; faults = sink.faults } };
 
     fn put(&mut self, bytes: &[u8]) -> Result<(), OutErr>
         ensures sent { OnOk result (Sends bytes.now self.old.bytes self.new.bytes) }
@@ -70,9 +68,12 @@ impl Sink for MemSink {
         ensures failed { IsErrOf result OutErr.Failed → Rose self.old.faults self.new.faults }
         ensures faults_later { self.old.faults ≤ self.new.faults }
 
-        // It fails exactly on a listed call, want of memory aside.
+        // It fails exactly on a listed call, lack of memory aside, and counts one fault then and none else.
         ensures fails { IsErrOf result OutErr.Failed → Fails self.old.calls }
         ensures succeeds { OnOk result (¬ Fails self.old.calls) }
+        ensures counts { IsErrOf result OutErr.Failed → self.new.faults ≡ raised self.old.faults }
+        ensures quiet { OnOk result (self.new.faults ≡ self.old.faults) }
+        ensures starved { IsErrOf result OutErr.NoMemory → self.new.faults ≡ self.old.faults }
         ensures half { IsErrOf result OutErr.Failed → SendsHalf bytes.now self.old.bytes self.new.bytes }
         ensures called { self.new.calls ≡ called self.old.calls }
     {

@@ -45,17 +45,17 @@ pub fn read_file<S: Shelf>(
     name: &str,
     limit: u64,
 ) -> Result<Vec<u8>, ReadErr>
-    ensures read { IfOk result (λ text. IfSome (S.holds shelf.old) (HasFile name.now text.items)) }
+    ensures read { IfOk result (λ text. IfSome (S.told shelf.old).holds (HasFile name.now text.items)) }
     ensures within { IfOk result (λ text. length text.items ≤ limit) }
-    ensures too_long { IsErrOf result ReadErr.TooLong → IfSome (S.holds shelf.old) (HasLonger name.now limit) }
-    ensures failed { IsErrOf result ReadErr.Failed → Rose (S.read_faults shelf.old) (S.read_faults shelf.new) }
+    ensures too_long { IsErrOf result ReadErr.TooLong → IfSome (S.told shelf.old).holds (HasLonger name.now limit) }
+    ensures failed { IsErrOf result ReadErr.Failed → Rose (S.told shelf.old).read_faults (S.told shelf.new).read_faults }
 
     // Nothing held changes.
-    ensures same_files { S.holds shelf.new ≡ S.holds shelf.old }
-    ensures reads_later { S.read_faults shelf.old ≤ S.read_faults shelf.new }
-    ensures same_writes { S.write_faults shelf.new ≡ S.write_faults shelf.old }
-    ensures same_strays { ¬ IsStray (S.holds shelf.old) name.now → S.strays shelf.new ≡ S.strays shelf.old }
-    ensures strays_later { S.strays shelf.old ≤ S.strays shelf.new }
+    ensures same_files { (S.told shelf.new).holds ≡ (S.told shelf.old).holds }
+    ensures reads_later { (S.told shelf.old).read_faults ≤ (S.told shelf.new).read_faults }
+    ensures same_writes { (S.told shelf.new).write_faults ≡ (S.told shelf.old).write_faults }
+    ensures same_strays { ¬ IsStray (S.told shelf.old).holds name.now → (S.told shelf.new).strays ≡ (S.told shelf.old).strays }
+    ensures strays_later { (S.told shelf.old).strays ≤ (S.told shelf.new).strays }
 {
     let mut text = Vec::new(alloc);
     let mut buffer = zeros(alloc, PIECE)?;
@@ -84,17 +84,17 @@ fn read_more<S: Shelf>(
 ) -> Result<usize, ReadErr>
     requires { 0 < length buffer.old }
     ensures longer { IfOk result (λ count. length text.new.items ≡ length text.old.items + count) }
-    ensures more { OnOk result (IsReadSoFar (S.holds shelf.old) name.now text.old.items →
-        IsReadSoFar (S.holds shelf.old) name.now text.new.items) }
-    ensures end { IfOk result (λ count. count ≡ 0 → IsReadSoFar (S.holds shelf.old) name.now text.old.items →
-        IfSome (S.holds shelf.old) (HasFile name.now text.new.items)) }
+    ensures more { OnOk result (IsReadSoFar (S.told shelf.old).holds name.now text.old.items →
+        IsReadSoFar (S.told shelf.old).holds name.now text.new.items) }
+    ensures end { IfOk result (λ count. count ≡ 0 → IsReadSoFar (S.told shelf.old).holds name.now text.old.items →
+        IfSome (S.told shelf.old).holds (HasFile name.now text.new.items)) }
     ensures not_too_long { IsErrOf result ReadErr.TooLong → ⊥ }
-    ensures failed { IsErrOf result ReadErr.Failed → Rose (S.read_faults shelf.old) (S.read_faults shelf.new) }
-    ensures same_files { S.holds shelf.new ≡ S.holds shelf.old }
-    ensures reads_later { S.read_faults shelf.old ≤ S.read_faults shelf.new }
-    ensures same_writes { S.write_faults shelf.new ≡ S.write_faults shelf.old }
-    ensures same_strays { ¬ IsStray (S.holds shelf.old) name.now → S.strays shelf.new ≡ S.strays shelf.old }
-    ensures strays_later { S.strays shelf.old ≤ S.strays shelf.new }
+    ensures failed { IsErrOf result ReadErr.Failed → Rose (S.told shelf.old).read_faults (S.told shelf.new).read_faults }
+    ensures same_files { (S.told shelf.new).holds ≡ (S.told shelf.old).holds }
+    ensures reads_later { (S.told shelf.old).read_faults ≤ (S.told shelf.new).read_faults }
+    ensures same_writes { (S.told shelf.new).write_faults ≡ (S.told shelf.old).write_faults }
+    ensures same_strays { ¬ IsStray (S.told shelf.old).holds name.now → (S.told shelf.new).strays ≡ (S.told shelf.old).strays }
+    ensures strays_later { (S.told shelf.old).strays ≤ (S.told shelf.new).strays }
 {
     let count = shelf.read_at(name, text.len() as u64, buffer)?;
     text.extend_from_slice(&buffer[..count])?;

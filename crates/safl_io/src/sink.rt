@@ -2,7 +2,7 @@
 ghost use Rattle.std.specs.Prelude.{◌≤◌, List, ℕ, Option, OnOk, OnErr, IsErrOf};
 ghost use Rattle.safl_io.specs.Counts.{Rose};
 ghost use Rattle.safl_io.specs.Told.{TellsOn};
-ghost use Rattle.safl_io.specs.Sink.{Sends, SendsPart};
+ghost use Rattle.safl_io.specs.Sink.{SinkState, Sends, SendsPart};
 
 use crate::fault::OutErr;
 
@@ -11,16 +11,13 @@ use crate::fault::OutErr;
 /// A sink that tells what was sent before a call tells it afterwards too. A call fails only where it counts
 /// a fault. The count never falls, and may stand still at 2^64 - 1.
 pub trait Sink {
-    /// What was sent so far, where the sink tells it.
-    ghost sent: { Self → Option (List ℕ) };
-
-    /// How often sending failed.
-    ghost faults: { Self → ℕ };
+    /// What the sink tells: what was sent so far, where it tells it, and how often sending failed.
+    ghost told: { Self → SinkState };
 
     /// Sends all the bytes. After an error a prefix of them was sent.
     fn put(&mut self, bytes: &[u8]) -> Result<(), OutErr>
-        ensures sent { OnOk result (TellsOn (Sends bytes.now) (sent self.old) (sent self.new)) }
-        ensures part { OnErr result (TellsOn (SendsPart bytes.now) (sent self.old) (sent self.new)) }
-        ensures failed { IsErrOf result OutErr.Failed → Rose (faults self.old) (faults self.new) }
-        ensures faults_later { faults self.old ≤ faults self.new };
+        ensures sent { OnOk result (TellsOn (Sends bytes.now) (told self.old).sent (told self.new).sent) }
+        ensures part { OnErr result (TellsOn (SendsPart bytes.now) (told self.old).sent (told self.new).sent) }
+        ensures failed { IsErrOf result OutErr.Failed → Rose (told self.old).faults (told self.new).faults }
+        ensures faults_later { (told self.old).faults ≤ (told self.new).faults };
 }

@@ -37,9 +37,7 @@ impl<W: Write + Drop> StdSink<W> {
 impl<W: Write + Drop> Sink for StdSink<W> {
     ghost use Rattle.std.specs.Prelude.{None};
 
-    ghost sent = { λ _. None };
-
-    ghost faults = { λ count. count };
+    ghost told = { λ count. record { sent = None; faults = count } };
 
     fn put(&mut self, bytes: &[u8]) -> Result<(), OutErr> {
         match write_whole(&mut self.writer, bytes) {

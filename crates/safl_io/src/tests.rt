@@ -25,13 +25,13 @@ fn copy<S: Shelf>(
     // The other file holds the bytes that this one held before, and all others are as they were.
     ensures copied { OnOk result (TellsOn
         (λ old new. (bytes : List ℕ) × (file_of old from.now ≡ Some bytes) × Leaves to.now bytes old new)
-        (S.holds shelf.old) (S.holds shelf.new)) }
+        (S.told shelf.old).holds (S.told shelf.new).holds) }
     ensures read { IsErrOf result (CopyErr.Read ReadErr.Failed) →
-        Rose (S.read_faults shelf.old) (S.read_faults shelf.new) }
+        Rose (S.told shelf.old).read_faults (S.told shelf.new).read_faults }
     ensures write { IsErrOf result (CopyErr.Write OutErr.Failed) →
-        Rose (S.write_faults shelf.old) (S.write_faults shelf.new) }
-    ensures same_strays { IfSome (S.holds shelf.old) (λ files.
-        IsSome (file_of files from.now) → S.strays shelf.new ≡ S.strays shelf.old) }
+        Rose (S.told shelf.old).write_faults (S.told shelf.new).write_faults }
+    ensures same_strays { IfSome (S.told shelf.old).holds (λ files.
+        IsSome (file_of files from.now) → (S.told shelf.new).strays ≡ (S.told shelf.old).strays) }
 {
     match read_file(alloc, shelf, from, limit) {
         Ok(text) => write_file(shelf, to, &text).map_err(CopyErr::Write),

@@ -14,16 +14,16 @@ const PIECE: usize = 1024;
 /// appends pieces of 1,024 bytes, the last of them shorter.
 /// After an error the old file or a prefix of the bytes stands there. Other files stay as they were.
 pub fn write_file<S: Shelf>(shelf: &mut S, name: &str, bytes: &[u8]) -> Result<(), OutErr>
-    ensures written { OnOk result (TellsOn (Leaves name.now bytes.now) (S.holds shelf.old) (S.holds shelf.new)) }
-    ensures not_written { OnErr result (TellsOn (LeavesOldOrPart name.now bytes.now) (S.holds shelf.old) (S.holds shelf.new)) }
-    ensures failed { IsErrOf result OutErr.Failed → Rose (S.write_faults shelf.old) (S.write_faults shelf.new) }
+    ensures written { OnOk result (TellsOn (Leaves name.now bytes.now) (S.told shelf.old).holds (S.told shelf.new).holds) }
+    ensures not_written { OnErr result (TellsOn (LeavesOldOrPart name.now bytes.now) (S.told shelf.old).holds (S.told shelf.new).holds) }
+    ensures failed { IsErrOf result OutErr.Failed → Rose (S.told shelf.old).write_faults (S.told shelf.new).write_faults }
 
-    ensures same_reads { S.read_faults shelf.new ≡ S.read_faults shelf.old }
-    ensures writes_later { S.write_faults shelf.old ≤ S.write_faults shelf.new }
+    ensures same_reads { (S.told shelf.new).read_faults ≡ (S.told shelf.old).read_faults }
+    ensures writes_later { (S.told shelf.old).write_faults ≤ (S.told shelf.new).write_faults }
 
     // A shelf that tells what it holds is asked for no stray name.
-    ensures same_strays { OnSome (S.holds shelf.old) (S.strays shelf.new ≡ S.strays shelf.old) }
-    ensures strays_later { S.strays shelf.old ≤ S.strays shelf.new }
+    ensures same_strays { OnSome (S.told shelf.old).holds ((S.told shelf.new).strays ≡ (S.told shelf.old).strays) }
+    ensures strays_later { (S.told shelf.old).strays ≤ (S.told shelf.new).strays }
 {
     shelf.create(name)?;
     let mut at = 0;

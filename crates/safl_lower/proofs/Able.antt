@@ -2,25 +2,27 @@
 use Rattle.std.proofs.Common.{◌≡◌, ℕ, zero, suc, ◌+◌, ◌-◌, ◌<◌, Bool, false, List, [], ◌∷◌, ◌++◌, length, Some, slice_get, refl, sym, ap, subst, ◌∙◌, arith}
 use Rattle.safl_word.specs.declared.primitive.Primitive.{Primitive}
 use Rattle.safl_word.specs.Primitives.{result_width}
-use Rattle.safl_check.specs.Program.{Program}
-use Rattle.safl_check.specs.Terms.{Term, Var, Op, If, Let, Call, Loop, Terms, Nil, Cons}
-use Rattle.safl_check.specs.WellFormed.{SpansAll, HasWidth, HaveWidths}
-use Rattle.safl_check.proofs.Places.{fits_all_le}
+use Rattle.safl_term.specs.Program.{Program}
+use Rattle.safl_term.specs.Terms.{Term, Var, Op, If, Let, Call, Loop, Terms, Nil, Cons}
+use Rattle.safl_term.specs.WellFormed.{SpansAll, HasWidth, HaveWidths}
+use Rattle.safl_term.proofs.Places.{fits_all_le}
 use Rattle.safl_net.specs.declared.cell.Sig.{Sig}
 use Rattle.safl_net.specs.Netlist.{Netlist}
-use Rattle.safl_net.specs.Growth.{Sized, Grows}
-use Rattle.safl_net.proofs.Growth.{grows_on, width_kept, sized_kept}
+use Rattle.safl_net.specs.Growth.{Grows}
+use Rattle.safl_net.proofs.Growth.{grows_on}
 use Rattle.safl_lower.specs.declared.parts.Ports.{Ports}
 use Rattle.safl_lower.specs.declared.parts.Lowered.{Lowered}
 use Rattle.safl_lower.specs.declared.parts.LoweredAll.{LoweredAll}
 use Rattle.safl_lower.specs.declared.parts.Out.{Out}
-use Rattle.safl_lower.specs.Bits.{BitAt, ReadyAt}
+use Rattle.safl_lower.specs.Bits.{ReadyAt}
 use Rattle.safl_lower.specs.Typing.{Owner, Typed, TypedAll, nodes_in}
 use Rattle.safl_lower.specs.Lowering.{Sited, Setting, Lowerable, LowerableAll, HasPorts, Shaped, Lowers, LowersAll, Shows}
 use Rattle.safl_lower.proofs.Kept.{sited_kept, setting_on, setting_kept, setting_below}
 use Rattle.safl_lower.proofs.Typing.{test_typed, yes_typed, no_typed, bound_typed, body_typed, parts_typed, args_typed, next_typed}
 use Rattle.safl_lower.proofs.Leaves.{slot_within}
 use Rattle.safl_lower.proofs.Branches.{Branches, Inner}
+use Rattle.safl_gates.specs.Sources.{IsSource, AreSources}
+use Rattle.safl_gates.proofs.Building.{source_grown, sources_grown}
 
 there : {A : Type 0} (xs : List A) (i : ℕ) → i < length xs → (x : A) × (slice_get xs i ≡ Some x)
 there [] i h = absurd (omega arith)
@@ -37,11 +39,11 @@ module _ {P : Ports} {slots : List Sig} {path : Sig} {n0 : Netlist} where
   pub test_shape : {c a b : Term} {n1 : Netlist} {o0 o1 : Out} {test : Lowered} → Lowerable n0 P slots path (If c a b) → Lowers P slots path n0 n1 o0 o1 test c → Shaped n1 test 1
   test_shape h hc = hc.shape h.owner false h.env 1 h.setting (test_typed h.typed)
 
-  pub test_bit : {c a b : Term} {n1 : Netlist} {o0 o1 : Out} {test : Lowered} → Lowerable n0 P slots path (If c a b) → Lowers P slots path n0 n1 o0 o1 test c → BitAt n1 test.value
+  pub test_bit : {c a b : Term} {n1 : Netlist} {o0 o1 : Out} {test : Lowered} → Lowerable n0 P slots path (If c a b) → Lowers P slots path n0 n1 o0 o1 test c → IsSource n1 test.value 1
   test_bit h hc = (hc.shape h.owner false h.env 1 h.setting (test_typed h.typed)).width (hc.ever h.owner h.env 1 (test_typed h.typed))
 
-  pub path_kept : {t : Term} {n1 : Netlist} → Lowerable n0 P slots path t → Grows n0 n1 → BitAt n1 path
-  path_kept h g = width_kept g path.0 1 h.setting.path_bit
+  pub path_kept : {t : Term} {n1 : Netlist} → Lowerable n0 P slots path t → Grows n0 n1 → IsSource n1 path 1
+  path_kept h g = source_grown g path 1 h.setting.path_bit
 
   pub able_yes : {c a b : Term} {n1 n2 : Netlist} {o0 o1 : Out} {test : Lowered} {py pn : Sig} → Lowerable n0 P slots path (If c a b) → Lowers P slots path n0 n1 o0 o1 test c → Branches path n1 n2 test a b py pn → Lowerable n2 P slots py a
   able_yes {c} {a} {b} h hc hp = record { owner = h.owner; tail = h.tail; env = h.env; width = h.width; setting = setting_on (grows_on hc.grows hp.grows) h.setting hp.yes_bit; typed = yes_typed h.typed; room = let r = h.room in let i = hc.count in let j = hp.count in omega arith }
@@ -50,10 +52,10 @@ module _ {P : Ports} {slots : List Sig} {path : Sig} {n0 : Netlist} where
   yes_shape h hc hp ha = ha.shape h.owner h.tail h.env h.width (setting_on (grows_on hc.grows hp.grows) h.setting hp.yes_bit) (yes_typed h.typed)
 
   pub able_no : {c a b : Term} {n1 n2 n3 : Netlist} {o0 o1 o2 : Out} {test yes : Lowered} {py pn : Sig} → Lowerable n0 P slots path (If c a b) → Lowers P slots path n0 n1 o0 o1 test c → Branches path n1 n2 test a b py pn → Lowers P slots py n2 n3 o1 o2 yes a → Lowerable n3 P slots pn b
-  able_no {c} {a} {b} {pn = pn} h hc hp ha = record { owner = h.owner; tail = h.tail; env = h.env; width = h.width; setting = setting_on (grows_on hc.grows (grows_on hp.grows ha.grows)) h.setting (width_kept ha.grows pn.0 1 hp.no_bit); typed = no_typed h.typed; room = let r = h.room in let i = hc.count in let j = hp.count in let k = ha.count in omega arith }
+  able_no {c} {a} {b} {pn = pn} h hc hp ha = record { owner = h.owner; tail = h.tail; env = h.env; width = h.width; setting = setting_on (grows_on hc.grows (grows_on hp.grows ha.grows)) h.setting (source_grown ha.grows pn 1 hp.no_bit); typed = no_typed h.typed; room = let r = h.room in let i = hc.count in let j = hp.count in let k = ha.count in omega arith }
 
   pub no_shape : {c a b : Term} {n1 n2 n3 n4 : Netlist} {o0 o1 o2 o3 : Out} {test yes no : Lowered} {py pn : Sig} → (h : Lowerable n0 P slots path (If c a b)) → Lowers P slots path n0 n1 o0 o1 test c → Branches path n1 n2 test a b py pn → Lowers P slots py n2 n3 o1 o2 yes a → Lowers P slots pn n3 n4 o2 o3 no b → Shaped n4 no h.width
-  no_shape {pn = pn} h hc hp ha hb = hb.shape h.owner h.tail h.env h.width (setting_on (grows_on hc.grows (grows_on hp.grows ha.grows)) h.setting (width_kept ha.grows pn.0 1 hp.no_bit)) (no_typed h.typed)
+  no_shape {pn = pn} h hc hp ha hb = hb.shape h.owner h.tail h.env h.width (setting_on (grows_on hc.grows (grows_on hp.grows ha.grows)) h.setting (source_grown ha.grows pn 1 hp.no_bit)) (no_typed h.typed)
 
   pub able_bound : {bs : Terms} {b : Term} → Lowerable n0 P slots path (Let bs b) → LowerableAll n0 P slots path bs
   able_bound {bs} {b} h = record { owner = h.owner; env = h.env; widths = h.typed.width.0; setting = h.setting; typed = bound_typed h.typed; room = let r = h.room in omega arith }
@@ -70,7 +72,7 @@ module _ {P : Ports} {slots : List Sig} {path : Sig} {n0 : Netlist} where
         tail = h.tail;
         env = h.env ++ ws;
         width = h.width;
-        setting = setting_below bound.values.items ws (grows_on hs.grows hi.grows) h.setting hi.bit (sized_kept hi.grows bound.values.items ws a.widths);
+        setting = setting_below bound.values.items ws (grows_on hs.grows hi.grows) h.setting hi.bit (sources_grown hi.grows bound.values.items ws a.widths);
         typed = body_typed h.typed;
         room = let r = h.room in let i = hs.count in let j = hi.count in omega arith;
       }
@@ -82,7 +84,7 @@ module _ {P : Ports} {slots : List Sig} {path : Sig} {n0 : Netlist} where
   pub able_parts : {p : Primitive} {ts : Terms} → Lowerable n0 P slots path (Op p ts) → LowerableAll n0 P slots path ts
   able_parts {p} {ts} h = record { owner = h.owner; env = h.env; widths = h.typed.width.0; setting = h.setting; typed = parts_typed h.typed; room = let r = h.room in omega arith }
 
-  pub parts_sized : {p : Primitive} {ts : Terms} {n1 : Netlist} {o0 o1 : Out} {all : LoweredAll} → Lowerable n0 P slots path (Op p ts) → LowersAll P slots path n0 n1 o0 o1 all ts → (ws : List ℕ) × (w : ℕ) × Sized n1 all.values.items ws × (result_width p ws ≡ Some w)
+  pub parts_sized : {p : Primitive} {ts : Terms} {n1 : Netlist} {o0 o1 : Out} {all : LoweredAll} → Lowerable n0 P slots path (Op p ts) → LowersAll P slots path n0 n1 o0 o1 all ts → (ws : List ℕ) × (w : ℕ) × AreSources n1 all.values.items ws × (result_width p ws ≡ Some w)
   parts_sized h hs = (h.typed.width.0, h.width, (hs.shape h.owner h.env h.typed.width.0 h.setting (parts_typed h.typed)).widths, h.typed.width.2)
 
   pub able_args : {f k : ℕ} {ts : Terms} → Lowerable n0 P slots path (Call f k ts) → LowerableAll n0 P slots path ts
@@ -102,7 +104,7 @@ module _ {P : Ports} {slots : List Sig} {path : Sig} {n0 : Netlist} where
       let low = t.spans.0 in
       let below = fits_all_le h.owner.program h.owner.function (suc t.low) t.high ts t.spans.4 in
       let p = there P.sites.items (k - P.first_site) (omega (arith, first, last, from, upto, low, below)) in
-      record { from = omega (arith, first, from, low); port = p.0; at = p.1; sent = width_kept g p.0.sent.0 1 (s.sites_sized (k - P.first_site) p.0 p.1).sent }
+      record { from = omega (arith, first, from, low); port = p.0; at = p.1; sent = source_grown g p.0.sent 1 (s.sites_sized (k - P.first_site) p.0 p.1).sent }
 
   -- what a call shows has the width of its callee's result
   pub call_shape : (F : Owner) (tail : Bool) (env : List ℕ) (w : ℕ) {f k : ℕ} {ts : Terms} {n1 : Netlist} {r : Lowered} → Grows n0 n1 → Shows P k r → Setting n0 F P slots env path → Typed F tail env (Call f k ts) w → Shaped n1 r w

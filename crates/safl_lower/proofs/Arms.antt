@@ -1,9 +1,9 @@
 -- How the circuits of parts make the circuit of a term: pure facts on options and bits.
-use Rattle.std.proofs.Common.{◌≡◌, ℕ, zero, suc, List, [], ◌∷◌, ◌++◌, Option, Some, None, Bool, true, false, not, ◌&&◌, cond, ◌==◌, refl, sym, ap, ◌∙◌, arith}
-use Rattle.std.proofs.lemmas.Bool.{ne_eqb}
-use Rattle.safl_word.specs.Words.{Word, pick, choose}
-use Rattle.safl_check.specs.Readiness.{Answer, Ready, LoopTo, NotYet, word_of, select, with_all, or_else}
-use Rattle.safl_lower.specs.Entries.{gate}
+use Rattle.std.proofs.Common.{◌≡◌, List, [], ◌∷◌, ◌++◌, Option, Some, None, Bool, true, false, not, ◌&&◌, cond, ◌==◌, refl, sym, ap, ◌∙◌}
+use Rattle.safl_word.specs.Words.{Word, choose}
+use Rattle.safl_term.specs.Readiness.{Answer, Ready, LoopTo, NotYet, word_of, select, with_all, or_else}
+use Rattle.safl_net.specs.Bits.{gate, on}
+use Rattle.safl_gates.proofs.BitWords.{choose_is}
 
 -- ---- options
 
@@ -26,16 +26,6 @@ gate_none false = refl
 pub gate_gate : {A : Type 0} (a b : Bool) (x : Option A) → gate a (gate b x) ≡ gate (a && b) x
 gate_gate true b x = refl
 gate_gate false b x = refl
-
--- ---- the branch that a word selects
-
-pick_is : {A : Type 0} (n : ℕ) (a b : A) → pick n a b ≡ cond (n == 1) a b
-pick_is zero a b = refl
-pick_is (suc zero) a b = refl
-pick_is (suc (suc n)) a b = ap (λ (t : Bool). cond t a b) (sym (ne_eqb (suc (suc n)) 1 (λ e. absurd (omega (arith, e)))))
-
-pub choose_is : {A : Type 0} (w : Word) (a b : A) → choose w a b ≡ cond (w.bits == 1) a b
-choose_is w a b = pick_is w.bits a b
 
 -- ---- an if: r and w are the readiness and the word of the condition
 

@@ -1,14 +1,12 @@
 -- The circuit of a branch and of a let from the circuits of its parts.
-use Rattle.std.proofs.Common.{◌≡◌, ℕ, ◌+◌, ◌≤◌, List, [], ◌∷◌, ◌++◌, map, length, Option, Some, None, Bool, true, false, not, ◌&&◌, cond, ◌==◌, ◌⊎◌, ◌↔◌, refl, sym, ap, subst, ◌∙◌, ⊎_elim, inr, arith}
+use Rattle.std.proofs.Common.{◌≡◌, ℕ, ◌+◌, ◌≤◌, List, ◌++◌, map, length, Option, Some, None, Bool, true, false, not, ◌&&◌, cond, ◌==◌, ◌⊎◌, ◌↔◌, refl, sym, ap, subst, ◌∙◌, ⊎_elim, inr, arith}
 use Rattle.safl_word.specs.Words.{Word}
-use Rattle.safl_check.specs.Terms.{Term, If, Let, Terms}
-use Rattle.safl_check.specs.Readiness.{Answer, Ready, LoopTo, NotYet, word_of, select, with_all, or_else, answer, answers, wanted, wanted_in}
+use Rattle.safl_term.specs.Terms.{Term, If, Let, Terms}
+use Rattle.safl_term.specs.Readiness.{Answer, Ready, LoopTo, NotYet, word_of, select, with_all, or_else, answer, answers, wanted, wanted_in}
 use Rattle.safl_net.specs.declared.cell.Sig.{Sig}
 use Rattle.safl_net.specs.Netlist.{Netlist}
 use Rattle.safl_net.specs.Growth.{Val, words, Wired, Grows}
-use Rattle.safl_net.proofs.Growth.{grows_on, wired_before, width_kept, sized_kept}
-use Rattle.safl_net.specs.Settled.{AreSteady, SettlesOn}
-use Rattle.safl_net.proofs.Settling.{steady_grown, are_steady_grown, are_steady_more}
+use Rattle.safl_net.proofs.Growth.{grows_on, wired_before}
 use Rattle.safl_lower.specs.declared.parts.Readiness.{Readiness}
 use Rattle.safl_lower.specs.declared.parts.Readiness.TheVariants.{Never}
 use Rattle.safl_lower.specs.declared.parts.Ports.{Ports}
@@ -16,17 +14,20 @@ use Rattle.safl_lower.specs.declared.parts.Lowered.{Lowered}
 use Rattle.safl_lower.specs.declared.parts.LoweredAll.{LoweredAll}
 use Rattle.safl_lower.specs.declared.parts.Out.{Out}
 use Rattle.safl_lower.specs.declared.parts.TailCall.{TailCall}
-use Rattle.safl_lower.specs.Bits.{on, is_ready, BitAt, ReadyAt}
+use Rattle.safl_net.specs.Bits.{on, gate}
+use Rattle.safl_lower.specs.Bits.{is_ready, ReadyAt}
 use Rattle.safl_lower.specs.Typing.{sites_of, sites_in, tails_of, holds_calls}
-use Rattle.safl_lower.specs.Entries.{gate, asked, went, Told, site_of, member_of, cost}
+use Rattle.safl_lower.specs.Entries.{asked, went, Told, site_of, member_of, cost}
 use Rattle.safl_lower.specs.Lowering.{back_of, sent_of, shown, goes_of, Shaped, Lowers, LowersAll}
 use Rattle.safl_lower.proofs.Arms.{or_assoc, gate_or, gate_none, if_value, if_wants, let_value, let_wants}
-use Rattle.safl_lower.specs.Steady.{listed, results}
-use Rattle.safl_lower.proofs.Steadying.{sites_grown, out_grown}
 use Rattle.safl_lower.proofs.Kept.{shaped_kept, setting_on, setting_below}
 use Rattle.safl_lower.proofs.Typing.{test_typed, yes_typed, no_typed, bound_typed, body_typed}
 use Rattle.safl_lower.proofs.Quiet.{no_wants, no_going}
 use Rattle.safl_lower.proofs.Gathered.{words_more, stays, and_true, pick_ap, no_goes, more_twice, out_kept, told_by, told_more, never_is, gate_is_none, if_first, if_second, let_second, between_same}
+use Rattle.safl_gates.specs.Sources.{IsSource}
+use Rattle.safl_net.specs.Settled.{Settles}
+use Rattle.safl_gates.proofs.Building.{source_grown, sources_grown}
+use Rattle.safl_net.proofs.Settling.{settles_on}
 
 -- ---- an if
 
@@ -63,11 +64,11 @@ without x y z p e = e ∙ ap (λ (b : Bool). or_else y (gate b z)) (sym (and_tru
 pub record Branches (path : Sig) (n m : Netlist) (test : Lowered) (a b : Term) (yes no : Sig) : Type 0 where
   pub grows : Grows n m
   pub count : length m.signals ≤ length n.signals + 4
-  pub yes_bit : BitAt m yes
-  pub no_bit : BitAt m no
+  pub yes_bit : IsSource m yes 1
+  pub no_bit : IsSource m no 1
   pub yes_on : holds_calls a ≡ true → (v : Val) → Wired m v → on v yes ≡ ((on v path && is_ready v test.ready) && on v test.value)
   pub no_on : holds_calls b ≡ true → (v : Val) → Wired m v → on v no ≡ ((on v path && is_ready v test.ready) && not (on v test.value))
-  pub settled : AreSteady n (path ∷ results test) → SettlesOn n m (yes ∷ no ∷ [])
+  pub settles : Settles n m
 
 pub record Chosen (n m : Netlist) (test yes no r : Lowered) : Type 0 where
   pub grows : Grows n m
@@ -75,7 +76,7 @@ pub record Chosen (n m : Netlist) (test yes no r : Lowered) : Type 0 where
   pub shape : (w : ℕ) → Shaped n yes w → Shaped n no w → Shaped m r w
   pub value : (v : Val) → Wired m v → shown v r ≡ gate (is_ready v test.ready) (cond (on v test.value) (shown v yes) (shown v no))
   pub never : r.ready ≡ Never → (test.ready ≡ Never) ⊎ ((yes.ready ≡ Never) × (no.ready ≡ Never))
-  pub settled : AreSteady n (results test) → AreSteady n (results yes) → AreSteady n (results no) → SettlesOn n m (results r)
+  pub settles : Settles n m
 
 pub lowers_if : {P : Ports} {slots : List Sig} {path py pn : Sig} {n0 n1 n2 n3 n4 n5 : Netlist} {o0 o1 o2 o3 : Out} {test yes no r : Lowered} {c a b : Term}
     → Lowers P slots path n0 n1 o0 o1 test c → Branches path n1 n2 test a b py pn → Lowers P slots py n2 n3 o1 o2 yes a → Lowers P slots pn n3 n4 o2 o3 no b → Chosen n4 n5 test yes no r
@@ -83,21 +84,12 @@ pub lowers_if : {P : Ports} {slots : List Sig} {path py pn : Sig} {n0 n1 n2 n3 n
 unfolding answer wanted
 lowers_if {P} {slots} {path} {py} {pn} {n0} {n1} {n2} {n3} {n4} {n5} {o0} {o1} {o2} {o3} {test} {yes} {no} {r} {c} {a} {b} hc hp ha hb hr = record {
   tails = λ F tail env w t. more_twice (map member_of o0.loops.items) (map member_of o2.loops.items) (map member_of o3.loops.items) (tails_of a) (tails_of b) (ha.tails F tail env w (yes_typed t) ∙ ap (λ (l : List TailCall). map member_of l ++ tails_of a) (hc.quiet F env 1 (test_typed t))) (hb.tails F tail env w (no_typed t));
-  settled = λ p h k.
-      let g2 = grows_on hc.grows hp.grows in
-      let g3 = grows_on g2 ha.grows in
-      let at1 = hc.settled p h k in
-      let at2 = hp.settled (steady_grown hc.grows path.0 h.0, at1.0.signals) in
-      let at3 = ha.settled (sites_grown P g2 p) (at2.signals.0, are_steady_grown g2 slots h.1) (out_grown hp.grows at1.1) in
-      let at4 = hb.settled (sites_grown P g3 p) (steady_grown ha.grows pn.0 at2.signals.1.0, are_steady_grown g3 slots h.1) at3.1 in
-      let tested = are_steady_grown (grows_on hp.grows (grows_on ha.grows hb.grows)) (results test) at1.0.signals in
-      let at5 = hr.settled tested (are_steady_grown hb.grows (results yes) at3.0.signals) at4.0.signals in
-      (record { net = λ x. at5.net (at4.0.net (at3.0.net (at2.net (at1.0.net x)))); signals = at5.signals }, out_grown hr.grows at4.1);
+  settles = settles_on hc.settles (settles_on hp.settles (settles_on ha.settles (settles_on hb.settles hr.settles)));
   quiet = λ F env w t. hb.quiet F env w (no_typed t) ∙ ha.quiet F env w (yes_typed t) ∙ hc.quiet F env 1 (test_typed t);
   cheap = λ F tail env w t. let i = ap cost (hc.quiet F env 1 (test_typed t)) in let j = ha.cheap F tail env w (yes_typed t) in let k = hb.cheap F tail env w (no_typed t) in omega (arith, i, j, k);
   within = λ F tail env w s t x.
       let s2 = setting_on (grows_on hc.grows hp.grows) s hp.yes_bit in
-      let s3 = setting_on ha.grows s2 (width_kept ha.grows pn.0 1 hp.no_bit) in
+      let s3 = setting_on ha.grows s2 (source_grown ha.grows pn 1 hp.no_bit) in
       hb.within F tail env w s3 (no_typed t) (ha.within F tail env w s2 (yes_typed t) (hc.within F false env 1 s (test_typed t) x));
   more = hc.more ++ (ha.more ++ hb.more);
   loops_more = more_twice o0.loops.items o1.loops.items o3.loops.items hc.more (ha.more ++ hb.more) hc.loops_more (more_twice o1.loops.items o2.loops.items o3.loops.items ha.more hb.more ha.loops_more hb.loops_more);
@@ -123,13 +115,13 @@ lowers_if {P} {slots} {path} {py} {pn} {n0} {n1} {n2} {n3} {n4} {n5} {o0} {o1} {
   sites = more_twice (map site_of o0.wants.items) (map site_of o1.wants.items) (map site_of o3.wants.items) (sites_of c) (sites_of a ++ sites_of b) hc.sites (more_twice (map site_of o1.wants.items) (map site_of o2.wants.items) (map site_of o3.wants.items) (sites_of a) (sites_of b) ha.sites hb.sites);
   fits = λ F tail env w s t x.
       let s2 = setting_on (grows_on hc.grows hp.grows) s hp.yes_bit in
-      let s3 = setting_on ha.grows s2 (width_kept ha.grows pn.0 1 hp.no_bit) in
+      let s3 = setting_on ha.grows s2 (source_grown ha.grows pn 1 hp.no_bit) in
       out_kept hr.grows (hb.fits F tail env w s3 (no_typed t) (ha.fits F tail env w s2 (yes_typed t) (out_kept hp.grows (hc.fits F false env 1 s (test_typed t) x))));
   grows = grows_on hc.grows (grows_on hp.grows (grows_on ha.grows (grows_on hb.grows hr.grows)));
   count = let i = hc.count in let j = hp.count in let k = ha.count in let l = hb.count in let m = hr.count in omega arith;
   shape = λ F tail env w s t.
       let s2 = setting_on (grows_on hc.grows hp.grows) s hp.yes_bit in
-      let s3 = setting_on ha.grows s2 (width_kept ha.grows pn.0 1 hp.no_bit) in
+      let s3 = setting_on ha.grows s2 (source_grown ha.grows pn 1 hp.no_bit) in
       hr.shape w (shaped_kept hb.grows yes w (ha.shape F tail env w s2 (yes_typed t))) (hb.shape F tail env w s3 (no_typed t));
   value = λ v w5.
       let w4 = wired_before hr.grows w5 in
@@ -198,9 +190,9 @@ let_asked p q r ws o go x0 x1 x2 wb w e g e1 e2 =
 pub record Inner (path : Sig) (n m : Netlist) (b : Term) (ready : Readiness) (inner : Sig) : Type 0 where
   pub grows : Grows n m
   pub count : length m.signals ≤ length n.signals + 1
-  pub bit : BitAt m inner
+  pub bit : IsSource m inner 1
   pub is : holds_calls b ≡ true → (v : Val) → Wired m v → on v inner ≡ (on v path && is_ready v ready)
-  pub settled : AreSteady n (path ∷ listed ready) → SettlesOn n m (inner ∷ [])
+  pub settles : Settles n m
 
 pub record Both (n m : Netlist) (q r s : Readiness) : Type 0 where
   pub grows : Grows n m
@@ -208,7 +200,7 @@ pub record Both (n m : Netlist) (q r s : Readiness) : Type 0 where
   pub bit : ReadyAt m s
   pub is : (v : Val) → Wired m v → is_ready v s ≡ (is_ready v q && is_ready v r)
   pub never : (s ≡ Never) ↔ ((q ≡ Never) ⊎ (r ≡ Never))
-  pub settled : AreSteady n (listed q) → AreSteady n (listed r) → SettlesOn n m (listed s)
+  pub settles : Settles n m
 
 pub lowers_let : {P : Ports} {slots : List Sig} {path inner : Sig} {n0 n1 n2 n3 n4 : Netlist} {o0 o1 o2 : Out} {bound : LoweredAll} {body : Lowered} {ready : Readiness} {bs : Terms} {b : Term}
     → LowersAll P slots path n0 n1 o0 o1 bound bs → Inner path n1 n2 b bound.ready inner → Lowers P (slots ++ bound.values.items) inner n2 n3 o1 o2 body b → Both n3 n4 bound.ready body.ready ready
@@ -216,19 +208,12 @@ pub lowers_let : {P : Ports} {slots : List Sig} {path inner : Sig} {n0 n1 n2 n3 
 unfolding answer wanted
 lowers_let {P} {slots} {path} {inner} {n0} {n1} {n2} {n3} {n4} {o0} {o1} {o2} {bound} {body} {ready} {bs} {b} hs hi hb hr = record {
   tails = λ F tail env w t. hb.tails F tail (env ++ t.width.0) w (body_typed t) ∙ ap (λ (l : List TailCall). map member_of l ++ tails_of b) (hs.quiet F env t.width.0 (bound_typed t));
-  settled = λ p h k.
-      let g2 = grows_on hs.grows hi.grows in
-      let at1 = hs.settled p h k in
-      let at2 = hi.settled (steady_grown hs.grows path.0 h.0, at1.0.signals) in
-      let scope = are_steady_more n2 slots bound.values.items (are_steady_grown g2 slots h.1) (are_steady_grown hi.grows bound.values.items at1.1) in
-      let at3 = hb.settled (sites_grown P g2 p) (at2.signals.0, scope) (out_grown hi.grows at1.2) in
-      let at4 = hr.settled (are_steady_grown (grows_on hi.grows hb.grows) (listed bound.ready) at1.0.signals) at3.0.signals.1 in
-      (record { net = λ x. at4.net (at3.0.net (at2.net (at1.0.net x))); signals = (steady_grown hr.grows body.value.0 at3.0.signals.0, at4.signals) }, out_grown hr.grows at3.1);
+  settles = settles_on hs.settles (settles_on hi.settles (settles_on hb.settles hr.settles));
   quiet = λ F env w t. hb.quiet F (env ++ t.width.0) w (body_typed t) ∙ hs.quiet F env t.width.0 (bound_typed t);
   cheap = λ F tail env w t. let i = ap cost (hs.quiet F env t.width.0 (bound_typed t)) in let j = hb.cheap F tail (env ++ t.width.0) w (body_typed t) in omega (arith, i, j);
   within = λ F tail env w s t x.
       let a = hs.shape F env t.width.0 s (bound_typed t) in
-      let k = setting_below bound.values.items t.width.0 (grows_on hs.grows hi.grows) s hi.bit (sized_kept hi.grows bound.values.items t.width.0 a.widths) in
+      let k = setting_below bound.values.items t.width.0 (grows_on hs.grows hi.grows) s hi.bit (sources_grown hi.grows bound.values.items t.width.0 a.widths) in
       hb.within F tail (env ++ t.width.0) w k (body_typed t) (between_same P.first_member (P.first_member + P.members) o0.loops.items o1.loops.items (hs.quiet F env t.width.0 (bound_typed t)) x);
   more = hs.more ++ hb.more;
   loops_more = more_twice o0.loops.items o1.loops.items o2.loops.items hs.more hb.more hs.loops_more hb.loops_more;
@@ -250,18 +235,18 @@ lowers_let {P} {slots} {path} {inner} {n0} {n1} {n2} {n3} {n4} {o0} {o1} {o2} {b
   sites = more_twice (map site_of o0.wants.items) (map site_of o1.wants.items) (map site_of o2.wants.items) (sites_in bs) (sites_of b) hs.sites hb.sites;
   fits = λ F tail env w s t x.
       let a = hs.shape F env t.width.0 s (bound_typed t) in
-      let k = setting_below bound.values.items t.width.0 (grows_on hs.grows hi.grows) s hi.bit (sized_kept hi.grows bound.values.items t.width.0 a.widths) in
+      let k = setting_below bound.values.items t.width.0 (grows_on hs.grows hi.grows) s hi.bit (sources_grown hi.grows bound.values.items t.width.0 a.widths) in
       out_kept hr.grows (hb.fits F tail (env ++ t.width.0) w k (body_typed t) (out_kept hi.grows (hs.fits F env t.width.0 s (bound_typed t) x)));
   grows = grows_on hs.grows (grows_on hi.grows (grows_on hb.grows hr.grows));
   count = let i = hs.count in let j = hi.count in let k = hb.count in let l = hr.count in omega arith;
   shape = λ F tail env w s t.
       let a = hs.shape F env t.width.0 s (bound_typed t) in
-      let k = setting_below bound.values.items t.width.0 (grows_on hs.grows hi.grows) s hi.bit (sized_kept hi.grows bound.values.items t.width.0 a.widths) in
-      record { ready = hr.bit; width = λ ever. width_kept hr.grows body.value.0 w ((hb.shape F tail (env ++ t.width.0) w k (body_typed t)).width (λ no. ever (hr.never.1 (inr no)))) };
+      let k = setting_below bound.values.items t.width.0 (grows_on hs.grows hi.grows) s hi.bit (sources_grown hi.grows bound.values.items t.width.0 a.widths) in
+      record { ready = hr.bit; width = λ ever. source_grown hr.grows body.value w ((hb.shape F tail (env ++ t.width.0) w k (body_typed t)).width (λ no. ever (hr.never.1 (inr no)))) };
   ever = λ F env w t no. ⊎_elim (hs.ever F env t.width.0 (bound_typed t)) (hb.ever F (env ++ t.width.0) w (body_typed t)) (hr.never.0 no);
   wide = λ F tail env w s t no.
       let a = hs.shape F env t.width.0 s (bound_typed t) in
-      let k = setting_below bound.values.items t.width.0 (grows_on hs.grows hi.grows) s hi.bit (sized_kept hi.grows bound.values.items t.width.0 a.widths) in
+      let k = setting_below bound.values.items t.width.0 (grows_on hs.grows hi.grows) s hi.bit (sources_grown hi.grows bound.values.items t.width.0 a.widths) in
       ⊎_elim (λ x. absurd (hs.ever F env t.width.0 (bound_typed t) x)) (hb.wide F tail (env ++ t.width.0) w k (body_typed t)) (hr.never.0 no);
   value = λ v w4.
       let w3 = wired_before hr.grows w4 in

@@ -2,18 +2,16 @@
 use Rattle.std.proofs.Common.{◌≡◌, ℕ, suc, ◌+◌, ◌<◌, ◌≤◌, List, [], ◌∷◌, ◌++◌, map, length, Option, Some, None, Bool, true, false, not, ◌&&◌, cond, ◌==◌, T, refl, sym, ap, subst, ◌∙◌, arith}
 use Rattle.std.proofs.Math.Facts.{eqb_yes}
 use Rattle.std.proofs.lemmas.Bool.{ne_eqb}
-use Rattle.safl_check.specs.Program.{Program}
-use Rattle.safl_check.specs.WellFormed.{Spans, SpansAll}
-use Rattle.safl_check.proofs.Places.{fits_le, fits_all_le}
+use Rattle.safl_term.specs.Program.{Program}
+use Rattle.safl_term.specs.WellFormed.{Spans, SpansAll}
+use Rattle.safl_term.proofs.Places.{fits_le, fits_all_le}
 use Rattle.safl_word.specs.Words.{Word}
-use Rattle.safl_check.specs.Terms.{Term, Const, Var, Op, If, Let, Call, Loop, Terms, Nil, Cons}
-use Rattle.safl_check.specs.Readiness.{Answer, Ready, LoopTo, NotYet, word_of, ready_from, loop_to, select, with_all, or_else, answer, answers, wanted, wanted_in}
+use Rattle.safl_term.specs.Terms.{Term, Const, Var, Op, If, Let, Call, Loop, Terms, Nil, Cons}
+use Rattle.safl_term.specs.Readiness.{Answer, Ready, LoopTo, NotYet, word_of, ready_from, loop_to, select, with_all, or_else, answer, answers, wanted, wanted_in}
 use Rattle.safl_net.specs.declared.cell.Sig.{Sig}
 use Rattle.safl_net.specs.Netlist.{Netlist}
-use Rattle.safl_net.specs.Growth.{Val, words, Wired, Sized, Grows}
+use Rattle.safl_net.specs.Growth.{Val, words, Wired, Grows}
 use Rattle.safl_net.proofs.Growth.{grows_on, wired_before}
-use Rattle.safl_net.specs.Settled.{AreSteady, SettlesOn}
-use Rattle.safl_net.proofs.Settling.{steady_grown}
 use Rattle.safl_lower.specs.declared.parts.Readiness.{Readiness}
 use Rattle.safl_lower.specs.declared.parts.Readiness.TheVariants.{Never, When}
 use Rattle.safl_lower.specs.declared.parts.Ports.{Ports}
@@ -21,16 +19,18 @@ use Rattle.safl_lower.specs.declared.parts.Lowered.{Lowered}
 use Rattle.safl_lower.specs.declared.parts.LoweredAll.{LoweredAll}
 use Rattle.safl_lower.specs.declared.parts.Out.{Out}
 use Rattle.safl_lower.specs.declared.parts.TailCall.{TailCall}
-use Rattle.safl_lower.specs.Bits.{on, is_ready, ReadyAt}
+use Rattle.safl_net.specs.Bits.{on, gate}
+use Rattle.safl_lower.specs.Bits.{is_ready, ReadyAt}
 use Rattle.safl_lower.specs.Typing.{Owner, Typed, sites_in}
-use Rattle.safl_lower.specs.Entries.{gate, asked, went, site_of, member_of, Between, WantsFit, LoopsFit, cost}
+use Rattle.safl_lower.specs.Entries.{asked, went, site_of, member_of, Between, WantsFit, LoopsFit, cost}
 use Rattle.safl_lower.specs.Lowering.{returned_word, back_of, sent_of, open_at, shown, gathered, goes_of, Setting, Shaped, Lowers, LowersAll, Shows, goes_with, Enters, Leaves}
 use Rattle.safl_lower.proofs.Arms.{or_assoc, or_none, gate_or, gate_none}
-use Rattle.safl_lower.specs.Steady.{listed, results, SitesSteady, OutSteady}
-use Rattle.safl_lower.proofs.Steadying.{sites_grown}
 use Rattle.safl_lower.proofs.Kept.{shaped_all_kept}
 use Rattle.safl_lower.proofs.Typing.{args_typed, next_typed}
 use Rattle.safl_lower.proofs.Gathered.{stays_by, pick_none, no_more, more_twice, map_end, out_kept, wants_end, loops_end, told_by, told_more, never_is, taken_tells, cost_end, between_end, between_same}
+use Rattle.safl_gates.specs.Sources.{AreSources}
+use Rattle.safl_net.specs.Settled.{Settles}
+use Rattle.safl_net.proofs.Settling.{settles_on}
 
 goes_call : (o : Option Word) → goes_of (ready_from o) ≡ None
 goes_call None = refl
@@ -99,7 +99,7 @@ pub record Asked (P : Ports) (path : Sig) (n m : Netlist) (o p : Out) (k : ℕ) 
   pub entry : Enters m o.wants.items p.wants.items k all
   pub loops : p.loops.items ≡ o.loops.items
   pub wants : (v : Val) → Wired m v → (j : ℕ) → asked v p.wants.items j ≡ or_else (asked v o.wants.items j) (gate (k == j) (gate (open_at v P path k) (gathered v all)))
-  pub settled : SitesSteady n P → AreSteady n (path ∷ listed all.ready) → AreSteady n all.values.items → OutSteady n o → SettlesOn n m (results r) × OutSteady m p
+  pub settles : Settles n m
 
 pub lowers_call : {P : Ports} {slots : List Sig} {path : Sig} {n0 n1 n2 : Netlist} {o0 o1 o2 : Out} {all : LoweredAll} {f k : ℕ} {ts : Terms} {r : Lowered}
     → LowersAll P slots path n0 n1 o0 o1 all ts → Asked P path n1 n2 o1 o2 k all r
@@ -108,10 +108,7 @@ pub lowers_call : {P : Ports} {slots : List Sig} {path : Sig} {n0 n1 n2 : Netlis
 unfolding answer wanted
 lowers_call {P} {slots} {path} {n0} {n1} {n2} {o0} {o1} {o2} {all} {f} {k} {ts} {r} hs ha x = record {
   tails = λ F tail env w t. ap (map member_of) (ha.loops ∙ hs.quiet F env (F.program.params f) (args_typed t)) ∙ no_more (map member_of o0.loops.items);
-  settled = λ p h y.
-      let a = hs.settled p h y in
-      let b = ha.settled (sites_grown P hs.grows p) (steady_grown hs.grows path.0 h.0, a.0.signals) a.1 a.2 in
-      (record { net = λ q. b.0.net (a.0.net q); signals = b.0.signals }, b.1);
+  settles = settles_on hs.settles ha.settles;
   quiet = λ F env w t. ha.loops ∙ hs.quiet F env (F.program.params f) (args_typed t);
   cheap = λ F tail env w t. let i = ap cost (ha.loops ∙ hs.quiet F env (F.program.params f) (args_typed t)) in omega (arith, i);
   within = λ F tail env w s t x. between_same P.first_member (P.first_member + P.members) o0.loops.items o2.loops.items (ha.loops ∙ hs.quiet F env (F.program.params f) (args_typed t)) x;
@@ -123,7 +120,7 @@ lowers_call {P} {slots} {path} {n0} {n1} {n2} {o0} {o1} {o2} {all} {f} {k} {ts} 
       let y = out_kept ha.grows (hs.fits F env (F.program.params f) s (args_typed t) x) in
       let a = shaped_all_kept ha.grows all (F.program.params f) (hs.shape F env (F.program.params f) s (args_typed t)) in
       record {
-        wants = subst (WantsFit F n2) (sym ha.entry.is) (wants_end F n2 o1.wants.items _ y.wants (record { bit = ha.entry.bit; sized = subst (λ (g : ℕ). Sized n2 all.values.items (F.program.params g)) (sym t.spans.1) a.widths }));
+        wants = subst (WantsFit F n2) (sym ha.entry.is) (wants_end F n2 o1.wants.items _ y.wants (record { bit = ha.entry.bit; sized = subst (λ (g : ℕ). AreSources n2 all.values.items (F.program.params g)) (sym t.spans.1) a.widths }));
         loops = subst (LoopsFit F n2) (sym ha.loops) y.loops;
       };
   grows = grows_on hs.grows ha.grows;
@@ -170,7 +167,7 @@ pub record Gone (path : Sig) (n m : Netlist) (o p : Out) (h : ℕ) (all : Lowere
   pub never : r.ready ≡ Never
   pub wants : p.wants.items ≡ o.wants.items
   pub loops : (v : Val) → Wired m v → went v p.loops.items ≡ or_else (went v o.loops.items) (gate (on v path) (goes_with h (gathered v all)))
-  pub settled : AreSteady n (path ∷ listed all.ready) → AreSteady n all.values.items → OutSteady n o → SettlesOn n m (results r) × OutSteady m p
+  pub settles : Settles n m
 
 pub lowers_loop : {P : Ports} {slots : List Sig} {path : Sig} {n0 n1 n2 : Netlist} {o0 o1 o2 : Out} {all : LoweredAll} {h : ℕ} {ts : Terms} {r : Lowered}
     → LowersAll P slots path n0 n1 o0 o1 all ts → Gone path n1 n2 o1 o2 h all r
@@ -178,10 +175,7 @@ pub lowers_loop : {P : Ports} {slots : List Sig} {path : Sig} {n0 n1 n2 : Netlis
 unfolding answer wanted
 lowers_loop {P} {slots} {path} {n0} {n1} {n2} {o0} {o1} {o2} {all} {h} {ts} {r} hs hg = record {
   tails = λ F tail env w t. ap (map member_of) hg.entry.is ∙ map_end member_of o1.loops.items _ ∙ ap (λ (l : List TailCall). map member_of l ++ h ∷ []) (hs.quiet F env (F.program.params h) (next_typed t));
-  settled = λ p k y.
-      let a = hs.settled p k y in
-      let b = hg.settled (steady_grown hs.grows path.0 k.0, a.0.signals) a.1 a.2 in
-      (record { net = λ q. b.0.net (a.0.net q); signals = b.0.signals }, b.1);
+  settles = settles_on hs.settles hg.settles;
   quiet = λ F env w t. false_true t.spans.0;
   cheap = λ F tail env w t. let i = ap cost (hs.quiet F env (F.program.params h) (next_typed t)) in let j = ap cost hg.entry.is ∙ cost_end o1.loops.items (record { member = h; taken = hg.entry.taken; args = all.values }) in let k = hs.long in omega (arith, i, j, k);
   within = λ F tail env w s t x.

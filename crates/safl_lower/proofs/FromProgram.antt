@@ -1,7 +1,7 @@
 -- The bodies of a well-formed program are bodies that can be lowered.
 use Rattle.std.proofs.Common.{◌≡◌, ℕ, ◌<◌, refl, sym, ap, ◌∙◌, arith}
-use Rattle.safl_check.specs.Program.{Program}
-use Rattle.safl_check.specs.WellFormed.{IsWellFormed}
+use Rattle.safl_term.specs.Program.{Program}
+use Rattle.safl_term.specs.WellFormed.{IsWellFormed}
 use Rattle.safl_lower.specs.Typing.{Owner}
 use Rattle.safl_lower.specs.Bodies.{IsBody}
 

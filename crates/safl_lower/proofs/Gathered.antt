@@ -1,21 +1,22 @@
 -- The calls and tail calls that the parts of a term have added.
 use Rattle.std.proofs.Common.{◌≡◌, ℕ, zero, suc, ◌+◌, ◌<◌, ◌≤◌, List, [], ◌∷◌, ◌++◌, map, length, Option, Some, None, Bool, true, false, not, ◌&&◌, ◌==◌, refl, sym, ap, subst, ◌∙◌, arith, append_assoc}
 use Rattle.safl_word.specs.Words.{Word, pick}
-use Rattle.safl_check.specs.Program.{Program}
-use Rattle.safl_check.specs.Terms.{Term, Const, Var, Op, If, Let, Call, Loop}
-use Rattle.safl_check.specs.WellFormed.{Spans}
-use Rattle.safl_check.specs.Readiness.{Answer, Ready, LoopTo, NotYet, word_of, ready_from, apply_to, loop_to, select, with_all, or_else, answer, answers}
+use Rattle.safl_term.specs.Program.{Program}
+use Rattle.safl_term.specs.Terms.{Term, Const, Var, Op, If, Let, Call, Loop}
+use Rattle.safl_term.specs.WellFormed.{Spans}
+use Rattle.safl_term.specs.Readiness.{Answer, Ready, LoopTo, NotYet, word_of, ready_from, apply_to, loop_to, select, with_all, or_else, answer, answers}
 use Rattle.safl_net.specs.declared.cell.Sig.{Sig}
 use Rattle.safl_net.specs.Netlist.{Netlist}
 use Rattle.safl_net.specs.Growth.{Val, words, Grows}
-use Rattle.safl_net.proofs.Growth.{width_kept, sized_kept}
 use Rattle.safl_lower.specs.declared.parts.Out.{Out}
 use Rattle.safl_lower.specs.declared.parts.Want.{Want}
 use Rattle.safl_lower.specs.declared.parts.TailCall.{TailCall}
 use Rattle.safl_lower.specs.Typing.{Owner, Typed, nodes}
-use Rattle.safl_lower.specs.Entries.{gate, Told, WantFits, LoopFits, WantsFit, LoopsFit, OutFits, member_of, Between, cost}
+use Rattle.safl_net.specs.Bits.{gate, on}
+use Rattle.safl_lower.specs.Entries.{Told, WantFits, LoopFits, WantsFit, LoopsFit, OutFits, member_of, Between, cost}
 use Rattle.safl_lower.specs.Lowering.{goes_of}
 use Rattle.safl_lower.proofs.Arms.{or_none, gate_none, if_wants, let_wants}
+use Rattle.safl_gates.proofs.Building.{source_grown, sources_grown}
 
 pub words_more : (v : Val) (xs ys : List Sig) → words v (xs ++ ys) ≡ words v xs ++ words v ys
 words_more v [] ys = refl
@@ -92,11 +93,11 @@ map_end f (y ∷ xs) x = ap (λ (l : List _). f y ∷ l) (map_end f xs x)
 
 pub wants_kept : {a b : Netlist} (F : Owner) (es : List Want) → Grows a b → WantsFit F a es → WantsFit F b es
 wants_kept F [] g h = tt
-wants_kept F (e ∷ es) g h = (record { bit = width_kept g e.want.0 1 h.0.bit; sized = sized_kept g e.args.items _ h.0.sized }, wants_kept F es g h.1)
+wants_kept F (e ∷ es) g h = (record { bit = source_grown g e.want 1 h.0.bit; sized = sources_grown g e.args.items _ h.0.sized }, wants_kept F es g h.1)
 
 pub loops_kept : {a b : Netlist} (F : Owner) (es : List TailCall) → Grows a b → LoopsFit F a es → LoopsFit F b es
 loops_kept F [] g h = tt
-loops_kept F (e ∷ es) g h = (record { bit = width_kept g e.taken.0 1 h.0.bit; sized = sized_kept g e.args.items _ h.0.sized }, loops_kept F es g h.1)
+loops_kept F (e ∷ es) g h = (record { bit = source_grown g e.taken 1 h.0.bit; sized = sources_grown g e.args.items _ h.0.sized }, loops_kept F es g h.1)
 
 pub out_kept : {a b : Netlist} {F : Owner} {o : Out} → Grows a b → OutFits F a o → OutFits F b o
 out_kept {F = F} {o = o} g h = record { wants = wants_kept F o.wants.items g h.wants; loops = loops_kept F o.loops.items g h.loops }

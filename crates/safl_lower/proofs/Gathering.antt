@@ -2,24 +2,25 @@
 use Rattle.std.proofs.Common.{Vec, Global, T, ◌⊎◌, inl, inr, ◌≡◌, ℕ, zero, suc, ◌+◌, ◌-◌, ◌<◌, ◌≤◌, List, [], ◌∷◌, ◌++◌, map, length, Option, Some, Bool, true, false, ◌&&◌, ◌==◌, cond, slice_get, slice_set, refl, sym, ap, subst, ◌∙◌, arith}
 use Rattle.std.proofs.Math.Facts.{eqb_yes}
 use Rattle.safl_word.specs.Words.{Word}
-use Rattle.safl_check.specs.Readiness.{or_else}
+use Rattle.safl_term.specs.Readiness.{or_else}
 use Rattle.safl_net.specs.declared.cell.Sig.{Sig}
 use Rattle.safl_net.specs.Netlist.{Netlist}
-use Rattle.safl_net.specs.Growth.{Val, words, Wired, Grows, Sized}
-use Rattle.safl_net.proofs.Growth.{grows_on, grows_none, width_kept, wired_before, sized_kept}
-use Rattle.safl_net.specs.Settled.{IsSteady, IsSettled}
+use Rattle.safl_net.specs.Growth.{Val, words, Wired, Grows}
+use Rattle.safl_net.proofs.Growth.{grows_on, grows_none, wired_before}
 use Rattle.safl_lower.specs.declared.parts.TailCall.{TailCall}
 use Rattle.safl_lower.specs.declared.parts.Rows.{Rows}
-use Rattle.safl_lower.specs.Bits.{on}
+use Rattle.safl_net.specs.Bits.{on, gate}
 use Rattle.safl_lower.specs.Typing.{Owner}
-use Rattle.safl_lower.specs.Entries.{gate, member_of, Between, LoopFits, LoopsFit, cost}
+use Rattle.safl_lower.specs.Entries.{member_of, Between, LoopFits, LoopsFit, cost}
 use Rattle.safl_lower.specs.Rows.{Listed, tail_cost, given, taken_to, RowFits, Untaken, Row, RowAt, Adds, RowsFit, Merged}
-use Rattle.safl_lower.specs.Steady.{LoopsSteady, RowsSteady}
-use Rattle.safl_lower.proofs.Steadying.{loops_steady_front, loops_grown}
 use Rattle.safl_lower.proofs.Arms.{or_none, or_assoc}
-use Rattle.safl_lower.proofs.Kept.{same}
+use Rattle.safl_gates.proofs.BitWords.{same}
 use Rattle.safl_lower.proofs.Gathered.{map_end, loops_kept, cost_end}
-use Rattle.safl_lower.proofs.Laid.{AllZero, AllEmpty, rows_start, given_zero, between_front, set_here, set_other, set_length, no_equal, some_sig, some_row}
+use Rattle.safl_lower.proofs.Laid.{AllZero, AllEmpty, given_zero, between_front, set_here, set_other, set_length, no_equal, some_sig, some_row}
+use Rattle.safl_gates.specs.Sources.{AreSources, Builds, HasRoom}
+use Rattle.safl_net.specs.Settled.{Settles}
+use Rattle.safl_gates.proofs.Building.{source_grown, sources_grown}
+use Rattle.safl_net.proofs.Settling.{settles_on, settles_same}
 
 zero_only : (z : Sig) (xs : List Sig) (k : ℕ) (l : Sig) → AllZero z xs → slice_get xs k ≡ Some l → l ≡ z
 zero_only z [] k l h e = absurd (cc)
@@ -72,6 +73,7 @@ loops_front F n (d ∷ es) e h = let r = loops_front F n es e h.1 in ((h.0, r.0)
 -- the tail calls of `rest` are still to be merged
 pub record Merging (z : Sig) (first count : ℕ) (old new : Netlist) (all rest : List TailCall) (bits : List Sig) (args : List (Vec Sig Global)) : Type 0 where
   pub grows : Grows old new
+  pub settles : Settles old new
   pub room : length new.signals + cost rest ≤ length old.signals + cost all
   pub bits_length : length bits ≡ count
   pub args_length : length args ≡ count
@@ -82,14 +84,13 @@ pub record Merging (z : Sig) (first count : ℕ) (old new : Netlist) (all rest :
   pub paid : tail_cost z bits args + cost rest ≤ cost all
   pub part : (k : ℕ) → Listed k (map member_of rest) → Listed k (map member_of all)
   pub idle : (i : ℕ) (l : Sig) (a : Vec Sig Global) → slice_get bits i ≡ Some l → slice_get args i ≡ Some a → ¬ Listed (first + i) (map member_of all) → Untaken z l a.items
-  pub settled : IsSteady old z.0 → LoopsSteady old all → (IsSettled old → IsSettled new) × RowsSteady new bits args × LoopsSteady new rest
 
 pub merging_start : (z : Sig) (first count : ℕ) (n : Netlist) (all : List TailCall) (bits : List Sig) (args : List (Vec Sig Global)) → AllZero z bits → AllEmpty args → length bits ≡ count → length args ≡ count → Between first (first + count) (map member_of all) → Merging z first count n n all all bits args
 merging_start z first count n all bits args h a e f b = record {
   paid = let k = zeros_cost z bits args h in omega (arith, k);
   part = λ k x. x;
   idle = λ i l r p q no. (zero_only z bits i l h p, empty_only args i r a q);
-  settled = λ s l. (λ x. x, rows_start n z bits args h a s, l);
+  settles = settles_same n n refl;
   grows = grows_none n;
   room = omega arith;
   bits_length = e;
@@ -107,9 +108,9 @@ there (x ∷ xs) (suc i) h = there xs i (omega arith)
 
 row_kept : {n m : Netlist} (z l : Sig) (a : List Sig) (ws : List ℕ) → Grows n m → Untaken z l a ⊎ RowFits n l a ws → Untaken z l a ⊎ RowFits m l a ws
 row_kept z l a ws g (inl e) = inl e
-row_kept z l a ws g (inr p) = inr (record { bit = width_kept g l.0 1 p.bit; sized = sized_kept g a ws p.sized })
+row_kept z l a ws g (inr p) = inr (record { bit = source_grown g l 1 p.bit; sized = sources_grown g a ws p.sized })
 
-row_before : (n : Netlist) (z l : Sig) (a : Vec Sig Global) (ws : List ℕ) (o : Option Sig) (p : Option (Vec Sig Global)) → o ≡ Some l → p ≡ Some a → Untaken z l a.items ⊎ RowFits n l a.items ws → (o ≡ Some z) ⊎ ((b : Vec Sig Global) × (p ≡ Some b) × Sized n b.items ws)
+row_before : (n : Netlist) (z l : Sig) (a : Vec Sig Global) (ws : List ℕ) (o : Option Sig) (p : Option (Vec Sig Global)) → o ≡ Some l → p ≡ Some a → Untaken z l a.items ⊎ RowFits n l a.items ws → (o ≡ Some z) ⊎ ((b : Vec Sig Global) × (p ≡ Some b) × AreSources n b.items ws)
 row_before n z l a ws o p e f (inl g) = inl (e ∙ ap (λ (s : Sig). Some s) g.0)
 row_before n z l a ws o p e f (inr r) = inr (a, f, r.sized)
 
@@ -140,14 +141,14 @@ module _ {z : Sig} {first count : ℕ} {old cur : Netlist} {all all_rest : List 
       (subst (λ (o : Option (Vec Sig Global)). RowAt cur z (Some l.0) o e.args.items) (sym a.1)
       (by l.0 a.0 (F.program.params e.member) (subst (λ (k : ℕ). Untaken z l.0 a.0.items ⊎ RowFits cur l.0 a.0.items (F.program.params k)) place_is (h.fits F x (e.member - first) l.0 a.0 l.1 a.1)) f.sized))
     where
-      by : (l : Sig) (a : Vec Sig Global) (ws : List ℕ) → Untaken z l a.items ⊎ RowFits cur l a.items ws → Sized cur e.args.items ws → Row cur z l a.items e.args.items
+      by : (l : Sig) (a : Vec Sig Global) (ws : List ℕ) → Untaken z l a.items ⊎ RowFits cur l a.items ws → AreSources cur e.args.items ws → Row cur z l a.items e.args.items
       by l a ws (inl f) s = inl f
       by l a ws (inr p) s = inr (ws, p, s)
 
-  pub last_room : length old.signals + cost all < 4294967295 → length cur.signals + 1 + length e.args.items < 4294967295
+  pub last_room : HasRoom old (cost all) → HasRoom cur (1 + length e.args.items)
   last_room r = let k = h.room in let c = ap cost q ∙ cost_end rest e in omega (arith, k, c)
 
-  module _ {new : Netlist} {bits' : List Sig} {args' : List (Vec Sig Global)} (g : Grows cur new) (d : Adds cur new z (e.member - first) bits bits' args args' e) where
+  module _ {new : Netlist} {bits' : List Sig} {args' : List (Vec Sig Global)} (b : Builds cur new (1 + length e.args.items)) (d : Adds cur new z (e.member - first) bits bits' args args' e) where
     fits_by : (F : Owner) → LoopsFit F old all → (i : ℕ) (l : Sig) (a : Vec Sig Global) → slice_get bits' i ≡ Some l → slice_get args' i ≡ Some a
         → (lo : Sig) (ao : Vec Sig Global) → slice_get bits (e.member - first) ≡ Some lo → slice_get args (e.member - first) ≡ Some ao → slice_get bits' (e.member - first) ≡ Some d.bit → slice_get args' (e.member - first) ≡ Some d.row
         → (t : Bool) → (e.member == first + i) ≡ t → Untaken z l a.items ⊎ RowFits new l a.items (F.program.params (first + i))
@@ -165,7 +166,7 @@ module _ {z : Sig} {first count : ℕ} {old cur : Netlist} {all all_rest : List 
         let no = no_equal e.member (first + i) t in
         let at = place_is in
         let o : i ≡ e.member - first → ⊥ = λ s. no (omega (arith, s, at)) in
-        row_kept z l a.items (F.program.params (first + i)) g (h.fits F x i l a
+        row_kept z l a.items (F.program.params (first + i)) b.grows (h.fits F x i l a
         (sym (ap (λ (j : List Sig). slice_get j i) d.bits_is ∙ set_other bits (e.member - first) i d.bit o) ∙ p)
         (sym (ap (λ (j : List (Vec Sig Global)). slice_get j i) d.args_is ∙ set_other args (e.member - first) i d.row o) ∙ r))
 
@@ -191,8 +192,9 @@ module _ {z : Sig} {first count : ℕ} {old cur : Netlist} {all all_rest : List 
         ∙ ap (λ (y : Option (List Word)). or_else y (given v (slice_get bits i) (slice_get args i))) (sym (or_none (taken_to v rest (first + i))))
         ∙ ap (λ (b : Bool). or_else (or_else (taken_to v rest (first + i)) (gate (b && on v e.taken) (Some (words v e.args.items)))) (given v (slice_get bits i) (slice_get args i))) (sym t) ∙ was
 
-    pub merging_step : length new.signals ≤ length cur.signals + 1 + length e.args.items → Merging z first count old new all rest bits' args'
-    merging_step c =
+    pub merging_step : Merging z first count old new all rest bits' args'
+    merging_step =
+        let c = b.count in
         let i = last_in.0 in
         let j = last_in.1 in
         let ll = h.bits_length in
@@ -202,7 +204,8 @@ module _ {z : Sig} {first count : ℕ} {old cur : Netlist} {all all_rest : List 
         let lh : slice_get bits' (e.member - first) ≡ Some d.bit = ap (λ (l : List Sig). slice_get l (e.member - first)) d.bits_is ∙ set_here bits (e.member - first) d.bit lb in
         let ah : slice_get args' (e.member - first) ≡ Some d.row = ap (λ (l : List (Vec Sig Global)). slice_get l (e.member - first)) d.args_is ∙ set_here args (e.member - first) d.row la in
         record {
-          grows = grows_on h.grows g;
+          grows = grows_on h.grows b.grows;
+          settles = settles_on h.settles b.settles;
           room = let k = h.room in let m = ap cost q ∙ cost_end rest e in omega (arith, k, m, c);
           bits_length = ap length d.bits_is ∙ set_length bits (e.member - first) d.bit ∙ ll;
           args_length = ap length d.args_is ∙ set_length args (e.member - first) d.row ∙ al;
@@ -210,10 +213,10 @@ module _ {z : Sig} {first count : ℕ} {old cur : Netlist} {all all_rest : List 
           paid =
               let k = h.paid in
               let m = ap cost q ∙ cost_end rest e in
-              let b = ap (λ (l : List Sig). tail_cost z l args') d.bits_is ∙ ap (tail_cost z (slice_set bits (e.member - first) d.bit)) d.args_is in
+              let m2 = ap (λ (l : List Sig). tail_cost z l args') d.bits_is ∙ ap (tail_cost z (slice_set bits (e.member - first) d.bit)) d.args_is in
               let t = set_cost z bits args (e.member - first) d.bit d.row in
               let r = d.long in
-              omega (arith, k, m, b, t, r);
+              omega (arith, k, m, m2, t, r);
           part = λ k x. h.part k (subst (Listed k) (sym split) (listed_more k (map member_of rest) e.member x));
           idle = λ i l a p r no.
               let here = h.part e.member (subst (Listed e.member) (sym split) (listed_last (map member_of rest) e.member)) in
@@ -221,12 +224,7 @@ module _ {z : Sig} {first count : ℕ} {old cur : Netlist} {all all_rest : List 
               let o : i ≡ e.member - first → ⊥ = λ s. no (subst (λ (k : ℕ). Listed k (map member_of all)) (let m : e.member ≡ first + i = omega (arith, s, at) in m) here) in
               h.idle i l a (sym (ap (λ (j : List Sig). slice_get j i) d.bits_is ∙ set_other bits (e.member - first) i d.bit o) ∙ p)
               (sym (ap (λ (j : List (Vec Sig Global)). slice_get j i) d.args_is ∙ set_other args (e.member - first) i d.row o) ∙ r) no;
-          settled = λ s l.
-              let k = h.settled s l in
-              let t = loops_steady_front cur rest e (subst (LoopsSteady cur) q k.2) in
-              let r = d.settled (t.1, t.2) k.1 in
-              (λ x. r.0 (k.0 x), r.1, loops_grown g rest t.0);
-          left = λ F x. loops_kept F rest g (loops_front F cur rest e (subst (LoopsFit F cur) q (h.left F x))).0;
+          left = λ F x. loops_kept F rest b.grows (loops_front F cur rest e (subst (LoopsFit F cur) q (h.left F x))).0;
           fits = λ F x i l a p r.
               let lo = there bits (e.member - first) lb in
               let ao = there args (e.member - first) la in
@@ -234,16 +232,18 @@ module _ {z : Sig} {first count : ℕ} {old cur : Netlist} {all all_rest : List 
           told = λ v w off i.
               told_by v i (e.member == first + i) refl lh ah (d.told v w off)
               (ap (λ (y : Option (List Word)). or_else y (given v (slice_get bits i) (slice_get args i))) (sym (taken_end v rest e (first + i)))
-              ∙ ap (λ (l : List TailCall). or_else (taken_to v l (first + i)) (given v (slice_get bits i) (slice_get args i))) (sym q) ∙ h.told v (wired_before g w) off i);
+              ∙ ap (λ (l : List TailCall). or_else (taken_to v l (first + i)) (given v (slice_get bits i) (slice_get args i))) (sym q) ∙ h.told v (wired_before b.grows w) off i);
         }
 
 pub merging_end : {z : Sig} {first count : ℕ} {old cur : Netlist} {all rest : List TailCall} (m : Rows) → rest ≡ [] → Merging z first count old cur all rest m.bits.items m.args.items → Merged z first count old cur all m
 merging_end {first = first} m q h = record {
   paid = let k = h.paid in omega (arith, k);
   idle = h.idle;
-  settled = λ s l. let k = h.settled s l in (k.0, k.1);
   bits_length = h.bits_length;
   args_length = h.args_length;
   fits = h.fits;
   told = λ v w off i. ap (λ (l : List TailCall). or_else (taken_to v l (first + i)) (given v (slice_get m.bits.items i) (slice_get m.args.items i))) (sym q) ∙ h.told v w off i;
 }
+
+pub merging_built : {z : Sig} {first count : ℕ} {old cur : Netlist} {all rest : List TailCall} {bits : List Sig} {args : List (Vec Sig Global)} → rest ≡ [] → Merging z first count old cur all rest bits args → Builds old cur (cost all)
+merging_built q h = record { grows = h.grows; settles = h.settles; count = let r = h.room in let e = ap cost q in omega (arith, r, e) }

@@ -1,14 +1,10 @@
 -- What stays as the net grows, and one more call or tail call.
-use Rattle.std.proofs.Common.{◌≡◌, ℕ, T, ◌+◌, List, [], ◌∷◌, ◌++◌, Option, Some, None, Bool, true, false, ◌&&◌, ◌==◌, Result, Ok, Err, IfOk, OnOk, length, slice_get, refl, sym, ap, ◌∙◌}
-use Rattle.std.proofs.Math.Dec.{eqb_refl}
+use Rattle.std.proofs.Common.{◌≡◌, ℕ, ◌+◌, List, [], ◌∷◌, ◌++◌, Option, Some, Bool, true, false, ◌&&◌, Result, Ok, Err, IfOk, refl, sym, ap, ◌∙◌}
 use Rattle.safl_word.specs.Words.{Word}
-use Rattle.safl_check.specs.Readiness.{or_else}
+use Rattle.safl_term.specs.Readiness.{or_else}
 use Rattle.safl_net.specs.declared.cell.Sig.{Sig}
-use Rattle.safl_net.specs.declared.cell.Op.TheVariants.{Const}
-use Rattle.safl_net.specs.Netlist.{Netlist, Signal, Wire, Cell}
-use Rattle.safl_net.specs.Making.{with_signal, temporary, kind_in, kind_at}
-use Rattle.safl_net.specs.Growth.{Val, Sized, Grows}
-use Rattle.safl_net.proofs.Growth.{get_kept, get_new, width_kept, sized_kept, sized_more}
+use Rattle.safl_net.specs.Netlist.{Netlist}
+use Rattle.safl_net.specs.Growth.{Val, Grows}
 use Rattle.safl_lower.specs.declared.parts.Readiness.{Readiness}
 use Rattle.safl_lower.specs.declared.parts.Readiness.TheVariants.{Always, Never, When}
 use Rattle.safl_lower.specs.declared.parts.SitePorts.{SitePorts}
@@ -17,33 +13,29 @@ use Rattle.safl_lower.specs.declared.parts.Want.{Want}
 use Rattle.safl_lower.specs.declared.parts.TailCall.{TailCall}
 use Rattle.safl_lower.specs.declared.parts.Lowered.{Lowered}
 use Rattle.safl_lower.specs.declared.parts.LoweredAll.{LoweredAll}
-use Rattle.safl_lower.specs.Bits.{BitAt, ReadyAt, IsConstant}
+use Rattle.safl_lower.specs.Bits.{ReadyAt}
 use Rattle.safl_lower.specs.Typing.{Owner}
-use Rattle.safl_lower.specs.Entries.{gate, asks, asked, goes, went}
+use Rattle.safl_net.specs.Bits.{gate, on}
+use Rattle.safl_lower.specs.Entries.{asks, asked, goes, went}
 use Rattle.safl_lower.specs.Lowering.{Sited, Setting, Shaped, ShapedAll, goes_with}
 use Rattle.safl_lower.proofs.Arms.{or_none, or_assoc}
+use Rattle.safl_gates.specs.Sources.{IsSource, AreSources}
+use Rattle.safl_gates.proofs.Building.{source_grown, sources_grown, sources_joined}
 
 pub ready_kept : {a b : Netlist} → Grows a b → (r : Readiness) → ReadyAt a r → ReadyAt b r
 ready_kept g Always h = tt
 ready_kept g Never h = tt
-ready_kept g (When s) h = width_kept g s.0 1 h
+ready_kept g (When s) h = source_grown g s 1 h
 
 -- always and never are two
 pub apart : {A : Type 0} → Always ≡ Never → A
 apart e = cc
 
 pub shaped_kept : {a b : Netlist} → Grows a b → (r : Lowered) (w : ℕ) → Shaped a r w → Shaped b r w
-shaped_kept g r w h = record { ready = ready_kept g r.ready h.ready; width = λ ever. width_kept g r.value.0 w (h.width ever) }
+shaped_kept g r w h = record { ready = ready_kept g r.ready h.ready; width = λ ever. source_grown g r.value w (h.width ever) }
 
 pub shaped_all_kept : {a b : Netlist} → Grows a b → (r : LoweredAll) (ws : List ℕ) → ShapedAll a r ws → ShapedAll b r ws
-shaped_all_kept g r ws h = record { ready = ready_kept g r.ready h.ready; widths = sized_kept g r.values.items ws h.widths }
-
-true_from : (b : Bool) → T b → b ≡ true
-true_from true h = refl
-true_from false h = absurd h
-
-pub same : (w : ℕ) → (w == w) ≡ true
-same w = true_from (w == w) (eqb_refl w)
+shaped_all_kept g r ws h = record { ready = ready_kept g r.ready h.ready; widths = sources_grown g r.values.items ws h.widths }
 
 -- what holds of a signal, and what follows from it
 pub weaker : {E : Type 0} (r : Result Sig E) (P Q : Sig → Type 0) → ((s : Sig) → P s → Q s) → IfOk r P → IfOk r Q
@@ -53,12 +45,12 @@ weaker (Err e) P Q f h = tt
 -- ---- sites
 
 pub sited_kept : {a b : Netlist} → Grows a b → (p : SitePorts) (w : ℕ) → Sited a p w → Sited b p w
-sited_kept g p w h = record { sent = width_kept g p.sent.0 1 h.sent; returned = width_kept g p.returned.0 1 h.returned; value = width_kept g p.value.0 w h.value }
+sited_kept g p w h = record { sent = source_grown g p.sent 1 h.sent; returned = source_grown g p.returned 1 h.returned; value = source_grown g p.value w h.value }
 
-pub setting_on : {a b : Netlist} {F : Owner} {P : Ports} {slots : List Sig} {env : List ℕ} {path q : Sig} → Grows a b → Setting a F P slots env path → BitAt b q → Setting b F P slots env q
+pub setting_on : {a b : Netlist} {F : Owner} {P : Ports} {slots : List Sig} {env : List ℕ} {path q : Sig} → Grows a b → Setting a F P slots env path → IsSource b q 1 → Setting b F P slots env q
 setting_on {F = F} {P = P} {slots = slots} {env = env} g s h = record {
   path_bit = h;
-  slots_sized = sized_kept g slots env s.slots_sized;
+  slots_sized = sources_grown g slots env s.slots_sized;
   first = s.first;
   last = s.last;
   sites_sized = λ i p e. sited_kept g p (F.program.result (F.program.callee (P.first_site + i))) (s.sites_sized i p e);
@@ -68,13 +60,13 @@ setting_on {F = F} {P = P} {slots = slots} {env = env} g s h = record {
 }
 
 pub setting_kept : {a b : Netlist} {F : Owner} {P : Ports} {slots : List Sig} {env : List ℕ} {path : Sig} → Grows a b → Setting a F P slots env path → Setting b F P slots env path
-setting_kept {path = path} g s = setting_on g s (width_kept g path.0 1 s.path_bit)
+setting_kept {path = path} g s = setting_on g s (source_grown g path 1 s.path_bit)
 
 -- below a let, on the path of its body
-pub setting_below : {a b : Netlist} {F : Owner} {P : Ports} {slots : List Sig} {env : List ℕ} {path q : Sig} (xs : List Sig) (ws : List ℕ) → Grows a b → Setting a F P slots env path → BitAt b q → Sized b xs ws → Setting b F P (slots ++ xs) (env ++ ws) q
+pub setting_below : {a b : Netlist} {F : Owner} {P : Ports} {slots : List Sig} {env : List ℕ} {path q : Sig} (xs : List Sig) (ws : List ℕ) → Grows a b → Setting a F P slots env path → IsSource b q 1 → AreSources b xs ws → Setting b F P (slots ++ xs) (env ++ ws) q
 setting_below {b = b} {slots = slots} {env = env} xs ws g s h z =
     let k = setting_on g s h in
-    record { path_bit = h; slots_sized = sized_more b slots xs env ws k.slots_sized z; first = k.first; last = k.last; sites_sized = k.sites_sized; members = k.members; some = k.some; most = k.most }
+    record { path_bit = h; slots_sized = sources_joined b slots xs env ws k.slots_sized z; first = k.first; last = k.last; sites_sized = k.sites_sized; members = k.members; some = k.some; most = k.most }
 
 -- ---- one more want, one more tail call
 
@@ -95,19 +87,3 @@ pub goes_gate : (h : ℕ) (ws : List Word) (w b r : Bool) → w ≡ (b && r) →
 goes_gate h ws w true true e = ap (λ (t : Bool). gate t (Some (h, ws))) e
 goes_gate h ws w true false e = ap (λ (t : Bool). gate t (Some (h, ws))) e
 goes_gate h ws w false r e = ap (λ (t : Bool). gate t (Some (h, ws))) e
-
--- ---- cells
-
-kind_kept : {a b : Netlist} → Grows a b → (s : ℕ) (cell : Option Cell) → kind_at a s ≡ Wire cell → kind_at b s ≡ Wire cell
-kind_kept {a} {b} g s cell e = by (slice_get a.signals s) refl e
-  where
-    by : (o : Option Signal) → slice_get a.signals s ≡ o → kind_in o ≡ Wire cell → kind_at b s ≡ Wire cell
-    by None q f = absurd (cc)
-    by (Some h) q f = ap kind_in (get_kept g s h q) ∙ f
-
-pub constant_kept : {a b : Netlist} → Grows a b → (s : Sig) (w : Word) → IsConstant a s w → IsConstant b s w
-constant_kept g s w h = kind_kept g s.0 (Some (record { op = Const w; operands = [] })) h
-
-pub made_constant : {E : Type 0} (n m : Netlist) (r : Result Sig E) (w : Word) → OnOk r (m ≡ with_signal n (temporary n (Const w) [])) → IfOk r (λ s. s.0 ≡ length n.signals) → IfOk r (λ s. IsConstant m s w)
-made_constant n m (Ok s) w a b = ap kind_in (get_new n m (temporary n (Const w) []) s.0 a b)
-made_constant n m (Err e) w a b = tt

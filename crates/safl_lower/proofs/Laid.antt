@@ -2,21 +2,19 @@
 use Rattle.std.proofs.Common.{Vec, Global, ◌≡◌, ℕ, zero, suc, ◌+◌, ◌-◌, ◌<◌, ◌≤◌, List, [], ◌∷◌, ◌++◌, map, length, Option, Some, None, Bool, true, false, ◌&&◌, ◌⊎◌, inl, inr, ◌==◌, T, slice_get, slice_set, refl, sym, ap, subst, ◌∙◌, arith}
 use Rattle.std.proofs.Math.Facts.{eqb_yes}
 use Rattle.safl_word.specs.Words.{Word}
-use Rattle.safl_check.specs.Readiness.{or_else}
+use Rattle.safl_term.specs.Readiness.{or_else}
 use Rattle.safl_net.specs.declared.cell.Sig.{Sig}
 use Rattle.safl_net.specs.Netlist.{Netlist}
 use Rattle.safl_net.specs.Growth.{Val, words}
-use Rattle.safl_net.specs.Settled.{IsSteady, AreSteady}
 use Rattle.safl_lower.specs.declared.parts.Want.{Want}
 use Rattle.safl_lower.specs.declared.parts.Rows.{Rows}
-use Rattle.safl_lower.specs.Bits.{on}
+use Rattle.safl_net.specs.Bits.{on, gate}
 use Rattle.safl_lower.specs.Typing.{Owner}
-use Rattle.safl_lower.specs.Entries.{gate, asked, asks, site_of, Between, WantFits, WantsFit}
+use Rattle.safl_lower.specs.Entries.{asked, asks, site_of, Between, WantFits, WantsFit}
 use Rattle.safl_lower.specs.Rows.{Differs, Apart, Listed, given, RowFits, Spreads}
-use Rattle.safl_lower.specs.Steady.{WantsSteady, ArgsSteady, RowsSteady}
-use Rattle.safl_lower.proofs.Steadying.{wants_steady_front, rows_set}
 use Rattle.safl_lower.proofs.Arms.{or_none}
-use Rattle.safl_lower.proofs.Kept.{asked_end, same}
+use Rattle.safl_gates.proofs.BitWords.{same}
+use Rattle.safl_lower.proofs.Kept.{asked_end}
 use Rattle.safl_lower.proofs.Gathered.{map_end}
 
 abbrev pub AllZero : Sig → List Sig → Type 0
@@ -41,7 +39,6 @@ pub record SoFar (z : Sig) (first count : ℕ) (all rest : List Want) (bits : Li
   pub told : (v : Val) → on v z ≡ false → (i : ℕ) → or_else (asked v rest (first + i)) (given v (slice_get bits i) (slice_get args i)) ≡ asked v all (first + i)
   pub left : (F : Owner) (n : Netlist) → WantsFit F n all → WantsFit F n rest
   pub fits : (F : Owner) (n : Netlist) → WantsFit F n all → (i : ℕ) (l : Sig) (a : Vec Sig Global) → Listed (first + i) (map site_of all) → slice_get bits i ≡ Some l → slice_get args i ≡ Some a → Listed (first + i) (map site_of rest) ⊎ RowFits n l a.items (F.program.params (F.program.callee (first + i)))
-  pub steady : (n : Netlist) → IsSteady n z.0 → WantsSteady n all → RowsSteady n bits args × WantsSteady n rest
 
 pub zeros_end : (z : Sig) (xs : List Sig) → AllZero z xs → AllZero z (xs ++ z ∷ [])
 zeros_end z [] h = (refl, tt)
@@ -72,20 +69,8 @@ given_zero v z [] k o h e = refl
 given_zero v z (x ∷ xs) zero o h e = ap (λ (s : Sig). given v (Some s) o) h.0 ∙ given_off v z o e
 given_zero v z (x ∷ xs) (suc k) o h e = given_zero v z xs k o h.1 e
 
-zeros_steady : (n : Netlist) (z : Sig) (xs : List Sig) → AllZero z xs → IsSteady n z.0 → AreSteady n xs
-zeros_steady n z [] h s = tt
-zeros_steady n z (x ∷ xs) h s = (subst (λ (y : Sig). IsSteady n y.0) (sym h.0) s, zeros_steady n z xs h.1 s)
-
-empties_steady : (n : Netlist) (xs : List (Vec Sig Global)) → AllEmpty xs → ArgsSteady n xs
-empties_steady n [] h = tt
-empties_steady n (x ∷ xs) h = (subst (AreSteady n) (sym h.0) tt, empties_steady n xs h.1)
-
-pub rows_start : (n : Netlist) (z : Sig) (bits : List Sig) (args : List (Vec Sig Global)) → AllZero z bits → AllEmpty args → IsSteady n z.0 → RowsSteady n bits args
-rows_start n z bits args h e s = record { bits = zeros_steady n z bits h s; args = empties_steady n args e }
-
 pub so_far_start : (z : Sig) (first count : ℕ) (all : List Want) (bits : List Sig) (args : List (Vec Sig Global)) → Apart (map site_of all) → Between first (first + count) (map site_of all) → AllZero z bits → AllEmpty args → length bits ≡ count → length args ≡ count → SoFar z first count all all bits args
 so_far_start z first count all bits args a b h m e f = record {
-  steady = λ n s w. (rows_start n z bits args h m s, w);
   apart = a;
   within = b;
   bits_length = e;
@@ -247,17 +232,12 @@ module _ {z : Sig} {first count : ℕ} {all all_rest : List Want} (rest : List W
             let old = ap (λ (l : List Want). or_else (asked v l (first + i)) (given v (slice_get bits i) (slice_get args i))) (sym q) ∙ h.told v o i in
             let both = ap (λ (y : Option (List Word)). or_else y (given v (slice_get bits i) (slice_get args i))) (sym (asked_end v rest e (first + i))) ∙ old in
             told_by v o place i (e.site == first + i) at refl (set_here bits place e.want lb) (set_here args place e.args la) f.1 both;
-        steady = λ n s x.
-            let k = h.steady n s x in
-            let t = wants_steady_front n rest e (subst (WantsSteady n) q k.1) in
-            (rows_set n bits args place e.want e.args k.0 t.1 t.2, t.0);
         left = λ F n x. (wants_front F n rest e (subst (WantsFit F n) q (h.left F n x))).0;
         fits = λ F n x i l r k p s. fits_by F n x place i l r (e.site == first + i) at refl lb la k p s;
       }
 
 pub so_far_end : (z : Sig) (first count : ℕ) (all rest : List Want) (s : Rows) → rest ≡ [] → SoFar z first count all rest s.bits.items s.args.items → Spreads z first count all s
 so_far_end z first count all rest s q h = record {
-  steady = λ n t w. (h.steady n t w).0;
   bits_length = h.bits_length;
   args_length = h.args_length;
   fits = λ F n x i l a g p r. by F n i l a (h.fits F n x i l a g p r);

@@ -1,38 +1,38 @@
 -- The circuits of a constant, of a slot and of an operator.
-use Rattle.std.proofs.Common.{◌≡◌, ℕ, zero, suc, ◌+◌, ◌<◌, ◌≤◌, List, [], ◌∷◌, map, length, Option, Some, None, Bool, true, false, slice_get, refl, ap, subst, ◌∙◌, arith}
+use Rattle.std.proofs.Common.{◌≡◌, ℕ, zero, suc, ◌+◌, ◌<◌, List, [], ◌∷◌, map, length, Option, Some, None, Bool, true, false, slice_get, refl, ap, subst, ◌∙◌, arith}
 use Rattle.safl_word.specs.Words.{Word, slot}
 use Rattle.safl_word.specs.declared.primitive.Primitive.{Primitive}
 use Rattle.safl_word.specs.Primitives.{apply_prim, result_width}
-use Rattle.safl_check.specs.Terms.{Const, Var, Op, Terms}
-use Rattle.safl_check.specs.Readiness.{word_of, apply_to, answer, answers, wanted}
+use Rattle.safl_term.specs.Terms.{Const, Var, Op, Terms}
+use Rattle.safl_term.specs.Readiness.{word_of, apply_to, answer, answers, wanted}
 use Rattle.safl_net.specs.declared.cell.Sig.{Sig}
 use Rattle.safl_net.specs.Netlist.{Netlist}
-use Rattle.safl_net.specs.Growth.{Val, words, Wired, width_at, Sized, Grows}
+use Rattle.safl_net.specs.Growth.{Val, words, Wired}
 use Rattle.safl_net.proofs.Growth.{grows_on, grows_none, wired_before}
-use Rattle.safl_net.specs.Settled.{AreSteady, SettlesOn}
-use Rattle.safl_net.proofs.Settling.{are_steady_grown, steady_at}
 use Rattle.safl_lower.specs.declared.parts.Readiness.TheVariants.{Always}
 use Rattle.safl_lower.specs.declared.parts.Ports.{Ports}
 use Rattle.safl_lower.specs.declared.parts.LoweredAll.{LoweredAll}
 use Rattle.safl_lower.specs.declared.parts.Out.{Out}
-use Rattle.safl_lower.specs.Bits.{on, is_ready}
-use Rattle.safl_lower.specs.Entries.{gate, asked, went, site_of, member_of, cost}
+use Rattle.safl_net.specs.Bits.{on, gate}
+use Rattle.safl_lower.specs.Bits.{is_ready}
+use Rattle.safl_lower.specs.Entries.{asked, went, site_of, member_of, cost}
 use Rattle.safl_lower.specs.Lowering.{back_of, goes_of, Lowers, LowersAll}
-use Rattle.safl_lower.specs.Steady.{listed}
-use Rattle.safl_lower.proofs.Steadying.{out_grown}
 use Rattle.safl_lower.proofs.Kept.{ready_kept, apart}
 use Rattle.safl_lower.proofs.Typing.{parts_typed}
 use Rattle.safl_lower.proofs.Gathered.{stays, stays_by, no_more, out_kept, told_by, never_is, between_same}
+use Rattle.safl_gates.specs.Sources.{IsSource, AreSources, Builds}
+use Rattle.safl_net.proofs.Settling.{settles_on, settles_same}
+use Rattle.safl_gates.proofs.Cells.{source_at, sources_length}
 
 -- ---- leaves
 
 pub lowers_const : {P : Ports} {slots : List Sig} {path s : Sig} {n0 n1 : Netlist} {o : Out} {w : Word}
-    → Grows n0 n1 → length n1.signals ≤ length n0.signals + 1 → width_at n1 s.0 ≡ Some w.width → ((v : Val) → Wired n1 v → v s.0 ≡ w) → SettlesOn n0 n1 (s ∷ [])
+    → Builds n0 n1 1 → IsSource n1 s w.width → ((v : Val) → Wired n1 v → v s.0 ≡ w)
     → Lowers P slots path n0 n1 o o (record { ready = Always; value = s }) (Const w)
 unfolding answer wanted
-lowers_const {P} {slots} {path} {s} {n0} {n1} {o} {w} g c x y st = record {
+lowers_const {P} {slots} {path} {s} {n0} {n1} {o} {w} b x y = record {
   tails = λ F tail env n t. no_more (map member_of o.loops.items);
-  settled = λ p h k. (st, out_grown g k);
+  settles = b.settles;
   quiet = λ F env n t. refl;
   cheap = λ F tail env n t. omega arith;
   within = λ F tail env n s t x. x;
@@ -40,10 +40,10 @@ lowers_const {P} {slots} {path} {s} {n0} {n1} {o} {w} g c x y st = record {
   loops_more = no_more o.loops.items;
   told = λ F tail env n t v h. tt;
   sites = no_more (map site_of o.wants.items);
-  fits = λ F tail env n s t x. out_kept g x;
-  grows = g;
-  count = omega arith;
-  shape = λ F tail env n h t. record { ready = tt; width = λ ever. x ∙ ap (λ (k : ℕ). Some k) t.width.1 };
+  fits = λ F tail env n s t x. out_kept b.grows x;
+  grows = b.grows;
+  count = let c = b.count in omega (arith, c);
+  shape = λ F tail env n h t. record { ready = tt; width = λ ever. subst (IsSource n1 s) t.width.1 x };
   ever = λ F env n t no. apart no;
   wide = λ F tail env n h t no. apart no;
   value = λ v h. ap (λ (u : Word). Some u) (y v h);
@@ -51,21 +51,16 @@ lowers_const {P} {slots} {path} {s} {n0} {n1} {o} {w} g c x y st = record {
   loops = λ F tail env n t v h. stays (went v o.loops.items) _;
 }
 
-slot_width : (n : Netlist) (slots : List Sig) (env : List ℕ) (i w : ℕ) (s : Sig) → Sized n slots env → slice_get env i ≡ Some w → slice_get slots i ≡ Some s → width_at n s.0 ≡ Some w
-slot_width n [] [] i w s h e f = absurd (cc)
-slot_width n [] (x ∷ env) i w s h e f = absurd h
-slot_width n (a ∷ slots) [] i w s h e f = absurd h
-slot_width n (a ∷ slots) (x ∷ env) zero w s h e f =
-    let g : a ≡ s = cc in
-    subst (λ (y : Sig). width_at n y.0 ≡ Some w) g (h.0 ∙ e)
-slot_width n (a ∷ slots) (x ∷ env) (suc i) w s h e f = slot_width n slots env i w s h.1 e f
+slot_source : (n : Netlist) (slots : List Sig) (env : List ℕ) (i w : ℕ) (s : Sig) → AreSources n slots env → slice_get env i ≡ Some w → slice_get slots i ≡ Some s → IsSource n s w
+slot_source n slots env i w s h e f = let x = source_at n slots env i s h f in let k : x.0 ≡ w = let g = x.1 in cc in subst (IsSource n s) k x.2
 
-pub slot_within : (n : Netlist) (slots : List Sig) (env : List ℕ) (i w : ℕ) → Sized n slots env → slice_get env i ≡ Some w → i < length slots
-slot_within n [] [] i w h e = absurd (cc)
-slot_within n [] (x ∷ env) i w h e = absurd h
-slot_within n (a ∷ slots) [] i w h e = absurd h
-slot_within n (a ∷ slots) (x ∷ env) zero w h e = omega arith
-slot_within n (a ∷ slots) (x ∷ env) (suc i) w h e = let k = slot_within n slots env i w h.1 e in omega arith
+pub slot_within : (n : Netlist) (slots : List Sig) (env : List ℕ) (i w : ℕ) → AreSources n slots env → slice_get env i ≡ Some w → i < length slots
+slot_within n slots env i w h e = let l = sources_length n slots env h in let k = there env i w e in omega (arith, l, k)
+  where
+    there : (xs : List ℕ) (i w : ℕ) → slice_get xs i ≡ Some w → i < length xs
+    there [] i w e = absurd (cc)
+    there (x ∷ xs) zero w e = omega arith
+    there (x ∷ xs) (suc i) w e = let k = there xs i w e in omega (arith, k)
 
 slot_word : (v : Val) (slots : List Sig) (i : ℕ) (s : Sig) → slice_get slots i ≡ Some s → v s.0 ≡ slot (words v slots) i
 slot_word v [] i s e = absurd (cc)
@@ -77,7 +72,7 @@ pub lowers_var : {P : Ports} {slots : List Sig} {path s : Sig} {n : Netlist} {o 
 unfolding answer wanted
 lowers_var {P} {slots} {path} {s} {n} {o} {i} e = record {
   tails = λ F tail env n t. no_more (map member_of o.loops.items);
-  settled = λ p h k. (record { net = λ q. q; signals = (steady_at n slots i s h.1 e, tt) }, k);
+  settles = settles_same n n refl;
   quiet = λ F env n t. refl;
   cheap = λ F tail env n t. omega arith;
   within = λ F tail env n s t x. x;
@@ -88,7 +83,7 @@ lowers_var {P} {slots} {path} {s} {n} {o} {i} e = record {
   fits = λ F tail env w s t x. x;
   grows = grows_none n;
   count = omega arith;
-  shape = λ F tail env w h t. record { ready = tt; width = λ ever. slot_width n slots env i w s h.slots_sized t.width e };
+  shape = λ F tail env w h t. record { ready = tt; width = λ ever. slot_source n slots env i w s h.slots_sized t.width e };
   ever = λ F env w t no. apart no;
   wide = λ F tail env w h t no. apart no;
   value = λ v h. ap (λ (u : Word). Some u) (slot_word v slots i s e);
@@ -109,35 +104,32 @@ applied p false ws None e = refl
 applied p false ws (Some vs) e = absurd (cc)
 
 pub lowers_op : {P : Ports} {slots : List Sig} {path s : Sig} {n0 n1 n2 : Netlist} {o0 o1 : Out} {all : LoweredAll} {p : Primitive} {ts : Terms}
-    → LowersAll P slots path n0 n1 o0 o1 all ts → Grows n1 n2 → length n2.signals ≤ length n1.signals + 2
-    → ((ws : List ℕ) (w : ℕ) → Sized n1 all.values.items ws → result_width p ws ≡ Some w → width_at n2 s.0 ≡ Some w)
-    → ((v : Val) → Wired n2 v → v s.0 ≡ apply_prim p (words v all.values.items)) → (AreSteady n1 all.values.items → SettlesOn n1 n2 (s ∷ []))
+    → LowersAll P slots path n0 n1 o0 o1 all ts → Builds n1 n2 2
+    → ((ws : List ℕ) (w : ℕ) → AreSources n1 all.values.items ws → result_width p ws ≡ Some w → IsSource n2 s w)
+    → ((v : Val) → Wired n2 v → v s.0 ≡ apply_prim p (words v all.values.items))
     → Lowers P slots path n0 n2 o0 o1 (record { ready = all.ready; value = s }) (Op p ts)
 unfolding answer wanted
-lowers_op {P} {slots} {path} {s} {n0} {n1} {n2} {o0} {o1} {all} {p} {ts} hs g c x y st = record {
+lowers_op {P} {slots} {path} {s} {n0} {n1} {n2} {o0} {o1} {all} {p} {ts} hs d x y = record {
   tails = λ F tail env w t. ap (map member_of) (hs.quiet F env t.width.0 (parts_typed t)) ∙ no_more (map member_of o0.loops.items);
-  settled = λ q h k.
-      let a = hs.settled q h k in
-      let b = st a.1 in
-      (record { net = λ x. b.net (a.0.net x); signals = (b.signals.0, are_steady_grown g (listed all.ready) a.0.signals) }, out_grown g a.2);
+  settles = settles_on hs.settles d.settles;
   quiet = λ F env w t. hs.quiet F env t.width.0 (parts_typed t);
   cheap = λ F tail env w t. let i = ap cost (hs.quiet F env t.width.0 (parts_typed t)) in omega (arith, i);
   within = λ F tail env w s t x. between_same P.first_member (P.first_member + P.members) o0.loops.items o1.loops.items (hs.quiet F env t.width.0 (parts_typed t)) x;
   more = hs.more;
   loops_more = hs.loops_more;
-  told = λ F tail env w t v h. told_by v hs.more None _ (λ z q. never_is z None refl q) (hs.told F env t.width.0 (parts_typed t) v (wired_before g h));
+  told = λ F tail env w t v h. told_by v hs.more None _ (λ z q. never_is z None refl q) (hs.told F env t.width.0 (parts_typed t) v (wired_before d.grows h));
   sites = hs.sites;
-  fits = λ F tail env w s t x. out_kept g (hs.fits F env t.width.0 s (parts_typed t) x);
-  grows = grows_on hs.grows g;
-  count = let i = hs.count in omega arith;
+  fits = λ F tail env w s t x. out_kept d.grows (hs.fits F env t.width.0 s (parts_typed t) x);
+  grows = grows_on hs.grows d.grows;
+  count = let i = hs.count in let j = d.count in omega (arith, i, j);
   shape = λ F tail env w h t.
       let a = hs.shape F env t.width.0 h (parts_typed t) in
-      record { ready = ready_kept g all.ready a.ready; width = λ ever. x t.width.0 w a.widths t.width.2 };
+      record { ready = ready_kept d.grows all.ready a.ready; width = λ ever. x t.width.0 w a.widths t.width.2 };
   ever = λ F env w t. hs.ever F env t.width.0 (parts_typed t);
   wide = λ F tail env w h t no. absurd (hs.ever F env t.width.0 (parts_typed t) no);
   value = λ v h.
       ap (λ (u : Word). gate (is_ready v all.ready) (Some u)) (y v h)
-      ∙ applied p (is_ready v all.ready) (words v all.values.items) (answers (back_of v P) (words v slots) ts) (hs.value v (wired_before g h));
-  wants = λ F tail env w t v h k. hs.wants F env t.width.0 (parts_typed t) v (wired_before g h) k;
-  loops = λ F tail env w t v h. hs.loops F env t.width.0 (parts_typed t) v (wired_before g h) ∙ stays_by _ _ (on v path) (goes_op p (answers (back_of v P) (words v slots) ts));
+      ∙ applied p (is_ready v all.ready) (words v all.values.items) (answers (back_of v P) (words v slots) ts) (hs.value v (wired_before d.grows h));
+  wants = λ F tail env w t v h k. hs.wants F env t.width.0 (parts_typed t) v (wired_before d.grows h) k;
+  loops = λ F tail env w t v h. hs.loops F env t.width.0 (parts_typed t) v (wired_before d.grows h) ∙ stays_by _ _ (on v path) (goes_op p (answers (back_of v P) (words v slots) ts));
 }

@@ -1,7 +1,6 @@
 pub mod Arms
 pub mod Typing
 pub mod Kept
-pub mod Steadying
 pub mod Gathered
 pub mod Leaves
 pub mod Calls
@@ -15,7 +14,6 @@ pub mod Laid
 pub mod Members
 pub mod Gathering
 pub mod Whole
-pub mod BitWords
 pub mod Extending
 pub mod FromProgram
 pub mod Sample

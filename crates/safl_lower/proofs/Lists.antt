@@ -1,33 +1,34 @@
 -- The circuits of a list of terms.
 use Rattle.std.proofs.Common.{◌≡◌, ℕ, ◌+◌, List, [], ◌∷◌, ◌++◌, map, length, Option, Some, None, Bool, false, ◌&&◌, refl, sym, ap, subst, ◌∙◌, arith, append_assoc, length-append, ⊎_elim}
-use Rattle.safl_check.specs.Program.{Program}
-use Rattle.safl_check.specs.WellFormed.{Spans, SpansAll, HasWidth, HaveWidths}
-use Rattle.safl_check.proofs.Places.{fits_le, fits_all_le}
+use Rattle.safl_term.specs.Program.{Program}
+use Rattle.safl_term.specs.WellFormed.{Spans, SpansAll, HasWidth, HaveWidths}
+use Rattle.safl_term.proofs.Places.{fits_le, fits_all_le}
 use Rattle.safl_lower.proofs.Branches.{Both}
 use Rattle.safl_word.specs.Words.{Word}
-use Rattle.safl_check.specs.Terms.{Term, Terms, Nil, Cons}
-use Rattle.safl_check.specs.Readiness.{Answer, Ready, LoopTo, NotYet, word_of, both, or_else, answer, answers, wanted, wanted_in}
+use Rattle.safl_term.specs.Terms.{Term, Terms, Nil, Cons}
+use Rattle.safl_term.specs.Readiness.{Answer, Ready, LoopTo, NotYet, word_of, both, or_else, answer, answers, wanted, wanted_in}
 use Rattle.safl_net.specs.declared.cell.Sig.{Sig}
 use Rattle.safl_net.specs.Netlist.{Netlist}
-use Rattle.safl_net.specs.Growth.{words, Sized}
-use Rattle.safl_net.proofs.Growth.{grows_on, grows_none, wired_before, width_kept, sized_kept, sized_more}
-use Rattle.safl_net.specs.Settled.{AreSteady}
-use Rattle.safl_net.proofs.Settling.{steady_grown, are_steady_grown, are_steady_more}
+use Rattle.safl_net.specs.Growth.{words}
+use Rattle.safl_net.proofs.Growth.{grows_on, grows_none, wired_before}
 use Rattle.safl_lower.specs.declared.parts.Readiness.{Readiness}
 use Rattle.safl_lower.specs.declared.parts.Readiness.TheVariants.{Always}
 use Rattle.safl_lower.specs.declared.parts.Ports.{Ports}
 use Rattle.safl_lower.specs.declared.parts.Lowered.{Lowered}
 use Rattle.safl_lower.specs.declared.parts.LoweredAll.{LoweredAll}
 use Rattle.safl_lower.specs.declared.parts.Out.{Out}
-use Rattle.safl_lower.specs.Bits.{on, is_ready, ReadyAt}
+use Rattle.safl_net.specs.Bits.{on, gate}
+use Rattle.safl_lower.specs.Bits.{is_ready, ReadyAt}
 use Rattle.safl_lower.specs.Typing.{Owner, Typed, TypedAll, nodes, nodes_in, sites_of, sites_in}
-use Rattle.safl_lower.specs.Entries.{gate, asked, went, site_of}
+use Rattle.safl_lower.specs.Entries.{asked, went, site_of}
 use Rattle.safl_lower.specs.Lowering.{back_of, open_at, shown, goes_of, ShapedAll, Lowers, LowersAll}
 use Rattle.safl_lower.proofs.Arms.{or_assoc, or_none, gate_or, and_then, join}
-use Rattle.safl_lower.specs.Steady.{listed}
-use Rattle.safl_lower.proofs.Steadying.{sites_grown, out_grown}
 use Rattle.safl_lower.proofs.Kept.{setting_kept, apart}
 use Rattle.safl_lower.proofs.Gathered.{words_more, stays, stays_by, no_goes, no_more, more_twice, out_kept, told_by, told_more, gate_is_none, some_nodes}
+use Rattle.safl_gates.specs.Sources.{AreSources}
+use Rattle.safl_gates.proofs.Building.{source_grown, sources_grown, sources_joined}
+use Rattle.safl_net.proofs.Settling.{settles_on, settles_same}
+use Rattle.safl_gates.proofs.Cells.{one_source, no_sources}
 
 -- ---- lists of terms
 
@@ -104,13 +105,13 @@ last_typed F env ts t ws h =
     }
 
 none_shape : (F : Owner) (env ws : List ℕ) (n : Netlist) (r : LoweredAll) → r.ready ≡ Always → r.values.items ≡ [] → HaveWidths F.program env Nil ws → ShapedAll n r ws
-none_shape F env [] n r e f t = record { ready = subst (ReadyAt n) (sym e) tt; widths = subst (λ (l : List Sig). Sized n l []) (sym f) tt }
+none_shape F env [] n r e f t = record { ready = subst (ReadyAt n) (sym e) tt; widths = subst (λ (l : List Sig). AreSources n l []) (sym f) (no_sources n) }
 none_shape F env (w ∷ ws) n r e f t = absurd t
 
 pub lowers_none : {P : Ports} {slots : List Sig} {path : Sig} {n : Netlist} {o : Out} {r : LoweredAll} → r.ready ≡ Always → r.values.items ≡ [] → LowersAll P slots path n n o o r Nil
 unfolding answer wanted
 lowers_none {P} {slots} {path} {n} {o} {r} e f = record {
-  settled = λ p h k. (record { net = λ q. q; signals = subst (λ (q : Readiness). AreSteady n (listed q)) (sym e) tt }, subst (AreSteady n) (sym f) tt, k);
+  settles = settles_same n n refl;
   quiet = λ F env ws t. refl;
   long = let k = ap length f in omega (arith, k);
   more = [];
@@ -131,12 +132,7 @@ pub lowers_more : {P : Ports} {slots : List Sig} {path : Sig} {n0 n1 n2 n3 : Net
     → LowersAll P slots path n0 n1 o0 o1 r ts → Lowers P slots path n1 n2 o1 o2 one t → Both n2 n3 r.ready one.ready s.ready → s.values.items ≡ r.values.items ++ one.value ∷ []
     → LowersAll P slots path n0 n3 o0 o2 s (end ts t)
 lowers_more {P} {slots} {path} {n0} {n1} {n2} {n3} {o0} {o1} {o2} {r} {s} {one} {ts} {t} hs ht hb e = record {
-  settled = λ p h k.
-      let at1 = hs.settled p h k in
-      let at2 = ht.settled (sites_grown P hs.grows p) (are_steady_grown hs.grows (path ∷ slots) h) at1.2 in
-      let at3 = hb.settled (are_steady_grown ht.grows (listed r.ready) at1.0.signals) at2.0.signals.1 in
-      let front = are_steady_grown (grows_on ht.grows hb.grows) r.values.items at1.1 in
-      (record { net = λ x. at3.net (at2.0.net (at1.0.net x)); signals = at3.signals }, subst (AreSteady n3) (sym e) (are_steady_more n3 r.values.items (one.value ∷ []) front (steady_grown hb.grows one.value.0 at2.0.signals.0, tt)), out_grown hb.grows at2.1);
+  settles = settles_on hs.settles (settles_on ht.settles hb.settles);
   quiet = λ F env ws ty. let l = last_typed F env ts t ws ty in ht.quiet F env l.width l.last ∙ hs.quiet F env l.front l.typed;
   long = let k = ap length e ∙ length-append r.values.items (one.value ∷ []) in let i = hs.long in let j = some_nodes t in omega (arith, k, i, j, nodes_end ts t);
   more = hs.more ++ ht.more;
@@ -161,8 +157,8 @@ lowers_more {P} {slots} {path} {n0} {n1} {n2} {n3} {o0} {o1} {o2} {r} {s} {one} 
       let g = grows_on ht.grows hb.grows in
       record {
         ready = hb.bit;
-        widths = subst (λ (xs : List Sig). Sized n3 xs ws) (sym e) (subst (λ (us : List ℕ). Sized n3 (r.values.items ++ one.value ∷ []) us) (sym l.is)
-            (sized_more n3 r.values.items (one.value ∷ []) l.front (l.width ∷ []) (sized_kept g r.values.items l.front a.widths) (width_kept hb.grows one.value.0 l.width (b.width (ht.ever F env l.width l.last)), tt)));
+        widths = subst (λ (xs : List Sig). AreSources n3 xs ws) (sym e) (subst (λ (us : List ℕ). AreSources n3 (r.values.items ++ one.value ∷ []) us) (sym l.is)
+            (sources_joined n3 r.values.items (one.value ∷ []) l.front (l.width ∷ []) (sources_grown g r.values.items l.front a.widths) (one_source (source_grown hb.grows one.value l.width (b.width (ht.ever F env l.width l.last))))));
       };
   ever = λ F env ws ty no. let l = last_typed F env ts t ws ty in ⊎_elim (hs.ever F env l.front l.typed) (ht.ever F env l.width l.last) (hb.never.0 no);
   value = λ v w3.

@@ -1,13 +1,14 @@
 -- Terms without calls and tail calls want nothing, and go on to no member.
 use Rattle.std.proofs.Common.{◌≡◌, ℕ, List, ◌++◌, Option, Some, None, Bool, true, false, ◌||◌, refl, ◌∙◌}
 use Rattle.safl_word.specs.Words.{Word}
-use Rattle.safl_check.specs.Terms.{Term, Const, Var, Op, If, Let, Call, Loop, Terms, Nil, Cons}
-use Rattle.safl_check.specs.Readiness.{Answer, Ready, LoopTo, NotYet, select, with_all, answer, answers, wanted, wanted_in}
+use Rattle.safl_term.specs.Terms.{Term, Const, Var, Op, If, Let, Call, Loop, Terms, Nil, Cons}
+use Rattle.safl_term.specs.Readiness.{Answer, Ready, LoopTo, NotYet, select, with_all, answer, answers, wanted, wanted_in}
 use Rattle.safl_lower.specs.Typing.{holds_calls, hold_calls}
 use Rattle.safl_lower.specs.Lowering.{goes_of}
 use Rattle.safl_lower.proofs.Calls.{select_none, with_none, both_none}
 use Rattle.safl_lower.proofs.Gathered.{pick_ap, pick_none}
 use Rattle.safl_lower.proofs.Leaves.{goes_op}
+use Rattle.safl_net.specs.Bits.{on}
 
 pub or_off : (a b : Bool) → (a || b) ≡ false → (a ≡ false) × (b ≡ false)
 or_off true b e = absurd (cc)

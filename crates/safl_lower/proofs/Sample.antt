@@ -1,15 +1,16 @@
 -- The examples can be lowered.
-use Rattle.std.proofs.Common.{◌≡◌, ℕ, zero, suc, ◌+◌, ◌<◌, ◌≤◌, List, [], ◌∷◌, length, Some, true, slice_get, refl, sym, ap, subst, ◌∙◌, arith}
-use Rattle.safl_check.specs.Terms.{Term}
+use Rattle.std.proofs.Common.{◌≡◌, ℕ, zero, suc, List, [], ◌∷◌, length, Some, true, slice_get, refl, sym, ap, subst, ◌∙◌, arith}
+use Rattle.safl_term.specs.Terms.{Term}
 use Rattle.safl_net.specs.Netlist.{Netlist, Signal}
 use Rattle.safl_net.specs.Names.{IsTidy}
-use Rattle.safl_net.specs.Growth.{width_at}
 use Rattle.safl_lower.specs.declared.parts.SitePorts.{SitePorts}
 use Rattle.safl_lower.specs.declared.parts.Ports.{Ports}
 use Rattle.safl_lower.specs.Typing.{Owner}
 use Rattle.safl_lower.specs.Lowering.{Sited}
 use Rattle.safl_lower.specs.Bodies.{IsBody, CanLower}
 use Rattle.safl_lower.specs.Sample.{either, repeating, sample, two_inputs}
+use Rattle.safl_gates.specs.Sources.{IsSource}
+use Rattle.safl_gates.proofs.Cells.{one_source}
 
 pub tidy_inputs : (n : Netlist) → n ≡ two_inputs → IsTidy n
 tidy_inputs n e = subst IsTidy (sym e) (record { signals = λ s g f t. by s g f t; outputs = λ i o f. absurd (cc) })
@@ -53,8 +54,8 @@ pub can_lower : (n : Netlist) (P : Ports) (t : Term) → n ≡ two_inputs → t 
     → P.first_site ≡ 1 → P.members ≡ 1 → P.first_member ≡ 2 → P.width ≡ 8 → CanLower n P (record { 0 = 1 } ∷ []) (record { 0 = 0 }) t
 unfolding main_owner a_port
 can_lower n P t e f sites first members member wide =
-    let bit : width_at n 0 ≡ Some 1 = subst (λ (m : Netlist). width_at m 0 ≡ Some 1) (sym e) refl in
-    let word : width_at n 1 ≡ Some 8 = subst (λ (m : Netlist). width_at m 1 ≡ Some 8) (sym e) refl in
+    let bit : IsSource n (record { 0 = 0 }) 1 = subst (λ (m : Netlist). IsSource m (record { 0 = 0 }) 1) (sym e) (record { width = refl; steady = tt }) in
+    let word : IsSource n (record { 0 = 1 }) 8 = subst (λ (m : Netlist). IsSource m (record { 0 = 1 }) 8) (sym e) (record { width = refl; steady = tt }) in
     let two = ap length sites in
     let size = ap (λ (m : Netlist). length m.signals) e in
     subst (CanLower n P (record { 0 = 1 } ∷ []) (record { 0 = 0 })) (sym f) (record {
@@ -63,7 +64,7 @@ can_lower n P t e f sites first members member wide =
       width = 8;
       setting = record {
         path_bit = bit;
-        slots_sized = (word, tt);
+        slots_sized = one_source word;
         first = first;
         last = omega (arith, first, two);
         sites_sized = λ i p g. subst (λ (q : SitePorts). Sited n q 8) (sym (port_is P.sites.items i p sites g)) (record { sent = bit; returned = bit; value = word });
@@ -104,8 +105,8 @@ no_port ps i p e f = by (ap (λ (l : List SitePorts). slice_get l i) (sym e) ∙
 pub can_repeat : (n : Netlist) (P : Ports) (t : Term) → n ≡ two_inputs → t ≡ repeating → P.sites.items ≡ [] → P.first_site ≡ 1 → P.members ≡ 1 → P.first_member ≡ 2 → P.width ≡ 8 → CanLower n P (record { 0 = 1 } ∷ []) (record { 0 = 0 }) t
 unfolding lone_owner
 can_repeat n P t e f sites first members member wide =
-    let bit : width_at n 0 ≡ Some 1 = subst (λ (m : Netlist). width_at m 0 ≡ Some 1) (sym e) refl in
-    let word : width_at n 1 ≡ Some 8 = subst (λ (m : Netlist). width_at m 1 ≡ Some 8) (sym e) refl in
+    let bit : IsSource n (record { 0 = 0 }) 1 = subst (λ (m : Netlist). IsSource m (record { 0 = 0 }) 1) (sym e) (record { width = refl; steady = tt }) in
+    let word : IsSource n (record { 0 = 1 }) 8 = subst (λ (m : Netlist). IsSource m (record { 0 = 1 }) 8) (sym e) (record { width = refl; steady = tt }) in
     let none = ap length sites in
     let size = ap (λ (m : Netlist). length m.signals) e in
     subst (CanLower n P (record { 0 = 1 } ∷ []) (record { 0 = 0 })) (sym f) (record {
@@ -114,7 +115,7 @@ can_repeat n P t e f sites first members member wide =
       width = 8;
       setting = record {
         path_bit = bit;
-        slots_sized = (word, tt);
+        slots_sized = one_source word;
         first = first;
         last = omega (arith, first, none);
         sites_sized = λ i p g. no_port P.sites.items i p sites g;

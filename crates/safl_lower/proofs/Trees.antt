@@ -1,8 +1,8 @@
 -- A list of terms of the code, term by term, as a plain list.
 use Rattle.std.proofs.Common.{◌≡◌, ℕ, zero, suc, ◌+◌, ◌*◌, ◌<◌, List, [], ◌∷◌, take, drop, Some, slice_get, Bool, true, false, ◌||◌, refl, ap, ◌∙◌, arith, add-one}
-use Rattle.safl_check.specs.Terms as plain
-use Rattle.safl_check.specs.declared.term.Term.{Term}
-use Rattle.safl_check.specs.Tree.{tree, forest}
+use Rattle.safl_term.specs.Terms as plain
+use Rattle.safl_term.specs.declared.term.Term.{Term}
+use Rattle.safl_term.specs.Tree.{tree, forest}
 use Rattle.safl_lower.specs.Typing.{nodes, nodes_in, holds_calls, hold_calls}
 use Rattle.safl_lower.proofs.Lists.{end}
 use Rattle.safl_lower.proofs.Able.{joined}

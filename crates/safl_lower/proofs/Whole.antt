@@ -1,14 +1,12 @@
 -- The circuit of a body from that of its term.
 use Rattle.std.proofs.Common.{◌≡◌, ℕ, zero, suc, ◌+◌, ◌<◌, ◌≤◌, List, [], ◌∷◌, ◌++◌, map, length, Option, Some, Bool, true, false, slice_get, refl, sym, ap, subst, ◌∙◌, arith}
 use Rattle.safl_word.specs.Words.{Word}
-use Rattle.safl_check.specs.Terms.{Term}
-use Rattle.safl_check.specs.Readiness.{answer, wanted, or_else}
+use Rattle.safl_term.specs.Terms.{Term}
+use Rattle.safl_term.specs.Readiness.{answer, wanted, or_else}
 use Rattle.safl_net.specs.declared.cell.Sig.{Sig}
 use Rattle.safl_net.specs.Netlist.{Netlist}
-use Rattle.safl_net.specs.Growth.{Val, words, Wired, width_at, Grows}
-use Rattle.safl_net.proofs.Growth.{grows_on, wired_before, width_kept}
-use Rattle.safl_net.specs.Settled.{AreSteady, SettlesOn}
-use Rattle.safl_net.proofs.Settling.{steady_grown, are_steady_grown}
+use Rattle.safl_net.specs.Growth.{Val, words, Wired, Grows}
+use Rattle.safl_net.proofs.Growth.{grows_on, wired_before}
 use Rattle.safl_lower.specs.declared.parts.Readiness.TheVariants.{Never}
 use Rattle.safl_lower.specs.declared.parts.Ports.{Ports}
 use Rattle.safl_lower.specs.declared.parts.Lowered.{Lowered}
@@ -16,18 +14,20 @@ use Rattle.safl_lower.specs.declared.parts.Rows.{Rows}
 use Rattle.safl_lower.specs.declared.parts.Out.{Out}
 use Rattle.safl_lower.specs.declared.parts.Want.{Want}
 use Rattle.safl_lower.specs.declared.parts.TailCall.{TailCall}
-use Rattle.safl_lower.specs.Bits.{on, BitAt, ReadyAt, IsConstant}
+use Rattle.safl_net.specs.Bits.{on, gate}
+use Rattle.safl_lower.specs.Bits.{ReadyAt}
 use Rattle.safl_lower.specs.Typing.{Owner, nodes, sites_of, tails_of}
-use Rattle.safl_lower.specs.Entries.{gate, asked, went, Told, site_of, member_of, Between, OutFits, WantsFit, LoopsFit, cost}
+use Rattle.safl_lower.specs.Entries.{asked, went, Told, site_of, member_of, Between, OutFits, WantsFit, LoopsFit, cost}
 use Rattle.safl_lower.specs.Lowering.{back_of, open_at, shown, goes_of, Shaped, Lowerable, Lowers}
 use Rattle.safl_lower.specs.Rows.{Apart, Listed, to_member, Spreads, Merged}
 use Rattle.safl_lower.specs.Bodies.{IsBody, CanLower, Bodies}
-use Rattle.safl_lower.specs.Steady.{results, WantsSteady, LoopsSteady}
-use Rattle.safl_lower.proofs.Steadying.{wants_grown, loops_grown}
-use Rattle.safl_lower.proofs.Kept.{constant_kept, shaped_kept}
+use Rattle.safl_lower.proofs.Kept.{shaped_kept}
 use Rattle.safl_lower.proofs.Typing.{places}
 use Rattle.safl_lower.proofs.Gathered.{wants_kept, loops_kept}
 use Rattle.safl_lower.proofs.Members.{member_told}
+use Rattle.safl_gates.specs.Sources.{IsSource, Builds}
+use Rattle.safl_gates.proofs.Building.{source_grown}
+use Rattle.safl_net.proofs.Settling.{settles_on}
 
 pub lowerable : {n : Netlist} {P : Ports} {args : List Sig} {run : Sig} {t : Term} → CanLower n P args run t → Lowerable n P args run t
 lowerable {t = t} h = record { owner = h.owner; tail = true; env = h.env; width = h.width; setting = h.setting; typed = h.body.typed; room = let r = h.room in omega (arith, r) }
@@ -84,32 +84,24 @@ all_listed F P env w t es e first last b i l =
 pub bodies : {P : Ports} {args : List Sig} {run : Sig} {n0 n1 n2 n3 n4 : Netlist} {o p : Out} {r : Lowered} {t : Term} (ends value off : Sig) (s m : Rows)
     → o.wants.items ≡ [] → o.loops.items ≡ [] → CanLower n0 P args run t
     → Lowers P args run n0 n1 o p r t
-    → Grows n1 n2 → length n2.signals ≤ length n1.signals + 1 → BitAt n2 off → ((v : Val) → Wired n2 v → on v off ≡ false) → SettlesOn n1 n2 (off ∷ []) → IsConstant n2 off (record { width = 1; bits = 0 })
-    → Grows n2 n3 → length n3.signals ≤ length n2.signals + 1 → BitAt n3 ends → ((w : ℕ) → Shaped n2 r w → (r.ready ≡ Never → w ≡ P.width) → width_at n3 value.0 ≡ Some w)
-    → ((v : Val) → Wired n3 v → gate (on v ends) (Some (v value.0)) ≡ gate (on v run) (shown v r)) → (AreSteady n2 (run ∷ off ∷ results r) → SettlesOn n2 n3 (ends ∷ value ∷ []))
+    → Builds n1 n2 1 → IsSource n2 off 1 → ((v : Val) → Wired n2 v → on v off ≡ false)
+    → Builds n2 n3 1 → IsSource n3 ends 1 → ((w : ℕ) → Shaped n2 r w → (r.ready ≡ Never → w ≡ P.width) → IsSource n3 value w)
+    → ((v : Val) → Wired n3 v → gate (on v ends) (Some (v value.0)) ≡ gate (on v run) (shown v r))
     → Spreads off P.first_site (length P.sites.items) p.wants.items s
-    → Grows n3 n4 → length n4.signals ≤ length n3.signals + cost p.loops.items → Merged off P.first_member P.members n3 n4 p.loops.items m
+    → Builds n3 n4 (cost p.loops.items) → Merged off P.first_member P.members n3 n4 p.loops.items m
     → Bodies P args run n0 n4 (record { ends = ends; value = value; wants = s.bits; site_args = s.args; loops = m.bits; loop_args = m.args; zero = off }) t
-bodies {P} {args} {run} {n0} {n1} {n2} {n3} {n4} {o} {p} {r} {t} ends value off s m ew el c h g2 c2 bz z s2 k2 g3 c3 be wide is s3 sp g4 c4 me = record {
-  zero_bit = width_kept (grows_on g3 g4) off.0 1 bz;
+bodies {P} {args} {run} {n0} {n1} {n2} {n3} {n4} {o} {p} {r} {t} ends value off s m ew el c h b2 bz z b3 be wide is sp b4 me = let g2 = b2.grows in let g3 = b3.grows in let g4 = b4.grows in record {
+  zero_bit = source_grown (grows_on g3 g4) off 1 bz;
   zero_off = λ v w4. z v (wired_before g3 (wired_before g4 w4));
   tails = λ F env w b. let i = h.cheap F true env w b.typed in let j = ap cost el in let k = me.paid in omega (arith, i, j, k);
-  constant = constant_kept (grows_on g3 g4) off (record { width = 1; bits = 0 }) k2;
   idle = λ F env w b i l a x y no.
       let to = h.tails F true env w b.typed ∙ ap (λ (q : List TailCall). map member_of q ++ tails_of t) el in
       me.idle i l a x y (λ q. no (subst (Listed (P.first_member + i)) to q));
-  settled = λ ports k.
-      let at1 = h.settled ports k (record { wants = subst (WantsSteady n0) (sym ew) tt; loops = subst (LoopsSteady n0) (sym el) tt }) in
-      let at3 = s3 (steady_grown (grows_on h.grows g2) run.0 k.0, (s2.signals.0, are_steady_grown g2 (results r) at1.0.signals)) in
-      let at4 = me.settled (steady_grown g3 off.0 s2.signals.0) (loops_grown (grows_on g2 g3) p.loops.items at1.1.loops) in
-      let g = grows_on g2 (grows_on g3 g4) in
-      record {
-        on = record { net = λ x. at4.0 (at3.net (s2.net (at1.0.net x))); signals = are_steady_grown g4 (ends ∷ value ∷ []) at3.signals };
-        wants = sp.steady n4 (steady_grown (grows_on g3 g4) off.0 s2.signals.0) (wants_grown g p.wants.items at1.1.wants);
-        loops = at4.1;
-      };
-  grows = grows_on h.grows (grows_on g2 (grows_on g3 g4));
-  count = let i = h.count in let j = merge_cost ew el c h in omega (arith, i, j, c2, c3, c4);
+  built = record {
+    grows = grows_on h.grows (grows_on g2 (grows_on g3 g4));
+    settles = settles_on h.settles (settles_on b2.settles (settles_on b3.settles b4.settles));
+    count = let i = h.count in let j = merge_cost ew el c h in let c2 = b2.count in let c3 = b3.count in let c4 = b4.count in omega (arith, i, j, c2, c3, c4);
+  };
   wants_length = sp.bits_length;
   site_args_length = sp.args_length;
   loops_length = me.bits_length;
@@ -118,8 +110,8 @@ bodies {P} {args} {run} {n0} {n1} {n2} {n3} {n4} {o} {p} {r} {t} ends value off 
       let out = h.fits F true env w st b.typed (empty_fits F n0 o ew el) in
       let g = grows_on g2 (grows_on g3 g4) in
       record {
-        ends = width_kept g4 ends.0 1 be;
-        value = width_kept g4 value.0 w (wide w (shaped_kept g2 r w (h.shape F true env w st b.typed)) (h.wide F true env w st b.typed));
+        ends = source_grown g4 ends 1 be;
+        value = source_grown g4 value w (wide w (shaped_kept g2 r w (h.shape F true env w st b.typed)) (h.wide F true env w st b.typed));
         wants = λ i l a x y.
             let n = in_range s.bits.items i l x in
             let k = sp.bits_length in

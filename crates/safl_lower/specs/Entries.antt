@@ -1,18 +1,15 @@
 -- The calls and the tail calls of a body, as they are gathered, under a valuation.
-use Rattle.std.specs.Prelude.{◌≡◌, ℕ, ◌+◌, ◌<◌, ◌≤◌, List, [], ◌∷◌, length, Option, Some, None, Bool, true, ◌&&◌, cond, ◌==◌}
+use Rattle.std.specs.Prelude.{◌≡◌, ℕ, ◌+◌, ◌<◌, ◌≤◌, List, [], ◌∷◌, length, Option, Some, None, true, ◌&&◌, ◌==◌}
 use Rattle.safl_word.specs.Words.{Word}
-use Rattle.safl_check.specs.Readiness.{or_else}
+use Rattle.safl_term.specs.Readiness.{or_else}
 use Rattle.safl_net.specs.Netlist.{Netlist}
-use Rattle.safl_net.specs.Growth.{Val, words, Sized}
+use Rattle.safl_net.specs.Growth.{Val, words}
 use Rattle.safl_lower.specs.declared.parts.Want.{Want}
 use Rattle.safl_lower.specs.declared.parts.TailCall.{TailCall}
 use Rattle.safl_lower.specs.declared.parts.Out.{Out}
-use Rattle.safl_lower.specs.Bits.{on, BitAt}
+use Rattle.safl_net.specs.Bits.{on, gate}
 use Rattle.safl_lower.specs.Typing.{Owner}
-
--- where the bit is 1
-abbrev pub gate : {A : Type 0} → Bool → Option A → Option A
-gate b o = cond b o None
+use Rattle.safl_gates.specs.Sources.{IsSource, AreSources}
 
 -- the words that one call asks site k for
 abbrev pub asks : Val → Want → ℕ → Option (List Word)
@@ -49,13 +46,13 @@ Between low high (k ∷ ks) = (low ≤ k) × (k < high) × Between low high ks
 
 -- a call has a bit, and arguments of its callee's widths
 pub record WantFits (F : Owner) (n : Netlist) (e : Want) : Type 0 where
-  pub bit : BitAt n e.want
-  pub sized : Sized n e.args.items (F.program.params (F.program.callee e.site))
+  pub bit : IsSource n e.want 1
+  pub sized : AreSources n e.args.items (F.program.params (F.program.callee e.site))
 
 -- a tail call has a bit, and arguments of its member's widths
 pub record LoopFits (F : Owner) (n : Netlist) (e : TailCall) : Type 0 where
-  pub bit : BitAt n e.taken
-  pub sized : Sized n e.args.items (F.program.params e.member)
+  pub bit : IsSource n e.taken 1
+  pub sized : AreSources n e.args.items (F.program.params e.member)
 
 abbrev pub WantsFit : Owner → Netlist → List Want → Type 0
 WantsFit F n [] = Unit {0}

@@ -1,7 +1,6 @@
 pub mod Bits
 pub mod Typing
 pub mod Entries
-pub mod Steady
 pub mod Lowering
 pub mod Rows
 pub mod Bodies

@@ -1,12 +1,11 @@
 -- What the circuit of a term gives, under each valuation that the net allows.
 use Rattle.std.specs.Prelude.{◌≡◌, ◌≢◌, ℕ, ◌+◌, ◌-◌, ◌*◌, ◌<◌, ◌≤◌, List, [], ◌∷◌, ◌++◌, map, length, Option, Some, None, Bool, false, not, ◌&&◌, slice_get}
 use Rattle.safl_word.specs.Words.{Word, max_width}
-use Rattle.safl_check.specs.Terms.{Term, Terms}
-use Rattle.safl_check.specs.Readiness.{Answer, Ready, LoopTo, NotYet, word_of, or_else, answer, answers, wanted, wanted_in}
+use Rattle.safl_term.specs.Terms.{Term, Terms}
+use Rattle.safl_term.specs.Readiness.{Answer, Ready, LoopTo, NotYet, word_of, or_else, answer, answers, wanted, wanted_in}
 use Rattle.safl_net.specs.declared.cell.Sig.{Sig}
 use Rattle.safl_net.specs.Netlist.{Netlist}
-use Rattle.safl_net.specs.Growth.{Val, words, Wired, width_at, Sized, Grows}
-use Rattle.safl_net.specs.Settled.{AreSteady, SettlesOn}
+use Rattle.safl_net.specs.Growth.{Val, words, Wired, Grows}
 use Rattle.safl_lower.specs.declared.parts.SitePorts.{SitePorts}
 use Rattle.safl_lower.specs.declared.parts.Ports.{Ports}
 use Rattle.safl_lower.specs.declared.parts.Readiness.TheVariants.{Never, When}
@@ -15,10 +14,12 @@ use Rattle.safl_lower.specs.declared.parts.LoweredAll.{LoweredAll}
 use Rattle.safl_lower.specs.declared.parts.TailCall.{TailCall}
 use Rattle.safl_lower.specs.declared.parts.Want.{Want}
 use Rattle.safl_lower.specs.declared.parts.Out.{Out}
-use Rattle.safl_lower.specs.Bits.{on, is_ready, BitAt, ReadyAt}
+use Rattle.safl_net.specs.Bits.{on, gate}
+use Rattle.safl_lower.specs.Bits.{is_ready, ReadyAt}
 use Rattle.safl_lower.specs.Typing.{Owner, Typed, TypedAll, nodes, nodes_in, sites_of, sites_in, tails_of}
-use Rattle.safl_lower.specs.Steady.{listed, results, SitesSteady, OutSteady}
-use Rattle.safl_lower.specs.Entries.{gate, asked, went, Told, site_of, member_of, Between, OutFits, cost}
+use Rattle.safl_lower.specs.Entries.{asked, went, Told, site_of, member_of, Between, OutFits, cost}
+use Rattle.safl_gates.specs.Sources.{IsSource, AreSources, HasRoom}
+use Rattle.safl_net.specs.Settled.{Settles}
 
 -- the ports of a site
 abbrev pub port_of : Ports → ℕ → Option SitePorts
@@ -59,24 +60,24 @@ goes_of NotYet = None
 
 -- ---- what has to be there
 
--- a site's ports are two bits and a word of this width
+-- a site's ports are two bits and a word of this width, which may be read
 pub record Sited (n : Netlist) (p : SitePorts) (w : ℕ) : Type 0 where
-  pub sent : BitAt n p.sent
-  pub returned : BitAt n p.returned
-  pub value : width_at n p.value.0 ≡ Some w
+  pub sent : IsSource n p.sent 1
+  pub returned : IsSource n p.returned 1
+  pub value : IsSource n p.value w
 
 -- site k has ports
 pub record HasPorts (n : Netlist) (P : Ports) (k : ℕ) : Type 0 where
   pub from : P.first_site ≤ k
   pub port : SitePorts
   pub at : port_of P k ≡ Some port
-  pub sent : BitAt n port.sent
+  pub sent : IsSource n port.sent 1
 
 -- the path is a bit, the slots have their widths, the ports are those of the owner's sites, each of its callee's
 -- width, and the group's members are the functions of the owner's unit, which have one width
 pub record Setting (n : Netlist) (F : Owner) (P : Ports) (slots : List Sig) (env : List ℕ) (path : Sig) : Type 0 where
-  pub path_bit : BitAt n path
-  pub slots_sized : Sized n slots env
+  pub path_bit : IsSource n path 1
+  pub slots_sized : AreSources n slots env
   pub first : P.first_site ≡ F.first
   pub last : P.first_site + length P.sites.items ≡ F.last
   pub sites_sized : (i : ℕ) (p : SitePorts) → slice_get P.sites.items i ≡ Some p → Sited n p (F.program.result (F.program.callee (P.first_site + i)))
@@ -92,7 +93,7 @@ pub record Lowerable (n : Netlist) (P : Ports) (slots : List Sig) (path : Sig) (
   pub width : ℕ
   pub setting : Setting n owner P slots env path
   pub typed : Typed owner tail env t width
-  pub room : length n.signals + 31 * nodes t < 4294967295
+  pub room : HasRoom n (31 * nodes t)
 
 pub record LowerableAll (n : Netlist) (P : Ports) (slots : List Sig) (path : Sig) (ts : Terms) : Type 0 where
   pub owner : Owner
@@ -100,22 +101,23 @@ pub record LowerableAll (n : Netlist) (P : Ports) (slots : List Sig) (path : Sig
   pub widths : List ℕ
   pub setting : Setting n owner P slots env path
   pub typed : TypedAll owner env ts widths
-  pub room : length n.signals + 31 * nodes_in ts < 4294967295
+  pub room : HasRoom n (31 * nodes_in ts)
 
 -- ---- what is there then
 
 -- the readiness is a bit, if it has one, and the value has this width, if it ever is ready
 pub record Shaped (n : Netlist) (r : Lowered) (w : ℕ) : Type 0 where
   pub ready : ReadyAt n r.ready
-  pub width : r.ready ≢ Never → width_at n r.value.0 ≡ Some w
+  pub width : r.ready ≢ Never → IsSource n r.value w
 
 pub record ShapedAll (n : Netlist) (r : LoweredAll) (ws : List ℕ) : Type 0 where
   pub ready : ReadyAt n r.ready
-  pub widths : Sized n r.values.items ws
+  pub widths : AreSources n r.values.items ws
 
 -- the circuit of a term, with the calls and tail calls before and after it
 pub record Lowers (P : Ports) (slots : List Sig) (path : Sig) (old new : Netlist) (o p : Out) (r : Lowered) (t : Term) : Type 0 where
   pub grows : Grows old new
+  pub settles : Settles old new
   pub count : length new.signals + 4 ≤ length old.signals + 31 * nodes t
   pub shape : (F : Owner) (tail : Bool) (env : List ℕ) (w : ℕ) → Setting old F P slots env path → Typed F tail env t w → Shaped new r w
   -- outside tail position it may be ready, and a term that never is has the width of its group's results
@@ -136,14 +138,13 @@ pub record Lowers (P : Ports) (slots : List Sig) (path : Sig) (old new : Netlist
   pub within : (F : Owner) (tail : Bool) (env : List ℕ) (w : ℕ) → Setting old F P slots env path → Typed F tail env t w → Between P.first_member (P.first_member + P.members) (map member_of o.loops.items) → Between P.first_member (P.first_member + P.members) (map member_of p.loops.items)
   pub more : List TailCall
   pub loops_more : p.loops.items ≡ o.loops.items ++ more
-  -- where what the term reads was steady, a settled net stays settled, and all that comes out is steady
-  pub settled : SitesSteady old P → AreSteady old (path ∷ slots) → OutSteady old o → SettlesOn old new (results r) × OutSteady new p
   -- every tail call that is made is the term's
   pub told : (F : Owner) (tail : Bool) (env : List ℕ) (w : ℕ) → Typed F tail env t w → (v : Val) → Wired new v → Told v more (gate (on v path) (goes_of (answer (back_of v P) (words v slots) t)))
 
 -- the circuits of a list of terms, all with the same path
 pub record LowersAll (P : Ports) (slots : List Sig) (path : Sig) (old new : Netlist) (o p : Out) (r : LoweredAll) (ts : Terms) : Type 0 where
   pub grows : Grows old new
+  pub settles : Settles old new
   pub count : length new.signals ≤ length old.signals + 31 * nodes_in ts
   pub shape : (F : Owner) (env : List ℕ) (ws : List ℕ) → Setting old F P slots env path → TypedAll F env ts ws → ShapedAll new r ws
   pub ever : (F : Owner) (env : List ℕ) (ws : List ℕ) → TypedAll F env ts ws → r.ready ≢ Never
@@ -154,7 +155,6 @@ pub record LowersAll (P : Ports) (slots : List Sig) (path : Sig) (old new : Netl
   pub fits : (F : Owner) (env : List ℕ) (ws : List ℕ) → Setting old F P slots env path → TypedAll F env ts ws → OutFits F old o → OutFits F new p
   pub quiet : (F : Owner) (env : List ℕ) (ws : List ℕ) → TypedAll F env ts ws → p.loops.items ≡ o.loops.items
   pub long : length r.values.items ≤ nodes_in ts
-  pub settled : SitesSteady old P → AreSteady old (path ∷ slots) → OutSteady old o → SettlesOn old new (listed r.ready) × AreSteady new r.values.items × OutSteady new p
   pub more : List TailCall
   pub loops_more : p.loops.items ≡ o.loops.items ++ more
   pub told : (F : Owner) (env : List ℕ) (ws : List ℕ) → TypedAll F env ts ws → (v : Val) → Wired new v → Told v more None
@@ -175,10 +175,10 @@ goes_with h (Some vs) = Some (h, vs)
 pub record Enters (n : Netlist) (o p : List Want) (k : ℕ) (all : LoweredAll) : Type 0 where
   pub want : Sig
   pub is : p ≡ o ++ record { site = k; want = want; args = all.values } ∷ []
-  pub bit : BitAt n want
+  pub bit : IsSource n want 1
 
 pub record Leaves (n : Netlist) (o p : List TailCall) (path : Sig) (h : ℕ) (all : LoweredAll) : Type 0 where
   pub taken : Sig
   pub made : (v : Val) → Wired n v → on v taken ≡ (on v path && is_ready v all.ready)
   pub is : p ≡ o ++ record { member = h; taken = taken; args = all.values } ∷ []
-  pub bit : BitAt n taken
+  pub bit : IsSource n taken 1

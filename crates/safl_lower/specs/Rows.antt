@@ -2,18 +2,17 @@
 use Rattle.std.specs.Prelude.{Vec, ◌≡◌, ℕ, ◌+◌, ◌≤◌, List, [], ◌∷◌, map, length, Option, Some, None, false, ◌&&◌, ◌⊎◌, cond, ◌==◌, slice_get, slice_set}
 use Rattle.std.specs.Global.{Global}
 use Rattle.safl_word.specs.Words.{Word}
-use Rattle.safl_check.specs.Readiness.{or_else}
+use Rattle.safl_term.specs.Readiness.{or_else}
 use Rattle.safl_net.specs.declared.cell.Sig.{Sig}
 use Rattle.safl_net.specs.Netlist.{Netlist}
-use Rattle.safl_net.specs.Growth.{Val, words, Wired, Sized}
-use Rattle.safl_net.specs.Settled.{IsSteady, AreSteady, IsSettled}
+use Rattle.safl_net.specs.Growth.{Val, words, Wired}
 use Rattle.safl_lower.specs.declared.parts.Want.{Want}
 use Rattle.safl_lower.specs.declared.parts.TailCall.{TailCall}
 use Rattle.safl_lower.specs.declared.parts.Rows.{Rows}
-use Rattle.safl_lower.specs.Bits.{on, BitAt}
+use Rattle.safl_net.specs.Bits.{on, gate}
 use Rattle.safl_lower.specs.Typing.{Owner}
-use Rattle.safl_lower.specs.Steady.{WantsSteady, LoopsSteady, RowsSteady}
-use Rattle.safl_lower.specs.Entries.{gate, asked, site_of, member_of, WantsFit, LoopsFit, cost}
+use Rattle.safl_lower.specs.Entries.{asked, site_of, member_of, WantsFit, LoopsFit, cost}
+use Rattle.safl_gates.specs.Sources.{IsSource, AreSources}
 
 abbrev pub Differs : ℕ → List ℕ → Type 0
 Differs k [] = Unit {0}
@@ -37,8 +36,8 @@ given v (Some w) (Some a) = gate (on v w) (Some (words v a.items))
 
 -- the bit is one, and the arguments have these widths
 pub record RowFits (n : Netlist) (l : Sig) (a : List Sig) (ws : List ℕ) : Type 0 where
-  pub bit : BitAt n l
-  pub sized : Sized n a ws
+  pub bit : IsSource n l 1
+  pub sized : AreSources n a ws
 
 -- site first + i has row i: the bit and the arguments of its call
 pub record Spreads (zero : Sig) (first count : ℕ) (all : List Want) (s : Rows) : Type 0 where
@@ -46,7 +45,6 @@ pub record Spreads (zero : Sig) (first count : ℕ) (all : List Want) (s : Rows)
   pub args_length : length s.args.items ≡ count
   pub fits : (F : Owner) (n : Netlist) → WantsFit F n all → (i : ℕ) (l : Sig) (a : Vec Sig Global) → Listed (first + i) (map site_of all) → slice_get s.bits.items i ≡ Some l → slice_get s.args.items i ≡ Some a → RowFits n l a.items (F.program.params (F.program.callee (first + i)))
   pub told : (v : Val) → on v zero ≡ false → (i : ℕ) → given v (slice_get s.bits.items i) (slice_get s.args.items i) ≡ asked v all (first + i)
-  pub steady : (n : Netlist) → IsSteady n zero.0 → WantsSteady n all → RowsSteady n s.bits.items s.args.items
 
 -- the arguments of the first tail call to the member that is made
 abbrev pub taken_to : Val → List TailCall → ℕ → Option (List Word)
@@ -63,7 +61,7 @@ Untaken zero l a = (l ≡ zero) × (a ≡ [])
 
 -- nothing is merged yet, or rows of the same widths
 abbrev pub Row : Netlist → Sig → Sig → List Sig → List Sig → Type 0
-Row n z l a own = Untaken z l a ⊎ ((ws : List ℕ) × RowFits n l a ws × Sized n own ws)
+Row n z l a own = Untaken z l a ⊎ ((ws : List ℕ) × RowFits n l a ws × AreSources n own ws)
 
 abbrev pub RowAt : Netlist → Sig → Option Sig → Option (Vec Sig Global) → List Sig → Type 0
 RowAt n z None a own = ⊥
@@ -83,9 +81,8 @@ pub record Adds (old new : Netlist) (z : Sig) (place : ℕ) (bits bits' : List S
   pub long : length row.items ≡ length e.args.items
   pub bits_is : bits' ≡ slice_set bits place bit
   pub args_is : args' ≡ slice_set args place row
-  pub fits : (ws : List ℕ) → RowFits old e.taken e.args.items ws → (slice_get bits place ≡ Some z) ⊎ ((a : Vec Sig Global) × (slice_get args place ≡ Some a) × Sized old a.items ws) → RowFits new bit row.items ws
+  pub fits : (ws : List ℕ) → RowFits old e.taken e.args.items ws → (slice_get bits place ≡ Some z) ⊎ ((a : Vec Sig Global) × (slice_get args place ≡ Some a) × AreSources old a.items ws) → RowFits new bit row.items ws
   pub told : (v : Val) → Wired new v → on v z ≡ false → given v (Some bit) (Some row) ≡ or_else (gate (on v e.taken) (Some (words v e.args.items))) (given v (slice_get bits place) (slice_get args place))
-  pub settled : AreSteady old (e.taken ∷ e.args.items) → RowsSteady old bits args → (IsSettled old → IsSettled new) × RowsSteady new bits' args'
 
 -- each member's row has its widths, or no tail call goes to it
 abbrev pub RowsFit : Owner → Netlist → Sig → ℕ → List Sig → List (Vec Sig Global) → Type 0
@@ -99,4 +96,3 @@ pub record Merged (z : Sig) (first count : ℕ) (old new : Netlist) (all : List 
   pub paid : tail_cost z m.bits.items m.args.items ≤ cost all
   pub idle : (i : ℕ) (l : Sig) (a : Vec Sig Global) → slice_get m.bits.items i ≡ Some l → slice_get m.args.items i ≡ Some a → ¬ Listed (first + i) (map member_of all) → Untaken z l a.items
   pub told : (v : Val) → Wired new v → on v z ≡ false → (i : ℕ) → given v (slice_get m.bits.items i) (slice_get m.args.items i) ≡ taken_to v all (first + i)
-  pub settled : IsSteady old z.0 → LoopsSteady old all → (IsSettled old → IsSettled new) × RowsSteady new m.bits.items m.args.items

@@ -2,9 +2,10 @@
 -- all their ports.
 use Rattle.std.specs.Prelude.{ℕ, zero, suc, [], ◌∷◌, codes}
 use Rattle.safl_word.specs.declared.primitive.Primitive.TheVariants.{Eq}
-use Rattle.safl_check.specs.Program.{Program}
-use Rattle.safl_check.specs.Terms.{Term, Const, Var, Op, If, Call, Loop, Nil, Cons}
+use Rattle.safl_term.specs.Program.{Program}
+use Rattle.safl_term.specs.Terms.{Term, Const, Var, Op, If, Call, Loop, Nil, Cons}
 use Rattle.safl_net.specs.Netlist.{Netlist, Input}
+use Rattle.safl_net.specs.Bits.{on}
 
 -- a == 0
 abbrev pub is_zero : Term

@@ -1,10 +1,10 @@
 //! Which terms hold calls.
 
 ghost use Rattle.std.specs.Prelude.{◌≡◌};
-ghost use Rattle.safl_check.specs.Tree.{tree, forest};
+ghost use Rattle.safl_term.specs.Tree.{tree, forest};
 ghost use Rattle.safl_lower.specs.Typing.{holds_calls, hold_calls};
 
-use safl_check::Term;
+use safl_term::Term;
 
 /// Whether a call or a tail call stands somewhere in the term.
 #[cycle(holding)]

@@ -1,24 +1,24 @@
 //! What a branch, a call and a tail call add to the circuits of their parts.
 
-ghost use Rattle.std.specs.Prelude.{◌≡◌, ◌≢◌, ◌⊎◌, ◌==◌, true, ℕ, ◌+◌, ◌<◌, ◌≤◌, ◌&&◌, List, [], ◌∷◌, not, cond, length, Some, IfOk, OnOk};
-ghost use Rattle.safl_check.specs.Readiness.{or_else};
-ghost use Rattle.safl_check.specs.Tree.{tree};
+ghost use Rattle.std.specs.Prelude.{◌≡◌, ◌⊎◌, ◌==◌, true, ℕ, ◌<◌, ◌&&◌, not, cond, IfOk, OnOk};
+ghost use Rattle.safl_term.specs.Readiness.{or_else};
+ghost use Rattle.safl_term.specs.Tree.{tree};
 ghost use Rattle.safl_net.specs.Names.{IsTidy};
-ghost use Rattle.safl_net.specs.Growth.{Val, Wired, width_at, Grows};
-ghost use Rattle.safl_net.specs.Settled.{AreSteady, SettlesOn};
-ghost use Rattle.safl_lower.specs.Steady.{listed, results, SitesSteady, OutSteady};
-ghost use Rattle.safl_lower.specs.Bits.{on, is_ready, BitAt, ReadyAt};
-ghost use Rattle.safl_lower.specs.Entries.{gate, asked, went};
+ghost use Rattle.safl_net.specs.Growth.{Val, Wired};
+ghost use Rattle.safl_net.specs.Bits.{on, gate};
+ghost use Rattle.safl_lower.specs.Bits.{is_ready, ReadyAt};
+ghost use Rattle.safl_lower.specs.Entries.{asked, went};
 ghost use Rattle.safl_lower.specs.Typing.{holds_calls};
 ghost use Rattle.safl_lower.specs.Lowering.{open_at, shown, gathered, goes_with, HasPorts, Shaped, Shows, Enters, Leaves};
+ghost use Rattle.safl_gates.specs.Sources.{IsSource, Builds, HasRoom};
 
-use crate::gates::{and_bit, and_not, mux, not_bit};
 use crate::holding::holds_calls;
 use crate::parts::{Lowered, LoweredAll, Out, Ports, Readiness, TailCall, Want};
 use crate::ready::{and_ready, both_ready, either_ready};
-use safl_check::Term;
+use safl_gates::gates::{and_not, both, inverse, mux};
 use safl_net::{Net, Sig};
-use std::alloc::AllocError;
+use safl_term::Term;
+use safl_word::NoMemory;
 
 /// The paths of two branches.
 #[derive(Clone, Copy)]
@@ -35,19 +35,17 @@ pub fn branch_paths(
     test: Lowered,
     yes: &Term,
     no: &Term,
-) -> Result<Paths, AllocError>
+) -> Result<Paths, NoMemory>
     requires tidy { IsTidy net.old }
-    requires path { BitAt net.old path }
+    requires path { IsSource net.old path 1 }
     requires ready { ReadyAt net.old test.ready }
-    requires test { BitAt net.old test.value }
-    requires room { length net.old.signals + 4 < 4294967295 }
+    requires test { IsSource net.old test.value 1 }
+    requires room { HasRoom net.old 4 }
     ensures tidy { IsTidy net.new }
-    ensures grows { Grows net.old net.new }
-    ensures count { length net.new.signals ≤ length net.old.signals + 4 }
-    ensures widths { IfOk result (λ p. BitAt net.new p.yes × BitAt net.new p.no) }
+    ensures built { Builds net.old net.new 4 }
+    ensures widths { IfOk result (λ p. IsSource net.new p.yes 1 × IsSource net.new p.no 1) }
     ensures yes { IfOk result (λ p. holds_calls (tree yes.now) ≡ true → (v : Val) → Wired net.new v → on v p.yes ≡ ((on v path && is_ready v test.ready) && on v test.value)) }
     ensures no { IfOk result (λ p. holds_calls (tree no.now) ≡ true → (v : Val) → Wired net.new v → on v p.no ≡ ((on v path && is_ready v test.ready) && not (on v test.value))) }
-    ensures settled { IfOk result (λ p. AreSteady net.old (path ∷ results test) → SettlesOn net.old net.new (p.yes ∷ p.no ∷ [])) }
 {
     match (holds_calls(yes), holds_calls(no)) {
         (false, false) => Ok(Paths {
@@ -56,7 +54,7 @@ pub fn branch_paths(
         }),
         (true, false) => {
             let reached = and_ready(net, path, test.ready)?;
-            let yes = and_bit(net, reached, test.value)?;
+            let yes = both(net, reached, test.value)?;
             Ok(Paths { yes, no: path })
         }
         (false, true) => {
@@ -66,7 +64,7 @@ pub fn branch_paths(
         }
         (true, true) => {
             let reached = and_ready(net, path, test.ready)?;
-            let yes = and_bit(net, reached, test.value)?;
+            let yes = both(net, reached, test.value)?;
             let no = and_not(net, reached, test.value)?;
             Ok(Paths { yes, no })
         }
@@ -75,17 +73,15 @@ pub fn branch_paths(
 
 /// The path of the body of a let: where the let has its path and the bindings are ready. A body that holds no calls
 /// keeps the let's path.
-pub fn body_path(net: &mut Net, path: Sig, bound: Readiness, body: &Term) -> Result<Sig, AllocError>
+pub fn body_path(net: &mut Net, path: Sig, bound: Readiness, body: &Term) -> Result<Sig, NoMemory>
     requires tidy { IsTidy net.old }
-    requires path { BitAt net.old path }
+    requires path { IsSource net.old path 1 }
     requires ready { ReadyAt net.old bound }
-    requires room { length net.old.signals < 4294967295 }
+    requires room { HasRoom net.old 1 }
     ensures tidy { IsTidy net.new }
-    ensures grows { Grows net.old net.new }
-    ensures count { length net.new.signals ≤ length net.old.signals + 1 }
-    ensures width { IfOk result (λ s. BitAt net.new s) }
+    ensures built { Builds net.old net.new 1 }
+    ensures fits { IfOk result (λ s. IsSource net.new s 1) }
     ensures value { IfOk result (λ s. holds_calls (tree body.now) ≡ true → (v : Val) → Wired net.new v → on v s ≡ (on v path && is_ready v bound)) }
-    ensures settled { IfOk result (λ s. AreSteady net.old (path ∷ listed bound) → SettlesOn net.old net.new (s ∷ [])) }
 {
     if holds_calls(body) {
         and_ready(net, path, bound)
@@ -95,24 +91,17 @@ pub fn body_path(net: &mut Net, path: Sig, bound: Readiness, body: &Term) -> Res
 }
 
 /// The value and the readiness of a choice.
-pub fn choose(
-    net: &mut Net,
-    test: Lowered,
-    yes: Lowered,
-    no: Lowered,
-) -> Result<Lowered, AllocError>
+pub fn choose(net: &mut Net, test: Lowered, yes: Lowered, no: Lowered) -> Result<Lowered, NoMemory>
     requires tidy { IsTidy net.old }
     requires ready { ReadyAt net.old test.ready }
-    requires test { BitAt net.old test.value }
+    requires test { IsSource net.old test.value 1 }
     requires branches { (w : ℕ) × Shaped net.old yes w × Shaped net.old no w }
-    requires room { length net.old.signals + 5 < 4294967295 }
+    requires room { HasRoom net.old 5 }
     ensures tidy { IsTidy net.new }
-    ensures grows { Grows net.old net.new }
-    ensures count { length net.new.signals ≤ length net.old.signals + 5 }
+    ensures built { Builds net.old net.new 5 }
     ensures shape { (w : ℕ) → Shaped net.old yes w → Shaped net.old no w → IfOk result (λ r. Shaped net.new r w) }
     ensures value { IfOk result (λ r. (v : Val) → Wired net.new v → shown v r ≡ gate (is_ready v test.ready) (cond (on v test.value) (shown v yes) (shown v no))) }
     ensures never { IfOk result (λ r. r.ready ≡ Readiness.Never → (test.ready ≡ Readiness.Never) ⊎ ((yes.ready ≡ Readiness.Never) × (no.ready ≡ Readiness.Never))) }
-    ensures settled { IfOk result (λ r. AreSteady net.old (results test) → AreSteady net.old (results yes) → AreSteady net.old (results no) → SettlesOn net.old net.new (results r)) }
 {
     let value = choose_value(net, test.value, yes, no)?;
     let selected = either_ready(net, test.value, yes.ready, no.ready)?;
@@ -121,17 +110,15 @@ pub fn choose(
 }
 
 // The value of a choice: that of the branch that the bit selects, where it is ready.
-fn choose_value(net: &mut Net, c: Sig, yes: Lowered, no: Lowered) -> Result<Sig, AllocError>
+fn choose_value(net: &mut Net, c: Sig, yes: Lowered, no: Lowered) -> Result<Sig, NoMemory>
     requires tidy { IsTidy net.old }
-    requires test { BitAt net.old c }
+    requires test { IsSource net.old c 1 }
     requires branches { (w : ℕ) × Shaped net.old yes w × Shaped net.old no w }
-    requires room { length net.old.signals < 4294967295 }
+    requires room { HasRoom net.old 1 }
     ensures tidy { IsTidy net.new }
-    ensures grows { Grows net.old net.new }
-    ensures count { length net.new.signals ≤ length net.old.signals + 1 }
-    ensures width { (w : ℕ) → Shaped net.old yes w → Shaped net.old no w → IfOk result (λ s. ((yes.ready ≡ Readiness.Never) × (no.ready ≡ Readiness.Never) → ⊥) → width_at net.new s.0 ≡ Some w) }
+    ensures built { Builds net.old net.new 1 }
+    ensures fits { (w : ℕ) → Shaped net.old yes w → Shaped net.old no w → IfOk result (λ s. ((yes.ready ≡ Readiness.Never) × (no.ready ≡ Readiness.Never) → ⊥) → IsSource net.new s w) }
     ensures value { IfOk result (λ s. (v : Val) → Wired net.new v → cond (on v c) (is_ready v yes.ready) (is_ready v no.ready) ≡ true → v s.0 ≡ cond (on v c) (v yes.value.0) (v no.value.0)) }
-    ensures settled { IfOk result (λ s. AreSteady net.old (c ∷ yes.value ∷ no.value ∷ []) → SettlesOn net.old net.new (s ∷ [])) }
 {
     match (yes.ready, no.ready) {
         (Readiness::Never, _) => Ok(no.value),
@@ -149,24 +136,22 @@ pub fn ask(
     path: Sig,
     site: u32,
     all: LoweredAll,
-) -> Result<Lowered, AllocError>
+) -> Result<Lowered, NoMemory>
     requires tidy { IsTidy net.old }
-    requires path { BitAt net.old path }
+    requires path { IsSource net.old path 1 }
     requires all { ReadyAt net.old all.ready }
     requires site { HasPorts net.old ports.now site }
-    requires room { length net.old.signals + 3 < 4294967295 }
+    requires room { HasRoom net.old 3 }
     ensures tidy { IsTidy net.new }
-    ensures grows { Grows net.old net.new }
-    ensures count { length net.new.signals ≤ length net.old.signals + 3 }
+    ensures built { Builds net.old net.new 3 }
     ensures given { IfOk result (λ r. Shows ports.now site r) }
     ensures entry { IfOk result (λ _. Enters net.new out.old.wants.items out.new.wants.items site all) }
     ensures loops { OnOk result (out.new.loops.items ≡ out.old.loops.items) }
     ensures wants { IfOk result (λ r. (v : Val) → Wired net.new v → (j : ℕ) → asked v out.new.wants.items j ≡ or_else (asked v out.old.wants.items j) (gate (site == j) (gate (open_at v ports.now path site) (gathered v all)))) }
-    ensures settled { IfOk result (λ r. SitesSteady net.old ports.now → AreSteady net.old (path ∷ listed all.ready) → AreSteady net.old all.values.items → OutSteady net.old out.old → SettlesOn net.old net.new (results r) × OutSteady net.new out.new) }
 {
     let port = ports.sites[(site - ports.first_site) as usize];
-    let unsent = not_bit(net, port.sent)?;
-    let free = and_bit(net, path, unsent)?;
+    let unsent = inverse(net, port.sent)?;
+    let free = both(net, path, unsent)?;
     let want = and_ready(net, free, all.ready)?;
     out.wants.push(Want {
         site,
@@ -186,19 +171,17 @@ pub fn go_on(
     path: Sig,
     member: u32,
     all: LoweredAll,
-) -> Result<Lowered, AllocError>
+) -> Result<Lowered, NoMemory>
     requires tidy { IsTidy net.old }
-    requires path { BitAt net.old path }
+    requires path { IsSource net.old path 1 }
     requires all { ReadyAt net.old all.ready }
-    requires room { length net.old.signals < 4294967295 }
+    requires room { HasRoom net.old 1 }
     ensures tidy { IsTidy net.new }
-    ensures grows { Grows net.old net.new }
-    ensures count { length net.new.signals ≤ length net.old.signals + 1 }
+    ensures built { Builds net.old net.new 1 }
     ensures never { IfOk result (λ r. r.ready ≡ Readiness.Never) }
     ensures entry { IfOk result (λ _. Leaves net.new out.old.loops.items out.new.loops.items path member all) }
     ensures wants { OnOk result (out.new.wants.items ≡ out.old.wants.items) }
     ensures loops { IfOk result (λ r. (v : Val) → Wired net.new v → went v out.new.loops.items ≡ or_else (went v out.old.loops.items) (gate (on v path) (goes_with member (gathered v all)))) }
-    ensures settled { IfOk result (λ r. AreSteady net.old (path ∷ listed all.ready) → AreSteady net.old all.values.items → OutSteady net.old out.old → SettlesOn net.old net.new (results r) × OutSteady net.new out.new) }
 {
     let taken = and_ready(net, path, all.ready)?;
     out.loops.push(TailCall {

@@ -2,7 +2,6 @@
 #![tactic(auto)]
 
 mod body;
-pub mod gates;
 mod holding;
 mod joins;
 mod merge;

@@ -1,6 +1,6 @@
 //! The calls of a body, laid out by own site.
 
-ghost use Rattle.std.specs.Prelude.{◌≡◌, ◌+◌, map, IfOk};
+ghost use Rattle.std.specs.Prelude.{◌+◌, map, IfOk};
 ghost use Rattle.safl_lower.specs.Entries.{site_of, Between};
 ghost use Rattle.safl_lower.specs.Rows.{Apart, Spreads};
 

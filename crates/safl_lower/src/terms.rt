@@ -1,19 +1,20 @@
 //! Terms as circuits.
 
-ghost use Rattle.std.specs.Prelude.{◌≡◌, ℕ, ◌+◌, ◌*◌, ◌<◌, ◌≤◌, ◌++◌, length, IfOk, OnOk};
-ghost use Rattle.safl_check.specs.Tree.{tree, forest};
+ghost use Rattle.std.specs.Prelude.{◌≡◌, ◌*◌, ◌<◌, IfOk, OnOk};
+ghost use Rattle.safl_term.specs.Tree.{tree, forest};
 ghost use Rattle.safl_net.specs.Names.{IsTidy};
 ghost use Rattle.safl_net.specs.Growth.{Grows};
 ghost use Rattle.safl_lower.specs.Lowering.{Lowerable, LowerableAll, Lowers, LowersAll};
 
-use crate::gates::constant;
 use crate::joins::{ask, body_path, branch_paths, choose, go_on};
 use crate::parts::{Lowered, LoweredAll, Out, Ports, Readiness};
 use crate::primitives::apply;
 use crate::ready::both_ready;
-use safl_check::Term;
+use safl_gates::gates::constant;
 use safl_net::{Net, Sig};
-use std::alloc::{AllocError, Global};
+use safl_term::Term;
+use safl_word::NoMemory;
+use std::alloc::Global;
 
 /// The circuit of a term, whose path is `path`; `slots` hold the parameters and the bindings around it.
 #[cycle(terms)]
@@ -25,7 +26,7 @@ pub fn lower_term(
     ports: &Ports,
     path: Sig,
     t: &Term,
-) -> Result<Lowered, AllocError>
+) -> Result<Lowered, NoMemory>
     requires tidy { IsTidy net.old }
     requires able { Lowerable net.old ports.now slots.old.items path (tree t.now) }
     ensures tidy { IsTidy net.new }
@@ -94,7 +95,7 @@ fn lower_all(
     ports: &Ports,
     path: Sig,
     ts: &[Term],
-) -> Result<LoweredAll, AllocError>
+) -> Result<LoweredAll, NoMemory>
     requires tidy { IsTidy net.old }
     requires able { LowerableAll net.old ports.now slots.old.items path (forest ts.now) }
     ensures tidy { IsTidy net.new }

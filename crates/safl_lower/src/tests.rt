@@ -1,11 +1,11 @@
 ghost use Rattle.std.specs.Prelude.{◌≡◌, IfOk};
-ghost use Rattle.safl_check.specs.Tree.{tree};
+ghost use Rattle.safl_term.specs.Tree.{tree};
 ghost use Rattle.safl_lower.specs.Sample.{is_zero, either, repeating, two_inputs};
 
 use crate::lower;
 use crate::parts::{Ports, SitePorts};
-use safl_check::Term;
 use safl_net::{Net, NetErr, Sig};
+use safl_term::Term;
 use safl_word::{Primitive, Word};
 use std::alloc::{AllocError, Global};
 use std::test::Fail;

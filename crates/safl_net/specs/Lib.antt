@@ -9,6 +9,7 @@ pub mod Making
 pub mod Rules
 pub mod Stored
 pub mod Growth
+pub mod Bits
 pub mod Settled
 pub mod Whole
 pub mod Arranged

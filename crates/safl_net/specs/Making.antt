@@ -53,7 +53,7 @@ temporary n op xs = wired (temp_name (wires n.signals)) (unwrap_or (width_on n o
 abbrev pub refusal : Netlist → List ℕ → Option NetErr
 refusal n name = cond (is_good name) (cond (has_name n name) (Some NameTaken) None) (Some BadName)
 
--- that refusal exactly, and without one nothing but want of memory
+-- that refusal exactly, and without one nothing but lack of memory
 abbrev pub Refuses : {A : Type 0} → Option NetErr → Result A NetErr → Type 0
 Refuses (Some e) r = r ≡ Err e
 Refuses None (Ok x) = Unit {0}

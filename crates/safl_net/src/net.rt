@@ -10,7 +10,7 @@ use crate::names::is_good_name;
 use crate::widths::op_width;
 use arrayvec::ArrayVec;
 use indexmap::IndexMap;
-use safl_word::Word;
+use safl_word::{NoMemory, Word};
 use std::alloc::{AllocError, Global};
 use std::marker::Model;
 
@@ -142,8 +142,8 @@ impl Net {
     }
 
     /// The next wire, with that cell, of the width that the operation has on the operands; its name is `n$` and
-    /// its number among the wires. The net is tidy before and after. The error is want of memory.
-    pub fn temp(&mut self, op: Op, operands: &[Sig]) -> Result<Sig, AllocError>
+    /// its number among the wires. The net is tidy before and after. Fails only if out of memory.
+    pub fn temp(&mut self, op: Op, operands: &[Sig]) -> Result<Sig, NoMemory>
         requires tidy { IsTidy self.old }
         requires known { All (λ s. s.0 < length self.old.signals) operands.now }
         requires fits { IsSome (width_on self.old op operands.now) }
@@ -484,7 +484,7 @@ impl Net {
     }
 
     // One more signal, of a name that is good and new.
-    fn push(&mut self, name: String, row: Row) -> Result<Sig, AllocError>
+    fn push(&mut self, name: String, row: Row) -> Result<Sig, NoMemory>
         requires room { length self.old.signals < 4294967295 }
         requires good { is_good (string_bytes name) ≡ true }
         requires new { has_name self.old (string_bytes name) ≡ false }
@@ -499,7 +499,7 @@ impl Net {
         let number = self.signals.len() as u32;
         let wires = self.wires + wire_count(&row.driver);
         let Ok(_) = self.signals.insert(name, row) else {
-            return Err(AllocError);
+            return Err(NoMemory);
         };
         self.wires = wires;
         Ok(Sig(number))

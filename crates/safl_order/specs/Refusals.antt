@@ -3,8 +3,8 @@ use Rattle.std.specs.Prelude.{◌≡◌}
 use Rattle.safl_net.specs.Netlist.{Netlist, AllSet}
 use Rattle.safl_net.specs.Making.{numbers}
 use Rattle.safl_net.specs.Whole.{IsLeastUnset}
-use Rattle.safl_order.specs.declared.order.OrderErr.{OrderErr}
-use Rattle.safl_order.specs.declared.order.OrderErr.TheVariants.{Loop, Unset, NoMemory}
+use Rattle.safl_order.specs.declared.ordered.OrderErr.{OrderErr}
+use Rattle.safl_order.specs.declared.ordered.OrderErr.TheVariants.{Loop, Unset, NoMemory}
 use Rattle.safl_order.specs.Order.{IsLoop}
 
 -- the net comes back; something is unset exactly where that is said, and a loop is shown

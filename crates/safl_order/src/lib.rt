@@ -2,7 +2,7 @@
 #![tactic(auto)]
 
 pub mod laws;
-pub mod order;
+pub mod ordered;
 mod walk;
 
-pub use crate::order::{OrderErr, Ordered};
+pub use crate::ordered::{OrderErr, Ordered, order};

@@ -2,3 +2,4 @@ pub mod Rows
 pub mod Loops
 pub mod Refusals
 pub mod Sources
+pub mod KindCodes

@@ -1,17 +1,15 @@
 -- What the loops read.
 use Rattle.std.proofs.Common.{◌≡◌, ℕ, zero, suc, ◌<◌, ◌-◌, Bool, true, false, List, [], ◌∷◌, ◌++◌, length, Option, Ok, refl, sym, ap, ◌∙◌, arith}
-use Rattle.safl_grammar.specs.Syntax.{Deep}
 use Rattle.safl_grammar.specs.Reading.{Read, Reading, head_of, read_many}
 use Rattle.safl_grammar.proofs.Many.{fails_here}
-use Rattle.safl_grammar.proofs.Small.{Small, Eats, small, small_nothing, eats_token, eats_limited, small_follows, eats_follows, small_either, small_many, small_parses, eats_parses}
+use Rattle.safl_grammar.proofs.Small.{Small, Eats, small, small_nothing, eats_token, small_follows, eats_follows, small_parses, eats_parses}
 use Rattle.safl_word.specs.declared.token.Key.TheVariants as keys
 use Rattle.safl_word.specs.declared.token.Sym.TheVariants as syms
-use Rattle.safl_tree.specs.Tree.{Tree, Applied, Bound, Parameter, Definition, trees_of, place_of}
-use Rattle.safl_tree.specs.Terminals.{Terminal, word_code, symbol_code, marked, name, operators, operator, comes}
+use Rattle.safl_tree.specs.Tree.{Tree, Bound, Parameter, Definition}
+use Rattle.safl_tree.specs.Terminals.{Terminal, word_code, symbol_code, marked, name, comes}
 use Rattle.safl_tree.specs.Grammar
-use Rattle.safl_tree.specs.Grammar.{shallow}
-use Rattle.safl_tree.specs.Reader.{read_bind, read_joined, read_chained, read_compared, read_layer, read_chain, read_unary, operand_at, expr_at, read_another, read_another_bind, read_another_param, read_another_one, read_another_group, read_expr, read_cases, arms_at}
-use Rattle.safl_tree.proofs.Levels.{both_levels, expr_small, operand_small}
+use Rattle.safl_tree.specs.Reader.{read_bind, read_chained, read_compared, read_layer, read_chain, expr_at, read_another, read_another_bind, read_another_param, read_another_one, read_another_group, read_expr, read_cases, arms_at}
+use Rattle.safl_tree.proofs.KeptLevels.{both_levels, expr_small}
 use Rattle.safl_tree.proofs.Expressions.{written_parses}
 use Rattle.safl_tree.proofs.Programs.{another_param_parses, another_one_parses, another_group_parses}
 use Rattle.safl_parse.specs.declared.error.ReadError.{ReadError}
@@ -19,35 +17,7 @@ use Rattle.safl_parse.specs.declared.error.ReadError.TheVariants as errors
 use Rattle.safl_parse.specs.Gives.{Fails, rule_of}
 use Rattle.safl_tree.specs.Terminals.{terminals}
 
-pub eats_joined : (k : ℕ) (p : Reading Terminal Tree) → Small p → (a : Tree) → Eats (read_joined k p a)
-unfolding read_joined
-eats_joined k p h a = eats_follows (eats_limited Deep (shallow a) (operator k)) (λ op. small_follows h (λ b. small_nothing (Applied (place_of a) op (trees_of (a ∷ b ∷ [])))))
-
-small_chained : (k : ℕ) (p : Reading Terminal Tree) → Small p → Small (read_chained k p)
-unfolding read_chained
-small_chained k p h = small_follows h (λ a. small_many (comes (operators k)) (read_joined k p) (λ a. small (eats_joined k p h a)) a)
-
-small_compared : (k : ℕ) (p : Reading Terminal Tree) → Small p → Small (read_compared k p)
-unfolding read_compared
-small_compared k p h = small_follows h (λ a. small_either (comes (operators k)) (small (eats_joined k p h a)) (small_nothing a))
-
-small_layer : (k : ℕ) (p : Reading Terminal Tree) → Small p → Small (read_layer k p)
-unfolding read_layer
-small_layer zero p h = small_chained zero p h
-small_layer (suc zero) p h = small_chained (suc zero) p h
-small_layer (suc (suc zero)) p h = small_chained (suc (suc zero)) p h
-small_layer (suc (suc (suc zero))) p h = small_compared (suc (suc (suc zero))) p h
-small_layer (suc (suc (suc (suc k)))) p h = small_chained (suc (suc (suc (suc k)))) p h
-
-small_chain : (k : ℕ) (p : Reading Terminal Tree) → Small p → Small (read_chain k p)
-unfolding read_chain
-small_chain zero p h = h
-small_chain (suc k) p h = small_layer k (read_chain k p) (small_chain k p h)
-
 -- each turn of a loop takes a token
-pub joined_eats : (k m : ℕ) (a : Tree) (w r : List Terminal) (x : Tree) → read_joined k (read_chain k (read_unary (operand_at m) (expr_at m))) a w ≡ Ok (x, r) → length r < length w
-joined_eats k m a = (eats_joined k (read_chain k (read_unary (operand_at m) (expr_at m))) (small_chain k (read_unary (operand_at m) (expr_at m)) (operand_small m)) a).left
-
 pub another_eats : (m : ℕ) (xs : List Tree) (w r : List Terminal) (x : List Tree) → read_another (expr_at m) xs w ≡ Ok (x, r) → length r < length w
 unfolding read_another
 another_eats m xs = (eats_follows (eats_token (marked (symbol_code syms.Comma))) (λ sep. small_follows (expr_small m) (λ x. small_nothing (xs ++ x ∷ [])))).left

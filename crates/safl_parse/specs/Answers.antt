@@ -18,12 +18,12 @@ abbrev pub RefusedFirst : List ℕ → ParseErr → Type 0
 RefusedFirst text (answers.Refused f) = SyntaxFault text f
 RefusedFirst text answers.NoMemory = Unit {0}
 
--- this program, or want of memory
+-- this program, or lack of memory
 abbrev pub SpelledUnlessNoMemory : List Definition → Result Parsed ParseErr → Type 0
 SpelledUnlessNoMemory p (Ok s) = program_of s ≡ p
 SpelledUnlessNoMemory p (Err e) = OnlyNoMemory e
 
--- this fault, or want of memory
+-- this fault, or lack of memory
 abbrev pub FaultUnlessNoMemory : Fault → Result Parsed ParseErr → Type 0
 FaultUnlessNoMemory f (Ok s) = ⊥
 FaultUnlessNoMemory f (Err (answers.Refused g)) = g ≡ f

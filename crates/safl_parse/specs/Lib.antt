@@ -5,3 +5,4 @@ pub mod Reads
 pub mod Spelled
 pub mod Answers
 pub mod Errors
+pub mod Numberless

@@ -14,17 +14,17 @@ abbrev pub RefusedRightly : List ℕ → List Token → ParseErr → Type 0
 RefusedRightly text ts (answers.Refused f) = TokensFault text ts f
 RefusedRightly text ts answers.NoMemory = Unit {0}
 
--- no answer but want of memory
+-- no answer but lack of memory
 abbrev pub OnlyNoMemory : ParseErr → Type 0
 OnlyNoMemory (answers.Refused f) = ⊥
 OnlyNoMemory answers.NoMemory = Unit {0}
 
--- this program, or want of memory
+-- this program, or lack of memory
 abbrev pub IsProgramUnlessNoMemory : List Definition → Result Program ParseErr → Type 0
 IsProgramUnlessNoMemory p (Ok program) = shows_program program ≡ p
 IsProgramUnlessNoMemory p (Err e) = OnlyNoMemory e
 
--- this fault, or want of memory
+-- this fault, or lack of memory
 abbrev pub IsFaultUnlessNoMemory : Fault → Result Program ParseErr → Type 0
 IsFaultUnlessNoMemory f (Ok program) = ⊥
 IsFaultUnlessNoMemory f (Err (answers.Refused g)) = g ≡ f

@@ -21,6 +21,9 @@ pub enum ReadError<'a> {
     Refused(Cause, &'a [Token]),
 }
 
+/// The value that tokens begin with and the tokens behind it, or why it is not read.
+pub type Read<'a, T> = Result<(T, &'a [Token]), ReadError<'a>>;
+
 impl<'a> From<AllocError> for ReadError<'a> {
     ghost from_gives = { λ _ e. e ≡ errors.NoMemory };
 

@@ -7,14 +7,14 @@ ghost use Rattle.safl_tree.specs.Shown.{shows, shows_all, shows_bind, shows_boun
 ghost use Rattle.safl_tree.specs.Reader.{read_literal, read_sized_literal, read_another, read_exprs, read_call, read_named, read_parenthesised, read_cat, read_bits, read_ext, read_primary, read_inverted, read_unary, read_joined, read_chained, read_compared, read_chain, read_choice, read_written, read_bind, read_another_bind, read_binds, read_binding, read_label, read_arm, read_last_arm, read_cases, operand_at, expr_at, arm_value_at, more_arms_at, arms_at};
 ghost use Rattle.safl_parse.specs.Reads.{Reads, ReadsTree};
 
-use crate::error::{Cause, ReadError};
+use crate::error::{Cause, Read, ReadError};
 use crate::parser::Parser;
 use crate::part::{
     AllArms, Bindings, DEPTH_LIMIT, Labels, Part, Parts, applied, bound, called, cased, chosen,
     no_labels, push, push_arm, push_bind, single, single_bind, with_default,
 };
 use safl_tree::{Bind, Expr, Name, Node};
-use safl_word::{Key, Primitive, Sym, Token};
+use safl_word::{Key, Primitive, Sym, Token, TokenKind};
 
 /// The number of layers of binary operators.
 const LAYERS: u8 = 7;
@@ -25,7 +25,7 @@ const COMPARISONS: u8 = 3;
 impl<'s> Parser<'s> {
     /// A number.
     #[tactic(auto, unfolding(safl_tree::specs::Reader::read_literal))]
-    fn literal<'a>(&self, tokens: &'a [Token]) -> Result<(Part, &'a [Token]), ReadError<'a>>
+    fn literal<'a>(&self, tokens: &'a [Token]) -> Read<'a, Part>
         ensures { ReadsTree self.now tokens.now result read_literal }
     {
         let ((place, value), rest) = self.number(tokens)?;
@@ -41,7 +41,7 @@ impl<'s> Parser<'s> {
 
     /// A sized number.
     #[tactic(auto, unfolding(safl_tree::specs::Reader::read_sized_literal))]
-    fn sized_literal<'a>(&self, tokens: &'a [Token]) -> Result<(Part, &'a [Token]), ReadError<'a>>
+    fn sized_literal<'a>(&self, tokens: &'a [Token]) -> Read<'a, Part>
         ensures { ReadsTree self.now tokens.now result read_sized_literal }
     {
         let ((place, width, value), rest) = self.sized(tokens)?;
@@ -58,22 +58,18 @@ impl<'s> Parser<'s> {
     /// An expression, where so many levels are left.
     #[cycle(descent)]
     #[tactic(auto, unfolding(safl_tree::specs::Reader::expr_at, safl_tree::specs::Reader::read_expr))]
-    pub fn expr<'a>(
-        &self,
-        levels: u8,
-        tokens: &'a [Token],
-    ) -> Result<(Part, &'a [Token]), ReadError<'a>>
+    pub fn expr<'a>(&self, levels: u8, tokens: &'a [Token]) -> Read<'a, Part>
         ensures { ReadsTree self.now tokens.now result (expr_at levels) }
     {
         if levels == 0 {
             return Err(ReadError::Refused(Cause::Deep, tokens));
         }
         let below = levels - 1;
-        if self.comes_word(tokens, Key::If) {
+        if self.comes(tokens, TokenKind::Key(Key::If)) {
             self.choice(below, tokens)
-        } else if self.comes_word(tokens, Key::Let) {
+        } else if self.comes(tokens, TokenKind::Key(Key::Let)) {
             self.binding(below, tokens)
-        } else if self.comes_word(tokens, Key::Case) {
+        } else if self.comes(tokens, TokenKind::Key(Key::Case)) {
             self.cases(below, tokens)
         } else {
             self.chain(LAYERS, below, tokens)
@@ -83,11 +79,7 @@ impl<'s> Parser<'s> {
     /// The operand of "~", where so many levels are left.
     #[cycle(descent)]
     #[tactic(auto, unfolding(safl_tree::specs::Reader::operand_at))]
-    fn operand<'a>(
-        &self,
-        levels: u8,
-        tokens: &'a [Token],
-    ) -> Result<(Part, &'a [Token]), ReadError<'a>>
+    fn operand<'a>(&self, levels: u8, tokens: &'a [Token]) -> Read<'a, Part>
         ensures { ReadsTree self.now tokens.now result (operand_at levels) }
     {
         if levels == 0 {
@@ -99,11 +91,7 @@ impl<'s> Parser<'s> {
     /// An if.
     #[cycle(descent)]
     #[tactic(auto, unfolding(safl_tree::specs::Reader::read_choice))]
-    fn choice<'a>(
-        &self,
-        levels: u8,
-        tokens: &'a [Token],
-    ) -> Result<(Part, &'a [Token]), ReadError<'a>>
+    fn choice<'a>(&self, levels: u8, tokens: &'a [Token]) -> Read<'a, Part>
         ensures { ReadsTree self.now tokens.now result (read_choice (expr_at levels)) }
     {
         let (place, rest) = self.word(tokens, Key::If)?;
@@ -117,12 +105,7 @@ impl<'s> Parser<'s> {
 
     /// Operators of so many layers, the closest first.
     #[cycle(descent)]
-    fn chain<'a>(
-        &self,
-        layers: u8,
-        levels: u8,
-        tokens: &'a [Token],
-    ) -> Result<(Part, &'a [Token]), ReadError<'a>>
+    fn chain<'a>(&self, layers: u8, levels: u8, tokens: &'a [Token]) -> Read<'a, Part>
         ensures { ReadsTree self.now tokens.now result (read_chain layers (read_unary (operand_at levels) (expr_at levels))) }
     {
         if layers == 0 {
@@ -139,13 +122,7 @@ impl<'s> Parser<'s> {
     /// An operator of this layer and its right operand, behind its left one.
     #[cycle(descent)]
     #[tactic(auto, unfolding(safl_tree::specs::Reader::read_joined))]
-    fn joined<'a>(
-        &self,
-        layer: u8,
-        levels: u8,
-        left: Part,
-        tokens: &'a [Token],
-    ) -> Result<(Part, &'a [Token]), ReadError<'a>>
+    fn joined<'a>(&self, layer: u8, levels: u8, left: Part, tokens: &'a [Token]) -> Read<'a, Part>
         ensures { ReadsTree self.now tokens.now result (read_joined layer (read_chain layer (read_unary (operand_at levels) (expr_at levels))) (shows left.expr)) }
     {
         let (op, rest) = self.operator(tokens, layer)?;
@@ -161,12 +138,7 @@ impl<'s> Parser<'s> {
     /// One comparison at most.
     #[cycle(descent)]
     #[tactic(auto, unfolding(safl_tree::specs::Reader::read_compared))]
-    fn compared<'a>(
-        &self,
-        layer: u8,
-        levels: u8,
-        tokens: &'a [Token],
-    ) -> Result<(Part, &'a [Token]), ReadError<'a>>
+    fn compared<'a>(&self, layer: u8, levels: u8, tokens: &'a [Token]) -> Read<'a, Part>
         ensures { ReadsTree self.now tokens.now result (read_compared layer (read_chain layer (read_unary (operand_at levels) (expr_at levels)))) }
     {
         let (left, rest) = self.chain(layer, levels, tokens)?;
@@ -180,12 +152,7 @@ impl<'s> Parser<'s> {
     /// Operators of one layer, grouped to the left.
     #[cycle(descent)]
     #[tactic(auto, unfolding(safl_tree::specs::Reader::read_chained))]
-    fn chained<'a>(
-        &self,
-        layer: u8,
-        levels: u8,
-        tokens: &'a [Token],
-    ) -> Result<(Part, &'a [Token]), ReadError<'a>>
+    fn chained<'a>(&self, layer: u8, levels: u8, tokens: &'a [Token]) -> Read<'a, Part>
         ensures { ReadsTree self.now tokens.now result (read_chained layer (read_chain layer (read_unary (operand_at levels) (expr_at levels)))) }
     {
         let (mut left, mut rest) = self.chain(layer, levels, tokens)?;
@@ -200,14 +167,10 @@ impl<'s> Parser<'s> {
     /// "~" and its operand, or a primary expression.
     #[cycle(descent)]
     #[tactic(auto, unfolding(safl_tree::specs::Reader::read_unary))]
-    fn unary<'a>(
-        &self,
-        levels: u8,
-        tokens: &'a [Token],
-    ) -> Result<(Part, &'a [Token]), ReadError<'a>>
+    fn unary<'a>(&self, levels: u8, tokens: &'a [Token]) -> Read<'a, Part>
         ensures { ReadsTree self.now tokens.now result (read_unary (operand_at levels) (expr_at levels)) }
     {
-        if self.comes_symbol(tokens, Sym::Tilde) {
+        if self.comes(tokens, TokenKind::Sym(Sym::Tilde)) {
             self.inverted(levels, tokens)
         } else {
             self.primary(levels, tokens)
@@ -216,11 +179,7 @@ impl<'s> Parser<'s> {
 
     #[cycle(descent)]
     #[tactic(auto, unfolding(safl_tree::specs::Reader::read_inverted))]
-    fn inverted<'a>(
-        &self,
-        levels: u8,
-        tokens: &'a [Token],
-    ) -> Result<(Part, &'a [Token]), ReadError<'a>>
+    fn inverted<'a>(&self, levels: u8, tokens: &'a [Token]) -> Read<'a, Part>
         ensures { ReadsTree self.now tokens.now result (read_inverted (operand_at levels)) }
     {
         let (place, rest) = self.symbol(tokens, Sym::Tilde)?;
@@ -232,24 +191,20 @@ impl<'s> Parser<'s> {
     /// What no operator joins.
     #[cycle(descent)]
     #[tactic(auto, unfolding(safl_tree::specs::Reader::read_primary))]
-    fn primary<'a>(
-        &self,
-        levels: u8,
-        tokens: &'a [Token],
-    ) -> Result<(Part, &'a [Token]), ReadError<'a>>
+    fn primary<'a>(&self, levels: u8, tokens: &'a [Token]) -> Read<'a, Part>
         ensures { ReadsTree self.now tokens.now result (read_primary (expr_at levels)) }
     {
         if self.comes_number(tokens) {
             self.literal(tokens)
         } else if self.comes_sized(tokens) {
             self.sized_literal(tokens)
-        } else if self.comes_name(tokens) {
+        } else if self.comes(tokens, TokenKind::Name) {
             self.named(levels, tokens)
-        } else if self.comes_symbol(tokens, Sym::OpenParen) {
+        } else if self.comes(tokens, TokenKind::Sym(Sym::OpenParen)) {
             self.parenthesised(levels, tokens)
-        } else if self.comes_word(tokens, Key::Cat) {
+        } else if self.comes(tokens, TokenKind::Key(Key::Cat)) {
             self.cat(levels, tokens)
-        } else if self.comes_word(tokens, Key::Bits) {
+        } else if self.comes(tokens, TokenKind::Key(Key::Bits)) {
             self.bits(levels, tokens)
         } else {
             self.ext(levels, tokens)
@@ -258,17 +213,13 @@ impl<'s> Parser<'s> {
 
     #[cycle(descent)]
     #[tactic(auto, unfolding(safl_tree::specs::Reader::read_parenthesised))]
-    fn parenthesised<'a>(
-        &self,
-        levels: u8,
-        tokens: &'a [Token],
-    ) -> Result<(Part, &'a [Token]), ReadError<'a>>
+    fn parenthesised<'a>(&self, levels: u8, tokens: &'a [Token]) -> Read<'a, Part>
         ensures { ReadsTree self.now tokens.now result (read_parenthesised (expr_at levels)) }
     {
         let (place, rest) = self.symbol(tokens, Sym::OpenParen)?;
         let (inner, rest) = self.expr(levels, rest)?;
         let (_, rest) = self.symbol(rest, Sym::CloseParen)?;
-        let node = inner.expr.node;
+        let node = inner.expr.into_node();
         Ok((
             Part {
                 expr: Expr { place, node },
@@ -281,7 +232,7 @@ impl<'s> Parser<'s> {
     /// A concatenation.
     #[cycle(descent)]
     #[tactic(auto, unfolding(safl_tree::specs::Reader::read_cat))]
-    fn cat<'a>(&self, levels: u8, tokens: &'a [Token]) -> Result<(Part, &'a [Token]), ReadError<'a>>
+    fn cat<'a>(&self, levels: u8, tokens: &'a [Token]) -> Read<'a, Part>
         ensures { ReadsTree self.now tokens.now result (read_cat (expr_at levels)) }
     {
         let (place, rest) = self.word(tokens, Key::Cat)?;
@@ -297,11 +248,7 @@ impl<'s> Parser<'s> {
     /// A slice of bits.
     #[cycle(descent)]
     #[tactic(auto, unfolding(safl_tree::specs::Reader::read_bits))]
-    fn bits<'a>(
-        &self,
-        levels: u8,
-        tokens: &'a [Token],
-    ) -> Result<(Part, &'a [Token]), ReadError<'a>>
+    fn bits<'a>(&self, levels: u8, tokens: &'a [Token]) -> Read<'a, Part>
         ensures { ReadsTree self.now tokens.now result (read_bits (expr_at levels)) }
     {
         let (place, rest) = self.word(tokens, Key::Bits)?;
@@ -319,7 +266,7 @@ impl<'s> Parser<'s> {
     /// An extension with zeros.
     #[cycle(descent)]
     #[tactic(auto, unfolding(safl_tree::specs::Reader::read_ext))]
-    fn ext<'a>(&self, levels: u8, tokens: &'a [Token]) -> Result<(Part, &'a [Token]), ReadError<'a>>
+    fn ext<'a>(&self, levels: u8, tokens: &'a [Token]) -> Read<'a, Part>
         ensures { ReadsTree self.now tokens.now result (read_ext (expr_at levels)) }
     {
         let (place, rest) = self.word(tokens, Key::Ext)?;
@@ -335,15 +282,11 @@ impl<'s> Parser<'s> {
     /// A variable or a call.
     #[cycle(descent)]
     #[tactic(auto, unfolding(safl_tree::specs::Reader::read_named))]
-    fn named<'a>(
-        &self,
-        levels: u8,
-        tokens: &'a [Token],
-    ) -> Result<(Part, &'a [Token]), ReadError<'a>>
+    fn named<'a>(&self, levels: u8, tokens: &'a [Token]) -> Read<'a, Part>
         ensures { ReadsTree self.now tokens.now result (read_named (expr_at levels)) }
     {
         let ((place, name), rest) = self.name(tokens)?;
-        if self.comes_symbol(rest, Sym::OpenParen) {
+        if self.comes(rest, TokenKind::Sym(Sym::OpenParen)) {
             self.call(levels, place, name, rest)
         } else {
             let node = Node::Var(name);
@@ -360,17 +303,11 @@ impl<'s> Parser<'s> {
     /// The arguments of a call, in their parentheses.
     #[cycle(descent)]
     #[tactic(auto, unfolding(safl_tree::specs::Reader::read_call, safl_tree::specs::Reader::read_arguments, safl_tree::specs::Reader::read_no_arguments))]
-    fn call<'a>(
-        &self,
-        levels: u8,
-        place: u32,
-        name: Name,
-        tokens: &'a [Token],
-    ) -> Result<(Part, &'a [Token]), ReadError<'a>>
+    fn call<'a>(&self, levels: u8, place: u32, name: Name, tokens: &'a [Token]) -> Read<'a, Part>
         ensures { ReadsTree self.now tokens.now result (read_call (expr_at levels) (record { place = place; name = name })) }
     {
         let (_, rest) = self.symbol(tokens, Sym::OpenParen)?;
-        if self.comes_symbol(rest, Sym::CloseParen) {
+        if self.comes(rest, TokenKind::Sym(Sym::CloseParen)) {
             let (_, rest) = self.symbol(rest, Sym::CloseParen)?;
             let none = Parts {
                 exprs: Vec::new(self.alloc),
@@ -387,17 +324,13 @@ impl<'s> Parser<'s> {
     /// Expressions with commas between them.
     #[cycle(descent)]
     #[tactic(auto, unfolding(safl_tree::specs::Reader::read_exprs))]
-    fn exprs<'a>(
-        &self,
-        levels: u8,
-        tokens: &'a [Token],
-    ) -> Result<(Parts, &'a [Token]), ReadError<'a>>
+    fn exprs<'a>(&self, levels: u8, tokens: &'a [Token]) -> Read<'a, Parts>
         ensures { Reads self.now tokens.now (λ x. (shows_all x.0.exprs.items, x.1.now)) result (read_exprs (expr_at levels)) }
     {
         let (first, rest) = self.expr(levels, tokens)?;
         let mut parts = single(self.alloc, first)?;
         let mut rest = rest;
-        'list: while self.comes_symbol(rest, Sym::Comma) {
+        'list: while self.comes(rest, TokenKind::Sym(Sym::Comma)) {
             let (next, after) = self.another(levels, parts, rest)?;
             parts = next;
             rest = after;
@@ -408,12 +341,7 @@ impl<'s> Parser<'s> {
     /// One more, behind a comma.
     #[cycle(descent)]
     #[tactic(auto, unfolding(safl_tree::specs::Reader::read_another))]
-    fn another<'a>(
-        &self,
-        levels: u8,
-        parts: Parts,
-        tokens: &'a [Token],
-    ) -> Result<(Parts, &'a [Token]), ReadError<'a>>
+    fn another<'a>(&self, levels: u8, parts: Parts, tokens: &'a [Token]) -> Read<'a, Parts>
         ensures { Reads self.now tokens.now (λ x. (shows_all x.0.exprs.items, x.1.now)) result (read_another (expr_at levels) (shows_all parts.exprs.items)) }
     {
         let (_, rest) = self.symbol(tokens, Sym::Comma)?;
@@ -424,11 +352,7 @@ impl<'s> Parser<'s> {
     /// A let.
     #[cycle(descent)]
     #[tactic(auto, unfolding(safl_tree::specs::Reader::read_binding))]
-    fn binding<'a>(
-        &self,
-        levels: u8,
-        tokens: &'a [Token],
-    ) -> Result<(Part, &'a [Token]), ReadError<'a>>
+    fn binding<'a>(&self, levels: u8, tokens: &'a [Token]) -> Read<'a, Part>
         ensures { ReadsTree self.now tokens.now result (read_binding (expr_at levels)) }
     {
         let (place, rest) = self.word(tokens, Key::Let)?;
@@ -440,10 +364,10 @@ impl<'s> Parser<'s> {
 
     /// A width behind a colon, where it is written.
     #[tactic(auto, unfolding(safl_tree::specs::Reader::read_written))]
-    fn written<'a>(&self, tokens: &'a [Token]) -> Result<(Option<u8>, &'a [Token]), ReadError<'a>>
+    fn written<'a>(&self, tokens: &'a [Token]) -> Read<'a, Option<u8>>
         ensures { Reads self.now tokens.now (λ x. (x.0, x.1.now)) result read_written }
     {
-        if self.comes_symbol(tokens, Sym::Colon) {
+        if self.comes(tokens, TokenKind::Sym(Sym::Colon)) {
             let (_, rest) = self.symbol(tokens, Sym::Colon)?;
             let ((_, width), rest) = self.width(rest)?;
             Ok((Some(width), rest))
@@ -455,11 +379,7 @@ impl<'s> Parser<'s> {
     /// A binding, and the depth of its value up to the limit.
     #[cycle(descent)]
     #[tactic(auto, unfolding(safl_tree::specs::Reader::read_bind))]
-    fn bind<'a>(
-        &self,
-        levels: u8,
-        tokens: &'a [Token],
-    ) -> Result<((Bind, u8), &'a [Token]), ReadError<'a>>
+    fn bind<'a>(&self, levels: u8, tokens: &'a [Token]) -> Read<'a, (Bind, u8)>
         ensures reads { Reads self.now tokens.now (λ x. (shows_bind x.0.0, x.1.now)) result (read_bind (expr_at levels)) }
         ensures depth { IfOk result (λ x. x.0.1 ≡ min (tree_depth (shows x.0.0.value)) 100) }
     {
@@ -480,17 +400,13 @@ impl<'s> Parser<'s> {
     /// Bindings with commas between them.
     #[cycle(descent)]
     #[tactic(auto, unfolding(safl_tree::specs::Reader::read_binds))]
-    fn binds<'a>(
-        &self,
-        levels: u8,
-        tokens: &'a [Token],
-    ) -> Result<(Bindings, &'a [Token]), ReadError<'a>>
+    fn binds<'a>(&self, levels: u8, tokens: &'a [Token]) -> Read<'a, Bindings>
         ensures { Reads self.now tokens.now (λ x. (shows_bounds x.0.binds.items, x.1.now)) result (read_binds (expr_at levels)) }
     {
         let ((first, depth), rest) = self.bind(levels, tokens)?;
         let mut bindings = single_bind(self.alloc, first, depth)?;
         let mut rest = rest;
-        'bound: while self.comes_symbol(rest, Sym::Comma) {
+        'bound: while self.comes(rest, TokenKind::Sym(Sym::Comma)) {
             let (next, after) = self.another_bind(levels, bindings, rest)?;
             bindings = next;
             rest = after;
@@ -506,7 +422,7 @@ impl<'s> Parser<'s> {
         levels: u8,
         bindings: Bindings,
         tokens: &'a [Token],
-    ) -> Result<(Bindings, &'a [Token]), ReadError<'a>>
+    ) -> Read<'a, Bindings>
         ensures { Reads self.now tokens.now (λ x. (shows_bounds x.0.binds.items, x.1.now)) result (read_another_bind (expr_at levels) (shows_bounds bindings.binds.items)) }
     {
         let (_, rest) = self.symbol(tokens, Sym::Comma)?;
@@ -516,7 +432,7 @@ impl<'s> Parser<'s> {
 
     /// The label of an arm.
     #[tactic(auto, unfolding(safl_tree::specs::Reader::read_label))]
-    fn label<'a>(&self, tokens: &'a [Token]) -> Result<(Part, &'a [Token]), ReadError<'a>>
+    fn label<'a>(&self, tokens: &'a [Token]) -> Read<'a, Part>
         ensures { ReadsTree self.now tokens.now result read_label }
     {
         if self.comes_number(tokens) {
@@ -529,11 +445,7 @@ impl<'s> Parser<'s> {
     /// A case.
     #[cycle(descent)]
     #[tactic(auto, unfolding(safl_tree::specs::Reader::read_cases))]
-    fn cases<'a>(
-        &self,
-        levels: u8,
-        tokens: &'a [Token],
-    ) -> Result<(Part, &'a [Token]), ReadError<'a>>
+    fn cases<'a>(&self, levels: u8, tokens: &'a [Token]) -> Read<'a, Part>
         ensures { ReadsTree self.now tokens.now result (read_cases (expr_at levels) (arms_at levels)) }
     {
         let (place, rest) = self.word(tokens, Key::Case)?;
@@ -547,12 +459,7 @@ impl<'s> Parser<'s> {
     /// The arms of a case behind these ones, where so many levels are left above the next one's value.
     #[cycle(descent)]
     #[tactic(auto, unfolding(safl_tree::specs::Reader::arms_at, safl_tree::specs::Reader::read_arms))]
-    fn arms<'a>(
-        &self,
-        levels: u8,
-        so_far: Labels,
-        tokens: &'a [Token],
-    ) -> Result<(AllArms, &'a [Token]), ReadError<'a>>
+    fn arms<'a>(&self, levels: u8, so_far: Labels, tokens: &'a [Token]) -> Read<'a, AllArms>
         ensures { Reads self.now tokens.now (λ x. (record { labelled = shows_labelled x.0.arms.items; default = shows x.0.default }, x.1.now)) result (arms_at levels (shows_labelled so_far.arms.items)) }
     {
         if self.comes_number(tokens) || self.comes_sized(tokens) {
@@ -565,12 +472,7 @@ impl<'s> Parser<'s> {
     /// A labelled arm, and those behind it.
     #[cycle(descent)]
     #[tactic(auto, unfolding(safl_tree::specs::Reader::arm_value_at, safl_tree::specs::Reader::read_arm, safl_tree::specs::Reader::arms_at))]
-    fn arm<'a>(
-        &self,
-        levels: u8,
-        so_far: Labels,
-        tokens: &'a [Token],
-    ) -> Result<(AllArms, &'a [Token]), ReadError<'a>>
+    fn arm<'a>(&self, levels: u8, so_far: Labels, tokens: &'a [Token]) -> Read<'a, AllArms>
         ensures { Reads self.now tokens.now (λ x. (record { labelled = shows_labelled x.0.arms.items; default = shows x.0.default }, x.1.now)) result (read_arm (arm_value_at levels) (more_arms_at levels) (shows_labelled so_far.arms.items)) }
     {
         let (label, rest) = self.label(tokens)?;
@@ -588,12 +490,7 @@ impl<'s> Parser<'s> {
     /// The default.
     #[cycle(descent)]
     #[tactic(auto, unfolding(safl_tree::specs::Reader::arm_value_at, safl_tree::specs::Reader::read_last_arm))]
-    fn last_arm<'a>(
-        &self,
-        levels: u8,
-        so_far: Labels,
-        tokens: &'a [Token],
-    ) -> Result<(AllArms, &'a [Token]), ReadError<'a>>
+    fn last_arm<'a>(&self, levels: u8, so_far: Labels, tokens: &'a [Token]) -> Read<'a, AllArms>
         ensures { Reads self.now tokens.now (λ x. (record { labelled = shows_labelled x.0.arms.items; default = shows x.0.default }, x.1.now)) result (read_last_arm (arm_value_at levels) (shows_labelled so_far.arms.items)) }
     {
         let (_, rest) = self.word(tokens, Key::Default)?;

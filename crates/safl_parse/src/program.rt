@@ -6,10 +6,10 @@ ghost use Rattle.safl_tree.specs.Shown.{shows_param, shows_params, shows_def, sh
 ghost use Rattle.safl_tree.specs.Reader.{read_param, read_another_param, read_params, read_one, read_another_one, read_group, read_another_group, read_program, read_source, expr_at};
 ghost use Rattle.safl_parse.specs.Reads.{Reads, ReadsTree};
 
-use crate::error::{Cause, ReadError};
+use crate::error::{Cause, Read, ReadError};
 use crate::parser::Parser;
 use safl_tree::{Def, Param, Program};
-use safl_word::{Key, Sym, Token};
+use safl_word::{Key, Sym, Token, TokenKind};
 use std::alloc::AllocError;
 
 /// The levels of a body and of what nests in it.
@@ -35,7 +35,7 @@ fn push_def(defs: Vec<Def>, next: Def) -> Result<Vec<Def>, AllocError>
 
 impl<'s> Parser<'s> {
     #[tactic(auto, unfolding(safl_tree::specs::Reader::read_param))]
-    fn param<'a>(&self, tokens: &'a [Token]) -> Result<(Param, &'a [Token]), ReadError<'a>>
+    fn param<'a>(&self, tokens: &'a [Token]) -> Read<'a, Param>
         ensures { Reads self.now tokens.now (λ x. (shows_param x.0, x.1.now)) result read_param }
     {
         let ((place, name), rest) = self.name(tokens)?;
@@ -46,11 +46,7 @@ impl<'s> Parser<'s> {
 
     /// One more parameter, behind a comma.
     #[tactic(auto, unfolding(safl_tree::specs::Reader::read_another_param))]
-    fn another_param<'a>(
-        &self,
-        params: Vec<Param>,
-        tokens: &'a [Token],
-    ) -> Result<(Vec<Param>, &'a [Token]), ReadError<'a>>
+    fn another_param<'a>(&self, params: Vec<Param>, tokens: &'a [Token]) -> Read<'a, Vec<Param>>
         ensures { Reads self.now tokens.now (λ x. (shows_params x.0.items, x.1.now)) result (read_another_param (shows_params params.items)) }
     {
         let (_, rest) = self.symbol(tokens, Sym::Comma)?;
@@ -60,16 +56,16 @@ impl<'s> Parser<'s> {
 
     /// Parameters with commas between them, or none.
     #[tactic(auto, unfolding(safl_tree::specs::Reader::read_params))]
-    fn params<'a>(&self, tokens: &'a [Token]) -> Result<(Vec<Param>, &'a [Token]), ReadError<'a>>
+    fn params<'a>(&self, tokens: &'a [Token]) -> Read<'a, Vec<Param>>
         ensures { Reads self.now tokens.now (λ x. (shows_params x.0.items, x.1.now)) result read_params }
     {
-        if !self.comes_name(tokens) {
+        if !self.comes(tokens, TokenKind::Name) {
             return Ok((Vec::new(self.alloc), tokens));
         }
         let (first, rest) = self.param(tokens)?;
         let mut params = vec![in self.alloc; first]?;
         let mut rest = rest;
-        'list: while self.comes_symbol(rest, Sym::Comma) {
+        'list: while self.comes(rest, TokenKind::Sym(Sym::Comma)) {
             let (next, after) = self.another_param(params, rest)?;
             params = next;
             rest = after;
@@ -79,11 +75,7 @@ impl<'s> Parser<'s> {
 
     /// A definition behind `fun` or `and`.
     #[tactic(auto, unfolding(safl_tree::specs::Reader::read_one))]
-    fn one<'a>(
-        &self,
-        joined: bool,
-        tokens: &'a [Token],
-    ) -> Result<(Def, &'a [Token]), ReadError<'a>>
+    fn one<'a>(&self, joined: bool, tokens: &'a [Token]) -> Read<'a, Def>
         ensures { Reads self.now tokens.now (λ x. (shows_def x.0, x.1.now)) result (read_one joined (expr_at 100)) }
     {
         let ((place, name), rest) = self.name(tokens)?;
@@ -107,11 +99,7 @@ impl<'s> Parser<'s> {
 
     /// One more member of a group, behind `and`.
     #[tactic(auto, unfolding(safl_tree::specs::Reader::read_another_one))]
-    fn another_one<'a>(
-        &self,
-        defs: Vec<Def>,
-        tokens: &'a [Token],
-    ) -> Result<(Vec<Def>, &'a [Token]), ReadError<'a>>
+    fn another_one<'a>(&self, defs: Vec<Def>, tokens: &'a [Token]) -> Read<'a, Vec<Def>>
         ensures { Reads self.now tokens.now (λ x. (shows_defs x.0.items, x.1.now)) result (read_another_one (expr_at 100) (shows_defs defs.items)) }
     {
         let (_, rest) = self.word(tokens, Key::And)?;
@@ -121,18 +109,14 @@ impl<'s> Parser<'s> {
 
     /// A group of definitions.
     #[tactic(auto, unfolding(safl_tree::specs::Reader::read_group))]
-    fn group<'a>(
-        &self,
-        defs: Vec<Def>,
-        tokens: &'a [Token],
-    ) -> Result<(Vec<Def>, &'a [Token]), ReadError<'a>>
+    fn group<'a>(&self, defs: Vec<Def>, tokens: &'a [Token]) -> Read<'a, Vec<Def>>
         ensures { Reads self.now tokens.now (λ x. (shows_defs x.0.items, x.1.now)) result (read_group (expr_at 100) (shows_defs defs.items)) }
     {
         let (_, rest) = self.word(tokens, Key::Fun)?;
         let (first, rest) = self.one(false, rest)?;
         let mut defs = push_def(defs, first)?;
         let mut rest = rest;
-        'members: while self.comes_word(rest, Key::And) {
+        'members: while self.comes(rest, TokenKind::Key(Key::And)) {
             let (next, after) = self.another_one(defs, rest)?;
             defs = next;
             rest = after;
@@ -142,15 +126,11 @@ impl<'s> Parser<'s> {
 
     /// One more group, with its semicolon where there is one.
     #[tactic(auto, unfolding(safl_tree::specs::Reader::read_another_group, safl_tree::specs::Reader::read_ended))]
-    fn another_group<'a>(
-        &self,
-        defs: Vec<Def>,
-        tokens: &'a [Token],
-    ) -> Result<(Vec<Def>, &'a [Token]), ReadError<'a>>
+    fn another_group<'a>(&self, defs: Vec<Def>, tokens: &'a [Token]) -> Read<'a, Vec<Def>>
         ensures { Reads self.now tokens.now (λ x. (shows_defs x.0.items, x.1.now)) result (read_another_group (expr_at 100) (shows_defs defs.items)) }
     {
         let (defs, rest) = self.group(defs, tokens)?;
-        if self.comes_symbol(rest, Sym::Semicolon) {
+        if self.comes(rest, TokenKind::Sym(Sym::Semicolon)) {
             let (_, rest) = self.symbol(rest, Sym::Semicolon)?;
             Ok((defs, rest))
         } else {
@@ -158,14 +138,14 @@ impl<'s> Parser<'s> {
         }
     }
 
-    /// All groups that stand at the front.
+    /// All groups that stand at the start.
     #[tactic(auto, unfolding(safl_tree::specs::Reader::read_program))]
-    fn groups<'a>(&self, tokens: &'a [Token]) -> Result<(Vec<Def>, &'a [Token]), ReadError<'a>>
+    fn groups<'a>(&self, tokens: &'a [Token]) -> Read<'a, Vec<Def>>
         ensures { Reads self.now tokens.now (λ x. (shows_defs x.0.items, x.1.now)) result (read_program (expr_at 100)) }
     {
         let mut defs = Vec::new(self.alloc);
         let mut rest = tokens;
-        'list: while self.comes_word(rest, Key::Fun) {
+        'list: while self.comes(rest, TokenKind::Key(Key::Fun)) {
             let (next, after) = self.another_group(defs, rest)?;
             defs = next;
             rest = after;
@@ -175,7 +155,7 @@ impl<'s> Parser<'s> {
 
     /// The whole text.
     #[tactic(auto, unfolding(safl_tree::specs::Reader::read_source))]
-    pub fn whole<'a>(&self, tokens: &'a [Token]) -> Result<(Program, &'a [Token]), ReadError<'a>>
+    pub fn whole<'a>(&self, tokens: &'a [Token]) -> Read<'a, Program>
         ensures { Reads self.now tokens.now (λ x. (shows_program x.0, x.1.now)) result read_source }
     {
         let (defs, rest) = self.groups(tokens)?;

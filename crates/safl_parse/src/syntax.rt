@@ -55,12 +55,7 @@ fn fault_at(source: &[u8], cause: Cause, rest: &[Token]) -> Fault
         [] => source.len() as u32,
         [first, ..] => first.start,
     };
-    Fault {
-        rule: rule_of(cause),
-        place,
-        first: 0,
-        second: 0,
-    }
+    Fault::new(rule_of(cause), place)
 }
 
 /// The program that the tokens of a source spell, or else their first fault: at the earliest token that breaks a

@@ -73,6 +73,11 @@ signal_word n values s w made fits h e =
     let q : w ≡ g.0.width = e ∙ ap width_in g.1 in
     subst (λ x. IsWord (word_of x (slice_index values s))) (sym q) (record { some = f.some; bounded = f.most; fits = fits s g.0 g.1 })
 
+-- the first operand is a signal of the net
+pub first_known : (n : Netlist) (o : Op) (xs : List Sig) (w : ℕ) → CellFits n w (cell_on o xs) → 1 ≤ length xs → (get_or xs 0 (record { 0 = 0 })).0 < length n.signals
+first_known n o [] w f h = absurd (omega (arith, h))
+first_known n o (x ∷ xs) w f h = f.known 0 0 (omega arith)
+
 pub performs_const : (n : Netlist) (o : Op) (xs : List Sig) (w : ℕ) (action : Action) → CellFits n w (cell_on o xs) → length xs < 1 → ((v : Word) → o ≡ op.Const v → action ≡ Const v.bits) → Performs n (cell_on o xs) action
 performs_const n (op.Const v) [] w action f h k = subst (λ a. Performs n (cell_on (op.Const v) []) a) (sym (k v refl)) (record { gives = λ g. refl; ready = λ values l g. tt })
 performs_const n op.Copy [] w action f h k = absurd (let e = f.gives in cc)

@@ -163,7 +163,7 @@ not_reg_reset Input h = refl
 not_reg_reset (Reg init next) h = absurd (h tt)
 not_reg_reset (Wire cell) h = refl
 
-resets_fit : (n : Netlist) → IsNetlist n → FitWidths n (slice_index (resets n))
+pub resets_fit : (n : Netlist) → IsNetlist n → FitWidths n (slice_index (resets n))
 resets_fit n made s g e = subst (λ x. x < 2 ^ g.width) (sym (reset_at n.signals s ∙ ap kind_reset (ap kind_in e))) (kind_reset_fits n g.width g.kind (made.signals s g e).kind)
 
 pub keeps_new : (o : Order) (steps : List Step) (places : List Sig) (regs : List Register) (state values : List ℕ) → IsNetlist o.net → IsOrder o.net o.wires → AreSteps o.net o.wires steps → numbers places ≡ inputs_of o.net

@@ -4,3 +4,9 @@ pub mod InputLemmas
 pub mod Scenes
 pub mod Cycle
 pub mod Builds
+pub mod Names
+pub mod Pushing
+pub mod Giving
+pub mod Going
+pub mod Outcome
+pub mod Existence

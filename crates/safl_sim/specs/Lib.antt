@@ -3,3 +3,8 @@ pub mod Simulation
 pub mod Steps
 pub mod Writes
 pub mod Cycles
+pub mod Arguments
+pub mod Outcomes
+pub mod Words
+pub mod Ticks
+pub mod Existence

@@ -1,9 +1,15 @@
-//! Simulation of netlists.
+//! Simulation of netlists, cycle by cycle or until done.
 #![tactic(auto)]
 
+pub mod arguments;
+pub mod done;
+mod inputs;
+pub mod laws;
 mod parts;
 mod phases;
 pub mod sim;
 mod step;
 
+pub use crate::arguments::argument_widths;
+pub use crate::done::{Done, run_until_done};
 pub use crate::sim::Sim;

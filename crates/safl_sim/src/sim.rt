@@ -38,7 +38,7 @@ impl Sim {
     ghost use Rattle.safl_sim.specs.Places.{AreInputs, resets};
     ghost use Rattle.safl_sim.specs.Simulation.{Ticks};
 
-    /// The simulator of a net at reset. The error is want of memory; no other call takes any.
+    /// The simulator of a net at reset. The error is lack of memory; no other call takes any.
     pub fn new(alloc: Global, ordered: Ordered) -> Result<Sim, Ordered>
         ensures made { IfOk result (λ s. s ≡ record { net = ordered.net; state = resets ordered.net; values = resets ordered.net }) }
         ensures refused { IfErr result (λ o. o ≡ ordered) }

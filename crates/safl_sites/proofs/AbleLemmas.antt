@@ -2,17 +2,17 @@
 use Rattle.std.proofs.Common.{◌≡◌, ℕ, ◌+◌, ◌<◌, List, length, length-append, sym, subst, ap, arith}
 use Rattle.std.proofs.lemmas.Option.{slice_get_within}
 use Rattle.safl_word.specs.declared.primitive.Primitive.{Primitive}
-use Rattle.safl_check.specs.Program.{Program}
-use Rattle.safl_check.specs.Terms.{Term, Terms, Var, Op, If, Let, Call, Loop, Cons}
-use Rattle.safl_check.specs.declared.term.Term as declared
-use Rattle.safl_check.specs.Tree.{tree, forest}
+use Rattle.safl_term.specs.Program.{Program}
+use Rattle.safl_term.specs.Terms.{Term, Terms, Var, Op, If, Let, Call, Loop, Cons}
+use Rattle.safl_term.specs.declared.term.Term as declared
+use Rattle.safl_term.specs.Tree.{tree, forest}
 use Rattle.safl_sites.specs.declared.keep.Keeping.{Keeping}
-use Rattle.safl_sites.specs.declared.row.Row.{Row}
+use Rattle.safl_sites.specs.declared.site_set.SiteSet.{SiteSet}
 use Rattle.safl_sites.specs.Keeping.{MayKeep, MayKeepIn, Binds}
 use Rattle.safl_sites.specs.Parts.{terms_in}
 use Rattle.safl_sites.proofs.PartLemmas.{may_cond, may_then, may_else, may_bound, may_body, may_op, may_args, may_loop, may_first, may_rest}
 
-module _ {C : Program} {units peers : List Row} {n : ℕ} where
+module _ {C : Program} {units peers : List SiteSet} {n : ℕ} where
   pub keep_cond : {c a b : Term} → MayKeep C units peers n (If c a b) → MayKeep C units peers n c
   keep_cond h = record { reach = may_cond h.reach; sites = h.sites }
 
@@ -53,5 +53,5 @@ module _ {C : Program} {units peers : List Row} {n : ℕ} where
   pub slot_within : {i : ℕ} → MayKeep C units peers n (Var i) → i < n
   slot_within {i} h = let p = h.reach.part in omega (arith, slice_get_within p.scope i p.width p.typed, p.count)
 
-pub bound_length : {C : Program} {R M : List Row} {a b : Keeping} {ts : Terms} → Binds C R M a b ts → length M ≡ length R + terms_in ts
+pub bound_length : {C : Program} {R M : List SiteSet} {a b : Keeping} {ts : Terms} → Binds C R M a b ts → length M ≡ length R + terms_in ts
 bound_length {C} {R} {M} {a} {b} {ts} h = omega (arith, ap length h.joined, length-append R h.bound, h.count)

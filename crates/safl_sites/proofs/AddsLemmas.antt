@@ -18,6 +18,3 @@ adds_as to from x = record {
 
 pub adds_none : {A P : Type 0} → (P → ⊥) → Adds A A P
 adds_none never = record { splits = λ a. inl a; stays = λ a. a; joins = λ p. absurd (never p) }
-
-pub adds_again : {A P : Type 0} → (P → A) → Adds A A P
-adds_again already = record { splits = λ a. inl a; stays = λ a. a; joins = already }

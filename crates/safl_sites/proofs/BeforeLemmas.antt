@@ -1,7 +1,7 @@
 -- Sites conflict where one comes before the other.
 use Rattle.std.proofs.Common.{◌≡◌, ℕ, ◌⊎◌, Bool, true, false, inl, inr}
-use Rattle.safl_check.specs.Program.{Program, unit_for}
-use Rattle.safl_check.specs.Terms.{Term, Terms, Const, Var, Op, If, Let, Call, Loop, Nil, Cons}
+use Rattle.safl_term.specs.Program.{Program, unit_for}
+use Rattle.safl_term.specs.Terms.{Term, Terms, Const, Var, Op, If, Let, Call, Loop, Nil, Cons}
 use Rattle.safl_sites.specs.Conflicts.{Apart, ApartIn, Conflict}
 use Rattle.safl_sites.specs.Parallel.{Before, BeforeIn, ComesBefore}
 

@@ -1,10 +1,10 @@
 -- The sites of one more body that are kept.
 use Rattle.std.proofs.Common.{◌≡◌, ℕ, suc, ◌+◌, ◌<◌, ◌≤◌, Bool, true, false, List, [], ◌∷◌, length, replicate, refl, sym, ap, subst, ◌∙◌, inl, inr, arith}
 use Rattle.std.proofs.lemmas.Bool.{cases_eq}
-use Rattle.safl_check.specs.Checked.{CheckedProgram, program_of, IsChecked, first_site_of}
-use Rattle.safl_check.specs.Program.{Program, unit_for, arity}
+use Rattle.safl_term.specs.Checked.{CheckedProgram, program_of, IsChecked, first_site_of}
+use Rattle.safl_term.specs.Program.{Program, unit_for, arity}
 use Rattle.safl_sites.specs.declared.keep.Keeping.{Keeping}
-use Rattle.safl_sites.specs.declared.row.Row.{Row}
+use Rattle.safl_sites.specs.declared.site_set.SiteSet.{SiteSet}
 use Rattle.safl_sites.specs.Bodies.{UnitTable, MustKeep, IsOwnKept, IsBodyKept, IsKeptBelow}
 use Rattle.safl_sites.specs.Conflicts.{Reaches}
 use Rattle.safl_sites.specs.Filling.{IsFilled}
@@ -18,37 +18,14 @@ use Rattle.safl_sites.proofs.HoldLemmas.{body_reached}
 use Rattle.safl_sites.proofs.KeepLemmas.{full}
 use Rattle.safl_sites.proofs.OrderLemmas.{sited, own_site}
 
-pub unit_table : (C : Program) (bodies units after : List Row) → IsFilled C C.functions bodies units after → UnitTable C units
-unit_table C bodies units after t = record {
-  count = t.units_count;
-  rows = λ u k. (
-    λ x. let r = (t.unit_rows u k).0 x in record { member = r.member; is_member = r.is_member; unit = r.unit; reached = r.reached },
-    λ r. (t.unit_rows u k).1 (record { member = r.member; is_member = r.is_member; unit = r.unit; reached = r.reached }),
-  );
-}
-
-fed_empty : (k : ℕ) (rows : List Row) → ((i : ℕ) → HasAt rows i k → ⊥) → fed_by k rows ≡ replicate (length rows) false
+fed_empty : (k : ℕ) (rows : List SiteSet) → ((i : ℕ) → HasAt rows i k → ⊥) → fed_by k rows ≡ replicate (length rows) false
 fed_empty k [] none = refl
 fed_empty k (r ∷ rows) none = ap (λ b. b ∷ fed_by k rows) (off (has r k) (none 0)) ∙ ap (λ l. false ∷ l) (fed_empty k rows (λ i. none (suc i))) where
   off : (b : Bool) → (b ≡ true → ⊥) → b ≡ false
   off true h = absurd (h refl)
   off false h = refl
 
--- one more site was looked at
-pub own_more : (C : Program) (reach : Row) (peers : List Row) (keeps : Keeping) (from till k : ℕ) {X Y Z : Type 0} → k ≡ till → from ≤ k → MustKeep C reach peers keeps k → (j : ℕ) → Adds X Y (IsOwnKept C reach peers keeps from till j) → Adds Y Z (j ≡ k) → Adds X Z (IsOwnKept C reach peers keeps from (till + 1) j)
-own_more C reach peers keeps from till k e on must j x y =
-    adds_as
-    (λ h. elim h [
-      | inl h ↦ record { from_on = h.from_on; before = omega (arith, h.before); must = h.must }
-      | inr f ↦ record { from_on = omega arith; before = omega arith; must = subst (λ n. MustKeep C reach peers keeps n) (sym f) must }
-    ])
-    (λ h. elim (cases_eq j k) [
-      | inl f ↦ inr f
-      | inr f ↦ inl (record { from_on = h.from_on; before = omega (arith, h.before); must = h.must })
-    ])
-    (adds_then x y)
-
-pub own_same : (C : Program) (reach : Row) (peers : List Row) (keeps : Keeping) (from till k : ℕ) {X Y : Type 0} → k ≡ till → (MustKeep C reach peers keeps k → ⊥) → (j : ℕ) → Adds X Y (IsOwnKept C reach peers keeps from till j) → Adds X Y (IsOwnKept C reach peers keeps from (till + 1) j)
+pub own_same : (C : Program) (reach : SiteSet) (peers : List SiteSet) (keeps : Keeping) (from till k : ℕ) {X Y : Type 0} → k ≡ till → (MustKeep C reach peers keeps k → ⊥) → (j : ℕ) → Adds X Y (IsOwnKept C reach peers keeps from till j) → Adds X Y (IsOwnKept C reach peers keeps from (till + 1) j)
 own_same C reach peers keeps from till k e never j x =
     adds_as
     (λ h. record { from_on = h.from_on; before = omega (arith, h.before); must = h.must })
@@ -75,7 +52,7 @@ module _ (p : CheckedProgram) (h : IsChecked p) where
   abbrev C : Program
   C = program_of p
 
-  pub body_may_keep : (g : ℕ) (units peers : List Row) → g < C.functions → UnitTable C units → ArePeers C C.sites peers → MayKeep C units peers (arity C g) (C.body g)
+  pub body_may_keep : (g : ℕ) (units peers : List SiteSet) → g < C.functions → UnitTable C units → ArePeers C C.sites peers → MayKeep C units peers (arity C g) (C.body g)
   body_may_keep g units peers within t sites = record {
     reach = record {
       caller = g;
@@ -87,7 +64,7 @@ module _ (p : CheckedProgram) (h : IsChecked p) where
   }
 
   -- what a walk found of a body's own sites is what is kept
-  pub body_kept : (g : ℕ) (slots peers : List Row) (reach d e f f' : Row) (a b : Keeping) → g < C.functions → ArePeers C C.sites peers → length slots ≡ arity C g → ((i k : ℕ) → HasAt slots i k → ⊥)
+  pub body_kept : (g : ℕ) (slots peers : List SiteSet) (reach d e f f' : SiteSet) (a b : Keeping) → g < C.functions → ArePeers C C.sites peers → length slots ≡ arity C g → ((i k : ℕ) → HasAt slots i k → ⊥)
       → ((k : ℕ) → has a.decides k ≡ false) → ((k : ℕ) → has a.held k ≡ false) → Walks C slots f f' a b (C.body g) → ((k : ℕ) → (Has reach k → Reaches C k (C.body g)) × (Reaches C k (C.body g) → Has reach k))
       → (k : ℕ) {X Y : Type 0} → Adds X Y (IsOwnKept C reach peers b (first_site_of p g) (first_site_of p (suc g)) k) → Adds X Y (IsBodyKept C g k)
   body_kept g slots peers reach d e f f' a b within sites count empty none_decides none_held w table k =

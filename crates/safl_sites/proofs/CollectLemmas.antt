@@ -3,18 +3,18 @@ use Rattle.std.proofs.Common.{◌≡◌, ℕ, suc, ◌<◌, ◌≤◌, Bool, tru
 use Rattle.std.proofs.lemmas.Bool.{cases_eq}
 use Rattle.std.proofs.lemmas.Grind.{get_or-set_at}
 use Rattle.std.proofs.lemmas.List.{get_or-set_other}
-use Rattle.safl_check.specs.Program.{Program, unit_for}
-use Rattle.safl_sites.specs.declared.row.Row.{Row}
+use Rattle.safl_term.specs.Program.{Program, unit_for}
+use Rattle.safl_sites.specs.declared.site_set.SiteSet.{SiteSet}
 use Rattle.safl_sites.specs.Collecting.{Collides, IsCollected}
 use Rattle.safl_sites.specs.Peers.{ArePeers}
 use Rattle.safl_sites.specs.Planned.{BeforeTable}
 use Rattle.safl_sites.specs.Rows.{Has, Adds, IsCommon, Meets, no_row}
 
-module _ (C : Program) (m k : ℕ) (before peers : List Row) (e : k ≡ suc m) (most : k ≤ C.sites) (conflicts : BeforeTable C before) (sites : ArePeers C C.sites peers) where
-  abbrev row : Row
+module _ (C : Program) (m k : ℕ) (before peers : List SiteSet) (e : k ≡ suc m) (most : k ≤ C.sites) (conflicts : BeforeTable C before) (sites : ArePeers C C.sites peers) where
+  abbrev row : SiteSet
   row = get_or before k no_row
 
-  abbrev peer : Row
+  abbrev peer : SiteSet
   peer = get_or peers (unit_for C k) no_row
 
   collides_of : (j : ℕ) → IsCommon row peer k j → Collides C k k j
@@ -39,7 +39,7 @@ module _ (C : Program) (m k : ℕ) (before peers : List Row) (e : k ≡ suc m) (
   narrow : (i j : ℕ) → (i ≡ k → ⊥) → Collides C k i j → Collides C m i j
   narrow i j n h = record { least = h.least; most = omega (arith, h.most); differs = h.differs; peer = h.peer; before = h.before }
 
-  pub collected_more : (arbiters : List Bool) (kept kept1 kept2 : Row) → unit_for C k < C.functions → IsCollected C m arbiters kept → Meets row peer k
+  pub collected_more : (arbiters : List Bool) (kept kept1 kept2 : SiteSet) → unit_for C k < C.functions → IsCollected C m arbiters kept → Meets row peer k
       → ((j : ℕ) → Adds (Has kept j) (Has kept1 j) (j ≡ k)) → ((j : ℕ) → Adds (Has kept1 j) (Has kept2 j) (IsCommon row peer k j))
       → IsCollected C k (slice_set arbiters (unit_for C k) true) kept2
   collected_more arbiters kept kept1 kept2 low t meets insert common = record {
@@ -75,7 +75,7 @@ module _ (C : Program) (m k : ℕ) (before peers : List Row) (e : k ≡ suc m) (
   none_here : (Meets row peer k → ⊥) → (i j : ℕ) → Collides C k i j → i ≡ k → ⊥
   none_here none i j h f = let q = common_of i j f h in none (record { other = j; differs = q.differs; first = q.first; second = q.second })
 
-  pub collected_none : (arbiters : List Bool) (kept : Row) → IsCollected C m arbiters kept → (Meets row peer k → ⊥) → IsCollected C k arbiters kept
+  pub collected_none : (arbiters : List Bool) (kept : SiteSet) → IsCollected C m arbiters kept → (Meets row peer k → ⊥) → IsCollected C k arbiters kept
   collected_none arbiters kept t none = record {
     count = t.count;
     units = λ u. (

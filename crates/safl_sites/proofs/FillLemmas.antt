@@ -3,9 +3,9 @@ use Rattle.std.proofs.Common.{◌≡◌, ℕ, zero, suc, ◌<◌, ◌⊎◌, tru
 use Rattle.std.proofs.lemmas.Bool.{cases_eq}
 use Rattle.std.proofs.lemmas.Grind.{get_or-set_at}
 use Rattle.std.proofs.lemmas.List.{get_or-set_other}
-use Rattle.safl_check.specs.Checked.{CheckedProgram, program_of, IsChecked}
-use Rattle.safl_check.specs.Program.{Program}
-use Rattle.safl_sites.specs.declared.row.Row.{Row}
+use Rattle.safl_term.specs.Checked.{CheckedProgram, program_of, IsChecked}
+use Rattle.safl_term.specs.Program.{Program}
+use Rattle.safl_sites.specs.declared.site_set.SiteSet.{SiteSet}
 use Rattle.safl_sites.specs.Conflicts.{Reaches}
 use Rattle.safl_sites.specs.Filling.{ReachedBelow, StandsAfter, IsFilled}
 use Rattle.safl_sites.specs.Parallel.{After, Marked}
@@ -18,7 +18,7 @@ use Rattle.safl_sites.proofs.OrderLemmas.{lower_before}
 use Rattle.safl_sites.proofs.RowLemmas.{no_row_has}
 
 -- a table of empty rows
-pub empty_table : (n : ℕ) (r : Row) → ((k : ℕ) → has r k ≡ false) → (i k : ℕ) → HasAt (replicate n r) i k → ⊥
+pub empty_table : (n : ℕ) (r : SiteSet) → ((k : ℕ) → has r k ≡ false) → (i k : ℕ) → HasAt (replicate n r) i k → ⊥
 empty_table zero r none i k h = no_row_has k h
 empty_table (suc n) r none zero k h = clash (has r k) (none k) h
 empty_table (suc n) r none (suc i) k h = empty_table n r none i k h
@@ -34,7 +34,7 @@ module _ (p : CheckedProgram) (h : IsChecked p) where
       record { tail = true; lo = lo; hi = hi; spans = spans; least = least; most = h.formed.sites f within; scope = C.params f; count = refl; width = C.result f; typed = h.formed.widths f within }
 
   -- the rows of the lower units are complete
-  pub body_may_reach : (f : ℕ) (bodies units after : List Row) → f < C.functions → IsFilled C f bodies units after → (n : ℕ) × MayReach C units n (C.body f)
+  pub body_may_reach : (f : ℕ) (bodies units after : List SiteSet) → f < C.functions → IsFilled C f bodies units after → (n : ℕ) × MayReach C units n (C.body f)
   body_may_reach f bodies units after within t = (
     length (C.params f),
     record {
@@ -57,16 +57,6 @@ module _ (p : CheckedProgram) (h : IsChecked p) where
     },
   )
 
-pub filled_none : (C : Program) (bodies units after : List Row) → length bodies ≡ C.functions → length units ≡ C.functions → length after ≡ suc C.sites → ((i k : ℕ) → HasAt units i k → ⊥) → ((i k : ℕ) → HasAt after i k → ⊥) → IsFilled C 0 bodies units after
-filled_none C bodies units after a b c u v = record {
-  bodies_count = a;
-  units_count = b;
-  after_count = c;
-  body_rows = λ g k less. absurd (omega arith);
-  unit_rows = λ i k. (λ x. absurd (u i k x), λ r. absurd (omega (arith, r.is_member)));
-  after_rows = λ k i. (λ x. absurd (v i k x), λ r. absurd (omega (arith, r.is_body)));
-}
-
 module _ (C : Program) (f : ℕ) where
   one_more : (u k : ℕ) → ReachedBelow C f u k ⊎ ((C.unit f ≡ u) × Reaches C k (C.body f)) → ReachedBelow C (suc f) u k
   one_more u k (inl r) = record { member = r.member; is_member = omega (arith, r.is_member); unit = r.unit; reached = r.reached }
@@ -88,7 +78,7 @@ module _ (C : Program) (f : ℕ) where
     | inr n ↦ inl (record { body = r.body; is_body = omega (arith, r.is_body); after = r.after })
   ]
 
-  pub filled_more : (bodies units after after' : List Row) (e row joined : Row) → f < C.functions → C.unit f < C.functions → IsFilled C f bodies units after
+  pub filled_more : (bodies units after after' : List SiteSet) (e row joined : SiteSet) → f < C.functions → C.unit f < C.functions → IsFilled C f bodies units after
       → ((k : ℕ) → has e k ≡ false) → ((k : ℕ) → Adds (Has e k) (Has row k) (Reaches C k (C.body f)))
       → (B : ℕ → Type 0) → ((k : ℕ) → B k → ⊥) → length after' ≡ length after → ((b k : ℕ) → Adds (HasAt after b k) (HasAt after' b k) (Marked C (B k) k b (C.body f)))
       → ((k : ℕ) → Adds (HasAt units (C.unit f) k) (Has joined k) (Has row k))
@@ -102,13 +92,13 @@ module _ (C : Program) (f : ℕ) where
         body_rows = λ g k less. elim (cases_eq g f) [
           | inl i ↦
               let s : get_or (slice_set bodies f row) g no_row ≡ row = get_or-set_at bodies f g row no_row i (omega (arith, t.bodies_count)) in (
-                λ x. subst (λ n. Reaches C k (C.body n)) (sym i) (full k (subst (λ (r : Row). Has r k) s x)),
-                λ x. subst (λ (r : Row). Has r k) (sym s) ((reached k).joins (subst (λ n. Reaches C k (C.body n)) i x)),
+                λ x. subst (λ n. Reaches C k (C.body n)) (sym i) (full k (subst (λ (r : SiteSet). Has r k) s x)),
+                λ x. subst (λ (r : SiteSet). Has r k) (sym s) ((reached k).joins (subst (λ n. Reaches C k (C.body n)) i x)),
               )
           | inr i ↦
               let s : get_or (slice_set bodies f row) g no_row ≡ get_or bodies g no_row = get_or-set_other bodies f g row no_row i in
               let b = t.body_rows g k (omega arith) in
-              (λ x. b.0 (subst (λ (r : Row). Has r k) s x), λ x. subst (λ (r : Row). Has r k) (sym s) (b.1 x))
+              (λ x. b.0 (subst (λ (r : SiteSet). Has r k) s x), λ x. subst (λ (r : SiteSet). Has r k) (sym s) (b.1 x))
         ];
         unit_rows = λ u k.
             let m = row_more units (C.unit f) joined u k (omega (arith, t.units_count)) (union k) in

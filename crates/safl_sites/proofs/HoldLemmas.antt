@@ -1,11 +1,11 @@
 -- What a let's body reaches are sites of the program.
 use Rattle.std.proofs.Common.{◌≡◌, ℕ, ◌+◌, ◌<◌, ◌≤◌, ◌⊎◌, List, get_or, refl, sym, ap, subst, ◌∙◌, inl, inr, arith}
-use Rattle.safl_check.specs.Checked.{CheckedProgram, program_of, IsChecked}
-use Rattle.safl_check.specs.Program.{Program, unit_for}
-use Rattle.safl_check.specs.Standing.{Stands}
-use Rattle.safl_check.specs.Terms.{Term, Terms, Const, Var, Op, If, Let, Call, Loop}
-use Rattle.safl_check.proofs.Order.{stands_within}
-use Rattle.safl_sites.specs.declared.row.Row.{Row}
+use Rattle.safl_term.specs.Checked.{CheckedProgram, program_of, IsChecked}
+use Rattle.safl_term.specs.Program.{Program, unit_for}
+use Rattle.safl_term.specs.Standing.{Stands}
+use Rattle.safl_term.specs.Terms.{Term, Terms, Const, Var, Op, If, Let, Call, Loop}
+use Rattle.safl_term.proofs.Order.{stands_within}
+use Rattle.safl_sites.specs.declared.site_set.SiteSet.{SiteSet}
 use Rattle.safl_sites.specs.Conflicts.{Reaches, Here, Through, ReachesIn}
 use Rattle.safl_sites.specs.Kept.{InBody}
 use Rattle.safl_sites.specs.Parts.{IsPart}
@@ -42,16 +42,16 @@ module _ (p : CheckedProgram) (h : IsChecked p) where
   in_body_reaches k (Call f j ts) r = let (a, s, q) = reaches_in_by ts r in reaches_of a (inr s) q
   in_body_reaches k (Loop f ts) r = r
 
-  pub body_site : (units : List Row) (n k : ℕ) (t : Term) → MayReach C units n t → InBody C k t → IsSiteOf C C.sites (unit_for C k) k
+  pub body_site : (units : List SiteSet) (n k : ℕ) (t : Term) → MayReach C units n t → InBody C k t → IsSiteOf C C.sites (unit_for C k) k
   body_site units n k t m b = let s = reached_site k (part_sites m.part) (in_body_reaches k t b) in record { least = s.least; most = s.most; unit = refl }
 
 -- ---- the sites that are held, one after the other
 
-pub record Looked (C : Program) (slots : List Row) (low : ℕ) (body : Term) (old now : Row) (done : ℕ) : Type 0 where
+pub record Looked (C : Program) (slots : List SiteSet) (low : ℕ) (body : Term) (old now : SiteSet) (done : ℕ) : Type 0 where
   pub looked : (k : ℕ) → 1 ≤ k → k ≤ done → Adds (Has old k) (Has now k) (IsHeldHere C slots low k body)
   pub rest : (k : ℕ) → done < k → has now k ≡ has old k
 
-pub looked_more : (C : Program) (slots : List Row) (low : ℕ) (body : Term) (old now next : Row) (done k : ℕ) → k ≡ done + 1 → Looked C slots low body old now done
+pub looked_more : (C : Program) (slots : List SiteSet) (low : ℕ) (body : Term) (old now next : SiteSet) (done k : ℕ) → k ≡ done + 1 → Looked C slots low body old now done
     → (((j : ℕ) → Adds (Has now j) (Has next j) (j ≡ k)) × IsHeldHere C slots low k body) ⊎ ((next ≡ now) × (IsHeldHere C slots low k body → ⊥))
     → Looked C slots low body old next k
 looked_more C slots low body old now next done k e l (inl (insert, held)) = record {
@@ -72,7 +72,7 @@ looked_more C slots low body old now next done k e l (inl (insert, held)) = reco
   rest = λ j above. same_bool (has next j) (has now j) (λ x. elim ((insert j).splits x) [ inl y ↦ y | inr y ↦ absurd (omega arith) ]) (λ x. (insert j).stays x) ∙ l.rest j (omega arith);
 }
 looked_more C slots low body old now next done k e l (inr (same, none)) = record {
-  looked = λ j least most. subst (λ (r : Row). Adds (Has old j) (Has r j) (IsHeldHere C slots low j body)) (sym same) (elim (cases_eq j k) [
+  looked = λ j least most. subst (λ (r : SiteSet). Adds (Has old j) (Has r j) (IsHeldHere C slots low j body)) (sym same) (elim (cases_eq j k) [
     | inl f ↦ record {
       splits = λ x. inl (sym (l.rest j (omega arith)) ∙ x);
       stays = λ x. l.rest j (omega arith) ∙ x;
@@ -80,14 +80,14 @@ looked_more C slots low body old now next done k e l (inr (same, none)) = record
     }
     | inr f ↦ l.looked j least (omega arith)
   ]);
-  rest = λ j above. ap (λ (r : Row). has r j) same ∙ l.rest j (omega arith);
+  rest = λ j above. ap (λ (r : SiteSet). has r j) same ∙ l.rest j (omega arith);
 }
 
-module _ (p : CheckedProgram) (h : IsChecked p) (units slots peers : List Row) (n low : ℕ) (body : Term) (m : MayReach (program_of p) units n body) (sites : ArePeers (program_of p) (program_of p).sites peers) where
+module _ (p : CheckedProgram) (h : IsChecked p) (units slots peers : List SiteSet) (n low : ℕ) (body : Term) (m : MayReach (program_of p) units n body) (sites : ArePeers (program_of p) (program_of p).sites peers) where
   abbrev D : Program
   D = program_of p
 
-  pub held_here : (used within : Row) (k : ℕ) → (Has used k → IsTouched slots low k body) → ((j : ℕ) → Has within j → InBody D j body) → Has used k → Meets within (get_or peers (unit_for D k) no_row) k → IsHeldHere D slots low k body
+  pub held_here : (used within : SiteSet) (k : ℕ) → (Has used k → IsTouched slots low k body) → ((j : ℕ) → Has within j → InBody D j body) → Has used k → Meets within (get_or peers (unit_for D k) no_row) k → IsHeldHere D slots low k body
   held_here used within k u v x y = record {
     other = y.other;
     differs = y.differs;
@@ -96,7 +96,7 @@ module _ (p : CheckedProgram) (h : IsChecked p) (units slots peers : List Row) (
     reached = v y.other y.first;
   }
 
-  pub held_meets : (within : Row) (k : ℕ) → ((j : ℕ) → InBody D j body → Has within j) → IsHeldHere D slots low k body → Meets within (get_or peers (unit_for D k) no_row) k
+  pub held_meets : (within : SiteSet) (k : ℕ) → ((j : ℕ) → InBody D j body → Has within j) → IsHeldHere D slots low k body → Meets within (get_or peers (unit_for D k) no_row) k
   held_meets within k v x =
       let s = body_site p h units n x.other body m x.reached in
       record {

@@ -4,10 +4,10 @@ use Rattle.std.proofs.Math.Seq.{get_or-append_right}
 use Rattle.std.proofs.lemmas.Bool.{eqb-true}
 use Rattle.safl_word.specs.Words.{Word}
 use Rattle.safl_word.specs.declared.primitive.Primitive.{Primitive}
-use Rattle.safl_check.specs.Program.{Program}
-use Rattle.safl_check.specs.Terms.{Term, Terms, Const, Var, Op, If, Let, Call, Loop, Nil, Cons}
+use Rattle.safl_term.specs.Program.{Program}
+use Rattle.safl_term.specs.Terms.{Term, Terms, Const, Var, Op, If, Let, Call, Loop, Nil, Cons}
 use Rattle.safl_sites.specs.declared.keep.Keeping.{Keeping}
-use Rattle.safl_sites.specs.declared.row.Row.{Row}
+use Rattle.safl_sites.specs.declared.site_set.SiteSet.{SiteSet}
 use Rattle.safl_sites.specs.Keeping.{fed_by, IsHeld, IsHeldIn, IsHeldHere, Walks, WalksIn, Binds}
 use Rattle.safl_sites.specs.Kept.{bool_at, feeds, feeds_any, feeds_each, Uses, Decides, Held}
 use Rattle.safl_sites.specs.Rows.{has, Has, HasAt, Adds, no_row}
@@ -20,16 +20,16 @@ never : (b : Bool) → (b ≡ true → ⊥) → b ≡ false
 never true h = absurd (h refl)
 never false h = refl
 
-bool_at_fed : (k : ℕ) (R : List Row) (i : ℕ) → bool_at (fed_by k R) i ≡ has (get_or R i no_row) k
+bool_at_fed : (k : ℕ) (R : List SiteSet) (i : ℕ) → bool_at (fed_by k R) i ≡ has (get_or R i no_row) k
 bool_at_fed k [] i = sym (never (has no_row k) (no_row_has k))
 bool_at_fed k (r ∷ R) zero = refl
 bool_at_fed k (r ∷ R) (suc i) = bool_at_fed k R i
 
-length_fed : (k : ℕ) (R : List Row) → length (fed_by k R) ≡ length R
+length_fed : (k : ℕ) (R : List SiteSet) → length (fed_by k R) ≡ length R
 length_fed k [] = refl
 length_fed k (r ∷ R) = ap suc (length_fed k R)
 
-fed_append : (k : ℕ) (R S : List Row) → fed_by k (R ++ S) ≡ fed_by k R ++ fed_by k S
+fed_append : (k : ℕ) (R S : List SiteSet) → fed_by k (R ++ S) ≡ fed_by k R ++ fed_by k S
 fed_append k [] S = refl
 fed_append k (r ∷ R) S = ap (λ l. has r k ∷ l) (fed_append k R S)
 
@@ -44,7 +44,7 @@ or_three false false r =
     adds_as (λ h. elim h [ inl h ↦ elim h [ inl e ↦ absurd (clash false refl e) | inr e ↦ absurd (clash false refl e) ] | inr e ↦ e ]) (λ h. inr h)
 
 -- a row that was empty has what joined it
-pub full : {P : Type 0} (d e : Row) (k : ℕ) → has d k ≡ false → Adds (Has d k) (Has e k) P → Has e k → P
+pub full : {P : Type 0} (d e : SiteSet) (k : ℕ) → has d k ≡ false → Adds (Has d k) (Has e k) P → Has e k → P
 full d e k none h x = elim (h.splits x) [ inl y ↦ absurd (clash (has d k) none y) | inr y ↦ y ]
 
 pub same_bool : (p q : Bool) → (p ≡ true → q ≡ true) → (q ≡ true → p ≡ true) → p ≡ q
@@ -52,12 +52,12 @@ same_bool true q f g = sym (f refl)
 same_bool false true f g = g refl
 same_bool false false f g = refl
 
-append_nil : (R : List Row) → R ++ [] ≡ R
+append_nil : (R : List SiteSet) → R ++ [] ≡ R
 append_nil [] = refl
 append_nil (r ∷ R) = ap (λ l. r ∷ l) (append_nil R)
 
-module _ (C : Program) (R : List Row) where
-  pub walks_const : (f : Row) (a : Keeping) (w : Word) → Walks C R f f a a (Const w)
+module _ (C : Program) (R : List SiteSet) where
+  pub walks_const : (f : SiteSet) (a : Keeping) (w : Word) → Walks C R f f a a (Const w)
   unfolding feeds Decides Held
   walks_const f a w = record {
     fed = λ k. adds_none (λ e. clash false refl e);
@@ -65,7 +65,7 @@ module _ (C : Program) (R : List Row) where
     kept = λ k x y. adds_none (λ h. h.held);
   }
 
-  pub walks_var : (f g : Row) (a : Keeping) (i : ℕ) → ((k : ℕ) → Adds (Has f k) (Has g k) (HasAt R i k)) → Walks C R f g a a (Var i)
+  pub walks_var : (f g : SiteSet) (a : Keeping) (i : ℕ) → ((k : ℕ) → Adds (Has f k) (Has g k) (HasAt R i k)) → Walks C R f g a a (Var i)
   unfolding feeds Decides Held
   walks_var f g a i union = record {
     fed = λ k. adds_as (λ h. bool_at_fed k R i ∙ h) (λ h. sym (bool_at_fed k R i) ∙ h) (union k);
@@ -73,7 +73,7 @@ module _ (C : Program) (R : List Row) where
     kept = λ k x y. adds_none (λ h. h.held);
   }
 
-  pub walks_op : (f g : Row) (a b : Keeping) (o : Primitive) (ts : Terms) → WalksIn C R f g a b ts → Walks C R f g a b (Op o ts)
+  pub walks_op : (f g : SiteSet) (a b : Keeping) (o : Primitive) (ts : Terms) → WalksIn C R f g a b ts → Walks C R f g a b (Op o ts)
   unfolding feeds Decides Held
   walks_op f g a b o ts h = record {
     fed = h.fed;
@@ -81,7 +81,7 @@ module _ (C : Program) (R : List Row) where
     kept = λ k x y. adds_as (λ q. record { other = q.other; differs = q.differs; same = q.same; held = q.held }) (λ q. record { other = q.other; differs = q.differs; same = q.same; held = q.held }) (h.kept k x y);
   }
 
-  pub walks_loop : (f p q : Row) (a b : Keeping) (i : ℕ) (ts : Terms) → WalksIn C R p q a b ts → Walks C R f f a b (Loop i ts)
+  pub walks_loop : (f p q : SiteSet) (a b : Keeping) (i : ℕ) (ts : Terms) → WalksIn C R p q a b ts → Walks C R f f a b (Loop i ts)
   unfolding feeds Decides Held
   walks_loop f p q a b i ts h = record {
     fed = λ k. adds_none (λ e. clash false refl e);
@@ -89,7 +89,7 @@ module _ (C : Program) (R : List Row) where
     kept = λ k x y. adds_as (λ q. record { other = q.other; differs = q.differs; same = q.same; held = q.held }) (λ q. record { other = q.other; differs = q.differs; same = q.same; held = q.held }) (h.kept k x y);
   }
 
-  pub walks_call : (f g p q : Row) (a b : Keeping) (i j : ℕ) (ts : Terms) → ((k : ℕ) → Adds (Has f k) (Has g k) (k ≡ j)) → WalksIn C R p q a b ts → Walks C R f g a b (Call i j ts)
+  pub walks_call : (f g p q : SiteSet) (a b : Keeping) (i j : ℕ) (ts : Terms) → ((k : ℕ) → Adds (Has f k) (Has g k) (k ≡ j)) → WalksIn C R p q a b ts → Walks C R f g a b (Call i j ts)
   unfolding feeds Decides Held
   walks_call f g p q a b i j ts insert h = record {
     fed = λ k. adds_as (λ e. eq-eqb j k (sym e)) (λ e. sym (eqb-true j k e)) (insert k);
@@ -98,7 +98,7 @@ module _ (C : Program) (R : List Row) where
   }
 
   -- the sites that feed the condition decide
-  pub walks_if : (d e f0 f1 f2 f3 : Row) (a0 a1 a2 a3 a4 : Keeping) (c x y : Term) → ((k : ℕ) → has d k ≡ false)
+  pub walks_if : (d e f0 f1 f2 f3 : SiteSet) (a0 a1 a2 a3 a4 : Keeping) (c x y : Term) → ((k : ℕ) → has d k ≡ false)
       → Walks C R d e a0 a1 c → ((k : ℕ) → Adds (Has a1.decides k) (Has a2.decides k) (Has e k)) → ((k : ℕ) → Adds (Has f0 k) (Has f1 k) (Has e k)) → a2.held ≡ a1.held
       → Walks C R f1 f2 a2 a3 x → Walks C R f2 f3 a3 a4 y → Walks C R f0 f3 a0 a4 (If c x y)
   unfolding feeds Decides Held
@@ -122,7 +122,7 @@ module _ (C : Program) (R : List Row) where
         (adds_then (adds_then (adds_then (hc.decided k) second) (hx.decided k)) (hy.decided k));
     kept = λ k p q.
         let fe = fed_by k R in
-        let middle = subst (λ (r : Row). Adds (Has r k) (Has a3.held k) (IsHeld C k fe x)) same (hx.kept k p q) in
+        let middle = subst (λ (r : SiteSet). Adds (Has r k) (Has a3.held k) (IsHeld C k fe x)) same (hx.kept k p q) in
         adds_as
         (λ h. elim h [
           | inl h ↦ elim h [
@@ -142,22 +142,22 @@ module _ (C : Program) (R : List Row) where
   }
 
   -- a slot from the first binding on that has the site is a binding that the site feeds
-  touched_by : (k : ℕ) (M bound : List Row) (ts : Terms) (b : Term) → M ≡ R ++ bound → fed_by k bound ≡ feeds_each k (fed_by k R) ts → IsTouched M (length R) k b → (i : ℕ) × (bool_at (feeds_each k (fed_by k R) ts) i ≡ true) × Uses (length (fed_by k R) + i) b
+  touched_by : (k : ℕ) (M bound : List SiteSet) (ts : Terms) (b : Term) → M ≡ R ++ bound → fed_by k bound ≡ feeds_each k (fed_by k R) ts → IsTouched M (length R) k b → (i : ℕ) × (bool_at (feeds_each k (fed_by k R) ts) i ≡ true) × Uses (length (fed_by k R) + i) b
   touched_by k M bound ts b e fed h =
       let i : ℕ = h.slot - length R in
       let at : length (fed_by k R) + i ≡ h.slot = omega (arith, length_fed k R, h.from) in
-      let is : get_or M h.slot no_row ≡ get_or bound i no_row = ap (λ (l : List Row). get_or l h.slot no_row) e ∙ get_or-append_right R bound h.slot no_row h.from in
-      (i, ap (λ l. bool_at l i) (sym fed) ∙ (bool_at_fed k bound i ∙ (ap (λ (r : Row). has r k) (sym is) ∙ h.row)), subst (λ n. Uses n b) (sym at) h.used)
+      let is : get_or M h.slot no_row ≡ get_or bound i no_row = ap (λ (l : List SiteSet). get_or l h.slot no_row) e ∙ get_or-append_right R bound h.slot no_row h.from in
+      (i, ap (λ l. bool_at l i) (sym fed) ∙ (bool_at_fed k bound i ∙ (ap (λ (r : SiteSet). has r k) (sym is) ∙ h.row)), subst (λ n. Uses n b) (sym at) h.used)
 
-  touched_of : (k : ℕ) (M bound : List Row) (ts : Terms) (b : Term) → M ≡ R ++ bound → fed_by k bound ≡ feeds_each k (fed_by k R) ts → (i : ℕ) → bool_at (feeds_each k (fed_by k R) ts) i ≡ true → Uses (length (fed_by k R) + i) b → IsTouched M (length R) k b
+  touched_of : (k : ℕ) (M bound : List SiteSet) (ts : Terms) (b : Term) → M ≡ R ++ bound → fed_by k bound ≡ feeds_each k (fed_by k R) ts → (i : ℕ) → bool_at (feeds_each k (fed_by k R) ts) i ≡ true → Uses (length (fed_by k R) + i) b → IsTouched M (length R) k b
   touched_of k M bound ts b e fed i h used =
       let at : length (fed_by k R) + i ≡ length R + i = ap (λ n. n + i) (length_fed k R) in
       let from : length R ≤ length R + i = omega arith in
       let back : length R + i - length R ≡ i = omega arith in
-      let is : get_or M (length R + i) no_row ≡ get_or bound i no_row = ap (λ (l : List Row). get_or l (length R + i) no_row) e ∙ (get_or-append_right R bound (length R + i) no_row from ∙ ap (λ n. get_or bound n no_row) back) in
-      record { slot = length R + i; from = from; used = subst (λ n. Uses n b) at used; row = ap (λ (r : Row). has r k) is ∙ (sym (bool_at_fed k bound i) ∙ (ap (λ l. bool_at l i) fed ∙ h)) }
+      let is : get_or M (length R + i) no_row ≡ get_or bound i no_row = ap (λ (l : List SiteSet). get_or l (length R + i) no_row) e ∙ (get_or-append_right R bound (length R + i) no_row from ∙ ap (λ n. get_or bound n no_row) back) in
+      record { slot = length R + i; from = from; used = subst (λ n. Uses n b) at used; row = ap (λ (r : SiteSet). has r k) is ∙ (sym (bool_at_fed k bound i) ∙ (ap (λ l. bool_at l i) fed ∙ h)) }
 
-  pub walks_let : (M : List Row) (f g : Row) (a0 a1 a2 a3 : Keeping) (ts : Terms) (b : Term) → Binds C R M a0 a1 ts → a2.decides ≡ a1.decides
+  pub walks_let : (M : List SiteSet) (f g : SiteSet) (a0 a1 a2 a3 : Keeping) (ts : Terms) (b : Term) → Binds C R M a0 a1 ts → a2.decides ≡ a1.decides
       → ((k : ℕ) → 1 ≤ k → k ≤ C.sites → Adds (Has a1.held k) (Has a2.held k) (IsHeldHere C M (length R) k b))
       → Walks C M f g a2 a3 b → Walks C R f g a0 a3 (Let ts b)
   unfolding feeds Decides Held
@@ -167,7 +167,7 @@ module _ (C : Program) (R : List Row) where
         fed = λ k. subst (λ l. Adds (Has f k) (Has g k) (feeds k l b ≡ true)) (scope k) (hb.fed k);
         decided = λ k.
             let body = subst (λ l. Adds (Has a2.decides k) (Has a3.decides k) (Decides k l b)) (scope k) (hb.decided k) in
-            adds_then (hs.decided k) (subst (λ (r : Row). Adds (Has r k) (Has a3.decides k) (Decides k (fed_by k R ++ feeds_each k (fed_by k R) ts) b)) same body);
+            adds_then (hs.decided k) (subst (λ (r : SiteSet). Adds (Has r k) (Has a3.decides k) (Decides k (fed_by k R ++ feeds_each k (fed_by k R) ts) b)) same body);
         kept = λ k p q.
             let body = subst (λ l. Adds (Has a2.held k) (Has a3.held k) (IsHeld C k l b)) (scope k) (hb.kept k p q) in
             adds_as
@@ -203,7 +203,7 @@ module _ (C : Program) (R : List Row) where
         | inr u ↦ inr (record { other = h.other; differs = h.differs; same = h.same; held = u })
       ])
 
-  pub walks_none : (f : Row) (a : Keeping) → WalksIn C R f f a a Nil
+  pub walks_none : (f : SiteSet) (a : Keeping) → WalksIn C R f f a a Nil
   unfolding feeds Decides Held
   walks_none f a = record {
     fed = λ k. adds_none (λ e. clash false refl e);
@@ -211,7 +211,7 @@ module _ (C : Program) (R : List Row) where
     kept = λ k x y. adds_none (λ h. h.held);
   }
 
-  pub walks_more : (f0 f1 f2 : Row) (a0 a1 a2 : Keeping) (t : Term) (ts : Terms) → Walks C R f0 f1 a0 a1 t → WalksIn C R f1 f2 a1 a2 ts → WalksIn C R f0 f2 a0 a2 (Cons t ts)
+  pub walks_more : (f0 f1 f2 : SiteSet) (a0 a1 a2 : Keeping) (t : Term) (ts : Terms) → Walks C R f0 f1 a0 a1 t → WalksIn C R f1 f2 a1 a2 ts → WalksIn C R f0 f2 a0 a2 (Cons t ts)
   unfolding feeds Decides Held
   walks_more f0 f1 f2 a0 a1 a2 t ts h hs = record {
     fed = λ k. or_adds (feeds k (fed_by k R) t) (feeds_any k (fed_by k R) ts) (adds_then (h.fed k) (hs.fed k));
@@ -231,7 +231,7 @@ module _ (C : Program) (R : List Row) where
   }
 
   -- the first binding's row goes before those of the rest
-  pub binds_more : (M : List Row) (d e : Row) (a0 a1 a2 : Keeping) (t : Term) (ts : Terms) → ((k : ℕ) → has d k ≡ false) → Walks C R d e a0 a1 t → (hs : Binds C R M a1 a2 ts) → Binds C R (R ++ (e ∷ hs.bound)) a0 a2 (Cons t ts)
+  pub binds_more : (M : List SiteSet) (d e : SiteSet) (a0 a1 a2 : Keeping) (t : Term) (ts : Terms) → ((k : ℕ) → has d k ≡ false) → Walks C R d e a0 a1 t → (hs : Binds C R M a1 a2 ts) → Binds C R (R ++ (e ∷ hs.bound)) a0 a2 (Cons t ts)
   unfolding feeds Decides Held
   binds_more M d e a0 a1 a2 t ts none h hs = record {
     bound = e ∷ hs.bound;

@@ -4,12 +4,12 @@ use Rattle.std.proofs.lemmas.Bool.{cases_eq}
 use Rattle.std.proofs.lemmas.Grind.{get_or-set_at}
 use Rattle.std.proofs.lemmas.List.{get_or-set_other}
 use Rattle.safl_word.specs.declared.primitive.Primitive.{Primitive}
-use Rattle.safl_check.specs.Program.{Program}
-use Rattle.safl_check.specs.Standing.{Stands}
-use Rattle.safl_check.specs.Terms.{Term, Terms, Const, Var, Op, If, Let, Call, Loop, Nil, Cons}
-use Rattle.safl_check.specs.declared.term.Term as declared
-use Rattle.safl_check.specs.Tree.{tree, forest}
-use Rattle.safl_sites.specs.declared.row.Row.{Row}
+use Rattle.safl_term.specs.Program.{Program}
+use Rattle.safl_term.specs.Standing.{Stands}
+use Rattle.safl_term.specs.Terms.{Term, Terms, Const, Var, Op, If, Let, Call, Loop, Nil, Cons}
+use Rattle.safl_term.specs.declared.term.Term as declared
+use Rattle.safl_term.specs.Tree.{tree, forest}
+use Rattle.safl_sites.specs.declared.site_set.SiteSet.{SiteSet}
 use Rattle.safl_sites.specs.Conflicts.{Reaches}
 use Rattle.safl_sites.specs.Parallel.{After, Marked, MarkedIn}
 use Rattle.safl_sites.specs.Rows.{Has, HasAt, Adds, no_row}
@@ -93,22 +93,22 @@ unfolding Stands After
 mark_nil C B k b h = elim h [ inl (s, q) ↦ s | inr p ↦ p ]
 
 -- a row of a table with more in it
-pub row_more : (rows : List Row) (i : ℕ) (row : Row) (b k : ℕ) {P : Type 0} → i < length rows → Adds (HasAt rows i k) (Has row k) P → Adds (HasAt rows b k) (HasAt (slice_set rows i row) b k) ((i ≡ b) × P)
+pub row_more : (rows : List SiteSet) (i : ℕ) (row : SiteSet) (b k : ℕ) {P : Type 0} → i < length rows → Adds (HasAt rows i k) (Has row k) P → Adds (HasAt rows b k) (HasAt (slice_set rows i row) b k) ((i ≡ b) × P)
 row_more rows i row b k within h =
     elim (cases_eq b i) [
       | inr n ↦
           let e : get_or (slice_set rows i row) b no_row ≡ get_or rows b no_row = get_or-set_other rows i b row no_row n in
           record {
-            splits = λ y. inl (subst (λ (r : Row). Has r k) e y);
-            stays = λ y. subst (λ (r : Row). Has r k) (sym e) y;
+            splits = λ y. inl (subst (λ (r : SiteSet). Has r k) e y);
+            stays = λ y. subst (λ (r : SiteSet). Has r k) (sym e) y;
             joins = λ (f, p). absurd (n (sym f));
           }
       | inl f ↦
           let e : get_or (slice_set rows i row) b no_row ≡ row = get_or-set_at rows i b row no_row f within in
           record {
-            splits = λ y. elim (h.splits (subst (λ (r : Row). Has r k) e y)) [ inl z ↦ inl (subst (λ n. HasAt rows n k) (sym f) z) | inr p ↦ inr (sym f, p) ];
-            stays = λ y. subst (λ (r : Row). Has r k) (sym e) (h.stays (subst (λ n. HasAt rows n k) f y));
-            joins = λ (g, p). subst (λ (r : Row). Has r k) (sym e) (h.joins p);
+            splits = λ y. elim (h.splits (subst (λ (r : SiteSet). Has r k) e y)) [ inl z ↦ inl (subst (λ n. HasAt rows n k) (sym f) z) | inr p ↦ inr (sym f, p) ];
+            stays = λ y. subst (λ (r : SiteSet). Has r k) (sym e) (h.stays (subst (λ n. HasAt rows n k) f y));
+            joins = λ (g, p). subst (λ (r : SiteSet). Has r k) (sym e) (h.joins p);
           }
     ]
 

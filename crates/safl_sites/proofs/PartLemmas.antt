@@ -1,13 +1,13 @@
 -- The parts of a term that is part of a body are parts of it.
 use Rattle.std.proofs.Common.{◌≡◌, ℕ, suc, ◌+◌, ◌<◌, ◌≤◌, List, [], ◌∷◌, ◌++◌, length, length-append, refl, sym, ap, subst, arith}
 use Rattle.safl_word.specs.declared.primitive.Primitive.{Primitive}
-use Rattle.safl_check.specs.Program.{Program}
-use Rattle.safl_check.specs.Terms.{Term, Terms, Op, If, Let, Call, Loop, Nil, Cons}
-use Rattle.safl_check.specs.WellFormed.{HaveWidths}
-use Rattle.safl_check.proofs.Places.{fits_le, fits_all_le}
-use Rattle.safl_check.specs.declared.term.Term as declared
-use Rattle.safl_check.specs.Tree.{tree, forest}
-use Rattle.safl_sites.specs.declared.row.Row.{Row}
+use Rattle.safl_term.specs.Program.{Program}
+use Rattle.safl_term.specs.Terms.{Term, Terms, Op, If, Let, Call, Loop, Nil, Cons}
+use Rattle.safl_term.specs.WellFormed.{HaveWidths}
+use Rattle.safl_term.proofs.Places.{fits_le, fits_all_le}
+use Rattle.safl_term.specs.declared.term.Term as declared
+use Rattle.safl_term.specs.Tree.{tree, forest}
+use Rattle.safl_sites.specs.declared.site_set.SiteSet.{SiteSet}
 use Rattle.safl_sites.specs.Parts.{IsPart, ArePart, terms_in}
 use Rattle.safl_sites.specs.Reach.{MayReach, MayReachIn}
 
@@ -107,7 +107,7 @@ module _ {C : Program} {g n : ℕ} where
       record { callee = e1; least = omega (arith, h.least); most = omega (arith, u, h.most); lower = lt; within = h.typed.2 }
 
 -- the same with the rows of the units that may be called
-module _ {C : Program} {units : List Row} {n : ℕ} where
+module _ {C : Program} {units : List SiteSet} {n : ℕ} where
   pub may_cond : {c a b : Term} → MayReach C units n (If c a b) → MayReach C units n c
   may_cond h = record { caller = h.caller; part = part_cond h.part; below = h.below; few = h.few }
 

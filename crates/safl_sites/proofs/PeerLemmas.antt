@@ -1,9 +1,9 @@
 -- One more site in the rows of its unit.
 use Rattle.std.proofs.Common.{◌≡◌, ℕ, suc, ◌<◌, ◌≤◌, List, length, length-set, slice_set, sym, ap, ◌∙◌, inl, inr, arith}
 use Rattle.std.proofs.lemmas.Bool.{cases_eq}
-use Rattle.safl_check.specs.Checked.{CheckedProgram, program_of, IsChecked}
-use Rattle.safl_check.specs.Program.{Program, unit_for}
-use Rattle.safl_sites.specs.declared.row.Row.{Row}
+use Rattle.safl_term.specs.Checked.{CheckedProgram, program_of, IsChecked}
+use Rattle.safl_term.specs.Program.{Program, unit_for}
+use Rattle.safl_sites.specs.declared.site_set.SiteSet.{SiteSet}
 use Rattle.safl_sites.specs.Peers.{ArePeers}
 use Rattle.safl_sites.specs.Rows.{Has, HasAt, Adds}
 use Rattle.safl_sites.proofs.MarkLemmas.{row_more}
@@ -13,10 +13,7 @@ unit_within p h k least most =
     let calls = h.formed.calls k (omega arith) most in
     omega (arith, (h.formed.first ((program_of p).callee k) calls.1).0, calls.1)
 
-pub peers_none : (C : Program) (peers : List Row) → length peers ≡ C.functions → ((i k : ℕ) → HasAt peers i k → ⊥) → ArePeers C 0 peers
-peers_none C peers count none = record { count = count; rows = λ u k. (λ x. absurd (none u k x), λ s. absurd (omega (arith, s.least, s.most))) }
-
-pub peers_more : (C : Program) (m k : ℕ) (peers : List Row) (row : Row) → k ≡ suc m → unit_for C k < C.functions → ArePeers C m peers → ((j : ℕ) → Adds (HasAt peers (unit_for C k) j) (Has row j) (j ≡ k)) → ArePeers C k (slice_set peers (unit_for C k) row)
+pub peers_more : (C : Program) (m k : ℕ) (peers : List SiteSet) (row : SiteSet) → k ≡ suc m → unit_for C k < C.functions → ArePeers C m peers → ((j : ℕ) → Adds (HasAt peers (unit_for C k) j) (Has row j) (j ≡ k)) → ArePeers C k (slice_set peers (unit_for C k) row)
 peers_more C m k peers row e within t insert = record {
   count = length-set peers (unit_for C k) row ∙ t.count;
   rows = λ u j.

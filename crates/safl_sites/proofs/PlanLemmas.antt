@@ -1,10 +1,10 @@
 -- The tables decide the plan.
 use Rattle.std.proofs.Common.{◌≡◌, ℕ, suc, ◌<◌, ◌⊎◌, false, replicate, get_or, refl, sym, ap, subst, ◌∙◌, inl, inr, arith}
-use Rattle.safl_check.specs.Checked.{CheckedProgram, program_of, IsChecked}
-use Rattle.safl_check.specs.Program.{Program, unit_for, arity}
-use Rattle.safl_check.specs.Standing.{Stands, StandsIn}
-use Rattle.safl_check.specs.Terms.{Term, Terms, Const, Var, Op, If, Let, Call, Loop, Nil, Cons}
-use Rattle.safl_sites.specs.declared.row.Row.{Row}
+use Rattle.safl_term.specs.Checked.{CheckedProgram, program_of, IsChecked}
+use Rattle.safl_term.specs.Program.{Program, unit_for, arity}
+use Rattle.safl_term.specs.Standing.{Stands, StandsIn}
+use Rattle.safl_term.specs.Terms.{Term, Terms, Const, Var, Op, If, Let, Call, Loop, Nil, Cons}
+use Rattle.safl_sites.specs.declared.site_set.SiteSet.{SiteSet}
 use Rattle.safl_sites.specs.Bodies.{IsBodyKept, IsKeptBelow}
 use Rattle.safl_sites.specs.Collecting.{Collides, IsCollected}
 use Rattle.safl_sites.specs.Conflicts.{Reaches, Conflict}
@@ -75,7 +75,7 @@ module _ (p : CheckedProgram) (h : IsChecked p) where
   body_of : (k : ℕ) → IsKeptBelow C C.functions k → Kept C k
   body_of k y = body_at y.body k y.kept
 
-  pub plan_is : (program : PlannedProgram) (kept all : Row) → program.program ≡ p → IsCollected C C.sites program.arbiters kept → ((k : ℕ) → Adds (Has kept k) (Has all k) (IsKeptBelow C C.functions k))
+  pub plan_is : (program : PlannedProgram) (kept all : SiteSet) → program.program ≡ p → IsCollected C C.sites program.arbiters kept → ((k : ℕ) → Adds (Has kept k) (Has all k) (IsKeptBelow C C.functions k))
       → ((k : ℕ) → k < suc C.sites → get_or program.keeps k false ≡ has all k) → IsPlan C (arbiter_of program) (kept_of program)
   unfolding arbiter_of kept_of
   plan_is program kept all same t more listed = record {

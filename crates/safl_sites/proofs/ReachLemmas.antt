@@ -1,15 +1,15 @@
 -- What is in reach of a term, by the sites that stand there.
 use Rattle.std.proofs.Common.{◌≡◌, ℕ, ◌<◌, ◌⊎◌, List, arith, refl, sym, ap, ◌∙◌, inl, inr, subst}
 use Rattle.safl_word.specs.declared.primitive.Primitive.{Primitive}
-use Rattle.safl_check.specs.Program.{Program}
-use Rattle.safl_check.specs.Standing.{Stands, StandsIn}
-use Rattle.safl_check.specs.Terms.{Term, Terms, Const, Var, Op, If, Let, Call, Loop, Nil, Cons}
+use Rattle.safl_term.specs.Program.{Program}
+use Rattle.safl_term.specs.Standing.{Stands, StandsIn}
+use Rattle.safl_term.specs.Terms.{Term, Terms, Const, Var, Op, If, Let, Call, Loop, Nil, Cons}
 use Rattle.safl_sites.specs.Conflicts.{Reaches, Here, Through, ReachesIn}
 use Rattle.safl_sites.specs.Reach.{IsInReach, MayReach}
 use Rattle.safl_sites.specs.Rows.{HasAt, Adds}
-use Rattle.safl_check.specs.declared.term.Term as declared
-use Rattle.safl_check.specs.Tree.{tree, forest}
-use Rattle.safl_sites.specs.declared.row.Row.{Row}
+use Rattle.safl_term.specs.declared.term.Term as declared
+use Rattle.safl_term.specs.Tree.{tree, forest}
+use Rattle.safl_sites.specs.declared.site_set.SiteSet.{SiteSet}
 use Rattle.safl_sites.proofs.PartLemmas.{may_call}
 use Rattle.safl_sites.proofs.AddsLemmas.{adds_as, adds_none}
 
@@ -121,7 +121,7 @@ same_tree C k {A} {B} e h = subst (λ (z : declared.Term). Adds A B (Reaches C k
 pub same_forest : (C : Program) (k : ℕ) {A B : Type 0} {xs ys : List declared.Term} → xs ≡ ys → Adds A B (ReachesIn C k (forest xs)) → Adds A B (ReachesIn C k (forest ys))
 same_forest C k {A} {B} e h = subst (λ (z : List declared.Term). Adds A B (ReachesIn C k (forest z))) e h
 
-module _ {C : Program} {units : List Row} {n f k : ℕ} {ts : Terms} where
+module _ {C : Program} {units : List SiteSet} {n f k : ℕ} {ts : Terms} where
   pub site_below : MayReach C units n (Call f k ts) → k < 4032
   site_below h = omega (arith, (may_call h).most, h.few)
 

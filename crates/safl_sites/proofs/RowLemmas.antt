@@ -7,7 +7,7 @@ use Rattle.std.proofs.lemmas.List.{get_or-set_other, get_or_past}
 use Rattle.std.proofs.lemmas.Nat.Bits.{bit_at-zero, bit_at-lt, bit_at-suc, bit_at_lowest, bit_at_and, bit_at_or, bit_at_set_same, bit_at_set_other, bit_at_clear_same, bit_at_clear_other}
 use Rattle.std.specs.Int.{bit_at, bit_not}
 use Rattle.std.specs.List.{list_all}
-use Rattle.safl_sites.specs.declared.row.Row.{Row}
+use Rattle.safl_sites.specs.declared.site_set.SiteSet.{SiteSet}
 use Rattle.safl_sites.specs.Rows.{has, Has, Adds, IsCommon, Meets}
 
 zero-not-one : {a : ℕ} → a ≡ 0 → a ≡ 1 → ⊥
@@ -28,11 +28,11 @@ unfolding has
 has-empty xs e k = rw (zeros xs e (k / 64), bit_at-zero) refl
 
 -- what a row has, by the bit of its word
-pub bit_of_has : (r : Row) (k : ℕ) → Has r k → bit_at (get_or r.words (k / 64) 0) (k % 64) ≡ 1
+pub bit_of_has : (r : SiteSet) (k : ℕ) → Has r k → bit_at (get_or r.words (k / 64) 0) (k % 64) ≡ 1
 unfolding has
 bit_of_has r k h = eqb-true _ _ h
 
-pub has_of_bit : (r : Row) (k : ℕ) → bit_at (get_or r.words (k / 64) 0) (k % 64) ≡ 1 → Has r k
+pub has_of_bit : (r : SiteSet) (k : ℕ) → bit_at (get_or r.words (k / 64) 0) (k % 64) ≡ 1 → Has r k
 unfolding has
 has_of_bit r k h = eq-eqb _ _ h
 
@@ -40,7 +40,7 @@ either : (x y : ℕ) → max x y ≡ 1 → x < 2 → y < 2 → (x ≡ 1) ⊎ (y 
 either x y e p q = elim (cases_eq x 1) [ inl f ↦ inl f | inr n ↦ inr (omega arith) ]
 
 -- a row whose word has the bits of both words
-pub has-union : (a b c : Row) (j : ℕ) → get_or c.words (j / 64) 0 ≡ bit_or (get_or a.words (j / 64) 0) (get_or b.words (j / 64) 0) → Adds (Has a j) (Has c j) (Has b j)
+pub has-union : (a b c : SiteSet) (j : ℕ) → get_or c.words (j / 64) 0 ≡ bit_or (get_or a.words (j / 64) 0) (get_or b.words (j / 64) 0) → Adds (Has a j) (Has c j) (Has b j)
 has-union a b c j e =
     let x = get_or a.words (j / 64) 0 in
     let y = get_or b.words (j / 64) 0 in
@@ -58,8 +58,8 @@ same_place j k e f = omega arith
 pub has-insert : (ws : List ℕ) (k j : ℕ) → k / 64 < length ws → Adds (Has (record { words = ws }) j) (Has (record { words = slice_set ws (k / 64) (bit_or (get_or ws (k / 64) 0) (1 * 2 ^ (k % 64) % 2 ^ 64)) }) j) (j ≡ k)
 has-insert ws k j within =
     let v = bit_or (get_or ws (k / 64) 0) (1 * 2 ^ (k % 64) % 2 ^ 64) in
-    let a : Row = record { words = ws } in
-    let b : Row = record { words = slice_set ws (k / 64) v } in
+    let a : SiteSet = record { words = ws } in
+    let b : SiteSet = record { words = slice_set ws (k / 64) v } in
     let lower : k % 64 < 64 = omega arith in
     elim (cases_eq (j / 64) (k / 64)) [
       | inr n ↦
@@ -101,7 +101,7 @@ some_bit (suc k) n low some =
           (suc j, omega arith, bit_at-suc n j ∙ bit)
     ]
 
-module _ (a b : Row) (i e : ℕ) where
+module _ (a b : SiteSet) (i e : ℕ) where
   abbrev word : ℕ
   word = bit_and (get_or a.words i 0) (get_or b.words i 0)
 
@@ -125,7 +125,7 @@ module _ (a b : Row) (i e : ℕ) where
       let p : m / 64 ≡ i = omega arith in
       let q : m % 64 ≡ j = omega arith in
       let bits = both_bits j bit in
-      let hits : (r : Row) → bit_at (get_or r.words i 0) j ≡ 1 → Has r m = λ r h. has_of_bit r m (rw (p, q) h) in
+      let hits : (r : SiteSet) → bit_at (get_or r.words i 0) j ≡ 1 → Has r m = λ r h. has_of_bit r m (rw (p, q) h) in
       record {
         other = m;
         differs = λ f. other (sym p ∙ ap (λ n. n / 64) (sym f)) (sym q ∙ ap (λ n. n % 64) (sym f));
@@ -167,7 +167,7 @@ module _ (a b : Row) (i e : ℕ) where
       ]
 
 -- a number in both rows stands at a word that both have
-pub has_within : (a : Row) (j : ℕ) → Has a j → j / 64 < length a.words
+pub has_within : (a : SiteSet) (j : ℕ) → Has a j → j / 64 < length a.words
 has_within a j h = elim (cases_lt (j / 64) (length a.words)) [
   | inl f ↦ f
   | inr f ↦ absurd (zero-not-one (bit_at-zero (j % 64)) (ap (λ w. bit_at w (j % 64)) (sym (get_or_past a.words (j / 64) 0 f)) ∙ bit_of_has a j h))
@@ -177,13 +177,13 @@ pub no_row_has : (k : ℕ) → Has (record { words = [] }) k → ⊥
 no_row_has k h = zero-not-one (bit_at-zero (k % 64)) (bit_of_has (record { words = [] }) k h)
 
 -- a row of a table, whatever stands where there is none
-pub row_at : (rows : List Row) (i : ℕ) (row : Row) → i < length rows → row ≡ get_or rows i row → row ≡ get_or rows i (record { words = [] })
+pub row_at : (rows : List SiteSet) (i : ℕ) (row : SiteSet) → i < length rows → row ≡ get_or rows i row → row ≡ get_or rows i (record { words = [] })
 row_at [] i row h e = absurd (omega arith)
 row_at (r ∷ rows) zero row h e = e
 row_at (r ∷ rows) (suc i) row h e = row_at rows i row (omega arith) e
 
 -- a row whose word has the bits of one, and those of two others but for a number
-pub has_common : (r a b c : Row) (e k common : ℕ) → get_or c.words (k / 64) 0 ≡ bit_or (get_or r.words (k / 64) 0) common
+pub has_common : (r a b c : SiteSet) (e k common : ℕ) → get_or c.words (k / 64) 0 ≡ bit_or (get_or r.words (k / 64) 0) common
     → ((k / 64 ≡ e / 64 → ⊥) × (common ≡ bit_and (get_or a.words (k / 64) 0) (get_or b.words (k / 64) 0))) ⊎ ((k / 64 ≡ e / 64) × (common ≡ bit_and (bit_and (get_or a.words (k / 64) 0) (get_or b.words (k / 64) 0)) (bit_not w64 (1 * 2 ^ (e % 64) % 2 ^ 64))))
     → Adds (Has r k) (Has c k) (IsCommon a b e k)
 has_common r a b c e k common is which =
@@ -220,6 +220,6 @@ has_common r a b c e k common is which =
       joins = λ h. has_of_bit c k (omega (arith, m, from h, bit_at-lt x j));
     }
 
-pub has_words : (a b : Row) (k : ℕ) → get_or a.words (k / 64) 0 ≡ get_or b.words (k / 64) 0 → has a k ≡ has b k
+pub has_words : (a b : SiteSet) (k : ℕ) → get_or a.words (k / 64) 0 ≡ get_or b.words (k / 64) 0 → has a k ≡ has b k
 unfolding has
 has_words a b k e = ap (λ w. bit_at w (k % 64) == 1) e

@@ -2,8 +2,8 @@
 use Rattle.std.proofs.Common.{ℕ, [], ◌∷◌, cond, ◌==◌}
 use Rattle.safl_word.specs.Words.{Word}
 use Rattle.safl_word.specs.declared.primitive.Primitive.TheVariants.{Add, Eq}
-use Rattle.safl_check.specs.Terms.{Term, Const, Var, Op, If, Let, Call, Terms, Nil, Cons}
-use Rattle.safl_check.specs.Program.{Program}
+use Rattle.safl_term.specs.Terms.{Term, Const, Var, Op, If, Let, Call, Terms, Nil, Cons}
+use Rattle.safl_term.specs.Program.{Program}
 
 abbrev pub byte : ℕ → Word
 byte n = record { width = 8; bits = n }

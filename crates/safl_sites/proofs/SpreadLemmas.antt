@@ -3,11 +3,11 @@ use Rattle.std.proofs.Common.{◌≡◌, ℕ, suc, ◌<◌, ◌≤◌, ◌⊎◌
 use Rattle.std.proofs.lemmas.Bool.{cases_eq}
 use Rattle.std.proofs.lemmas.Grind.{get_or-set_at}
 use Rattle.std.proofs.lemmas.List.{get_or-set_other}
-use Rattle.safl_check.specs.Checked.{CheckedProgram, program_of, IsChecked}
-use Rattle.safl_check.specs.Program.{Program, unit_for}
-use Rattle.safl_check.specs.Standing.{Stands, StandsIn}
-use Rattle.safl_check.specs.Terms.{Term, Terms, Const, Var, Op, If, Let, Call, Loop, Nil, Cons}
-use Rattle.safl_sites.specs.declared.row.Row.{Row}
+use Rattle.safl_term.specs.Checked.{CheckedProgram, program_of, IsChecked}
+use Rattle.safl_term.specs.Program.{Program, unit_for}
+use Rattle.safl_term.specs.Standing.{Stands, StandsIn}
+use Rattle.safl_term.specs.Terms.{Term, Terms, Const, Var, Op, If, Let, Call, Loop, Nil, Cons}
+use Rattle.safl_sites.specs.declared.site_set.SiteSet.{SiteSet}
 use Rattle.safl_sites.specs.Conflicts.{Reaches, Here, Through}
 use Rattle.safl_sites.specs.Filling.{StandsAfter}
 use Rattle.safl_sites.specs.Parallel.{After, AfterIn, Before, BeforeIn, ComesBefore}
@@ -153,16 +153,7 @@ module _ (p : CheckedProgram) (h : IsChecked p) where
       let less : C.unit (C.caller k) < C.unit (C.caller l.site) = omega (arith, calls.2, l.unit) in
       later_site p h k l.site sk s (lower_before p h (C.caller k) (C.caller l.site) sk.within s.within less)
 
-  pub spread_none : (rows handed : List Row) → length rows ≡ suc C.sites → length handed ≡ C.functions → ((j k : ℕ) → HasAt rows k j ↔ StandsAfter C C.functions j k) → ((i k : ℕ) → HasAt handed i k → ⊥) → IsSpread C C.sites rows handed
-  spread_none rows handed a b after none = record {
-    rows_count = a;
-    handed_count = b;
-    spread = λ j k less most. absurd (omega arith);
-    left = λ j k less. after j k;
-    down = λ u j. (λ x. absurd (none u j x), λ x. absurd (omega (arith, x.later, x.most)));
-  }
-
-  pub spread_more : (m k : ℕ) (rows handed : List Row) (row joined : Row) → k ≡ suc m → k ≤ C.sites → IsSpread C k rows handed
+  pub spread_more : (m k : ℕ) (rows handed : List SiteSet) (row joined : SiteSet) → k ≡ suc m → k ≤ C.sites → IsSpread C k rows handed
       → ((j : ℕ) → Adds (HasAt rows k j) (Has row j) (HasAt handed (C.unit (C.caller k)) j))
       → ((j : ℕ) → Adds (HasAt handed (unit_for C k) j) (Has joined j) (Has row j))
       → IsSpread C m (slice_set rows k row) (slice_set handed (unit_for C k) joined)
@@ -186,16 +177,16 @@ module _ (p : CheckedProgram) (h : IsChecked p) where
         spread = λ j i less within. elim (cases_eq i k) [
           | inl f ↦
               let s : get_or (slice_set rows k row) i no_row ≡ row = get_or-set_at rows k i row no_row f (omega (arith, t.rows_count)) in
-              (λ x. subst (λ n. ComesBefore C j n) (sym f) (to j (subst (λ (r : Row). Has r j) s x)), λ x. subst (λ (r : Row). Has r j) (sym s) (from j (subst (λ n. ComesBefore C j n) f x)))
+              (λ x. subst (λ n. ComesBefore C j n) (sym f) (to j (subst (λ (r : SiteSet). Has r j) s x)), λ x. subst (λ (r : SiteSet). Has r j) (sym s) (from j (subst (λ n. ComesBefore C j n) f x)))
           | inr f ↦
               let s : get_or (slice_set rows k row) i no_row ≡ get_or rows i no_row = get_or-set_other rows k i row no_row f in
               let b = t.spread j i (omega arith) within in
-              (λ x. b.0 (subst (λ (r : Row). Has r j) s x), λ x. subst (λ (r : Row). Has r j) (sym s) (b.1 x))
+              (λ x. b.0 (subst (λ (r : SiteSet). Has r j) s x), λ x. subst (λ (r : SiteSet). Has r j) (sym s) (b.1 x))
         ];
         left = λ j i less.
             let s : get_or (slice_set rows k row) i no_row ≡ get_or rows i no_row = get_or-set_other rows k i row no_row (λ f. absurd (omega arith)) in
             let b = t.left j i (omega arith) in
-            (λ x. b.0 (subst (λ (r : Row). Has r j) s x), λ x. subst (λ (r : Row). Has r j) (sym s) (b.1 x));
+            (λ x. b.0 (subst (λ (r : SiteSet). Has r j) s x), λ x. subst (λ (r : SiteSet). Has r j) (sym s) (b.1 x));
         down = λ u j.
             let n = row_more handed (unit_for C k) joined u j (omega (arith, t.handed_count)) (down j) in
             let b = t.down u j in (

@@ -1,7 +1,7 @@
 -- Terms and their nodes.
 use Rattle.std.proofs.Common.{◌≡◌, ◌≤◌, List, [], ◌∷◌, length, refl, arith}
-use Rattle.safl_check.specs.Sizes.{nodes}
-use Rattle.safl_check.specs.Terms.{Term, Const, Var, Op, If, Let, Call, Loop}
+use Rattle.safl_term.specs.Sizes.{nodes}
+use Rattle.safl_term.specs.Terms.{Term, Const, Var, Op, If, Let, Call, Loop}
 
 pub some_node : (t : Term) → 1 ≤ nodes t
 some_node (Const w) = omega arith

@@ -2,16 +2,16 @@
 use Rattle.std.proofs.Common.{◌≡◌, ℕ, ◌≤◌, ◌⊎◌, List, length, refl, sym, subst, inl, inr}
 use Rattle.std.proofs.lemmas.List.{get_or_past}
 use Rattle.safl_word.specs.declared.primitive.Primitive.{Primitive}
-use Rattle.safl_check.specs.Terms.{Term, Terms, Const, Var, Op, If, Let, Call, Loop, Nil, Cons}
-use Rattle.safl_check.specs.declared.term.Term as declared
-use Rattle.safl_check.specs.Tree.{tree, forest}
-use Rattle.safl_sites.specs.declared.row.Row.{Row}
+use Rattle.safl_term.specs.Terms.{Term, Terms, Const, Var, Op, If, Let, Call, Loop, Nil, Cons}
+use Rattle.safl_term.specs.declared.term.Term as declared
+use Rattle.safl_term.specs.Tree.{tree, forest}
+use Rattle.safl_sites.specs.declared.site_set.SiteSet.{SiteSet}
 use Rattle.safl_sites.specs.Kept.{Uses}
 use Rattle.safl_sites.specs.Rows.{Has, HasAt, Adds, no_row}
 use Rattle.safl_sites.specs.Touched.{IsTouched, IsTouchedIn}
 use Rattle.safl_sites.proofs.AddsLemmas.{adds_as}
 
-module _ (R : List Row) (low k : ℕ) where
+module _ (R : List SiteSet) (low k : ℕ) where
   pub touch_if : {X Y : Type 0} (c a b : Term) → Adds X Y ((IsTouched R low k c ⊎ IsTouched R low k a) ⊎ IsTouched R low k b) → Adds X Y (IsTouched R low k (If c a b))
   unfolding Uses
   touch_if c a b =
@@ -87,7 +87,7 @@ module _ (R : List Row) (low k : ℕ) where
 
   pub touch_past : (i : ℕ) → length R ≤ i → ((j : ℕ) → Has no_row j → ⊥) → IsTouched R low k (Var i) → ⊥
   unfolding Uses
-  touch_past i past none h = none k (subst (λ (r : Row). Has r k) (get_or_past R i no_row past) (subst (λ j. HasAt R j k) (sym h.used) h.row))
+  touch_past i past none h = none k (subst (λ (r : SiteSet). Has r k) (get_or_past R i no_row past) (subst (λ j. HasAt R j k) (sym h.used) h.row))
 
   pub touch_tree : {X Y : Type 0} {x y : declared.Term} → x ≡ y → Adds X Y (IsTouched R low k (tree x)) → Adds X Y (IsTouched R low k (tree y))
   touch_tree {X} {Y} e h = subst (λ (z : declared.Term). Adds X Y (IsTouched R low k (tree z))) e h

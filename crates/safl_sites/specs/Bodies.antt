@@ -1,24 +1,24 @@
 -- The sites of a body whose words are kept for its conditions and bindings.
 use Rattle.std.specs.Prelude.{◌≡◌, ◌≢◌, ℕ, ◌≤◌, ◌<◌, List, length, replicate, false, get_or, ◌⊎◌, ◌↔◌}
-use Rattle.safl_check.specs.Program.{Program, unit_for, arity}
+use Rattle.safl_term.specs.Program.{Program, unit_for, arity}
 use Rattle.safl_sites.specs.declared.keep.Keeping.{Keeping}
-use Rattle.safl_sites.specs.declared.row.Row.{Row}
+use Rattle.safl_sites.specs.declared.site_set.SiteSet.{SiteSet}
 use Rattle.safl_sites.specs.Conflicts.{Reaches}
 use Rattle.safl_sites.specs.Kept.{Decides, Held}
 use Rattle.safl_sites.specs.Reach.{IsInReach}
 use Rattle.safl_sites.specs.Rows.{Has, HasAt, Meets, no_row}
 
 -- the rows have what is in reach of each unit
-pub record UnitTable (C : Program) (units : List Row) : Type 0 where
+pub record UnitTable (C : Program) (units : List SiteSet) : Type 0 where
   pub count : length units ≡ C.functions
   pub rows : (u k : ℕ) → HasAt units u k ↔ IsInReach C u k
 
 -- by what a walk found, the site is held, or decides where another site of its unit is in reach
-abbrev pub MustKeep : Program → Row → List Row → Keeping → ℕ → Type 0
+abbrev pub MustKeep : Program → SiteSet → List SiteSet → Keeping → ℕ → Type 0
 MustKeep C reach peers keeps k = Has keeps.held k ⊎ (Has keeps.decides k × Meets reach (get_or peers (unit_for C k) no_row) k)
 
 -- and is one of these
-pub record IsOwnKept (C : Program) (reach : Row) (peers : List Row) (keeps : Keeping) (from till k : ℕ) : Type 0 where
+pub record IsOwnKept (C : Program) (reach : SiteSet) (peers : List SiteSet) (keeps : Keeping) (from till k : ℕ) : Type 0 where
   pub from_on : from ≤ k
   pub before : k < till
   pub must : MustKeep C reach peers keeps k

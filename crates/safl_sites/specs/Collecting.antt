@@ -1,7 +1,7 @@
 -- The sites up to a number that conflict with one that comes before them.
 use Rattle.std.specs.Prelude.{◌≡◌, ◌≢◌, ℕ, ◌≤◌, List, length, Bool, true, false, get_or, ◌⊎◌, ◌↔◌}
-use Rattle.safl_check.specs.Program.{Program, unit_for}
-use Rattle.safl_sites.specs.declared.row.Row.{Row}
+use Rattle.safl_term.specs.Program.{Program, unit_for}
+use Rattle.safl_sites.specs.declared.site_set.SiteSet.{SiteSet}
 use Rattle.safl_sites.specs.Parallel.{ComesBefore}
 use Rattle.safl_sites.specs.Peers.{IsSiteOf}
 use Rattle.safl_sites.specs.Rows.{Has}
@@ -28,7 +28,7 @@ pub record InCollision (C : Program) (top k : ℕ) : Type 0 where
   pub collides : Collides C top later earlier
   pub one : (k ≡ later) ⊎ (k ≡ earlier)
 
-pub record IsCollected (C : Program) (top : ℕ) (arbiters : List Bool) (kept : Row) : Type 0 where
+pub record IsCollected (C : Program) (top : ℕ) (arbiters : List Bool) (kept : SiteSet) : Type 0 where
   pub count : length arbiters ≡ C.functions
   pub units : (u : ℕ) → (get_or arbiters u false ≡ true) ↔ HasCollision C top u
   pub sites : (k : ℕ) → Has kept k ↔ InCollision C top k

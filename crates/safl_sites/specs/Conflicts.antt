@@ -1,8 +1,8 @@
 -- Which sites a term reaches, and which of them conflict.
 use Rattle.std.specs.Prelude.{◌≡◌, ◌≢◌, ℕ, ◌<◌, ◌⊎◌}
-use Rattle.safl_check.specs.Program.{Program, unit_for}
-use Rattle.safl_check.specs.Terms.{Term, Terms, Const, Var, Op, If, Let, Call, Loop, Nil, Cons}
-use Rattle.safl_check.specs.Standing.{Stands}
+use Rattle.safl_term.specs.Program.{Program, unit_for}
+use Rattle.safl_term.specs.Terms.{Term, Terms, Const, Var, Op, If, Let, Call, Loop, Nil, Cons}
+use Rattle.safl_term.specs.Standing.{Stands}
 
 -- site k is in reach of a term: it stands there, or it is in reach of the body of a member of a group that is called
 -- there. A loop adds nothing but the sites in its arguments

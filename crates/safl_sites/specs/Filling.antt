@@ -1,7 +1,7 @@
 -- The tables of the bodies of the functions below a number.
 use Rattle.std.specs.Prelude.{◌≡◌, ℕ, suc, ◌<◌, List, length, ◌↔◌}
-use Rattle.safl_check.specs.Program.{Program}
-use Rattle.safl_sites.specs.declared.row.Row.{Row}
+use Rattle.safl_term.specs.Program.{Program}
+use Rattle.safl_sites.specs.declared.site_set.SiteSet.{SiteSet}
 use Rattle.safl_sites.specs.Conflicts.{Reaches}
 use Rattle.safl_sites.specs.Parallel.{After}
 use Rattle.safl_sites.specs.Rows.{HasAt}
@@ -20,7 +20,7 @@ pub record StandsAfter (C : Program) (f k b : ℕ) : Type 0 where
   pub after : After C k b (C.body body)
 
 -- what is in reach of each body below f, of the bodies of each unit there, and what each site there stands after
-pub record IsFilled (C : Program) (f : ℕ) (bodies units after : List Row) : Type 0 where
+pub record IsFilled (C : Program) (f : ℕ) (bodies units after : List SiteSet) : Type 0 where
   pub bodies_count : length bodies ≡ C.functions
   pub units_count : length units ≡ C.functions
   pub after_count : length after ≡ suc C.sites

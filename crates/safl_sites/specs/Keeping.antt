@@ -1,9 +1,9 @@
 -- What a walk down a term finds of the sites whose words are kept, slot by slot.
 use Rattle.std.specs.Prelude.{◌≡◌, ◌≢◌, ℕ, ◌≤◌, List, ◌++◌, length, map, Bool, true}
-use Rattle.safl_check.specs.Program.{Program, unit_for}
-use Rattle.safl_check.specs.Terms.{Term, Terms}
+use Rattle.safl_term.specs.Program.{Program, unit_for}
+use Rattle.safl_term.specs.Terms.{Term, Terms}
 use Rattle.safl_sites.specs.declared.keep.Keeping.{Keeping}
-use Rattle.safl_sites.specs.declared.row.Row.{Row}
+use Rattle.safl_sites.specs.declared.site_set.SiteSet.{SiteSet}
 use Rattle.safl_sites.specs.Kept.{feeds, feeds_any, feeds_each, Decides, DecidesIn, InBody, Held, HeldIn}
 use Rattle.safl_sites.specs.Parts.{terms_in}
 use Rattle.safl_sites.specs.Peers.{ArePeers}
@@ -12,7 +12,7 @@ use Rattle.safl_sites.specs.Rows.{has, Has, Adds}
 use Rattle.safl_sites.specs.Touched.{IsTouched}
 
 -- of each slot, whether its row has the site
-abbrev pub fed_by : ℕ → List Row → List Bool
+abbrev pub fed_by : ℕ → List SiteSet → List Bool
 fed_by k rows = map (λ r. has r k) rows
 
 -- k is held for another site of its unit
@@ -29,35 +29,35 @@ pub record IsHeldIn (C : Program) (k : ℕ) (fe : List Bool) (ts : Terms) : Type
   pub held : HeldIn C k other fe ts
 
 -- k is in the row of a slot, from this one on, that is used in a let's body, which has another site of its unit in reach
-pub record IsHeldHere (C : Program) (rows : List Row) (low k : ℕ) (body : Term) : Type 0 where
+pub record IsHeldHere (C : Program) (rows : List SiteSet) (low k : ℕ) (body : Term) : Type 0 where
   pub other : ℕ
   pub differs : k ≢ other
   pub same : unit_for C k ≡ unit_for C other
   pub touched : IsTouched rows low k body
   pub reached : InBody C other body
 
-pub record MayKeep (C : Program) (units peers : List Row) (slots : ℕ) (t : Term) : Type 0 where
+pub record MayKeep (C : Program) (units peers : List SiteSet) (slots : ℕ) (t : Term) : Type 0 where
   pub reach : MayReach C units slots t
   pub sites : ArePeers C C.sites peers
 
-pub record MayKeepIn (C : Program) (units peers : List Row) (slots : ℕ) (ts : Terms) : Type 0 where
+pub record MayKeepIn (C : Program) (units peers : List SiteSet) (slots : ℕ) (ts : Terms) : Type 0 where
   pub reach : MayReachIn C units slots ts
   pub sites : ArePeers C C.sites peers
 
 -- what a walk down a term joins to the sites that feed it, that decide and that are held
-pub record Walks (C : Program) (rows : List Row) (f g : Row) (a b : Keeping) (t : Term) : Type 0 where
+pub record Walks (C : Program) (rows : List SiteSet) (f g : SiteSet) (a b : Keeping) (t : Term) : Type 0 where
   pub fed : (k : ℕ) → Adds (Has f k) (Has g k) (feeds k (fed_by k rows) t ≡ true)
   pub decided : (k : ℕ) → Adds (Has a.decides k) (Has b.decides k) (Decides k (fed_by k rows) t)
   pub kept : (k : ℕ) → 1 ≤ k → k ≤ C.sites → Adds (Has a.held k) (Has b.held k) (IsHeld C k (fed_by k rows) t)
 
-pub record WalksIn (C : Program) (rows : List Row) (f g : Row) (a b : Keeping) (ts : Terms) : Type 0 where
+pub record WalksIn (C : Program) (rows : List SiteSet) (f g : SiteSet) (a b : Keeping) (ts : Terms) : Type 0 where
   pub fed : (k : ℕ) → Adds (Has f k) (Has g k) (feeds_any k (fed_by k rows) ts ≡ true)
   pub decided : (k : ℕ) → Adds (Has a.decides k) (Has b.decides k) (DecidesIn k (fed_by k rows) ts)
   pub kept : (k : ℕ) → 1 ≤ k → k ≤ C.sites → Adds (Has a.held k) (Has b.held k) (IsHeldIn C k (fed_by k rows) ts)
 
 -- the slots get a row for each binding
-pub record Binds (C : Program) (rows next : List Row) (a b : Keeping) (ts : Terms) : Type 0 where
-  pub bound : List Row
+pub record Binds (C : Program) (rows next : List SiteSet) (a b : Keeping) (ts : Terms) : Type 0 where
+  pub bound : List SiteSet
   pub joined : next ≡ rows ++ bound
   pub count : length bound ≡ terms_in ts
   pub fed : (k : ℕ) → fed_by k bound ≡ feeds_each k (fed_by k rows) ts

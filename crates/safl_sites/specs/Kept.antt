@@ -1,7 +1,7 @@
 -- Whose words a term passes on, and which sites keep their words.
 use Rattle.std.specs.Prelude.{◌≡◌, ◌≢◌, ℕ, zero, suc, ◌+◌, List, [], ◌∷◌, ◌++◌, length, replicate, Bool, true, false, ◌||◌, ◌==◌, ◌⊎◌}
-use Rattle.safl_check.specs.Program.{Program, unit_for, arity}
-use Rattle.safl_check.specs.Terms.{Term, Terms, Const, Var, Op, If, Let, Call, Loop, Nil, Cons}
+use Rattle.safl_term.specs.Program.{Program, unit_for, arity}
+use Rattle.safl_term.specs.Terms.{Term, Terms, Const, Var, Op, If, Let, Call, Loop, Nil, Cons}
 use Rattle.safl_sites.specs.Conflicts.{Reaches, ReachesIn, Conflict}
 
 -- the i-th of a list, or false

@@ -1,8 +1,8 @@
 -- Parallel terms, the earlier before the later.
 use Rattle.std.specs.Prelude.{ℕ, ◌<◌, ◌⊎◌}
-use Rattle.safl_check.specs.Program.{Program}
-use Rattle.safl_check.specs.Standing.{Stands, StandsIn}
-use Rattle.safl_check.specs.Terms.{Term, Terms, Const, Var, Op, If, Let, Call, Loop, Nil, Cons}
+use Rattle.safl_term.specs.Program.{Program}
+use Rattle.safl_term.specs.Standing.{Stands, StandsIn}
+use Rattle.safl_term.specs.Terms.{Term, Terms, Const, Var, Op, If, Let, Call, Loop, Nil, Cons}
 use Rattle.safl_sites.specs.Conflicts.{Reaches, ReachesIn}
 
 unfoldable mutual

@@ -1,7 +1,7 @@
 -- The sites of each unit, as rows.
 use Rattle.std.specs.Prelude.{◌≡◌, ℕ, ◌≤◌, List, length, ◌↔◌}
-use Rattle.safl_check.specs.Program.{Program, unit_for}
-use Rattle.safl_sites.specs.declared.row.Row.{Row}
+use Rattle.safl_term.specs.Program.{Program, unit_for}
+use Rattle.safl_sites.specs.declared.site_set.SiteSet.{SiteSet}
 use Rattle.safl_sites.specs.Rows.{HasAt}
 
 -- site k, which is at most this one, calls unit u
@@ -10,6 +10,6 @@ pub record IsSiteOf (C : Program) (top u k : ℕ) : Type 0 where
   pub most : k ≤ top
   pub unit : unit_for C k ≡ u
 
-pub record ArePeers (C : Program) (top : ℕ) (peers : List Row) : Type 0 where
+pub record ArePeers (C : Program) (top : ℕ) (peers : List SiteSet) : Type 0 where
   pub count : length peers ≡ C.functions
   pub rows : (u k : ℕ) → HasAt peers u k ↔ IsSiteOf C top u k

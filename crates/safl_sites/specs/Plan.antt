@@ -1,6 +1,6 @@
 -- Which units have arbiters, and which sites keep their words.
 use Rattle.std.specs.Prelude.{◌≡◌, ℕ, ◌<◌, ◌≤◌, Bool, true, ◌↔◌}
-use Rattle.safl_check.specs.Program.{Program, unit_for}
+use Rattle.safl_term.specs.Program.{Program, unit_for}
 use Rattle.safl_sites.specs.Conflicts.{Conflict}
 use Rattle.safl_sites.specs.Kept.{Kept}
 

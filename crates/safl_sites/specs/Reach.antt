@@ -1,8 +1,8 @@
 -- The sites in reach of the bodies of a unit, as a row.
 use Rattle.std.specs.Prelude.{◌≡◌, ℕ, ◌<◌, ◌≤◌, List, length, ◌↔◌}
-use Rattle.safl_check.specs.Program.{Program}
-use Rattle.safl_check.specs.Terms.{Term, Terms}
-use Rattle.safl_sites.specs.declared.row.Row.{Row}
+use Rattle.safl_term.specs.Program.{Program}
+use Rattle.safl_term.specs.Terms.{Term, Terms}
+use Rattle.safl_sites.specs.declared.site_set.SiteSet.{SiteSet}
 use Rattle.safl_sites.specs.Conflicts.{Reaches}
 use Rattle.safl_sites.specs.Parts.{IsPart, ArePart}
 use Rattle.safl_sites.specs.Rows.{HasAt}
@@ -15,19 +15,19 @@ pub record IsInReach (C : Program) (u k : ℕ) : Type 0 where
   pub reached : Reaches C k (C.body member)
 
 -- the rows have what is in reach of each unit below this one
-pub record ReachBelow (C : Program) (units : List Row) (u : ℕ) : Type 0 where
+pub record ReachBelow (C : Program) (units : List SiteSet) (u : ℕ) : Type 0 where
   pub count : length units ≡ C.functions
   pub top : u < C.functions
   pub rows : (v k : ℕ) → v < u → HasAt units v k ↔ IsInReach C v k
 
 -- a term of a body under so many slots, where the rows of all units that it may call are known
-pub record MayReach (C : Program) (units : List Row) (slots : ℕ) (t : Term) : Type 0 where
+pub record MayReach (C : Program) (units : List SiteSet) (slots : ℕ) (t : Term) : Type 0 where
   pub caller : ℕ
   pub part : IsPart C caller slots t
   pub below : ReachBelow C units (C.unit caller)
   pub few : C.sites ≤ 4000
 
-pub record MayReachIn (C : Program) (units : List Row) (slots : ℕ) (ts : Terms) : Type 0 where
+pub record MayReachIn (C : Program) (units : List SiteSet) (slots : ℕ) (ts : Terms) : Type 0 where
   pub caller : ℕ
   pub parts : ArePart C caller slots ts
   pub below : ReachBelow C units (C.unit caller)

@@ -1,21 +1,21 @@
 -- Sets of numbers, as rows of bits.
 use Rattle.std.specs.Prelude.{◌≡◌, ◌≢◌, ℕ, ◌/◌, ◌%◌, List, [], Bool, true, ◌==◌, ◌⊎◌, get_or}
 use Rattle.std.specs.Int.{bit_at}
-use Rattle.safl_sites.specs.declared.row.Row.{Row}
+use Rattle.safl_sites.specs.declared.site_set.SiteSet.{SiteSet}
 
 -- whether the number is in the row
-unfoldable pub has : Row → ℕ → Bool
+unfoldable pub has : SiteSet → ℕ → Bool
 has r k = bit_at (get_or r.words (k / 64) 0) (k % 64) == 1
 
-abbrev pub Has : Row → ℕ → Type 0
+abbrev pub Has : SiteSet → ℕ → Type 0
 Has r k = has r k ≡ true
 
 -- the empty row, where none is there
-abbrev pub no_row : Row
+abbrev pub no_row : SiteSet
 no_row = record { words = [] }
 
 -- the number is in the row at this place of a table
-abbrev pub HasAt : List Row → ℕ → ℕ → Type 0
+abbrev pub HasAt : List SiteSet → ℕ → ℕ → Type 0
 HasAt rows i k = Has (get_or rows i no_row) k
 
 -- what held stays, and P is all that joins it
@@ -25,13 +25,13 @@ pub record Adds (old new P : Type 0) : Type 0 where
   pub joins : P → new
 
 -- a number is in both rows, and is not this one
-pub record IsCommon (a b : Row) (except k : ℕ) : Type 0 where
+pub record IsCommon (a b : SiteSet) (except k : ℕ) : Type 0 where
   pub differs : except ≢ k
   pub first : Has a k
   pub second : Has b k
 
 -- some number is in both rows, and is not this one
-pub record Meets (a b : Row) (except : ℕ) : Type 0 where
+pub record Meets (a b : SiteSet) (except : ℕ) : Type 0 where
   pub other : ℕ
   pub differs : except ≢ other
   pub first : Has a other

@@ -1,7 +1,7 @@
 -- What comes before a site, from the sites that call the unit of the function where it stands.
 use Rattle.std.specs.Prelude.{◌≡◌, ℕ, suc, ◌≤◌, ◌<◌, List, length, ◌↔◌}
-use Rattle.safl_check.specs.Program.{Program, unit_for}
-use Rattle.safl_sites.specs.declared.row.Row.{Row}
+use Rattle.safl_term.specs.Program.{Program, unit_for}
+use Rattle.safl_sites.specs.declared.site_set.SiteSet.{SiteSet}
 use Rattle.safl_sites.specs.Filling.{StandsAfter}
 use Rattle.safl_sites.specs.Parallel.{ComesBefore}
 use Rattle.safl_sites.specs.Rows.{HasAt}
@@ -15,7 +15,7 @@ pub record HandsDown (C : Program) (todo u j : ℕ) : Type 0 where
   pub before : ComesBefore C j site
 
 -- the rows of the sites after todo have what comes before them, and those of the units what they hand down
-pub record IsSpread (C : Program) (todo : ℕ) (rows handed : List Row) : Type 0 where
+pub record IsSpread (C : Program) (todo : ℕ) (rows handed : List SiteSet) : Type 0 where
   pub rows_count : length rows ≡ suc C.sites
   pub handed_count : length handed ≡ C.functions
   pub spread : (j k : ℕ) → todo < k → k ≤ C.sites → HasAt rows k j ↔ ComesBefore C j k

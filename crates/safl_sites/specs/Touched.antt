@@ -1,18 +1,18 @@
 -- The rows of the slots that a term uses.
 use Rattle.std.specs.Prelude.{ℕ, ◌≤◌, List}
-use Rattle.safl_check.specs.Terms.{Term, Terms}
-use Rattle.safl_sites.specs.declared.row.Row.{Row}
+use Rattle.safl_term.specs.Terms.{Term, Terms}
+use Rattle.safl_sites.specs.declared.site_set.SiteSet.{SiteSet}
 use Rattle.safl_sites.specs.Kept.{Uses, UsesIn}
 use Rattle.safl_sites.specs.Rows.{HasAt}
 
 -- site k is in the row of a slot, from this one on, that is used in the term
-pub record IsTouched (rows : List Row) (low k : ℕ) (t : Term) : Type 0 where
+pub record IsTouched (rows : List SiteSet) (low k : ℕ) (t : Term) : Type 0 where
   pub slot : ℕ
   pub from : low ≤ slot
   pub used : Uses slot t
   pub row : HasAt rows slot k
 
-pub record IsTouchedIn (rows : List Row) (low k : ℕ) (ts : Terms) : Type 0 where
+pub record IsTouchedIn (rows : List SiteSet) (low k : ℕ) (ts : Terms) : Type 0 where
   pub slot : ℕ
   pub from : low ≤ slot
   pub used : UsesIn slot ts

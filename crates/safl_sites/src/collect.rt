@@ -1,22 +1,22 @@
 //! The sites that conflict, and their units.
 
 ghost use Rattle.std.specs.Prelude.{◌≡◌, ℕ, suc, ◌-◌, ◌≤◌, length, false, get_or};
-ghost use Rattle.safl_check.specs.Checked.{program_of};
+ghost use Rattle.safl_term.specs.Checked.{program_of};
 ghost use Rattle.safl_sites.specs.Collecting.{IsCollected};
 ghost use Rattle.safl_sites.specs.Peers.{ArePeers};
 ghost use Rattle.safl_sites.specs.Planned.{BeforeTable};
 
-use crate::row::Row;
-use safl_check::Checked;
+use crate::site_set::SiteSet;
+use safl_term::Checked;
 
 /// Marks the unit of a site that conflicts with one that comes before it, and both sites.
 pub fn collect_site(
     c: &Checked,
     k: u32,
-    before: &[Row],
-    peers: &[Row],
+    before: &[SiteSet],
+    peers: &[SiteSet],
     arbiters: &mut [bool],
-    kept: &mut Row,
+    kept: &mut SiteSet,
 )
     requires least { 1 ≤ k }
     requires most { k ≤ (program_of c.now).sites }
@@ -26,7 +26,7 @@ pub fn collect_site(
     ensures { IsCollected (program_of c.now) k arbiters.new kept.new }
 {
     let _functions = c.functions();
-    let unit = c.unit(c.callee(k)) as usize;
+    let unit = c.unit_for(k) as usize;
     let row = before[k as usize];
     if row.meets(&peers[unit], k) {
         arbiters[unit] = true;

@@ -1,31 +1,31 @@
 //! The tables of what is in reach of the bodies.
 
 ghost use Rattle.std.specs.Prelude.{◌≡◌, ℕ, suc, ◌<◌, length, IfOk};
-ghost use Rattle.safl_check.specs.Checked.{program_of};
+ghost use Rattle.safl_term.specs.Checked.{program_of};
 ghost use Rattle.safl_sites.specs.Filling.{IsFilled};
 ghost use Rattle.safl_sites.specs.Rows.{HasAt};
 
 use crate::parallel::mark;
 use crate::reach::reach;
-use crate::row::Row;
-use safl_check::Checked;
+use crate::site_set::SiteSet;
+use safl_term::Checked;
 use std::alloc::{AllocError, Global};
 
 /// By function, what is in reach of its body; by unit, what is in reach of the bodies of its members; and by site,
 /// what is in reach of the parallel terms before it.
 #[derive(Drop)]
 pub struct Tables {
-    pub bodies: Vec<Row>,
-    pub units: Vec<Row>,
-    pub after: Vec<Row>,
+    pub bodies: Vec<SiteSet>,
+    pub units: Vec<SiteSet>,
+    pub after: Vec<SiteSet>,
 }
 
 /// A table of empty rows.
-pub fn empty_rows(alloc: Global, count: usize) -> Result<Vec<Row>, AllocError>
+pub fn empty_rows(alloc: Global, count: usize) -> Result<Vec<SiteSet>, AllocError>
     ensures count { IfOk result (λ v. length v.items ≡ count) }
     ensures empty { IfOk result (λ v. (i k : ℕ) → HasAt v.items i k → ⊥) }
 {
-    let empty = Row::new();
+    let empty = SiteSet::new();
     let rows = vec![in alloc; empty; count]?;
     Ok(rows)
 }
@@ -48,16 +48,21 @@ pub fn fill(alloc: Global, c: &Checked) -> Result<Tables, AllocError>
     })
 }
 
-fn fill_body(c: &Checked, f: u32, bodies: &mut [Row], units: &mut [Row], after: &mut [Row])
+fn fill_body(
+    c: &Checked,
+    f: u32,
+    bodies: &mut [SiteSet],
+    units: &mut [SiteSet],
+    after: &mut [SiteSet],
+)
     requires within { f < (program_of c.now).functions }
     requires filled { IsFilled (program_of c.now) f bodies.old units.old after.old }
     ensures { IsFilled (program_of c.now) (suc f) bodies.new units.new after.new }
 {
-    let _functions = c.functions();
     let body = c.body(f);
-    let mut row = Row::new();
+    let mut row = SiteSet::new();
     reach(c, units, body, &mut row);
-    mark(c, units, body, &Row::new(), after);
+    mark(c, units, body, &SiteSet::new(), after);
     units[c.unit(f) as usize].union(&row);
     bodies[f as usize] = row;
 }

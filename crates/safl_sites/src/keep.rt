@@ -1,24 +1,24 @@
 //! Which sites' words decide a condition, or are held while the body of a let runs.
 
 ghost use Rattle.std.specs.Prelude.{◌≡◌, ℕ, ◌≤◌, length, OnOk};
-ghost use Rattle.safl_check.specs.Checked.{program_of, IsChecked};
-ghost use Rattle.safl_check.specs.Tree.{tree, forest};
+ghost use Rattle.safl_term.specs.Checked.{program_of, IsChecked};
+ghost use Rattle.safl_term.specs.Tree.{tree, forest};
 ghost use Rattle.safl_sites.specs.Kept.{InBody};
 ghost use Rattle.safl_sites.specs.Keeping.{MayKeep, MayKeepIn, IsHeldHere, Walks, WalksIn, Binds};
 ghost use Rattle.safl_sites.specs.Reach.{MayReach};
 ghost use Rattle.safl_sites.specs.Rows.{Has, Adds};
 
 use crate::reach::{reach, reach_in};
-use crate::row::Row;
+use crate::site_set::SiteSet;
 use crate::touched::touch;
-use safl_check::{Checked, Term};
+use safl_term::{Checked, Term};
 use std::alloc::AllocError;
 
 /// The sites that decide a condition, and those that are held for another site of their unit.
 #[derive(Drop)]
 pub struct Keeping {
-    pub decides: Row,
-    pub held: Row,
+    pub decides: SiteSet,
+    pub held: SiteSet,
 }
 
 /// Walks down a term. `slots` has for each slot the sites whose words it may be; those whose words the term may
@@ -27,11 +27,11 @@ pub struct Keeping {
 #[cycle(keep)]
 pub fn walk(
     c: &Checked,
-    units: &[Row],
-    peers: &[Row],
-    slots: &mut Vec<Row>,
+    units: &[SiteSet],
+    peers: &[SiteSet],
+    slots: &mut Vec<SiteSet>,
     t: &Term,
-    feeds: &mut Row,
+    feeds: &mut SiteSet,
     keeps: &mut Keeping,
 ) -> Result<(), AllocError>
     requires { MayKeep (program_of c.now) units.now peers.now (length slots.old.items) (tree t.now) }
@@ -45,7 +45,7 @@ pub fn walk(
             Ok(())
         }
         Term::If(condition, a, b) => {
-            let mut deciding = Row::new();
+            let mut deciding = SiteSet::new();
             walk(c, units, peers, slots, condition, &mut deciding, keeps)?;
             keeps.decides.union(&deciding);
             feeds.union(&deciding);
@@ -66,13 +66,13 @@ pub fn walk(
             Ok(())
         }
         Term::Call(_, k, ts) => {
-            let mut passed = Row::new();
+            let mut passed = SiteSet::new();
             walk_all(c, units, peers, slots, ts, &mut passed, keeps)?;
             feeds.insert(*k);
             Ok(())
         }
         Term::Loop(_, ts) => {
-            let mut passed = Row::new();
+            let mut passed = SiteSet::new();
             walk_all(c, units, peers, slots, ts, &mut passed, keeps)?;
             Ok(())
         }
@@ -82,11 +82,11 @@ pub fn walk(
 #[cycle(keep)]
 fn walk_all(
     c: &Checked,
-    units: &[Row],
-    peers: &[Row],
-    slots: &mut Vec<Row>,
+    units: &[SiteSet],
+    peers: &[SiteSet],
+    slots: &mut Vec<SiteSet>,
     ts: &[Term],
-    feeds: &mut Row,
+    feeds: &mut SiteSet,
     keeps: &mut Keeping,
 ) -> Result<(), AllocError>
     requires { MayKeepIn (program_of c.now) units.now peers.now (length slots.old.items) (forest ts.now) }
@@ -105,9 +105,9 @@ fn walk_all(
 #[cycle(keep)]
 fn bind_all(
     c: &Checked,
-    units: &[Row],
-    peers: &[Row],
-    slots: &mut Vec<Row>,
+    units: &[SiteSet],
+    peers: &[SiteSet],
+    slots: &mut Vec<SiteSet>,
     ts: &[Term],
     keeps: &mut Keeping,
 ) -> Result<(), AllocError>
@@ -117,7 +117,7 @@ fn bind_all(
     let Some((first, rest)) = ts.split_first() else {
         return Ok(());
     };
-    let mut row = Row::new();
+    let mut row = SiteSet::new();
     walk(c, units, peers, slots, first, &mut row, keeps)?;
     let at = slots.len();
     bind_all(c, units, peers, slots, rest, keeps)?;
@@ -129,32 +129,31 @@ fn bind_all(
 // another site of their unit in reach.
 fn hold(
     c: &Checked,
-    units: &[Row],
-    peers: &[Row],
-    slots: &[Row],
+    units: &[SiteSet],
+    peers: &[SiteSet],
+    slots: &[SiteSet],
     low: usize,
     body: &Term,
-    held: &mut Row,
+    held: &mut SiteSet,
 )
     requires { (n : ℕ) × MayKeep (program_of c.now) units.now peers.now n (tree body.now) }
     ensures { (k : ℕ) → 1 ≤ k → k ≤ (program_of c.now).sites → Adds (Has held.old k) (Has held.new k) (IsHeldHere (program_of c.now) slots.now low k (tree body.now)) }
 {
-    let _functions = c.functions();
-    let mut used = Row::new();
+    let mut used = SiteSet::new();
     touch(slots, low, body, &mut used);
-    let mut within = Row::new();
+    let mut within = SiteSet::new();
     reach_body(c, units, body, &mut within);
     let sites = c.sites();
     for done in 0..sites {
         let k = done + 1;
-        if used.contains(k) && within.meets(&peers[c.unit(c.callee(k)) as usize], k) {
+        if used.contains(k) && within.meets(&peers[c.unit_for(k) as usize], k) {
             held.insert(k);
         }
     }
 }
 
 // Puts into a set the sites in reach of a let's body, or of its arguments where it is a call.
-fn reach_body(c: &Checked, units: &[Row], body: &Term, row: &mut Row)
+fn reach_body(c: &Checked, units: &[SiteSet], body: &Term, row: &mut SiteSet)
     requires { (n : ℕ) × MayReach (program_of c.now) units.now n (tree body.now) }
     ensures { (k : ℕ) → Adds (Has row.old k) (Has row.new k) (InBody (program_of c.now) k (tree body.now)) }
 {

@@ -1,7 +1,7 @@
 //! Which sites of a body keep their words for its conditions and bindings.
 
 ghost use Rattle.std.specs.Prelude.{◌≡◌, ℕ, suc, ◌≤◌, ◌<◌, ◌↔◌, IsTrue, OnOk};
-ghost use Rattle.safl_check.specs.Checked.{program_of, first_site_of};
+ghost use Rattle.safl_term.specs.Checked.{program_of, first_site_of};
 ghost use Rattle.safl_sites.specs.Bodies.{UnitTable, MustKeep, IsOwnKept, IsBodyKept, IsKeptBelow};
 ghost use Rattle.safl_sites.specs.Peers.{ArePeers};
 ghost use Rattle.safl_sites.specs.Planned.{ReachTable};
@@ -9,18 +9,18 @@ ghost use Rattle.safl_sites.specs.Rows.{Has, Adds};
 
 use crate::fill::empty_rows;
 use crate::keep::{Keeping, walk};
-use crate::row::Row;
-use safl_check::Checked;
+use crate::site_set::SiteSet;
+use safl_term::Checked;
 use std::alloc::{AllocError, Global};
 
 /// Puts into `kept` the sites of all bodies that keep their words for a condition or a binding.
 pub fn keep_all(
     alloc: Global,
     c: &Checked,
-    units: &[Row],
-    bodies: &[Row],
-    peers: &[Row],
-    kept: &mut Row,
+    units: &[SiteSet],
+    bodies: &[SiteSet],
+    peers: &[SiteSet],
+    kept: &mut SiteSet,
 ) -> Result<(), AllocError>
     requires units { UnitTable (program_of c.now) units.now }
     requires bodies { ReachTable (program_of c.now) bodies.now }
@@ -38,10 +38,10 @@ fn keep_body(
     alloc: Global,
     c: &Checked,
     g: u32,
-    units: &[Row],
-    bodies: &[Row],
-    peers: &[Row],
-    kept: &mut Row,
+    units: &[SiteSet],
+    bodies: &[SiteSet],
+    peers: &[SiteSet],
+    kept: &mut SiteSet,
 ) -> Result<(), AllocError>
     requires within { g < (program_of c.now).functions }
     requires units { UnitTable (program_of c.now) units.now }
@@ -49,12 +49,11 @@ fn keep_body(
     requires peers { ArePeers (program_of c.now) (program_of c.now).sites peers.now }
     ensures { OnOk result ((k : ℕ) → Adds (Has kept.old k) (Has kept.new k) (IsBodyKept (program_of c.now) g k)) }
 {
-    let _functions = c.functions();
     let mut slots = empty_rows(alloc, c.params(g) as usize)?;
-    let mut feeds = Row::new();
+    let mut feeds = SiteSet::new();
     let mut keeps = Keeping {
-        decides: Row::new(),
-        held: Row::new(),
+        decides: SiteSet::new(),
+        held: SiteSet::new(),
     };
     walk(
         c,
@@ -69,7 +68,14 @@ fn keep_body(
     Ok(())
 }
 
-fn keep_own(c: &Checked, g: u32, reach: &Row, peers: &[Row], keeps: &Keeping, kept: &mut Row)
+fn keep_own(
+    c: &Checked,
+    g: u32,
+    reach: &SiteSet,
+    peers: &[SiteSet],
+    keeps: &Keeping,
+    kept: &mut SiteSet,
+)
     requires within { g < (program_of c.now).functions }
     requires peers { ArePeers (program_of c.now) (program_of c.now).sites peers.now }
     ensures { (k : ℕ) → Adds (Has kept.old k) (Has kept.new k) (IsOwnKept (program_of c.now) reach.now peers.now keeps.now (first_site_of c.now g) (first_site_of c.now (suc g)) k) }
@@ -85,7 +91,7 @@ fn keep_own(c: &Checked, g: u32, reach: &Row, peers: &[Row], keeps: &Keeping, ke
     }
 }
 
-fn must_keep(c: &Checked, k: u32, reach: &Row, peers: &[Row], keeps: &Keeping) -> bool
+fn must_keep(c: &Checked, k: u32, reach: &SiteSet, peers: &[SiteSet], keeps: &Keeping) -> bool
     requires least { 1 ≤ k }
     requires most { k ≤ (program_of c.now).sites }
     requires peers { ArePeers (program_of c.now) (program_of c.now).sites peers.now }
@@ -98,5 +104,5 @@ fn must_keep(c: &Checked, k: u32, reach: &Row, peers: &[Row], keeps: &Keeping) -
     if !keeps.decides.contains(k) {
         return false;
     }
-    reach.meets(&peers[c.unit(c.callee(k)) as usize], k)
+    reach.meets(&peers[c.unit_for(k) as usize], k)
 }

@@ -1,7 +1,7 @@
 //! Laws of plans, over the definitions alone.
 
 ghost use Rattle.std.specs.Prelude.{ℕ, Bool};
-ghost use Rattle.safl_check.specs.Program.{Program};
+ghost use Rattle.safl_term.specs.Program.{Program};
 ghost use Rattle.safl_sites.specs.Plan.{IsPlan, Suffices};
 
 /// A plan that decides which units have two sites in conflict, and which sites keep their words, has all that a

@@ -11,7 +11,7 @@ mod peers;
 mod planned;
 mod planning;
 mod reach;
-mod row;
+mod site_set;
 mod spread;
 mod touched;
 

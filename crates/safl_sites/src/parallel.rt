@@ -1,20 +1,20 @@
 //! Which sites are in reach of a term that stands before a parallel one.
 
 ghost use Rattle.std.specs.Prelude.{ℕ, ◌<◌, List, length};
-ghost use Rattle.safl_check.specs.Checked.{program_of};
-ghost use Rattle.safl_check.specs.Tree.{tree, forest};
+ghost use Rattle.safl_term.specs.Checked.{program_of};
+ghost use Rattle.safl_term.specs.Tree.{tree, forest};
 ghost use Rattle.safl_sites.specs.Parallel.{Marked, MarkedIn};
 ghost use Rattle.safl_sites.specs.Reach.{MayReach, MayReachIn};
 ghost use Rattle.safl_sites.specs.Rows.{Has, HasAt, Adds};
 
 use crate::reach::reach;
-use crate::row::Row;
-use safl_check::{Checked, Term};
+use crate::site_set::SiteSet;
+use safl_term::{Checked, Term};
 
 /// Puts into the row of each site in a term what is in reach of the parallel terms before it: of those in the
 /// term, and of those around it, which `before` has.
 #[cycle(mark)]
-pub fn mark(c: &Checked, units: &[Row], t: &Term, before: &Row, rows: &mut [Row])
+pub fn mark(c: &Checked, units: &[SiteSet], t: &Term, before: &SiteSet, rows: &mut [SiteSet])
     requires may { (slots : ℕ) × MayReach (program_of c.now) units.now slots (tree t.now) }
     requires room { (program_of c.now).sites < length rows.old }
     ensures { (b k : ℕ) → Adds (HasAt rows.old b k) (HasAt rows.new b k) (Marked (program_of c.now) (Has before.now k) k b (tree t.now)) }
@@ -41,7 +41,7 @@ pub fn mark(c: &Checked, units: &[Row], t: &Term, before: &Row, rows: &mut [Row]
 }
 
 #[cycle(mark)]
-fn mark_in(c: &Checked, units: &[Row], ts: &[Term], before: &Row, rows: &mut [Row])
+fn mark_in(c: &Checked, units: &[SiteSet], ts: &[Term], before: &SiteSet, rows: &mut [SiteSet])
     requires may { (slots : ℕ) × MayReachIn (program_of c.now) units.now slots (forest ts.now) }
     requires room { (program_of c.now).sites < length rows.old }
     ensures { (b k : ℕ) → Adds (HasAt rows.old b k) (HasAt rows.new b k) (MarkedIn (program_of c.now) (Has before.now k) k b (forest ts.now)) }

@@ -1,23 +1,23 @@
 //! The sites of each unit.
 
 ghost use Rattle.std.specs.Prelude.{IfOk};
-ghost use Rattle.safl_check.specs.Checked.{program_of};
+ghost use Rattle.safl_term.specs.Checked.{program_of};
 ghost use Rattle.safl_sites.specs.Peers.{ArePeers};
 
 use crate::fill::empty_rows;
-use crate::row::Row;
-use safl_check::Checked;
+use crate::site_set::SiteSet;
+use safl_term::Checked;
 use std::alloc::{AllocError, Global};
 
 /// By unit, the sites that call it.
-pub fn peers(alloc: Global, c: &Checked) -> Result<Vec<Row>, AllocError>
+pub fn peers(alloc: Global, c: &Checked) -> Result<Vec<SiteSet>, AllocError>
     ensures { IfOk result (λ v. ArePeers (program_of c.now) (program_of c.now).sites v.items) }
 {
     let mut peers = empty_rows(alloc, c.functions() as usize)?;
     let sites = c.sites();
     for done in 0..sites {
         let k = done + 1;
-        peers[c.unit(c.callee(k)) as usize].insert(k);
+        peers[c.unit_for(k) as usize].insert(k);
     }
     Ok(peers)
 }

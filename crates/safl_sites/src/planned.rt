@@ -1,8 +1,8 @@
 //! A checked program with its plan.
 
 use crate::planning::Findings;
-use crate::row::Row;
-use safl_check::Checked;
+use crate::site_set::SiteSet;
+use safl_term::Checked;
 use std::marker::Model;
 
 /// A checked program, what is in reach of each body, which sites conflict, which units have an arbiter, and which
@@ -10,14 +10,14 @@ use std::marker::Model;
 #[derive(Drop)]
 pub struct Planned {
     checked: Checked,
-    bodies: Vec<Row>,
-    before: Vec<Row>,
+    bodies: Vec<SiteSet>,
+    before: Vec<SiteSet>,
     arbiters: Vec<bool>,
     keeps: Vec<bool>,
 }
 
 impl Model for Planned {
-    ghost use Rattle.safl_check.specs.contracts.checked.Checked as inner;
+    ghost use Rattle.safl_term.specs.contracts.checked.Checked as inner;
     ghost use Rattle.safl_sites.specs.Planned.{PlannedProgram, IsPlanned};
     ghost use Rattle.std.specs.Coded.{codes};
 
@@ -33,16 +33,18 @@ impl Model for Planned {
 #[tactic(auto, unfolding(crate::specs::Planned::arbiter_of, crate::specs::Planned::kept_of))]
 impl Planned {
     ghost use Rattle.std.specs.Prelude.{◌≡◌, ◌<◌, ◌≤◌, ◌↔◌, IsTrue};
-    ghost use Rattle.safl_check.specs.Checked.{program_of};
+    ghost use Rattle.safl_term.specs.Checked.{program_of};
     ghost use Rattle.safl_sites.specs.Conflicts.{Reaches, Conflict};
     ghost use Rattle.safl_sites.specs.Parallel.{ComesBefore};
-    ghost use Rattle.safl_sites.specs.Plan.{IsPlan};
+    ghost use Rattle.safl_sites.specs.Kept.{Kept};
+    ghost use Rattle.safl_sites.specs.Plan.{HasArbiter, IsPlan};
     ghost use Rattle.safl_sites.specs.Planned.{IsPlanned, arbiter_of, kept_of};
 
     /// The program with what was found of it.
     pub fn new(checked: Checked, found: Findings) -> Planned
         requires { IsPlanned (record { program = checked; arbiters = found.arbiters.items; keeps = found.keeps.items }) found.bodies.items found.before.items }
-        ensures { result.program ≡ checked }
+        ensures program { result.program ≡ checked }
+        ensures plan { IsPlan (program_of checked) (arbiter_of result) (kept_of result) }
     {
         Planned {
             checked,
@@ -80,8 +82,7 @@ impl Planned {
         ensures { IsTrue result ↔ Conflict (program_of self.now.program) k other }
     {
         let c = &self.checked;
-        let _functions = c.functions();
-        if k == other || c.unit(c.callee(k)) != c.unit(c.callee(other)) {
+        if k == other || c.unit_for(k) != c.unit_for(other) {
             return false;
         }
         self.comes_before(k, other) || self.comes_before(other, k)
@@ -101,9 +102,9 @@ impl Planned {
     /// Whether the unit of a function has an arbiter.
     pub fn arbiter(&self, f: u32) -> bool
         requires { f < (program_of self.now.program).functions }
-        ensures { result ≡ arbiter_of self.now ((program_of self.now.program).unit f) }
+        ensures entry { result ≡ arbiter_of self.now ((program_of self.now.program).unit f) }
+        ensures exact { IsTrue result ↔ HasArbiter (program_of self.now.program) ((program_of self.now.program).unit f) }
     {
-        let _functions = self.checked.functions();
         self.arbiters[self.checked.unit(f) as usize]
     }
 
@@ -111,7 +112,8 @@ impl Planned {
     pub fn kept(&self, k: u32) -> bool
         requires least { 1 ≤ k }
         requires most { k ≤ (program_of self.now.program).sites }
-        ensures { result ≡ kept_of self.now k }
+        ensures entry { result ≡ kept_of self.now k }
+        ensures exact { IsTrue result ↔ Kept (program_of self.now.program) k }
     {
         self.keeps[k as usize]
     }

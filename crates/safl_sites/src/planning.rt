@@ -1,10 +1,11 @@
 //! The plan of a checked program.
 
 ghost use Rattle.std.specs.Prelude.{◌≡◌, ℕ, suc, ◌<◌, length, Bool, false, get_or, IfOk, IfErr};
-ghost use Rattle.safl_check.specs.Checked.{program_of};
+ghost use Rattle.safl_term.specs.Checked.{program_of};
 ghost use Rattle.safl_sites.specs.Collecting.{IsCollected};
 ghost use Rattle.safl_sites.specs.Peers.{ArePeers};
-ghost use Rattle.safl_sites.specs.Planned.{BeforeTable, IsPlanned};
+ghost use Rattle.safl_sites.specs.Plan.{IsPlan};
+ghost use Rattle.safl_sites.specs.Planned.{BeforeTable, IsPlanned, arbiter_of, kept_of};
 ghost use Rattle.safl_sites.specs.Rows.{has};
 
 use crate::collect::collect_site;
@@ -12,15 +13,16 @@ use crate::fill::{Tables, fill};
 use crate::kept::keep_all;
 use crate::peers::peers;
 use crate::planned::Planned;
-use crate::row::Row;
+use crate::site_set::SiteSet;
 use crate::spread::spread;
-use safl_check::Checked;
+use safl_term::Checked;
 use std::alloc::{AllocError, Global};
 
 /// The plan of a checked program: for each unit whether it needs an arbiter, and for each site whether it keeps its
-/// word. Err is want of memory alone, and hands the program back.
+/// word. Err is lack of memory alone, and hands the program back.
 pub fn plan(alloc: Global, c: Checked) -> Result<Planned, Checked>
     ensures ok { IfOk result (λ p. p.program ≡ c) }
+    ensures plan { IfOk result (λ p. IsPlan (program_of c) (arbiter_of p) (kept_of p)) }
     ensures err { IfErr result (λ back. back ≡ c) }
 {
     match find(alloc, &c) {
@@ -32,8 +34,8 @@ pub fn plan(alloc: Global, c: Checked) -> Result<Planned, Checked>
 /// What a plan is made of.
 #[derive(Drop)]
 pub struct Findings {
-    pub bodies: Vec<Row>,
-    pub before: Vec<Row>,
+    pub bodies: Vec<SiteSet>,
+    pub before: Vec<SiteSet>,
     pub arbiters: Vec<bool>,
     pub keeps: Vec<bool>,
 }
@@ -41,7 +43,6 @@ pub struct Findings {
 fn find(alloc: Global, c: &Checked) -> Result<Findings, AllocError>
     ensures { IfOk result (λ f. IsPlanned (record { program = c.now; arbiters = f.arbiters.items; keeps = f.keeps.items }) f.bodies.items f.before.items) }
 {
-    let _functions = c.functions();
     let Tables {
         bodies,
         units,
@@ -50,7 +51,7 @@ fn find(alloc: Global, c: &Checked) -> Result<Findings, AllocError>
     let mut before = after;
     spread(alloc, c, &mut before)?;
     let peers = peers(alloc, c)?;
-    let mut kept = Row::new();
+    let mut kept = SiteSet::new();
     let arbiters = collect(alloc, c, &before, &peers, &mut kept)?;
     keep_all(alloc, c, &units, &bodies, &peers, &mut kept)?;
     let keeps = listed(alloc, &kept, c.sites() + 1)?;
@@ -66,9 +67,9 @@ fn find(alloc: Global, c: &Checked) -> Result<Findings, AllocError>
 fn collect(
     alloc: Global,
     c: &Checked,
-    before: &[Row],
-    peers: &[Row],
-    kept: &mut Row,
+    before: &[SiteSet],
+    peers: &[SiteSet],
+    kept: &mut SiteSet,
 ) -> Result<Vec<bool>, AllocError>
     requires conflicts { BeforeTable (program_of c.now) before.now }
     requires peers { ArePeers (program_of c.now) (program_of c.now).sites peers.now }
@@ -84,7 +85,7 @@ fn collect(
 }
 
 // Whether each number below a bound is in a set.
-fn listed(alloc: Global, row: &Row, count: u32) -> Result<Vec<bool>, AllocError>
+fn listed(alloc: Global, row: &SiteSet, count: u32) -> Result<Vec<bool>, AllocError>
     requires { count < 4033 }
     ensures count { IfOk result (λ v. length v.items ≡ count) }
     ensures items { IfOk result (λ v. (k : ℕ) → k < count → get_or v.items k false ≡ has row.now k) }

@@ -1,18 +1,18 @@
 //! Which sites are in reach of a term.
 
 ghost use Rattle.std.specs.Prelude.{◌≡◌, ℕ};
-ghost use Rattle.safl_check.specs.Checked.{program_of, IsChecked};
-ghost use Rattle.safl_check.specs.Tree.{tree, forest};
+ghost use Rattle.safl_term.specs.Checked.{program_of, IsChecked};
+ghost use Rattle.safl_term.specs.Tree.{tree, forest};
 ghost use Rattle.safl_sites.specs.Conflicts.{Reaches, ReachesIn};
 ghost use Rattle.safl_sites.specs.Reach.{MayReach, MayReachIn};
 ghost use Rattle.safl_sites.specs.Rows.{Has, Adds};
 
-use crate::row::Row;
-use safl_check::{Checked, Term};
+use crate::site_set::SiteSet;
+use safl_term::{Checked, Term};
 
 /// Puts the sites in reach of a term into a set. `units` has the sites in reach of the bodies of each unit.
 #[cycle(reach)]
-pub fn reach(c: &Checked, units: &[Row], t: &Term, row: &mut Row)
+pub fn reach(c: &Checked, units: &[SiteSet], t: &Term, row: &mut SiteSet)
     requires { (slots : ℕ) × MayReach (program_of c.now) units.now slots (tree t.now) }
     ensures { (k : ℕ) → Adds (Has row.old k) (Has row.new k) (Reaches (program_of c.now) k (tree t.now)) }
 {
@@ -39,7 +39,7 @@ pub fn reach(c: &Checked, units: &[Row], t: &Term, row: &mut Row)
 }
 
 #[cycle(reach)]
-pub fn reach_in(c: &Checked, units: &[Row], ts: &[Term], row: &mut Row)
+pub fn reach_in(c: &Checked, units: &[SiteSet], ts: &[Term], row: &mut SiteSet)
     requires { (slots : ℕ) × MayReachIn (program_of c.now) units.now slots (forest ts.now) }
     ensures { (k : ℕ) → Adds (Has row.old k) (Has row.new k) (ReachesIn (program_of c.now) k (forest ts.now)) }
 {

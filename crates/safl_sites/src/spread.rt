@@ -1,20 +1,20 @@
 //! What comes before a site, through all callers.
 
 ghost use Rattle.std.specs.Prelude.{◌≡◌, ℕ, suc, ◌-◌, ◌≤◌, length, OnOk, ◌↔◌};
-ghost use Rattle.safl_check.specs.Checked.{program_of};
+ghost use Rattle.safl_term.specs.Checked.{program_of};
 ghost use Rattle.safl_sites.specs.Filling.{StandsAfter};
 ghost use Rattle.safl_sites.specs.Planned.{BeforeTable};
 ghost use Rattle.safl_sites.specs.Rows.{HasAt};
 ghost use Rattle.safl_sites.specs.Spreading.{IsSpread};
 
 use crate::fill::empty_rows;
-use crate::row::Row;
-use safl_check::Checked;
+use crate::site_set::SiteSet;
+use safl_term::Checked;
 use std::alloc::{AllocError, Global};
 
 /// Adds to the row of each site what comes before the sites that call the unit of its function. A callee's unit is
 /// below its caller's, so that the sites go downwards.
-pub fn spread(alloc: Global, c: &Checked, rows: &mut [Row]) -> Result<(), AllocError>
+pub fn spread(alloc: Global, c: &Checked, rows: &mut [SiteSet]) -> Result<(), AllocError>
     requires count { length rows.old ≡ suc (program_of c.now).sites }
     requires after { (j k : ℕ) → HasAt rows.old k j ↔ StandsAfter (program_of c.now) (program_of c.now).functions j k }
     ensures { OnOk result (BeforeTable (program_of c.now) rows.new) }
@@ -27,7 +27,7 @@ pub fn spread(alloc: Global, c: &Checked, rows: &mut [Row]) -> Result<(), AllocE
     Ok(())
 }
 
-fn spread_site(c: &Checked, k: u32, handed: &mut [Row], rows: &mut [Row])
+fn spread_site(c: &Checked, k: u32, handed: &mut [SiteSet], rows: &mut [SiteSet])
     requires least { 1 ≤ k }
     requires most { k ≤ (program_of c.now).sites }
     requires spread { IsSpread (program_of c.now) k rows.old handed.old }
@@ -37,5 +37,5 @@ fn spread_site(c: &Checked, k: u32, handed: &mut [Row], rows: &mut [Row])
     let mut row = rows[k as usize];
     row.union(&handed[c.unit(c.caller(k)) as usize]);
     rows[k as usize] = row;
-    handed[c.unit(c.callee(k)) as usize].union(&row);
+    handed[c.unit_for(k) as usize].union(&row);
 }

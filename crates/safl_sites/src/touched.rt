@@ -1,16 +1,16 @@
 //! Which sites' words are in the slots that a term uses.
 
 ghost use Rattle.std.specs.Prelude.{ℕ};
-ghost use Rattle.safl_check.specs.Tree.{tree, forest};
+ghost use Rattle.safl_term.specs.Tree.{tree, forest};
 ghost use Rattle.safl_sites.specs.Rows.{Has, Adds};
 ghost use Rattle.safl_sites.specs.Touched.{IsTouched, IsTouchedIn};
 
-use crate::row::Row;
-use safl_check::Term;
+use crate::site_set::SiteSet;
+use safl_term::Term;
 
 /// Puts into a set what the rows of the slots have that are used in a term, from a first slot on.
 #[cycle(touch)]
-pub fn touch(slots: &[Row], low: usize, t: &Term, row: &mut Row)
+pub fn touch(slots: &[SiteSet], low: usize, t: &Term, row: &mut SiteSet)
     ensures { (k : ℕ) → Adds (Has row.old k) (Has row.new k) (IsTouched slots.now low k (tree t.now)) }
 {
     match t {
@@ -36,7 +36,7 @@ pub fn touch(slots: &[Row], low: usize, t: &Term, row: &mut Row)
 }
 
 #[cycle(touch)]
-fn touch_in(slots: &[Row], low: usize, ts: &[Term], row: &mut Row)
+fn touch_in(slots: &[SiteSet], low: usize, ts: &[Term], row: &mut SiteSet)
     ensures { (k : ℕ) → Adds (Has row.old k) (Has row.new k) (IsTouchedIn slots.now low k (forest ts.now)) }
 {
     if let Some((first, rest)) = ts.split_first() {

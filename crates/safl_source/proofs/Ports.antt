@@ -2,16 +2,16 @@
 use Rattle.std.proofs.Common.{◌≡◌, ℕ, List, [], ◌∷◌, ◌++◌, map, length, Bool, true, false, cond, bytes_eq, refl, ap, ◌∙◌, arith}
 use Rattle.std.specs.Prelude.{codes}
 use Rattle.std.proofs.lemmas.Slice.Eq.{bytes_eq-Decides}
-use Rattle.safl_check.specs.Checked.{CheckedProgram, program_of}
+use Rattle.safl_term.specs.Checked.{CheckedProgram, program_of}
 use Rattle.safl_net.specs.Netlist.{Netlist, Signal, Kind, Input, Reg, Wire}
 use Rattle.safl_net.specs.Runs.{is_argument}
-use Rattle.safl_run.specs.Arguments.{argument_widths}
-use Rattle.safl_unit.specs.Equations.{Choice}
-use Rattle.safl_unit.specs.Names.{names_of}
-use Rattle.safl_unit.specs.Layout.{Line, named, each_line, input_kind}
-use Rattle.safl_unit.specs.Scheme.{Scheme}
-use Rattle.safl_compile.proofs.Declaring.{params_long}
-use Rattle.safl_compile.proofs.Layers.{not_start}
+use Rattle.safl_sim.specs.Arguments.{argument_widths}
+use Rattle.safl_circuit.specs.Equations.{Choice}
+use Rattle.safl_circuit.specs.Names.{names_of}
+use Rattle.safl_circuit.specs.Layout.{Line, named, each_line, input_kind}
+use Rattle.safl_circuit.specs.Scheme.{Scheme}
+use Rattle.safl_unit.proofs.Declaring.{params_long}
+use Rattle.safl_unit.proofs.Layers.{not_start}
 
 -- the widths of the lines whose name is not `start`
 abbrev port_widths : List Line → List ℕ

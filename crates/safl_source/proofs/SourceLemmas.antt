@@ -1,19 +1,20 @@
 -- A source's program and its first fault, from the laws of the grammar and of checking.
-use Rattle.std.proofs.Common.{◌≡◌, ℕ, List, Option, Some, None, ◌⊎◌, inl, inr, refl, sym, ap, ◌∙◌, subst, ⊎_elim}
+use Rattle.std.proofs.Common.{◌≡◌, ℕ, ◌≤◌, List, [], ◌∷◌, Option, Some, None, ◌⊎◌, inl, inr, refl, sym, ap, ◌∙◌, subst, ⊎_elim, arith}
+use Rattle.std.specs.List.{AllByRecursion}
 use Rattle.std.specs.Prelude.{Result, Ok, Err, IfErr}
 use Rattle.safl_word.specs.declared.fault.Fault.{Fault}
-use Rattle.safl_check.specs.Program.{Program}
+use Rattle.safl_term.specs.Program.{Program}
 use Rattle.safl_tree.specs.Laws as grammar
 use Rattle.safl_tree.specs.Source.{SpellsProgram}
-use Rattle.safl_tree.specs.Tree.{Definition}
-use Rattle.safl_typing.specs.Forms.{Form, IsFormOf}
+use Rattle.safl_tree.specs.Tree.{Definition, depth}
+use Rattle.safl_typing.specs.Forms.{Form, AreShallow, IsFormOf}
 use Rattle.safl_typing.specs.Laws.{OneForm, FaultOrForm}
 use Rattle.safl_typing.specs.Walk.{first_fault}
 use Rattle.safl_typing.specs.declared.typed.CheckErr.{CheckErr}
 use Rattle.safl_typing.specs.declared.typed.CheckErr.TheVariants as errors
-use Rattle.safl_checker.specs.Answers.{RefusesProgram}
-use Rattle.safl_checker.specs.Numbered.{program_in}
-use Rattle.safl_unit.specs.Names.{Names}
+use Rattle.safl_check.specs.Answers.{RefusesProgram}
+use Rattle.safl_check.specs.Numbered.{program_in}
+use Rattle.safl_circuit.specs.Names.{Names}
 use Rattle.safl_source.specs.Laws.{OneProgram, ProgramOrFault, NotBoth, OneFault}
 use Rattle.safl_source.specs.Sources.{IsSourceOf, HasFirstFault, syntax_fault, check_fault, RefusesSource, names_in}
 
@@ -22,14 +23,19 @@ some_is f g e = cc
 
 -- ---- refusals
 
-refuses : (source : List ℕ) (ds : List Definition) (e : CheckErr) → SpellsProgram source ds → RefusesProgram ds e → RefusesSource source e
-refuses source ds (errors.Refused f) spelled h = check_fault ds spelled h
-refuses source ds errors.NoMemory spelled h = tt
+shallower : (ds : List Definition) → AllByRecursion (λ d. depth d.body ≤ 1100) ds → AreShallow ds
+shallower [] h = tt
+shallower (d ∷ ds) h = (omega (arith, h.0), shallower ds h.1)
+
+refuses : grammar.SourcesAreShallow → (source : List ℕ) (ds : List Definition) (e : CheckErr) → SpellsProgram source ds → RefusesProgram ds e → RefusesSource source e
+refuses texts source ds (errors.Refused f) spelled h = check_fault ds spelled h.0
+refuses texts source ds errors.TooDeep spelled h = h.1 (shallower ds (texts source ds spelled))
+refuses texts source ds errors.NoMemory spelled h = tt
 
 -- a refusal of the program is one of its source
-pub if_refuses : {A : Type 0} (r : Result A CheckErr) (source : List ℕ) (ds : List Definition) → SpellsProgram source ds → IfErr r (RefusesProgram ds) → IfErr r (RefusesSource source)
-if_refuses (Ok a) source ds spelled h = h
-if_refuses (Err e) source ds spelled h = refuses source ds e spelled h
+pub if_refuses : grammar.SourcesAreShallow → {A : Type 0} (r : Result A CheckErr) (source : List ℕ) (ds : List Definition) → SpellsProgram source ds → IfErr r (RefusesProgram ds) → IfErr r (RefusesSource source)
+if_refuses texts (Ok a) source ds spelled h = h
+if_refuses texts (Err e) source ds spelled h = refuses texts source ds e spelled h
 
 -- ---- laws
 

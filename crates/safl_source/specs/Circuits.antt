@@ -1,12 +1,12 @@
 -- The circuit of a program.
-use Rattle.safl_check.specs.Program.{Program}
+use Rattle.safl_term.specs.Program.{Program}
 use Rattle.safl_net.specs.Netlist.{Netlist}
 use Rattle.safl_sites.specs.Plan.{IsPlan}
-use Rattle.safl_unit.specs.Equations.{Choice}
-use Rattle.safl_unit.specs.Names.{Names}
-use Rattle.safl_unit.specs.Layout.{HasPlan}
-use Rattle.safl_unit.specs.Scheme.{Scheme}
-use Rattle.safl_unit.specs.Theorem.{IsCircuit}
+use Rattle.safl_circuit.specs.Equations.{Choice}
+use Rattle.safl_circuit.specs.Names.{Names}
+use Rattle.safl_circuit.specs.Layout.{HasPlan}
+use Rattle.safl_circuit.specs.Scheme.{Scheme}
+use Rattle.safl_circuit.specs.Theorem.{IsCircuit}
 
 -- The netlist has exactly the arbiters and kept words of the program's plan: no other registers and named wires, each cycle as
 -- the equations say, and in its runs it does what the program means

@@ -1,8 +1,8 @@
 -- What is claimed of sources.
 use Rattle.std.specs.Prelude.{◌≡◌, ℕ, List, ◌⊎◌}
 use Rattle.safl_word.specs.declared.fault.Fault.{Fault}
-use Rattle.safl_check.specs.Program.{Program}
-use Rattle.safl_unit.specs.Names.{Names}
+use Rattle.safl_term.specs.Program.{Program}
+use Rattle.safl_circuit.specs.Names.{Names}
 use Rattle.safl_source.specs.Sources.{IsSourceOf, HasFirstFault}
 
 -- one program at most, with its names

@@ -3,13 +3,13 @@ use Rattle.std.specs.Prelude.{◌≡◌, ℕ, List, Some}
 use Rattle.safl_word.specs.declared.fault.Fault.{Fault}
 use Rattle.safl_tree.specs.Tree.{Definition}
 use Rattle.safl_tree.specs.Source.{SpellsProgram, SyntaxFault}
-use Rattle.safl_check.specs.Program.{Program}
+use Rattle.safl_term.specs.Program.{Program}
 use Rattle.safl_typing.specs.Forms.{Form, IsFormOf}
 use Rattle.safl_typing.specs.Walk.{first_fault}
 use Rattle.safl_typing.specs.declared.typed.CheckErr.{CheckErr}
 use Rattle.safl_typing.specs.declared.typed.CheckErr.TheVariants as errors
-use Rattle.safl_checker.specs.Numbered.{program_in, name_in, param_names_in}
-use Rattle.safl_unit.specs.Names.{Names}
+use Rattle.safl_check.specs.Numbered.{program_in, name_in, param_names_in}
+use Rattle.safl_circuit.specs.Names.{Names}
 
 -- the names of a form
 abbrev pub names_in : Form → Names
@@ -29,7 +29,8 @@ pub data HasFirstFault (source : List ℕ) (f : Fault) : Type 0 where
   syntax_fault : SyntaxFault source f → HasFirstFault source f
   check_fault : (ds : List Definition) → SpellsProgram source ds → first_fault ds ≡ Some f → HasFirstFault source f
 
--- a refusal is the first fault of the source; want of memory says nothing
+-- a refusal is the first fault of the source; no source is too deep, and out of memory says nothing
 abbrev pub RefusesSource : List ℕ → CheckErr → Type 0
 RefusesSource source (errors.Refused f) = HasFirstFault source f
+RefusesSource source errors.TooDeep = ⊥
 RefusesSource source errors.NoMemory = Unit {0}

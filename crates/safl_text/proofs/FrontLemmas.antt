@@ -14,7 +14,8 @@ use Rattle.safl_word.proofs.Lexemes.{same_tail, name_longest, number_longest, No
 use Rattle.safl_word.proofs.Sizes.{sized_longest}
 use Rattle.safl_word.proofs.Next.{fits_or_passes}
 use Rattle.safl_word.proofs.Fronts.{NoPair, pair_longest, lone_longest, foreign}
-use Rattle.safl_text.specs.Fronts.{EndsRun, IsRun, HasSize, HasNoSize, begins_comment, HasNoPair, IsOther, Begins}
+use Rattle.safl_word.specs.Runs.{EndsRun, IsRun}
+use Rattle.safl_text.specs.Fronts.{HasSize, HasNoSize, begins_comment, HasNoPair, IsOther, Begins}
 use Rattle.safl_text.specs.declared.front.Front.TheVariants as fronts
 
 -- the front and the rest of a text
@@ -27,11 +28,6 @@ front_is text u v n e l = (
 run_head : (p : ℕ → Bool) (c : ℕ) (x : List ℕ) (n : ℕ) → IsRun p (c ∷ x) n → p c ≡ true → 1 ≤ n
 run_head p c x zero r h = let e = r.ends in cc
 run_head p c x (suc n) r h = omega arith
-
--- the first byte passes, so the run has one
-pub run_some : (p : ℕ → Bool) (text : List ℕ) (n : ℕ) → 0 < length text → IsRun p text n → p (get_or text 0 0) ≡ true → 1 ≤ n
-run_some p [] n lt r h = absurd (omega arith)
-run_some p (c ∷ x) n lt r h = run_head p c x n r h
 
 name_in : (c : ℕ) → begins_name c ≡ true → in_name c ≡ true
 name_in c h = by_test (begins_name c) (between 48 57 c) h

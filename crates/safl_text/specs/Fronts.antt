@@ -1,23 +1,12 @@
 -- What stands at the front of a text.
-use Rattle.std.specs.Prelude.{◌≡◌, ◌≢◌, ℕ, ◌<◌, ◌≤◌, ◌==◌, ◌&&◌, List, [], ◌∷◌, ◌++◌, length, take, drop, slice_index, Bool, true, false, Some}
-use Rattle.std.specs.List.{list_all}
+use Rattle.std.specs.Prelude.{◌≡◌, ◌≢◌, ℕ, ◌<◌, ◌≤◌, ◌==◌, ◌&&◌, List, [], ◌∷◌, ◌++◌, length, take, drop, slice_index, Bool, false, Some}
 use Rattle.safl_word.specs.Numerals.{is_digit, IsNumeral}
+use Rattle.safl_word.specs.Runs.{IsRun}
 use Rattle.safl_word.specs.Tokens.{sym_text, is_blank, begins_name, base_of, Piece, Blank, Comment, Lexeme, text_of, text_of_all, StandsBefore, StandAll, tokens_from, BreaksAtFirst}
 use Rattle.safl_word.specs.declared.token.Sym.{Sym}
 use Rattle.safl_word.specs.declared.token.Token.{Token}
 use Rattle.safl_text.specs.declared.front.Front.{Front}
 use Rattle.safl_text.specs.declared.front.Front.TheVariants as fronts
-
--- the text is at its end, or its first byte does not pass
-abbrev pub EndsRun : (ℕ → Bool) → List ℕ → Type 0
-EndsRun p [] = Unit {0}
-EndsRun p (c ∷ rest) = p c ≡ false
-
--- the first n bytes pass, and no more
-pub record IsRun (p : ℕ → Bool) (text : List ℕ) (n : ℕ) : Type 0 where
-  pub within : n ≤ length text
-  pub passes : list_all p (take n text) ≡ true
-  pub ends : EndsRun p (drop n text)
 
 -- a `'`, the letter of a base and a run of its digits
 pub record HasSize (text : List ℕ) (base n : ℕ) : Type 0 where

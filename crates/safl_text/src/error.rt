@@ -6,7 +6,7 @@ ghost use Rattle.safl_text.specs.declared.error.LexErr.TheVariants.{NoMemory};
 use safl_word::Fault;
 use std::alloc::{AllocError, AllocFailed};
 
-/// The first lexical fault, or want of memory.
+/// The first lexical fault, or lack of memory.
 #[derive(Clone, Copy, Debug, PartialEq, Eq)]
 pub enum LexErr {
     Refused(Fault),

@@ -1,11 +1,13 @@
-//! What stands at the front of a text.
+//! What stands at the start of a text.
 
 ghost use Rattle.std.specs.Prelude.{◌≡◌, ◌+◌, ◌<◌, ◌≤◌, ◌∷◌, ◌==◌, not, length, take, drop, slice_index, true, false, IfSome, IfNone};
 ghost use Rattle.safl_word.specs.Numerals.{is_digit, IsNumeral};
-ghost use Rattle.safl_word.specs.Tokens.{is_blank, begins_name, in_name, base_of, sym_text};
-ghost use Rattle.safl_text.specs.Fronts.{IsRun, HasSize, HasNoSize, HasNoPair, IsOther, begins_comment, Begins};
+ghost use Rattle.safl_word.specs.Runs.{IsRun};
+ghost use Rattle.safl_word.specs.Tokens.{begins_name, in_name, sym_text};
+ghost use Rattle.safl_text.specs.Fronts.{HasSize, HasNoSize, HasNoPair, IsOther, begins_comment, Begins};
 
 use crate::symbols::{key_of, lone_symbol, symbol_pair};
+use safl_word::bytes::{base_of, digits_length, is_blank, is_digit, line_length};
 use safl_word::word::DIGITS_MAX;
 use safl_word::{Rule, Sym, TokenKind, numeral};
 
@@ -150,13 +152,6 @@ fn pair_at(text: &[u8]) -> Option<Sym>
     }
 }
 
-// Space, tab, carriage return and line feed.
-fn is_blank(c: u8) -> bool
-    ensures { result ≡ is_blank c }
-{
-    matches!(c, b' ' | b'\t' | b'\r' | b'\n')
-}
-
 // A letter or `_`.
 fn begins_name(c: u8) -> bool
     ensures { result ≡ begins_name c }
@@ -171,60 +166,12 @@ fn in_name(c: u8) -> bool
     matches!(c, b'A'..=b'Z' | b'a'..=b'z' | b'_' | b'0'..=b'9')
 }
 
-// A digit of base 2, 10 or 16.
-fn is_digit(base: u8, c: u8) -> bool
-    ensures { result ≡ is_digit base c }
-{
-    match c {
-        b'0'..=b'9' => c - b'0' < base,
-        b'A'..=b'F' => c - b'A' + 10 < base,
-        b'a'..=b'f' => c - b'a' + 10 < base,
-        _ => false,
-    }
-}
-
-// The base that a letter stands for.
-fn base_of(letter: u8) -> Option<u8>
-    ensures { result ≡ base_of letter }
-{
-    match letter {
-        b'd' => Some(10),
-        b'h' => Some(16),
-        b'b' => Some(2),
-        _ => None,
-    }
-}
-
 // How many bytes of a name the text begins with.
 fn name_length(text: &[u8]) -> usize
     ensures { IsRun in_name text.now result }
 {
     for (i, c) in text.iter().enumerate() {
         if !in_name(*c) {
-            return i;
-        }
-    }
-    text.len()
-}
-
-// How many digits of the base the text begins with.
-fn digits_length(base: u8, text: &[u8]) -> usize
-    ensures { IsRun (is_digit base) text.now result }
-{
-    for (i, c) in text.iter().enumerate() {
-        if !is_digit(base, *c) {
-            return i;
-        }
-    }
-    text.len()
-}
-
-// How many bytes stand before the line feed.
-fn line_length(text: &[u8]) -> usize
-    ensures { IsRun (λ c. not (c == 10)) text.now result }
-{
-    for (i, c) in text.iter().enumerate() {
-        if *c == b'\n' {
             return i;
         }
     }

@@ -1,6 +1,7 @@
 //! From bytes to tokens.
 
 ghost use Rattle.std.specs.Prelude.{◌≡◌, ◌≤◌, length, IfOk, IfErr};
+ghost use Rattle.safl_word.specs.declared.word.TheConstants.{SOURCE_MAX};
 ghost use Rattle.safl_word.specs.Tokens.{HasTokens};
 ghost use Rattle.safl_text.specs.Lexing.{Refuses};
 ghost use Rattle.safl_text.specs.Spans.{LieInOrder};
@@ -9,9 +10,6 @@ use crate::error::LexErr;
 use crate::front::{Front, front_of};
 use safl_word::{Fault, Token};
 use std::alloc::Global;
-
-/// The most bytes of a source.
-pub const SOURCE_MAX: usize = 1_048_576;
 
 /// The tokens of a source of at most `SOURCE_MAX` bytes, in order, or the first lexical fault.
 pub fn lex(alloc: Global, source: &[u8]) -> Result<Vec<Token>, LexErr>
@@ -35,12 +33,7 @@ pub fn lex(alloc: Global, source: &[u8]) -> Result<Vec<Token>, LexErr>
                 })?;
             }
             Front::Broken(rule) => {
-                return Err(LexErr::Refused(Fault {
-                    rule,
-                    place: place as u32,
-                    first: 0,
-                    second: 0,
-                }));
+                return Err(LexErr::Refused(Fault::new(rule, place as u32)));
             }
         }
     }

@@ -10,5 +10,5 @@ mod symbols;
 mod tests;
 
 pub use crate::error::LexErr;
-pub use crate::lexer::{SOURCE_MAX, lex};
+pub use crate::lexer::lex;
 pub use safl_word::{Key, Sym, Token, TokenKind};

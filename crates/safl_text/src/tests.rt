@@ -1,7 +1,7 @@
 //! Worked rows.
 
-use crate::{Key, LexErr, SOURCE_MAX, Sym, Token, TokenKind, lex};
-use safl_word::{Fault, Rule};
+use crate::{Key, LexErr, Sym, Token, TokenKind, lex};
+use safl_word::{Fault, Rule, SOURCE_MAX};
 use std::process::Abort;
 use std::test::Fail;
 
@@ -22,15 +22,7 @@ fn has_kinds(
 fn has_fault(rt: &(impl Abort + AllocGlobal), source: &[u8], rule: Rule, place: u32) {
     assert!(rt; source.len() <= SOURCE_MAX);
     let refused = lex(rt.alloc(), source).err();
-    assert_eq!(rt;
-        refused,
-        Some(LexErr::Refused(Fault {
-            rule,
-            place,
-            first: 0,
-            second: 0
-        }))
-    );
+    assert_eq!(rt; refused, Some(LexErr::Refused(Fault::new(rule, place))));
 }
 
 #[test]

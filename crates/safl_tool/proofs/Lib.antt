@@ -1,8 +1,9 @@
-pub mod Accepting
-pub mod Telling
 pub mod Reading
+pub mod Ending
+pub mod Giving
+pub mod Following
 pub mod Simulated
 pub mod Walked
 pub mod Ran
 pub mod Joining
-pub mod Complete
+pub mod Kept

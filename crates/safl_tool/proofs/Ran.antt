@@ -1,8 +1,6 @@
 -- What a run of a Verilog file says.
-use Rattle.std.proofs.Common.{◌≡◌, ℕ, zero, suc, ◌+◌, ◌<◌, ◌≤◌, List, [], ◌∷◌, ◌++◌, map, length, drop, Option, Some, None, slice_get, slice_index_or, refl, sym, ap, subst, ◌∙◌, arith, append_assoc}
-use Rattle.std.specs.Prelude.{IfSome}
+use Rattle.std.proofs.Common.{◌≡◌, ℕ, zero, suc, ◌+◌, ◌<◌, ◌≤◌, List, [], ◌∷◌, ◌++◌, map, length, drop, Option, Some, None, false, slice_get, slice_index_or, refl, sym, ap, subst, ◌∙◌, arith, append_assoc, inl, inr}
 use Rattle.safl_word.specs.Words.{Word}
-use Rattle.safl_io.specs.Reading.{HasFile}
 use Rattle.safl_net.specs.declared.cell.Sig.{Sig}
 use Rattle.safl_net.specs.Netlist.{Netlist, Signal, AllSet, IsSet}
 use Rattle.safl_net.specs.Making.{numbers, kind_at, kind_in, cell_in, name_at}
@@ -13,24 +11,22 @@ use Rattle.safl_order.specs.Order.{operands_in, Leads, IsLoop}
 use Rattle.safl_order.specs.Order
 use Rattle.safl_verilog.specs.declared.fault.VFault.{VFault}
 use Rattle.safl_verilog.specs.Reads.{Reads, HasFault}
-use Rattle.safl_run.specs.declared.done.Done.{Done}
-use Rattle.safl_run.specs.Arguments.{argument_widths}
-use Rattle.safl_run.specs.Outcomes.{IsRun, IsDone, IsNotDone}
-use Rattle.safl_tool.specs.Limits.{verilog_max}
-use Rattle.safl_tool.specs.Lines.{count_line, argument_line}
-use Rattle.safl_tool.specs.VerilogLines.{verilog_line, loop_line, spaced, spaced_name}
-use Rattle.safl_tool.specs.Simulating.{end_status, outcome_text}
-use Rattle.safl_tool.specs.Running.{IsRunnable, RunsText, IsMisrun, IsUnrunnable, faulty, looped, RunSays, IsRunLine}
-use Rattle.safl_tool.specs.Outside.{ShelfState, SinkState}
-use Rattle.safl_tool.specs.Refusals.{RefusesReading, RefusesArguments, Explains, Prints, PrintFails}
-use Rattle.safl_tool.specs.RunRefusals.{AreKnown, TellsLine, RefusesNet, RefusesTextRun, ExplainsRun}
+use Rattle.safl_sim.specs.declared.done.Done.{Done}
+use Rattle.safl_sim.specs.Arguments.{argument_widths}
+use Rattle.safl_sim.specs.Outcomes.{IsRun, IsDone, IsNotDone}
+use Rattle.safl_tool.specs.CommandTasks.{RefusesNet, RefusesText}
+use Rattle.safl_tool.specs.Endings.{may_give}
+use Rattle.safl_tool.specs.VerilogLines.{AreKnown, verilog_line, loop_line, spaced, spaced_name}
+use Rattle.safl_tool.specs.Running.{IsRunnable, faulty, looped}
+use Rattle.safl_tool.specs.Refusals.{RefusesBy, RefusesArguments, HasLine}
 use Rattle.safl_tool.specs.declared.status.Status.{Status}
 use Rattle.safl_tool.specs.declared.status.Status.TheVariants as status
 use Rattle.safl_tool.specs.declared.refusal.Refusal.{Refusal}
-use Rattle.safl_tool.specs.declared.refusal.Refusal.TheVariants as refusal
-use Rattle.safl_tool.specs.declared.run_file.RunErr.{RunErr}
-use Rattle.safl_tool.specs.declared.run_file.RunErr.TheVariants as errors
-use Rattle.safl_tool.proofs.Accepting.{of_file, memory_explains, reading_explains, printing_explains}
+use Rattle.safl_tool.proofs.Ending.{refuses_more}
+
+-- nothing is given where a text, or its arguments, are refused
+pub text_quiet : (name : List ℕ) (args : List (List ℕ)) (text : List ℕ) (s : Status) (line : List ℕ) → RefusesText name args text s line → may_give s ≡ false
+text_quiet name args text s line r = elim r [ inl f ↦ ap may_give f.0 | inr m ↦ ap may_give m.0 ]
 
 get_below : {A : Type 0} (xs : List A) (i : ℕ) (x : A) → slice_get xs i ≡ Some x → i < length xs
 get_below [] i x e = absurd (cc)
@@ -108,61 +104,18 @@ pub names_all : (n : Netlist) (xs : List Sig) (i : ℕ) (out : List ℕ) → len
 names_all n xs i out h inv = sym (append_none out) ∙ ap (λ l. out ++ spaced (names_at n l)) (sym (drop_end xs i h)) ∙ inv
 
 -- what tells the line of a fault or of a loop refuses the text
-pub fault_refuses : (name text : List ℕ) (f : VFault) (r : RunErr) → length text ≤ verilog_max → HasFault text f → TellsLine (verilog_line name text f) r → RefusesNet name text r
-fault_refuses name text f (errors.Verilog line) small h t = faulty f small h t
-fault_refuses name text f (errors.Other refusal.NoMemory) small h t = tt
-fault_refuses name text f (errors.Other _) small h never = absurd never
+pub fault_refuses : (name text : List ℕ) (f : VFault) (r : Refusal) → HasFault text f → RefusesBy (HasLine status.VerilogRefused (verilog_line name text f)) r → RefusesBy (RefusesNet name text) r
+fault_refuses name text f r h = refuses_more (HasLine status.VerilogRefused (verilog_line name text f)) (RefusesNet name text) (λ s line is. (is.0, faulty f h is.1)) r
 
-pub loop_refuses : LoopsAreCyclic → (name text : List ℕ) (n : Netlist) (ws : List ℕ) (r : RunErr) → length text ≤ verilog_max → Reads text n → IsLoop n ws → TellsLine (loop_line name (map (name_at n) ws)) r → RefusesNet name text r
-loop_refuses law name text n ws (errors.Verilog line) small h l t = looped n ws small h l (law n ws l) t
-loop_refuses law name text n ws (errors.Other refusal.NoMemory) small h l t = tt
-loop_refuses law name text n ws (errors.Other _) small h l never = absurd never
+pub loop_refuses : LoopsAreCyclic → (name text : List ℕ) (n : Netlist) (ws : List ℕ) (r : Refusal) → Reads text n → IsLoop n ws → RefusesBy (HasLine status.VerilogRefused (loop_line name (map (name_at n) ws))) r → RefusesBy (RefusesNet name text) r
+loop_refuses law name text n ws r h l = refuses_more (HasLine status.VerilogRefused (loop_line name (map (name_at n) ws))) (RefusesNet name text) (λ s line is. (is.0, looped n ws h l (law n ws l) is.1)) r
 
-pub net_refuses : (name text : List ℕ) (args : List (List ℕ)) (r : RunErr) → RefusesNet name text r → RefusesTextRun name text args r
-net_refuses name text args (errors.Verilog line) h = h
-net_refuses name text args (errors.Other refusal.NoMemory) h = tt
-net_refuses name text args (errors.Other _) never = absurd never
+pub net_refuses : (name text : List ℕ) (args : List (List ℕ)) (r : Refusal) → RefusesBy (RefusesNet name text) r → RefusesBy (RefusesText name args text) r
+net_refuses name text args r = refuses_more (RefusesNet name text) (RefusesText name args text) (λ s line h. inl h) r
 
-pub arguments_refuse : (name text : List ℕ) (args : List (List ℕ)) (n : Netlist) (r : Refusal) → IsRunnable text n → RefusesArguments (argument_widths n.signals) args r → RefusesTextRun name text args (errors.Other r)
-arguments_refuse name text args n (refusal.Count p g) h f = (n, h, f)
-arguments_refuse name text args n (refusal.Argument i w) h f = (n, h, f)
-arguments_refuse name text args n refusal.NoMemory h f = tt
-arguments_refuse name text args n _ h never = absurd never
-
-module _ (old new : ShelfState) (before after : SinkState) (input : List ℕ) (limit : ℕ) (args : List (List ℕ)) where
-  -- what was not read, or not run, explains the call
-  pub run_unread : (r : Refusal) → after ≡ before → RefusesReading verilog_max old new input r → Explains (RunSays old new before after input limit args) (IsRunLine old.holds input args) input [] r
-  run_unread r same h =
-      reading_explains (RunSays old new before after input limit args) (IsRunLine old.holds input args) input [] verilog_max old new tt refl (λ rose. (rose, same)) refl (λ long. (long, same)) refl r h
-
-  pub run_unrun : (text : List ℕ) (r : RunErr) → after ≡ before → IfSome old.holds (HasFile input text) → RefusesTextRun input text args r → ExplainsRun (RunSays old new before after input limit args) (IsRunLine old.holds input args) input r
-  run_unrun text (errors.Verilog line) same has h = (
-    (of_file old.holds input text (λ t. (l : List ℕ) × IsUnrunnable input t l) has (line.items, h), same),
-    of_file old.holds input text (λ t. IsUnrunnable input t line.items) has h,
-  )
-  run_unrun text (errors.Other (refusal.Count p g)) same has h = record {
-    says = (of_file old.holds input text (λ t. (l : List ℕ) × IsMisrun t args l) has (count_line p g, h), same);
-    line = of_file old.holds input text (λ t. IsMisrun t args (count_line p g)) has h;
-  }
-  run_unrun text (errors.Other (refusal.Argument i w)) same has h = record {
-    says = (of_file old.holds input text (λ t. (l : List ℕ) × IsMisrun t args l) has (argument_line i w, h), same);
-    line = of_file old.holds input text (λ t. IsMisrun t args (argument_line i w)) has h;
-  }
-  run_unrun text (errors.Other refusal.NoMemory) same has h = memory_explains (RunSays old new before after input limit args) (IsRunLine old.holds input args) input [] tt refl
-  run_unrun text (errors.Other _) same has never = absurd never
-
-  -- what was printed, or not
-  pub run_printed : (text : List ℕ) (answer : Option Done) (s : Status) → IfSome old.holds (HasFile input text) → RunsText text args limit answer → s ≡ end_status answer → Prints (outcome_text limit answer) before after → RunSays old new before after input limit args s
-  run_printed text None s has m is p =
-      subst (λ x. RunSays old new before after input limit args x) (sym is) (of_file old.holds input text (λ y. RunsText y args limit None) has m, p)
-  run_printed text (Some d) s has m is p =
-      subst (λ x. RunSays old new before after input limit args x) (sym is) (d, of_file old.holds input text (λ y. RunsText y args limit (Some d)) has m, p)
-
-  pub run_unprinted : (text : List ℕ) (answer : Option Done) (r : Refusal) → IfSome old.holds (HasFile input text) → RunsText text args limit answer → PrintFails (outcome_text limit answer) before after r
-      → Explains (RunSays old new before after input limit args) (IsRunLine old.holds input args) input [] r
-  run_unprinted text answer r has m p =
-      printing_explains (RunSays old new before after input limit args) (IsRunLine old.holds input args) input [] (outcome_text limit answer) before after tt refl
-      (λ rose part. (answer, of_file old.holds input text (λ y. RunsText y args limit answer) has m, rose, part)) refl r p
+pub arguments_refuse : (name text : List ℕ) (args : List (List ℕ)) (n : Netlist) (r : Refusal) → IsRunnable text n → RefusesBy (RefusesArguments (argument_widths n.signals) args) r → RefusesBy (RefusesText name args text) r
+arguments_refuse name text args n r runs =
+    refuses_more (RefusesArguments (argument_widths n.signals) args) (RefusesText name args text) (λ s line h. inr (h.0, (n, runs, h.1))) r
 
 -- a front of a run is a run
 get_front : (front rest : List Valuation) (c : ℕ) (v : Valuation) → slice_get front c ≡ Some v → slice_get (front ++ rest) c ≡ Some v

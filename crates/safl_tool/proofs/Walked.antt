@@ -1,33 +1,18 @@
 -- What a walk of a new machine says of its program.
-use Rattle.std.proofs.Common.{◌≡◌, ℕ, zero, suc, ◌+◌, ◌-◌, ◌*◌, ◌<◌, ◌≤◌, List, [], ◌∷◌, ◌++◌, take, length, Option, Some, None, slice_get, refl, sym, ap, subst, ◌∙◌, arith, inl, inr}
+use Rattle.std.proofs.Common.{◌≡◌, ℕ, zero, suc, ◌+◌, ◌-◌, ◌*◌, ◌<◌, ◌≤◌, List, [], ◌∷◌, ◌++◌, take, Option, Some, None, slice_get, sym, ap, subst, ◌∙◌, arith, inl, inr}
 use Rattle.std.specs.Prelude.{IfSome, IfNone, IsSome}
 use Rattle.std.proofs.lemmas.Bool.{false≢true}
 use Rattle.safl_word.specs.Words.{Word}
-use Rattle.safl_io.specs.Reading.{HasFile}
-use Rattle.safl_check.specs.Checked.{CheckedProgram, program_of}
-use Rattle.safl_check.specs.Meaning.{Main, main_cost, loops}
-use Rattle.safl_check.specs.Readiness.{back_word}
-use Rattle.safl_core.specs.Machine.{State, opening}
-use Rattle.safl_machine.specs.Outcomes.{IsValue}
-use Rattle.safl_machine.specs.Shown.{Shown, Opens, state}
-use Rattle.safl_machine.specs.Walking as turns
-use Rattle.safl_machine.specs.Walking.{IsWalk, IsShort}
-use Rattle.safl_machine.specs.declared.walking.Walked.{Walked}
-use Rattle.safl_tool.specs.Limits.{source_max}
-use Rattle.safl_tool.specs.Outside.{ShelfState, SinkState, OfFile}
-use Rattle.safl_tool.specs.Simulating.{IsGivenLine}
-use Rattle.safl_tool.specs.Walking.{MainGives, WalksFrom, Walks, WalkSays, result_status, walked_text}
-use Rattle.safl_check.specs.Program.{Program}
-use Rattle.safl_unit.specs.Names.{Names}
-use Rattle.safl_source.specs.Sources.{IsSourceOf}
-use Rattle.safl_tool.specs.Arguments.{HaveFault}
-use Rattle.safl_tool.specs.Lines.{count_line, argument_line}
-use Rattle.safl_tool.specs.Refusals.{Explains, RefusesReading, RefusesArguments, RefusesRun, Prints, PrintFails}
-use Rattle.safl_tool.specs.declared.status.Status.{Status}
-use Rattle.safl_tool.specs.declared.refusal.Refusal.{Refusal}
-use Rattle.safl_tool.specs.declared.refusal.Refusal.TheVariants as refusal
-use Rattle.safl_tool.proofs.Accepting.{of_file, reading_explains, printing_explains}
-use Rattle.safl_tool.proofs.Simulated.{run_explains}
+use Rattle.safl_term.specs.Checked.{CheckedProgram, program_of}
+use Rattle.safl_term.specs.Meaning.{Main, main_cost, loops}
+use Rattle.safl_term.specs.Readiness.{back_word}
+use Rattle.safl_calls.specs.Machine.{State, opening}
+use Rattle.safl_core.specs.Outcomes.{IsValue}
+use Rattle.safl_core.specs.Shown.{Shown, Opens, state}
+use Rattle.safl_core.specs.Walking as turns
+use Rattle.safl_core.specs.Walking.{IsWalk, IsShort}
+use Rattle.safl_core.specs.declared.walking.Walked.{Walked}
+use Rattle.safl_tool.specs.Walking.{MainGives, WalksFrom}
 
 -- main is the last function
 pub last_function : (c : CheckedProgram) (k : ℕ) → k ≡ (program_of c).functions → k - 1 ≡ (program_of c).main
@@ -88,37 +73,3 @@ module _ (c : CheckedProgram) (words : List Word) (m n : Shown) (seed steps : �
     returned = e;
     gives = gives w.result e value short;
   }
-
-module _ (old new : ShelfState) (before after : SinkState) (input : List ℕ) (seed steps : ℕ) (args : List (List ℕ)) where
-  -- what was not read, or not walked, explains the call
-  pub walk_unread : (r : Refusal) → after ≡ before → RefusesReading source_max old new input r → Explains (WalkSays old new before after input seed steps args) (IsGivenLine old.holds input args) input [] r
-  walk_unread r same h =
-      reading_explains (WalkSays old new before after input seed steps args) (IsGivenLine old.holds input args) input [] source_max old new tt refl (λ rose. (rose, same)) refl (λ long. (long, same)) refl r h
-
-  pub walk_unrun : (source : List ℕ) (r : Refusal) → after ≡ before → IfSome old.holds (HasFile input source) → RefusesRun source args r → Explains (WalkSays old new before after input seed steps args) (IsGivenLine old.holds input args) input [] r
-  walk_unrun source r same has h =
-      run_explains (WalkSays old new before after input seed steps args) (IsGivenLine old.holds input args) input old.holds args source has tt refl (λ faulty. (faulty, same)) (λ line is. is) (λ bad. (bad, same)) (λ line is. is) r h
-
-  -- what was printed, or not
-  says : (s : Status) (r : Option Word) (w : Walked) → w.result ≡ r → s ≡ result_status r → OfFile old.holds input (λ source. Walks source args seed steps w) → Prints (walked_text steps w) before after → WalkSays old new before after input seed steps args s
-  says s None w e is h p = subst (λ x. WalkSays old new before after input seed steps args x) (sym is) (w, ap result_status e, h, p)
-  says s (Some v) w e is h p = subst (λ x. WalkSays old new before after input seed steps args x) (sym is) (w, ap result_status e, h, p)
-
-  pub walk_printed : (source : List ℕ) (w : Walked) (s : Status) → IfSome old.holds (HasFile input source) → Walks source args seed steps w → s ≡ result_status w.result → Prints (walked_text steps w) before after → WalkSays old new before after input seed steps args s
-  walk_printed source w s has m is p = says s w.result w refl is (of_file old.holds input source (λ y. Walks y args seed steps w) has m) p
-
-  pub walk_unprinted : (source : List ℕ) (w : Walked) (r : Refusal) → IfSome old.holds (HasFile input source) → Walks source args seed steps w → PrintFails (walked_text steps w) before after r
-      → Explains (WalkSays old new before after input seed steps args) (IsGivenLine old.holds input args) input [] r
-  walk_unprinted source w r has m p =
-      printing_explains (WalkSays old new before after input seed steps args) (IsGivenLine old.holds input args) input [] (walked_text steps w) before after tt refl
-      (λ rose part. (w, of_file old.holds input source (λ y. Walks y args seed steps w) has m, rose, part)) refl r p
-
--- what refuses the arguments of a source that was read refuses its walk
-pub misgiven_refused : (source : List ℕ) (C : Program) (D : Names) (args : List (List ℕ)) (widths : List ℕ) → widths ≡ C.params C.main → length source ≤ source_max → IsSourceOf source C D
-    → (r : Refusal) → RefusesArguments widths args r → RefusesRun source args r
-misgiven_refused source C D args widths are small s (refusal.Count p g) f =
-    record { program = C; names = D; small = small; source_of = s; fault = subst (λ l. HaveFault l args (count_line p g)) are f }
-misgiven_refused source C D args widths are small s (refusal.Argument i w) f =
-    record { program = C; names = D; small = small; source_of = s; fault = subst (λ l. HaveFault l args (argument_line i w)) are f }
-misgiven_refused source C D args widths are small s refusal.NoMemory f = tt
-misgiven_refused source C D args widths are small s _ never = absurd never

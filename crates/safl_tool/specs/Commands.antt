@@ -1,5 +1,6 @@
 -- Which words are a command.
-use Rattle.std.specs.Prelude.{ℕ, List, [], ◌∷◌, map, length, Option, Some, None, Bool, true, false, ◌&&◌, ◌^◌, nat_le, nat_lt, bytes_eq, if◌then◌else◌, codes, string_bytes}
+use Rattle.std.specs.Prelude.{ℕ, List, [], ◌∷◌, map, length, Option, Some, None, Bool, true, false, ◌&&◌, ◌||◌, not, ◌^◌}
+use Rattle.std.specs.Prelude.{nat_le, nat_lt, bytes_eq, if◌then◌else◌, codes, string_bytes}
 use Rattle.std.specs.Option.{option_or}
 use Rattle.std.specs.List.{list_all}
 use Rattle.safl_word.specs.Numerals.{value, is_digit}
@@ -39,10 +40,19 @@ abbrev pub is_limit : List ℕ → Bool
 is_limit word =
     nat_le 1 (length word) && (list_all (is_digit 10) word && (nat_le (length word) 20 && (nat_le 1 (value 10 word) && nat_le (value 10 word) cycles_max)))
 
+-- a word that asks for a trace
+abbrev pub is_trace : List ℕ → Bool
+is_trace word = bytes_eq word (codes "--vcd") || (bytes_eq word (codes "--starts") || bytes_eq word (codes "--toggles"))
+
+-- no argument asks for a trace
+abbrev pub are_plain : List (List ℕ) → Bool
+are_plain args = list_all (λ word. not (is_trace word)) args
+
 -- `sim IN --cycles L` and arguments, where the name is not empty
 abbrev pub sim_of : List (List ℕ) → Option Command
 sim_of (verb ∷ input ∷ option ∷ limit ∷ args) =
-    if bytes_eq verb (codes "sim") && (is_filled input && (bytes_eq option (codes "--cycles") && is_limit limit)) then Some (Sim input (value 10 limit) args) else None
+    if bytes_eq verb (codes "sim") && (is_filled input && (bytes_eq option (codes "--cycles") && (are_plain args && is_limit limit)))
+    then Some (Sim input (value 10 limit) args) else None
 sim_of _ = None
 
 -- 1 to 20 digits, whose number is below 2^64
@@ -56,13 +66,14 @@ is_walk verb input order option = bytes_eq verb (codes "walk") && (is_filled inp
 -- `walk IN --order SEED --steps N` and arguments
 abbrev pub walk_of : List (List ℕ) → Option Command
 walk_of (verb ∷ input ∷ order ∷ seed ∷ option ∷ steps ∷ args) =
-    if is_walk verb input order option && (is_seed seed && is_limit steps) then Some (Walk input (value 10 seed) (value 10 steps) args) else None
+    if is_walk verb input order option && (are_plain args && (is_seed seed && is_limit steps)) then Some (Walk input (value 10 seed) (value 10 steps) args) else None
 walk_of _ = None
 
 -- `run FILE --cycles L` and arguments, where the name is not empty
 abbrev pub run_of : List (List ℕ) → Option Command
 run_of (verb ∷ input ∷ option ∷ limit ∷ args) =
-    if bytes_eq verb (codes "run") && (is_filled input && (bytes_eq option (codes "--cycles") && is_limit limit)) then Some (Run input (value 10 limit) args) else None
+    if bytes_eq verb (codes "run") && (is_filled input && (bytes_eq option (codes "--cycles") && (are_plain args && is_limit limit)))
+    then Some (Run input (value 10 limit) args) else None
 run_of _ = None
 
 -- one of these, and nothing else
@@ -75,5 +86,5 @@ shown None = None
 shown (Some (code_of.Check input)) = Some (Check input.now)
 shown (Some (code_of.Build input output)) = Some (Build input.now output.now)
 shown (Some (code_of.Sim input limit args)) = Some (Sim input.now limit (map string_bytes args.now))
-shown (Some (code_of.Walk input seed steps args)) = Some (Walk input.now seed steps (map string_bytes args.now))
+shown (Some (code_of.Walk input turns args)) = Some (Walk input.now turns.seed turns.steps (map string_bytes args.now))
 shown (Some (code_of.Run input limit args)) = Some (Run input.now limit (map string_bytes args.now))

@@ -1,6 +1,7 @@
 -- The lines of Verilog files that are refused.
-use Rattle.std.specs.Prelude.{ℕ, List, [], ◌∷◌, ◌++◌, codes}
+use Rattle.std.specs.Prelude.{◌≡◌, ℕ, ◌<◌, List, [], ◌∷◌, ◌++◌, length, slice_get, Some, codes}
 use Rattle.std.specs.Fmt.{decimal}
+use Rattle.safl_net.specs.Netlist.{Netlist}
 use Rattle.safl_verilog.specs.declared.fault.VRule.{VRule}
 use Rattle.safl_verilog.specs.declared.fault.VRule.TheVariants as rules
 use Rattle.safl_verilog.specs.declared.fault.VFault.{VFault}
@@ -47,3 +48,7 @@ spaced (x ∷ xs) = spaced_name x ++ spaced xs
 -- the names of the wires of a loop
 abbrev pub loop_line : List ℕ → List (List ℕ) → List ℕ
 loop_line name wires = name ++ codes ": V09 combinational loop:" ++ spaced wires ++ codes "\n"
+
+-- these are numbers of signals
+abbrev pub AreKnown : Netlist → List ℕ → Type 0
+AreKnown n ws = (i s : ℕ) → slice_get ws i ≡ Some s → s < length n.signals

@@ -3,16 +3,20 @@
 ghost use Rattle.std.specs.Prelude.{◌≡◌, ◌↔◌, ℕ, IsSome, IsNone, IfOk, IfErr, IfSome, map, length, string_bytes};
 ghost use Rattle.safl_word.specs.Words.{Word};
 ghost use Rattle.safl_tool.specs.Arguments.{IsRead, AreRead};
-ghost use Rattle.safl_tool.specs.Refusals.{RefusesArguments};
+ghost use Rattle.safl_tool.specs.Refusals.{RefusesBy, RefusesArguments};
 
 use crate::refusal::Refusal;
 use safl_word::{Word, argument};
 use std::alloc::Global;
 
 /// The words of the arguments for parameters of these widths. The count is looked at first.
-pub fn read_arguments(alloc: Global, widths: &[u8], args: &[String]) -> Result<Vec<Word>, Refusal>
+pub fn read_arguments<'a>(
+    alloc: Global,
+    widths: &[u8],
+    args: &[String],
+) -> Result<Vec<Word>, Refusal<'a>>
     ensures read { IfOk result (λ words. AreRead widths.now (map string_bytes args.now) words.items) }
-    ensures refused { IfErr result (λ r. RefusesArguments widths.now (map string_bytes args.now) r) }
+    ensures refused { IfErr result (RefusesBy (RefusesArguments widths.now (map string_bytes args.now))) }
 {
     if args.len() != widths.len() {
         return Err(Refusal::Count(widths.len(), args.len()));

@@ -1,67 +1,66 @@
 //! `check IN`: from a source to the numbers of its program.
 
-ghost use Rattle.std.specs.Prelude.{◌≡◌, ◌++◌, [], OnSome, OnOk, IfOk, IfErr};
-ghost use Rattle.safl_check.specs.Checked.{program_of};
-ghost use Rattle.safl_tool.specs.Checking.{CheckSays, IsCheckLine, program_text};
+ghost use Rattle.std.specs.Prelude.{◌≡◌, ◌≤◌, ◌++◌, OnOk, IfOk, IfErr, length};
+ghost use Rattle.safl_term.specs.Checked.{program_of};
+ghost use Rattle.safl_tool.specs.Answers.{given_of};
+ghost use Rattle.safl_tool.specs.CommandTasks.{check_task, GivesNumbers, RefusesSourceOf};
+ghost use Rattle.safl_tool.specs.Endings.{Ended, SameStrays, outside};
+ghost use Rattle.safl_tool.specs.Limits.{source_max};
 ghost use Rattle.safl_tool.specs.Lines.{program_lines};
-ghost use Rattle.safl_tool.specs.Outside.{OfFile};
-ghost use Rattle.safl_tool.specs.Refusals.{Explains, Prints, PrintFails};
+ghost use Rattle.safl_tool.specs.Refusals.{StopsBy, RefusesBy};
 
-use crate::print::print;
+use crate::print::{Answer, print};
 use crate::refusal::{Refusal, push};
 use crate::source::{SOURCE_MAX, check_source, read_input};
 use crate::status::Status;
-use safl_check::Checked;
 use safl_io::{Shelf, Sink};
+use safl_term::Checked;
 use safl_word::{NoMemory, Raw, push_decimal};
 use std::alloc::Global;
 
 /// Reads and checks the source of the name `input`, and prints how many functions and how many call sites it has.
-pub fn check<S: Shelf, O: Sink>(
+pub fn check<'a, S: Shelf, O: Sink>(
     alloc: Global,
     shelf: &mut S,
     out: &mut O,
-    input: &str,
-) -> Result<(), Refusal>
-    ensures says { OnOk result (CheckSays
-        (record { holds = S.holds shelf.old; read_faults = S.read_faults shelf.old; write_faults = S.write_faults shelf.old; strays = S.strays shelf.old })
-        (record { holds = S.holds shelf.new; read_faults = S.read_faults shelf.new; write_faults = S.write_faults shelf.new; strays = S.strays shelf.new })
-        (record { sent = O.sent out.old; faults = O.faults out.old }) (record { sent = O.sent out.new; faults = O.faults out.new })
-        input.now Status.Ok) }
-    ensures refused { IfErr result (Explains (CheckSays
-        (record { holds = S.holds shelf.old; read_faults = S.read_faults shelf.old; write_faults = S.write_faults shelf.old; strays = S.strays shelf.old })
-        (record { holds = S.holds shelf.new; read_faults = S.read_faults shelf.new; write_faults = S.write_faults shelf.new; strays = S.strays shelf.new })
-        (record { sent = O.sent out.old; faults = O.faults out.old }) (record { sent = O.sent out.new; faults = O.faults out.new }) input.now)
-        (IsCheckLine (S.holds shelf.old) input.now) input.now []) }
-    ensures no_stray { OfFile (S.holds shelf.old) input.now (λ source. Unit {0}) → OnSome (S.holds shelf.old) (S.strays shelf.new ≡ S.strays shelf.old) }
+    input: &'a str,
+) -> Result<Status, Refusal<'a>>
+    ensures ended { IfOk result (Ended (check_task input.now) (outside (S.told shelf.old) (O.told out.old)) (outside (S.told shelf.new) (O.told out.new))) }
+    ensures refused { IfErr result (StopsBy (check_task input.now) (outside (S.told shelf.old) (O.told out.old)) (outside (S.told shelf.new) (O.told out.new))) }
+    ensures no_stray { SameStrays (check_task input.now) (S.told shelf.old) (S.told shelf.new) }
 {
     let source = match read_input(alloc, shelf, input, SOURCE_MAX) {
         Ok(source) => source,
         Err(refusal) => return Err(refusal),
     };
-    let checked = match check_source(alloc, &source) {
-        Ok(checked) => checked,
+    let answer = match answer_of(alloc, input, &source) {
+        Ok(answer) => answer,
         Err(refusal) => return Err(refusal),
     };
-    match print_program(alloc, out, &checked) {
-        Ok(()) => Ok(()),
+    match print(out, &answer) {
+        Ok(status) => Ok(status),
         Err(refusal) => Err(refusal),
     }
 }
 
-// Prints the numbers of a program.
-fn print_program<O: Sink>(alloc: Global, out: &mut O, checked: &Checked) -> Result<(), Refusal>
-    ensures printed { OnOk result (Prints (program_text (program_of checked.now)) (record { sent = O.sent out.old; faults = O.faults out.old }) (record { sent = O.sent out.new; faults = O.faults out.new })) }
-    ensures refused { IfErr result (PrintFails (program_text (program_of checked.now)) (record { sent = O.sent out.old; faults = O.faults out.old }) (record { sent = O.sent out.new; faults = O.faults out.new })) }
+// The numbers of the program of a source, or why the source in the file of this name is refused.
+fn answer_of<'a>(alloc: Global, name: &'a str, source: &[u8]) -> Result<Answer, Refusal<'a>>
+    requires { length source.now ≤ source_max }
+    ensures gives { IfOk result (λ a. GivesNumbers source.now (given_of a)) }
+    ensures refused { IfErr result (RefusesBy (RefusesSourceOf name.now source.now)) }
 {
-    let Ok(text) = text_of(alloc, checked) else {
-        return Err(Refusal::NoMemory);
+    let checked = match check_source(alloc, name, source) {
+        Ok(checked) => checked,
+        Err(refusal) => return Err(refusal),
     };
-    print(out, &text)
+    match text_of(alloc, &checked) {
+        Ok(text) => Ok(Answer { comes: true, text }),
+        Err(NoMemory) => Err(Refusal::NoMemory),
+    }
 }
 
 fn text_of(alloc: Global, checked: &Checked) -> Result<Vec<u8>, NoMemory>
-    ensures { IfOk result (λ text. text.items ≡ program_text (program_of checked.now)) }
+    ensures { IfOk result (λ text. text.items ≡ program_lines (program_of checked.now).functions (program_of checked.now).sites) }
 {
     let mut text = Vec::new(alloc);
     push_program(&mut text, checked.functions(), checked.sites())?;

@@ -2,12 +2,19 @@
 
 ghost use Rattle.std.specs.Prelude.{◌≡◌, ◌↔◌, ◌&&◌, true, IsSome, IfSome, map, string_bytes};
 ghost use Rattle.safl_word.specs.Numerals.{value};
-ghost use Rattle.safl_tool.specs.Commands.{command_of, check_of, build_of, sim_of, walk_of, run_of, is_walk, is_limit, is_seed, shown};
+ghost use Rattle.safl_tool.specs.Commands.{command_of, check_of, build_of, sim_of, walk_of, run_of, is_walk, is_limit, is_seed, is_trace, are_plain, shown};
 
 use safl_word::decimal;
 
 /// The most cycles of a run, and events of a walk.
 pub const CYCLES_MAX: u64 = 1_000_000_000;
+
+/// How a walk goes: for at most `steps` events, 1 to `CYCLES_MAX`, by the numbers that `seed` begins.
+#[derive(Clone, Copy)]
+pub struct Turns {
+    pub seed: u64,
+    pub steps: u32,
+}
 
 /// A command with its words.
 #[derive(Clone, Copy)]
@@ -27,12 +34,10 @@ pub enum Command<'a> {
         limit: u64,
         args: &'a [String],
     },
-    /// Reads a source from `input` and walks its call machine with these arguments for at most `steps` events, 1 to
-    /// `CYCLES_MAX`, by the numbers that `seed` begins.
+    /// Reads a source from `input` and walks its call machine with these arguments.
     Walk {
         input: &'a str,
-        seed: u64,
-        steps: u32,
+        turns: Turns,
         args: &'a [String],
     },
     /// Reads a Verilog file from `input` and runs its netlist for at most `limit` cycles, 1 to `CYCLES_MAX`, with these arguments.
@@ -93,7 +98,10 @@ fn read_sim(words: &[String]) -> Option<Command<'_>>
 {
     match words {
         [verb, input, option, limit, args @ ..]
-            if verb.as_str() == "sim" && !input.is_empty() && option.as_str() == "--cycles" => {
+            if verb.as_str() == "sim"
+                && !input.is_empty()
+                && option.as_str() == "--cycles"
+                && are_plain(args) => {
             match read_limit(limit.as_bytes()) {
                 Some(limit) => Some(Command::Sim {
                     input: input.as_str(),
@@ -117,12 +125,11 @@ fn read_walk(words: &[String]) -> Option<Command<'_>>
                 input.as_str(),
                 order.as_str(),
                 option.as_str(),
-            ) => {
+            ) && are_plain(args) => {
             match read_turns(seed.as_bytes(), steps.as_bytes()) {
-                Some((seed, steps)) => Some(Command::Walk {
+                Some(turns) => Some(Command::Walk {
                     input: input.as_str(),
-                    seed,
-                    steps,
+                    turns,
                     args,
                 }),
                 None => None,
@@ -137,7 +144,10 @@ fn read_run(words: &[String]) -> Option<Command<'_>>
 {
     match words {
         [verb, input, option, limit, args @ ..]
-            if verb.as_str() == "run" && !input.is_empty() && option.as_str() == "--cycles" => {
+            if verb.as_str() == "run"
+                && !input.is_empty()
+                && option.as_str() == "--cycles"
+                && are_plain(args) => {
             match read_limit(limit.as_bytes()) {
                 Some(limit) => Some(Command::Run {
                     input: input.as_str(),
@@ -158,12 +168,15 @@ fn is_walk(verb: &str, input: &str, order: &str, option: &str) -> bool
 }
 
 // The seed and the most events of a walk that two words say.
-fn read_turns(seed: &[u8], steps: &[u8]) -> Option<(u64, u32)>
+fn read_turns(seed: &[u8], steps: &[u8]) -> Option<Turns>
     ensures some { IsSome result ↔ ((is_seed seed.now && is_limit steps.now) ≡ true) }
-    ensures numbers { IfSome result (λ t. (t.0 ≡ value 10 seed.now) × (t.1 ≡ value 10 steps.now)) }
+    ensures numbers { IfSome result (λ t. (t.seed ≡ value 10 seed.now) × (t.steps ≡ value 10 steps.now)) }
 {
     match (decimal(seed), read_limit(steps)) {
-        (Some(seed), Some(steps)) => Some((seed, steps as u32)),
+        (Some(seed), Some(steps)) => Some(Turns {
+            seed,
+            steps: steps as u32,
+        }),
         _ => None,
     }
 }
@@ -177,4 +190,17 @@ fn read_limit(word: &[u8]) -> Option<u64>
         Some(number) if number != 0 && number <= CYCLES_MAX => Some(number),
         _ => None,
     }
+}
+
+// No argument asks for a trace.
+fn are_plain(args: &[String]) -> bool
+    ensures { result ≡ are_plain (map string_bytes args.now) }
+{
+    args.iter().all(|word| !is_trace(word.as_str()))
+}
+
+fn is_trace(word: &str) -> bool
+    ensures { result ≡ is_trace word.now }
+{
+    word == "--vcd" || word == "--starts" || word == "--toggles"
 }

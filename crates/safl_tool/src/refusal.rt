@@ -1,26 +1,35 @@
 //! Why a command ends without its result, and the line that says so.
 
-ghost use Rattle.std.specs.Prelude.{◌≡◌, ◌++◌, IfOk, OnOk};
-ghost use Rattle.safl_tool.specs.Lines.{line_at, column_at, count_line, argument_line};
+ghost use Rattle.std.specs.Prelude.{◌≡◌, ◌++◌, IfOk, OnOk, codes};
+ghost use Rattle.safl_tool.specs.Lines.{line_at, column_at, count_line, argument_line, placed_line, long_line};
 ghost use Rattle.safl_tool.specs.Refusals.{status_of, line_of};
+ghost use Rattle.safl_word.specs.Faults.{fault_text};
 
 use crate::status::Status;
 use safl_word::{Fault, NoMemory, Raw, push_decimal, push_fault};
 use std::alloc::Global;
 
+// The line that names the commands.
+const USAGE: &[u8] =
+    b"usage: safl check IN | build IN OUT | sim IN --cycles L [ARG..] | run FILE --cycles L [ARG..] | walk IN --order SEED --steps N [ARG..] | report IN | gen SEED COUNT | bench SEED COUNT --cycles L\n";
+
 /// Why a command ends without its result.
-#[derive(Clone, Copy, Debug, PartialEq, Eq)]
-pub enum Refusal {
-    /// The source has this fault at this line and column, both counted from 1.
-    Source(Fault, usize, usize),
-    /// The input could not be read.
-    Read,
-    /// The input has more bytes than this limit.
-    TooLong(u64),
-    /// The output file could not be written.
-    Write,
+#[derive(Drop)]
+pub enum Refusal<'a> {
+    /// The words are no command.
+    Usage,
+    /// The source in the file of this name has this fault at this line and column, both counted from 1.
+    Source(&'a str, Fault, usize, usize),
+    /// The file of this name could not be read.
+    Read(&'a str),
+    /// The file of this name has more bytes than this limit.
+    TooLong(&'a str, u64),
+    /// The file of this name could not be written.
+    Write(&'a str),
     /// What the command prints could not be sent.
     Output,
+    /// No netlist without a combinational loop is read from a Verilog file; this line says why.
+    Verilog(Vec<u8>),
     /// So many parameters are not so many arguments.
     Count(usize, usize),
     /// The argument of this number, from 1, is no number of so many bits.
@@ -28,88 +37,118 @@ pub enum Refusal {
     NoMemory,
 }
 
-impl Refusal {
+impl<'a> Refusal<'a> {
     /// The status of the program.
-    pub fn status(self) -> Status
-        ensures { result ≡ status_of self }
+    pub fn status(&self) -> Status
+        ensures { result ≡ status_of self.now }
     {
         match self {
-            Refusal::Source(_, _, _) => Status::SourceRefused,
-            Refusal::Read => Status::ReadFault,
-            Refusal::TooLong(_) => Status::TooLong,
-            Refusal::Write => Status::WriteFault,
+            Refusal::Usage => Status::Usage,
+            Refusal::Source(_, _, _, _) => Status::SourceRefused,
+            Refusal::Read(_) => Status::ReadFault,
+            Refusal::TooLong(_, _) => Status::TooLong,
+            Refusal::Write(_) => Status::WriteFault,
             Refusal::Output => Status::WriteFault,
+            Refusal::Verilog(_) => Status::VerilogRefused,
             Refusal::Count(_, _) => Status::BadArgs,
             Refusal::Argument(_, _) => Status::BadArgs,
             Refusal::NoMemory => Status::NoMemory,
         }
     }
 
-    /// The line, of a command with this input and this output.
-    pub fn line(self, alloc: Global, input: &str, output: &str) -> Result<Vec<u8>, NoMemory>
-        ensures { IfOk result (λ text. text.items ≡ line_of self input.now output.now) }
+    /// The line, with its line feed.
+    pub fn line(self, alloc: Global) -> Result<Vec<u8>, NoMemory>
+        ensures { IfOk result (λ text. text.items ≡ line_of self.entry) }
     {
-        let mut out = Vec::new(alloc);
         match self {
-            Refusal::Source(fault, line, column) => {
-                push(&mut out, input.as_bytes())?;
-                push(&mut out, b":")?;
-                push_decimal(line as Raw, &mut out)?;
-                push(&mut out, b":")?;
-                push_decimal(column as Raw, &mut out)?;
-                push(&mut out, b": ")?;
-                push_fault(fault, &mut out)?;
+            Refusal::Usage => text_of(alloc, USAGE),
+            Refusal::Source(name, fault, line, column) => {
+                source_line(alloc, name, fault, line, column)
             }
-            Refusal::Read => {
-                push(&mut out, b"cannot read ")?;
-                push(&mut out, input.as_bytes())?;
-            }
-            Refusal::TooLong(limit) => {
-                push(&mut out, input.as_bytes())?;
-                push(&mut out, b" is longer than ")?;
-                push_decimal(Raw::from(limit), &mut out)?;
-                push(&mut out, b" bytes")?;
-            }
-            Refusal::Write => {
-                push(&mut out, b"cannot write ")?;
-                push(&mut out, output.as_bytes())?;
-            }
-            Refusal::Output => push(&mut out, b"cannot write output")?,
-            Refusal::Count(params, given) => {
-                push_count(&mut out, params, given)?;
-                return Ok(out);
-            }
-            Refusal::Argument(index, width) => {
-                push_argument(&mut out, index, width)?;
-                return Ok(out);
-            }
-            Refusal::NoMemory => push(&mut out, b"out of memory")?,
+            Refusal::Read(name) => name_line(alloc, b"cannot read ", name),
+            Refusal::TooLong(name, limit) => long_line(alloc, name, limit),
+            Refusal::Write(name) => name_line(alloc, b"cannot write ", name),
+            Refusal::Output => text_of(alloc, b"cannot write output\n"),
+            Refusal::Verilog(line) => Ok(line),
+            Refusal::Count(params, given) => count_line(alloc, params, given),
+            Refusal::Argument(index, width) => argument_line(alloc, index, width),
+            Refusal::NoMemory => text_of(alloc, b"out of memory\n"),
         }
-        push(&mut out, b"\n")?;
-        Ok(out)
     }
 }
 
-fn push_count(out: &mut Vec<u8>, params: usize, given: usize) -> Result<(), NoMemory>
-    ensures { OnOk result (out.new.items ≡ out.old.items ++ count_line params given) }
+fn text_of(alloc: Global, text: &[u8]) -> Result<Vec<u8>, NoMemory>
+    ensures { IfOk result (λ line. line.items ≡ text.now) }
 {
-    push(out, b"main takes ")?;
-    push_decimal(params as Raw, out)?;
-    push(out, b" arguments, ")?;
-    push_decimal(given as Raw, out)?;
-    push(out, b" given\n")?;
-    Ok(())
+    let line = Vec::from_slice(alloc, text)?;
+    Ok(line)
 }
 
-fn push_argument(out: &mut Vec<u8>, index: usize, width: u8) -> Result<(), NoMemory>
-    ensures { OnOk result (out.new.items ≡ out.old.items ++ argument_line index width) }
+fn source_line(
+    alloc: Global,
+    name: &str,
+    fault: Fault,
+    line: usize,
+    column: usize,
+) -> Result<Vec<u8>, NoMemory>
+    ensures { IfOk result (λ text. text.items ≡ placed_line name.now line column (fault_text fault)) }
 {
-    push(out, b"argument ")?;
-    push_decimal(index as Raw, out)?;
-    push(out, b" is no number of ")?;
-    push_decimal(Raw::from(width), out)?;
-    push(out, b" bits\n")?;
-    Ok(())
+    let mut out = Vec::new(alloc);
+    push(&mut out, name.as_bytes())?;
+    push(&mut out, b":")?;
+    push_decimal(line as Raw, &mut out)?;
+    push(&mut out, b":")?;
+    push_decimal(column as Raw, &mut out)?;
+    push(&mut out, b": ")?;
+    push_fault(fault, &mut out)?;
+    push(&mut out, b"\n")?;
+    Ok(out)
+}
+
+// A line that ends with a name.
+fn name_line(alloc: Global, start: &[u8], name: &str) -> Result<Vec<u8>, NoMemory>
+    ensures { IfOk result (λ text. text.items ≡ start.now ++ name.now ++ codes "\n") }
+{
+    let mut out = Vec::new(alloc);
+    push(&mut out, start)?;
+    push(&mut out, name.as_bytes())?;
+    push(&mut out, b"\n")?;
+    Ok(out)
+}
+
+fn long_line(alloc: Global, name: &str, limit: u64) -> Result<Vec<u8>, NoMemory>
+    ensures { IfOk result (λ text. text.items ≡ long_line name.now limit) }
+{
+    let mut out = Vec::new(alloc);
+    push(&mut out, name.as_bytes())?;
+    push(&mut out, b" is longer than ")?;
+    push_decimal(Raw::from(limit), &mut out)?;
+    push(&mut out, b" bytes\n")?;
+    Ok(out)
+}
+
+fn count_line(alloc: Global, params: usize, given: usize) -> Result<Vec<u8>, NoMemory>
+    ensures { IfOk result (λ text. text.items ≡ count_line params given) }
+{
+    let mut out = Vec::new(alloc);
+    push(&mut out, b"main takes ")?;
+    push_decimal(params as Raw, &mut out)?;
+    push(&mut out, b" arguments, ")?;
+    push_decimal(given as Raw, &mut out)?;
+    push(&mut out, b" given\n")?;
+    Ok(out)
+}
+
+fn argument_line(alloc: Global, index: usize, width: u8) -> Result<Vec<u8>, NoMemory>
+    ensures { IfOk result (λ text. text.items ≡ argument_line index width) }
+{
+    let mut out = Vec::new(alloc);
+    push(&mut out, b"argument ")?;
+    push_decimal(index as Raw, &mut out)?;
+    push(&mut out, b" is no number of ")?;
+    push_decimal(Raw::from(width), &mut out)?;
+    push(&mut out, b" bits\n")?;
+    Ok(out)
 }
 
 /// The line of a place in a source, from 1. Behind the source it is that of its end.

@@ -1,82 +1,97 @@
 //! `sim IN --cycles L [ARG..]`: from a source to what its circuit gives.
 
-ghost use Rattle.std.specs.Prelude.{◌≡◌, ◌≤◌, ◌++◌, length, map, [], OnSome, OnOk, IfOk, IfErr, string_bytes};
+ghost use Rattle.std.specs.Prelude.{◌≡◌, ◌≤◌, ◌++◌, length, map, OnOk, IfOk, IfErr, string_bytes};
 ghost use Rattle.safl_net.specs.Netlist.{AllSet};
 ghost use Rattle.safl_net.specs.Valuations.{IsAcyclic};
 ghost use Rattle.safl_net.specs.Whole.{IsWhole};
-ghost use Rattle.safl_run.specs.Arguments.{argument_widths};
+ghost use Rattle.safl_sim.specs.Arguments.{argument_widths};
+ghost use Rattle.safl_tool.specs.Answers.{given_of};
+ghost use Rattle.safl_tool.specs.CommandTasks.{sim_task, outcome, GivesOutcome, RefusesGiven};
+ghost use Rattle.safl_tool.specs.Endings.{Ended, SameStrays, outside};
 ghost use Rattle.safl_tool.specs.Limits.{source_max};
 ghost use Rattle.safl_tool.specs.Lines.{done_lines, late_line};
-ghost use Rattle.safl_tool.specs.Outside.{OfFile};
-ghost use Rattle.safl_tool.specs.Refusals.{Explains, RefusesArguments, RefusesRun, Prints, PrintFails};
+ghost use Rattle.safl_tool.specs.Refusals.{StopsBy, RefusesBy, RefusesArguments};
 ghost use Rattle.safl_tool.specs.Running.{Gives};
-ghost use Rattle.safl_tool.specs.Simulating.{SimSays, IsGivenLine, Simulates, IsEnd, end_status, outcome_text};
+ghost use Rattle.safl_tool.specs.Simulating.{Simulates};
 
 use crate::arguments::read_arguments;
-use crate::print::print;
+use crate::print::{Answer, print};
 use crate::refusal::{Refusal, push};
 use crate::source::{SOURCE_MAX, compile, read_input};
 use crate::status::Status;
 use safl_io::{Shelf, Sink};
 use safl_net::Net;
 use safl_order::laws::loops_are_cyclic;
-use safl_order::order::order;
-use safl_order::{OrderErr, Ordered};
-use safl_run::{Done, argument_widths, run_until_done};
-use safl_sim::Sim;
+use safl_order::{OrderErr, Ordered, order};
+use safl_sim::{Done, Sim, argument_widths, run_until_done};
 use safl_word::{NoMemory, Raw, push_decimal};
 use std::alloc::Global;
 
 /// Reads the source of the name `input`, runs its circuit with the arguments for at most `limit` cycles, and prints
 /// what it gives. The status is Ok where done came, and else NoResult.
-pub fn sim<S: Shelf, O: Sink>(
+pub fn sim<'a, S: Shelf, O: Sink>(
     alloc: Global,
     shelf: &mut S,
     out: &mut O,
-    input: &str,
+    input: &'a str,
     limit: u64,
     args: &[String],
-) -> Result<Status, Refusal>
-    ensures says { IfOk result (λ s. SimSays
-        (record { holds = S.holds shelf.old; read_faults = S.read_faults shelf.old; write_faults = S.write_faults shelf.old; strays = S.strays shelf.old })
-        (record { holds = S.holds shelf.new; read_faults = S.read_faults shelf.new; write_faults = S.write_faults shelf.new; strays = S.strays shelf.new })
-        (record { sent = O.sent out.old; faults = O.faults out.old }) (record { sent = O.sent out.new; faults = O.faults out.new })
-        input.now limit (map string_bytes args.now) s) }
-    ensures ends { IfOk result (λ s. IsEnd s) }
-    ensures refused { IfErr result (Explains (SimSays
-        (record { holds = S.holds shelf.old; read_faults = S.read_faults shelf.old; write_faults = S.write_faults shelf.old; strays = S.strays shelf.old })
-        (record { holds = S.holds shelf.new; read_faults = S.read_faults shelf.new; write_faults = S.write_faults shelf.new; strays = S.strays shelf.new })
-        (record { sent = O.sent out.old; faults = O.faults out.old }) (record { sent = O.sent out.new; faults = O.faults out.new })
-        input.now limit (map string_bytes args.now))
-        (IsGivenLine (S.holds shelf.old) input.now (map string_bytes args.now)) input.now []) }
-    ensures no_stray { OfFile (S.holds shelf.old) input.now (λ source. Unit {0}) → OnSome (S.holds shelf.old) (S.strays shelf.new ≡ S.strays shelf.old) }
+) -> Result<Status, Refusal<'a>>
+    ensures ended { IfOk result (Ended (sim_task input.now limit (map string_bytes args.now))
+        (outside (S.told shelf.old) (O.told out.old)) (outside (S.told shelf.new) (O.told out.new))) }
+    ensures refused { IfErr result (StopsBy (sim_task input.now limit (map string_bytes args.now))
+        (outside (S.told shelf.old) (O.told out.old)) (outside (S.told shelf.new) (O.told out.new))) }
+    ensures no_stray { SameStrays (sim_task input.now limit (map string_bytes args.now)) (S.told shelf.old) (S.told shelf.new) }
 {
     let source = match read_input(alloc, shelf, input, SOURCE_MAX) {
         Ok(source) => source,
         Err(refusal) => return Err(refusal),
     };
-    let answer = match simulate(alloc, &source, limit, args) {
+    let answer = match answer_of(alloc, input, &source, limit, args) {
         Ok(answer) => answer,
         Err(refusal) => return Err(refusal),
     };
-    match print_outcome(alloc, out, limit, answer) {
+    match print(out, &answer) {
         Ok(status) => Ok(status),
         Err(refusal) => Err(refusal),
     }
 }
 
-// What the circuit of a source gives.
-fn simulate(
+// What is printed of a run of the circuit of a source, or why the source in the file of this name is not run.
+fn answer_of<'a>(
     alloc: Global,
+    name: &'a str,
     source: &[u8],
     limit: u64,
     args: &[String],
-) -> Result<Option<Done>, Refusal>
+) -> Result<Answer, Refusal<'a>>
+    requires { length source.now ≤ source_max }
+    ensures gives { IfOk result (λ a. GivesOutcome (map string_bytes args.now) limit source.now (given_of a)) }
+    ensures refused { IfErr result (RefusesBy (RefusesGiven name.now (map string_bytes args.now) source.now)) }
+{
+    let done = match simulate(alloc, name, source, limit, args) {
+        Ok(done) => done,
+        Err(refusal) => return Err(refusal),
+    };
+    match outcome(alloc, limit, done) {
+        Ok(answer) => Ok(answer),
+        Err(NoMemory) => Err(Refusal::NoMemory),
+    }
+}
+
+// What the circuit of a source gives.
+fn simulate<'a>(
+    alloc: Global,
+    name: &'a str,
+    source: &[u8],
+    limit: u64,
+    args: &[String],
+) -> Result<Option<Done>, Refusal<'a>>
     requires { length source.now ≤ source_max }
     ensures answer { IfOk result (Simulates source.now (map string_bytes args.now) limit) }
-    ensures refused { IfErr result (RefusesRun source.now (map string_bytes args.now)) }
+    ensures refused { IfErr result (RefusesBy (RefusesGiven name.now (map string_bytes args.now) source.now)) }
 {
-    let net = match compile(alloc, source) {
+    let net = match compile(alloc, name, source) {
         Ok(net) => net,
         Err(refusal) => return Err(refusal),
     };
@@ -105,15 +120,15 @@ fn order_circuit(alloc: Global, net: Net) -> Result<Ordered, NoMemory>
 }
 
 /// What a net gives in at most `limit` cycles with the arguments.
-pub fn run_net(
+pub fn run_net<'a>(
     alloc: Global,
     ordered: Ordered,
     limit: u64,
     args: &[String],
-) -> Result<Option<Done>, Refusal>
+) -> Result<Option<Done>, Refusal<'a>>
     requires { IsWhole ordered.net }
     ensures answer { IfOk result (Gives ordered.net (map string_bytes args.now) limit) }
-    ensures refused { IfErr result (RefusesArguments (argument_widths ordered.net.signals) (map string_bytes args.now)) }
+    ensures refused { IfErr result (RefusesBy (RefusesArguments (argument_widths ordered.net.signals) (map string_bytes args.now))) }
 {
     let Ok(widths) = argument_widths(alloc, ordered.net()) else {
         return Err(Refusal::NoMemory);
@@ -131,45 +146,22 @@ pub fn run_net(
     }
 }
 
-/// Prints what a run gave.
-pub fn print_outcome<O: Sink>(
-    alloc: Global,
-    out: &mut O,
-    limit: u64,
-    answer: Option<Done>,
-) -> Result<Status, Refusal>
-    ensures status { IfOk result (λ s. s ≡ end_status answer) }
-    ensures printed { OnOk result (Prints (outcome_text limit answer) (record { sent = O.sent out.old; faults = O.faults out.old }) (record { sent = O.sent out.new; faults = O.faults out.new })) }
-    ensures refused { IfErr result (PrintFails (outcome_text limit answer) (record { sent = O.sent out.old; faults = O.faults out.old }) (record { sent = O.sent out.new; faults = O.faults out.new })) }
-{
-    let status = status_of(&answer);
-    let Ok(text) = text_of(alloc, limit, &answer) else {
-        return Err(Refusal::NoMemory);
-    };
-    match print(out, &text) {
-        Ok(()) => Ok(status),
-        Err(refusal) => Err(refusal),
-    }
-}
-
-fn status_of(answer: &Option<Done>) -> Status
-    ensures { result ≡ end_status answer.now }
-{
-    match answer {
-        Some(_) => Status::Ok,
-        None => Status::NoResult,
-    }
-}
-
-fn text_of(alloc: Global, limit: u64, answer: &Option<Done>) -> Result<Vec<u8>, NoMemory>
-    ensures { IfOk result (λ text. text.items ≡ outcome_text limit answer.now) }
+/// What is printed of what a run gave.
+pub fn outcome(alloc: Global, limit: u64, done: Option<Done>) -> Result<Answer, NoMemory>
+    ensures { IfOk result (λ a. given_of a ≡ outcome limit done) }
 {
     let mut text = Vec::new(alloc);
-    match answer {
-        Some(done) => push_done(&mut text, *done)?,
-        None => push_late(&mut text, limit)?,
-    }
-    Ok(text)
+    let comes = match done {
+        Some(done) => {
+            push_done(&mut text, done)?;
+            true
+        }
+        None => {
+            push_late(&mut text, limit)?;
+            false
+        }
+    };
+    Ok(Answer { comes, text })
 }
 
 fn push_done(text: &mut Vec<u8>, done: Done) -> Result<(), NoMemory>

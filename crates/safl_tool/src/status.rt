@@ -1,5 +1,8 @@
 //! The status with which the program ends.
 
+ghost use Rattle.std.specs.Prelude.{◌≡◌};
+ghost use Rattle.safl_tool.specs.Statuses.{number_of};
+
 /// How a call of the program ended. The variants' numbers are the program's exit statuses.
 #[derive(Clone, Copy, Debug, PartialEq, Eq)]
 pub enum Status {
@@ -23,4 +26,13 @@ pub enum Status {
     ProbeFault = 9,
     /// The input file is longer than the limit.
     TooLong = 10,
+}
+
+impl Status {
+    /// The program's exit status.
+    pub fn number(self) -> u8
+        ensures { result ≡ number_of self }
+    {
+        self as u8
+    }
 }

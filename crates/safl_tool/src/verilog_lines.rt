@@ -2,8 +2,7 @@
 
 ghost use Rattle.std.specs.Prelude.{◌≡◌, ◌<◌, ◌++◌, length, map, OnOk, IfOk};
 ghost use Rattle.safl_net.specs.Making.{name_at, numbers};
-ghost use Rattle.safl_tool.specs.RunRefusals.{AreKnown};
-ghost use Rattle.safl_tool.specs.VerilogLines.{vrule_text, both_widths, vfault_text, verilog_line, loop_line, spaced, spaced_name};
+ghost use Rattle.safl_tool.specs.VerilogLines.{AreKnown, vrule_text, both_widths, vfault_text, verilog_line, loop_line, spaced, spaced_name};
 
 use crate::refusal::{column_number, line_number, push};
 use safl_net::{Net, Sig};

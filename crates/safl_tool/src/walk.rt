@@ -1,77 +1,92 @@
 //! `walk IN --order SEED --steps N [ARG..]`: from a source to what a walk of its call machine gives.
 
-ghost use Rattle.std.specs.Prelude.{◌≡◌, ◌≤◌, ◌++◌, [], length, map, OnSome, OnOk, IfOk, IfErr, string_bytes};
-ghost use Rattle.safl_check.specs.Checked.{program_of};
+ghost use Rattle.std.specs.Prelude.{◌≡◌, ◌≤◌, ◌++◌, length, map, OnOk, IfOk, IfErr, string_bytes};
+ghost use Rattle.safl_term.specs.Checked.{program_of};
+ghost use Rattle.safl_tool.specs.Answers.{given_of};
+ghost use Rattle.safl_tool.specs.CommandTasks.{walk_task, end_of_walk, GivesWalk, RefusesGiven};
+ghost use Rattle.safl_tool.specs.Endings.{Ended, SameStrays, outside};
 ghost use Rattle.safl_tool.specs.Limits.{source_max};
 ghost use Rattle.safl_tool.specs.Lines.{walk_lines, short_line};
-ghost use Rattle.safl_tool.specs.Outside.{OfFile};
-ghost use Rattle.safl_tool.specs.Refusals.{Explains, RefusesRun, Prints, PrintFails};
-ghost use Rattle.safl_tool.specs.Simulating.{IsGivenLine};
-ghost use Rattle.safl_tool.specs.Walking.{Walks, WalksFrom, WalkSays, IsWalkEnd, result_status, walked_text};
+ghost use Rattle.safl_tool.specs.Refusals.{StopsBy, RefusesBy};
+ghost use Rattle.safl_tool.specs.Walking.{Walks, WalksFrom};
 
 use crate::arguments::read_arguments;
-use crate::print::print;
+use crate::command::Turns;
+use crate::print::{Answer, print};
 use crate::refusal::{Refusal, push};
 use crate::source::{SOURCE_MAX, check_source, read_input};
 use crate::status::Status;
-use safl_check::Checked;
+use safl_core::{Machine, MachineErr, Walked, walk};
 use safl_io::{Shelf, Sink};
-use safl_machine::{Machine, MachineErr, Walked, walk};
+use safl_term::Checked;
 use safl_word::{NoMemory, Raw, Word, push_decimal};
 use std::alloc::{AllocError, Global};
 
-/// Reads the source of the name `input`, fires at most `steps` events of its call machine with the arguments, which the
-/// numbers that `seed` begins pick, and prints what main has returned. The status is Ok where it has, and else NoResult.
-pub fn walk_source<S: Shelf, O: Sink>(
+/// Reads the source of the name `input`, fires at most `turns.steps` events of its call machine with the arguments, which the
+/// numbers that `turns.seed` begins pick, and prints what main has returned. The status is Ok where it has, and else NoResult.
+pub fn walk_source<'a, S: Shelf, O: Sink>(
     alloc: Global,
     shelf: &mut S,
     out: &mut O,
-    input: &str,
-    seed: u64,
-    steps: u32,
+    input: &'a str,
+    turns: Turns,
     args: &[String],
-) -> Result<Status, Refusal>
-    ensures says { IfOk result (WalkSays
-        (record { holds = S.holds shelf.old; read_faults = S.read_faults shelf.old; write_faults = S.write_faults shelf.old; strays = S.strays shelf.old })
-        (record { holds = S.holds shelf.new; read_faults = S.read_faults shelf.new; write_faults = S.write_faults shelf.new; strays = S.strays shelf.new })
-        (record { sent = O.sent out.old; faults = O.faults out.old }) (record { sent = O.sent out.new; faults = O.faults out.new })
-        input.now seed steps (map string_bytes args.now)) }
-    ensures ends { IfOk result IsWalkEnd }
-    ensures refused { IfErr result (Explains (WalkSays
-        (record { holds = S.holds shelf.old; read_faults = S.read_faults shelf.old; write_faults = S.write_faults shelf.old; strays = S.strays shelf.old })
-        (record { holds = S.holds shelf.new; read_faults = S.read_faults shelf.new; write_faults = S.write_faults shelf.new; strays = S.strays shelf.new })
-        (record { sent = O.sent out.old; faults = O.faults out.old }) (record { sent = O.sent out.new; faults = O.faults out.new })
-        input.now seed steps (map string_bytes args.now))
-        (IsGivenLine (S.holds shelf.old) input.now (map string_bytes args.now)) input.now []) }
-    ensures no_stray { OfFile (S.holds shelf.old) input.now (λ source. Unit {0}) → OnSome (S.holds shelf.old) (S.strays shelf.new ≡ S.strays shelf.old) }
+) -> Result<Status, Refusal<'a>>
+    ensures ended { IfOk result (Ended (walk_task input.now turns.seed turns.steps (map string_bytes args.now))
+        (outside (S.told shelf.old) (O.told out.old)) (outside (S.told shelf.new) (O.told out.new))) }
+    ensures refused { IfErr result (StopsBy (walk_task input.now turns.seed turns.steps (map string_bytes args.now))
+        (outside (S.told shelf.old) (O.told out.old)) (outside (S.told shelf.new) (O.told out.new))) }
+    ensures no_stray { SameStrays (walk_task input.now turns.seed turns.steps (map string_bytes args.now)) (S.told shelf.old) (S.told shelf.new) }
 {
     let source = match read_input(alloc, shelf, input, SOURCE_MAX) {
         Ok(source) => source,
         Err(refusal) => return Err(refusal),
     };
-    let walked = match walk_machine(alloc, &source, seed, steps, args) {
-        Ok(walked) => walked,
+    let answer = match answer_of(alloc, input, &source, turns, args) {
+        Ok(answer) => answer,
         Err(refusal) => return Err(refusal),
     };
-    match print_walked(alloc, out, steps, walked) {
+    match print(out, &answer) {
         Ok(status) => Ok(status),
         Err(refusal) => Err(refusal),
     }
 }
 
-// What a walk of the machine of a source gives.
-fn walk_machine(
+// What is printed of a walk of the machine of a source, or why the source in the file of this name is not walked.
+fn answer_of<'a>(
     alloc: Global,
+    name: &'a str,
     source: &[u8],
-    seed: u64,
-    steps: u32,
+    turns: Turns,
     args: &[String],
-) -> Result<Walked, Refusal>
+) -> Result<Answer, Refusal<'a>>
     requires { length source.now ≤ source_max }
-    ensures walks { IfOk result (Walks source.now (map string_bytes args.now) seed steps) }
-    ensures refused { IfErr result (RefusesRun source.now (map string_bytes args.now)) }
+    ensures gives { IfOk result (λ a. GivesWalk (map string_bytes args.now) turns.seed turns.steps source.now (given_of a)) }
+    ensures refused { IfErr result (RefusesBy (RefusesGiven name.now (map string_bytes args.now) source.now)) }
 {
-    let checked = match check_source(alloc, source) {
+    let walked = match walk_machine(alloc, name, source, turns, args) {
+        Ok(walked) => walked,
+        Err(refusal) => return Err(refusal),
+    };
+    match end_of_walk(alloc, turns.steps, walked) {
+        Ok(answer) => Ok(answer),
+        Err(NoMemory) => Err(Refusal::NoMemory),
+    }
+}
+
+// What a walk of the machine of a source gives.
+fn walk_machine<'a>(
+    alloc: Global,
+    name: &'a str,
+    source: &[u8],
+    turns: Turns,
+    args: &[String],
+) -> Result<Walked, Refusal<'a>>
+    requires { length source.now ≤ source_max }
+    ensures walks { IfOk result (Walks source.now (map string_bytes args.now) turns.seed turns.steps) }
+    ensures refused { IfErr result (RefusesBy (RefusesGiven name.now (map string_bytes args.now) source.now)) }
+{
+    let checked = match check_source(alloc, name, source) {
         Ok(checked) => checked,
         Err(refusal) => return Err(refusal),
     };
@@ -82,7 +97,7 @@ fn walk_machine(
         Ok(words) => words,
         Err(refusal) => return Err(refusal),
     };
-    match walk_with(alloc, &checked, &words, seed, steps) {
+    match walk_with(alloc, &checked, &words, turns.seed, turns.steps) {
         Ok(walked) => Ok(walked),
         Err(NoMemory) => Err(Refusal::NoMemory),
     }
@@ -118,45 +133,22 @@ fn main_widths(alloc: Global, checked: &Checked) -> Result<Vec<u8>, AllocError>
     Ok(widths)
 }
 
-// Prints what a walk gave.
-fn print_walked<O: Sink>(
-    alloc: Global,
-    out: &mut O,
-    steps: u32,
-    walked: Walked,
-) -> Result<Status, Refusal>
-    ensures status { IfOk result (λ s. s ≡ result_status walked.result) }
-    ensures printed { OnOk result (Prints (walked_text steps walked) (record { sent = O.sent out.old; faults = O.faults out.old }) (record { sent = O.sent out.new; faults = O.faults out.new })) }
-    ensures refused { IfErr result (PrintFails (walked_text steps walked) (record { sent = O.sent out.old; faults = O.faults out.old }) (record { sent = O.sent out.new; faults = O.faults out.new })) }
-{
-    let status = status_of(walked.result);
-    let Ok(text) = text_of(alloc, steps, walked) else {
-        return Err(Refusal::NoMemory);
-    };
-    match print(out, &text) {
-        Ok(()) => Ok(status),
-        Err(refusal) => Err(refusal),
-    }
-}
-
-fn status_of(word: Option<Word>) -> Status
-    ensures { result ≡ result_status word }
-{
-    match word {
-        Some(_) => Status::Ok,
-        None => Status::NoResult,
-    }
-}
-
-fn text_of(alloc: Global, steps: u32, walked: Walked) -> Result<Vec<u8>, NoMemory>
-    ensures { IfOk result (λ text. text.items ≡ walked_text steps walked) }
+// What is printed of what a walk gave.
+fn end_of_walk(alloc: Global, steps: u32, walked: Walked) -> Result<Answer, NoMemory>
+    ensures { IfOk result (λ a. given_of a ≡ end_of_walk steps walked walked.result) }
 {
     let mut text = Vec::new(alloc);
-    match walked.result {
-        Some(word) => push_walked(&mut text, word, walked.events, walked.units)?,
-        None => push_short(&mut text, steps)?,
-    }
-    Ok(text)
+    let comes = match walked.result {
+        Some(word) => {
+            push_walked(&mut text, word, walked.events, walked.units)?;
+            true
+        }
+        None => {
+            push_short(&mut text, steps)?;
+            false
+        }
+    };
+    Ok(Answer { comes, text })
 }
 
 fn push_walked(text: &mut Vec<u8>, word: Word, events: u64, units: u32) -> Result<(), NoMemory>

@@ -1,6 +1,6 @@
 pub mod Leaves
 pub mod Expressions
-pub mod Levels
+pub mod KeptLevels
 pub mod Programs
 pub mod Sources
 pub mod Formed
@@ -8,3 +8,15 @@ pub mod Kept
 pub mod PrintableText
 pub mod Texts
 pub mod ShownTrees
+pub mod Readings
+pub mod Layers
+pub mod Operators
+pub mod PrintedExpressions
+pub mod Tokens
+pub mod PrintedPrograms
+pub mod Descent
+pub mod Depths
+pub mod Lists
+pub mod Writing
+pub mod Dismantling
+pub mod DepthLemmas

@@ -16,7 +16,7 @@ use Rattle.safl_tree.specs.Grammar
 use Rattle.safl_tree.specs.Grammar.{source}
 use Rattle.safl_tree.specs.Reader.{expr_at, read_param, read_another_param, read_params, read_one, read_another_one, read_group, read_ended, read_another_group, read_program, read_source, close_paren, comma}
 use Rattle.safl_tree.proofs.Leaves.{a_word, a_symbol, a_name, a_width, starts, after_expr}
-use Rattle.safl_tree.proofs.Levels.{both_levels}
+use Rattle.safl_tree.proofs.KeptLevels.{both_levels}
 
 param_parses : Parses code read_param Grammar.param Grammar.param false (Only (1 ∷ [])) (Only []) (Only (comma ++ close_paren))
 unfolding read_param

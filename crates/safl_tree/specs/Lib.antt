@@ -6,3 +6,7 @@ pub mod Shown
 pub mod Source
 pub mod Laws
 pub mod Printable
+pub mod Printed
+pub mod Places
+pub mod Keeps
+pub mod Sizes

@@ -1,6 +1,6 @@
-//! Laws of the grammar, over the definitions alone.
+//! Laws of the grammar and of printed texts, over the definitions alone.
 
-ghost use Rattle.safl_tree.specs.Laws.{OneProgram, ProgramOrFault, NotBoth, OneFault, SpelledIsPrintable};
+ghost use Rattle.safl_tree.specs.Laws.{OneProgram, ProgramOrFault, NotBoth, OneFault, SpelledIsPrintable, PrintedSpells, SourcesAreShallow};
 
 /// A text spells at most one program.
 pub fn one_program_law()
@@ -27,3 +27,15 @@ pub fn one_fault_law()
 pub fn printable_law()
     ensures { SpelledIsPrintable }
 {}
+
+/// The text of a printable program spells it, places aside.
+pub fn printed_law()
+    ensures { PrintedSpells }
+{}
+
+/// No body of a source is deeper than 1,100, where a `case` is as deep as the let and the ifs that it stands for.
+pub fn shallow_law()
+    ensures { SourcesAreShallow }
+{
+    printable_law();
+}

@@ -1,9 +1,22 @@
-//! Programs as trees, the grammar of their texts, and programs as text.
+//! Programs as trees, the grammar of their texts, and their texts with least parentheses.
 #![tactic(auto)]
 
+mod depth;
+mod dismantle;
 pub mod laws;
+mod levels;
 pub mod name;
+mod places;
+mod print_expression;
+mod print_program;
+mod print_words;
 pub mod tree;
 
+pub use crate::depth::is_within;
+pub use crate::levels::levels_ok;
 pub use crate::name::Name;
+pub use crate::print_program::print;
 pub use crate::tree::{Arm, Bind, Def, Expr, Node, Param, Program};
+
+#[cfg(test)]
+mod tests;

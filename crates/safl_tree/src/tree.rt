@@ -1,5 +1,6 @@
 //! The tree of a source. A place is a byte offset; widths are in bits, from 1 to `WIDTH_MAX`.
 
+use crate::dismantle::dismantle;
 use crate::name::Name;
 use safl_word::{Primitive, Raw};
 
@@ -31,11 +32,29 @@ pub struct Param {
 
 /// An expression and its place: of an operator's node the first byte of its left operand, parentheses included,
 /// of an expression in parentheses its `(`, and of any other its first token.
-#[derive(Drop)]
 #[cycle(expr)]
 pub struct Expr {
     pub place: u32,
     pub node: Node,
+}
+
+// A tree may be deeper than the stack of calls allows.
+impl Drop for Expr {
+    fn drop(self) {
+        dismantle(self);
+    }
+}
+
+impl Expr {
+    ghost use Rattle.std.specs.Prelude.{◌≡◌};
+
+    /// What the expression is, without its place.
+    pub fn into_node(self) -> Node
+        ensures { result ≡ self.node }
+    {
+        let Expr { place: _, node } = self;
+        node
+    }
 }
 
 /// What an expression is. Parentheses leave no node. A `Case` holds its labelled arms, and last its default.

@@ -1,6 +1,6 @@
 -- The sites of an expression are as many as it has calls of functions of other groups.
 use Rattle.std.proofs.Common.{◌≡◌, ℕ, ◌+◌, List, [], ◌∷◌, Bool, arith}
-use Rattle.safl_check.specs.Terms.{Term, Terms}
+use Rattle.safl_term.specs.Terms.{Term, Terms}
 use Rattle.safl_typing.specs.Rewriting.{Expression, Number, Sized, Variable, Choice, Binding, Applied, Called, Expressions, no_expression, an_expression, Bindings, no_binding, a_binding}
 use Rattle.safl_typing.specs.Heads.{Slot, Known, Callee, Member, Above, Unknown, callee, is_site, sites, sites_in, sites_bound}
 use Rattle.safl_typing.specs.Typing.{Has, HaveAll, HaveBound, Calls}

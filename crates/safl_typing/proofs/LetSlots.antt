@@ -1,11 +1,11 @@
 -- A let's own slots are as many as its bound terms.
 use Rattle.std.proofs.Common.{◌≡◌, ℕ, suc, ◌+◌, ◌++◌, List, [], length, false, refl, ap, subst, ◌∙◌, arith}
 use Rattle.std.specs.Prelude.{Ok}
-use Rattle.safl_check.specs.declared.term.Term.{Term}
-use Rattle.safl_check.specs.Slots.{count}
-use Rattle.safl_check.specs.Terms.{Nil}
-use Rattle.safl_check.specs.Tree.{forest}
-use Rattle.safl_check.proofs.SlotLemmas.{count_forest}
+use Rattle.safl_term.specs.declared.term.Term.{Term}
+use Rattle.safl_term.specs.Slots.{count}
+use Rattle.safl_term.specs.Terms.{Nil}
+use Rattle.safl_term.specs.Tree.{forest}
+use Rattle.safl_term.proofs.SlotLemmas.{count_forest}
 use Rattle.safl_typing.specs.Rewriting.{Bindings, no_binding, a_binding}
 use Rattle.safl_typing.specs.Heads.{Known, Slot, sites}
 use Rattle.safl_typing.specs.Typing.{slots}

@@ -4,7 +4,8 @@ use Rattle.std.proofs.lemmas.Option.{slice_get_past, slice_get_cases}
 use Rattle.safl_word.specs.declared.fault.Fault.{Fault}
 use Rattle.safl_typing.specs.Rewriting.{Expression, Number, Sized, Variable, Choice, Binding, Applied, Called, Expressions, no_expression, an_expression, Bindings, no_binding, a_binding}
 use Rattle.safl_typing.specs.Typing.{names}
-use Rattle.safl_typing.specs.Forms.{max_bindings, HasShortLets, HaveShortLets, HaveShortBound}
+use Rattle.safl_term.specs.Sizes.{max_bindings}
+use Rattle.safl_typing.specs.Forms.{HasShortLets, HaveShortLets, HaveShortBound}
 use Rattle.safl_typing.specs.Walk.{or_else, or_place, excess, limit, long_let, long_let_in, long_let_bound, placed}
 use Rattle.safl_typing.proofs.Names.{some_none}
 

@@ -62,9 +62,6 @@ before_or_at (suc m) (suc i) lt = ⊎_elim (λ h. inl (omega (arith, h))) (λ h.
 named_next : (hs : List code.Head) (name : List ℕ) (i : ℕ) (h : code.Head) → slice_get hs i ≡ Some h → last_named hs name (i + 1) ≡ cond (bytes_eq name h.name) (Some i) (last_named hs name i)
 named_next hs name i h at = ap (λ (n : ℕ). last_named hs name n) (add-one i) ∙ ap (λ (o : Option code.Head). cond (has_name name o) (Some i) (last_named hs name i)) at
 
-pub keeps_none : (entries : List (Vec ℕ Global × ℕ)) (before : List (Option ℕ)) (hs : List code.Head) → entries ≡ [] → before ≡ [] → KeepsNames entries before hs 0
-keeps_none entries before hs e b = record { last = λ name. ap (λ (l : List (Vec ℕ Global × ℕ)). kept l name) e; counted = ap (λ (l : List (Option ℕ)). length l) b; links = λ m lt. absurd (omega (arith, lt)) }
-
 pub keeps_next : (entries new : List (Vec ℕ Global × ℕ)) (before after : List (Option ℕ)) (hs : List code.Head) (i : ℕ) (h : code.Head) (key : Vec ℕ Global) (old : Option ℕ)
     → i < length hs → h ≡ get_or hs i h → key.items ≡ h.name → KeepsNames entries before hs i
     → new ≡ insert_entry same_key entries key i → old ≡ kept entries key.items → after ≡ before ++ old ∷ [] → KeepsNames new after hs (i + 1)

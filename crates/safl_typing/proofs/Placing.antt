@@ -3,12 +3,12 @@ use Rattle.std.proofs.Common.{◌≡◌, ℕ, zero, suc, ◌+◌, ◌<◌, ◌�
 use Rattle.std.specs.Prelude.{slice_get, sum_by}
 use Rattle.std.specs.Option.{option_map_or}
 use Rattle.std.proofs.lemmas.List.Sums.{sum_by-cons}
-use Rattle.safl_check.specs.declared.checked.Function.{Function}
-use Rattle.safl_check.specs.declared.checked.Site.{Site}
-use Rattle.safl_check.specs.Program.{Program}
-use Rattle.safl_check.specs.Sizes as sizes
-use Rattle.safl_check.specs.Terms.{Term, Terms}
-use Rattle.safl_check.specs.Tree.{tree}
+use Rattle.safl_term.specs.declared.checked.Function.{Function}
+use Rattle.safl_term.specs.declared.checked.Site.{Site}
+use Rattle.safl_term.specs.Program.{Program}
+use Rattle.safl_term.specs.Sizes as sizes
+use Rattle.safl_term.specs.Terms.{Term, Terms}
+use Rattle.safl_term.specs.Tree.{tree}
 use Rattle.safl_tree.specs.Tree.{Definition}
 use Rattle.safl_typing.specs.Rewriting.{Expression, rewritten, Number, Sized, Variable, Choice, Binding, Applied, Called, Expressions, no_expression, an_expression, Bindings, no_binding, a_binding}
 use Rattle.safl_typing.specs.Heads.{Slot, Head, Known, Callee, Member, Above, Unknown, callee, unit_of, params_of, head_of, heads_from}

@@ -7,26 +7,29 @@ use Rattle.std.proofs.lemmas.Option.{slice_get_cases, slice_get_within, slice_ge
 use Rattle.std.specs.List.{All}
 use Rattle.safl_word.specs.Words.{no_word, max_width}
 use Rattle.safl_word.specs.Tokens.{IsName}
-use Rattle.safl_check.specs.declared.checked.Function.{Function}
-use Rattle.safl_check.specs.declared.checked.Parameter as code
-use Rattle.safl_check.specs.declared.checked.Site.{Site}
-use Rattle.safl_check.specs.Program.{arity}
-use Rattle.safl_check.specs.Terms as plain
-use Rattle.safl_check.specs.Tree.{tree}
-use Rattle.safl_check.specs.WellFormed.{Spans, HasWidth, IsNumbered, IsWellFormed}
-use Rattle.safl_check.specs.Checked as checked
-use Rattle.safl_check.specs.Checked.{CheckedProgram, of_function, of_site, main_of, program_of, name_of, first_site_of, IsWithinLimits, AreNamed, HasWordWidths, BodyHasSlots, IsChecked}
-use Rattle.safl_tree.specs.Tree.{Definition, Parameter}
+use Rattle.safl_term.specs.declared.checked.Function.{Function}
+use Rattle.safl_term.specs.declared.checked.Parameter as code
+use Rattle.safl_term.specs.declared.checked.Site.{Site}
+use Rattle.safl_term.specs.Program.{arity}
+use Rattle.safl_term.specs.Terms as plain
+use Rattle.safl_term.specs.Tree.{tree}
+use Rattle.safl_term.specs.WellFormed.{Spans, HasWidth, IsNumbered, IsWellFormed}
+use Rattle.safl_term.specs.Checked as checked
+use Rattle.safl_term.specs.Checked.{CheckedProgram, of_function, of_site, main_of, program_of, name_of, first_site_of, IsWithinLimits, AreNamed, HasWordWidths, BodyHasSlots, IsChecked}
+use Rattle.safl_term.specs.Sizes as sizes
+use Rattle.safl_term.specs.Sizes.{max_depth}
+use Rattle.safl_tree.specs.Tree.{Definition, Parameter, depth}
 use Rattle.safl_tree.specs.Printable.{AreFormedParameters, IsFormedDefinition, AreFormedDefinitions, IsFormedProgram}
 use Rattle.safl_typing.specs.Rewriting.{rewritten}
 use Rattle.safl_typing.specs.Heads.{Slot, Head, params_of, head_of, heads}
 use Rattle.safl_typing.specs.Typing.{widths_of}
-use Rattle.safl_typing.specs.Forms.{shown_param, shown_function, shown, sites_of, all_sites, param_names, IsLast, function_names, IsFormOf}
+use Rattle.safl_typing.specs.Forms.{shown_param, shown_function, shown, sites_of, all_sites, param_names, IsLast, function_names, AreShallow, IsFormOf}
 use Rattle.safl_typing.proofs.Names.{some_is}
 use Rattle.safl_typing.specs.Ranges.{IsWide}
-use Rattle.safl_typing.proofs.Formed.{width_wide}
+use Rattle.safl_typing.proofs.Formed.{width_wide, heads_wide, params_wide}
 use Rattle.safl_typing.proofs.Widths.{Agrees, formed_full, has_width}
 use Rattle.safl_typing.proofs.Spans.{Noted, has_spans}
+use Rattle.safl_typing.proofs.Shallow.{rewritten_deep, formed_bindings, has_depth, has_short}
 use Rattle.safl_typing.proofs.Units.{Steps, unit_below, unit_monotone, unit_first, unit_group}
 use Rattle.safl_typing.proofs.Placing.{AreShown, At, next_first, place_at, step_at, lengths_same, sites_length, nodes_same, heads_length, AllGood, good_at, has_good, all_good, noted_from}
 
@@ -194,7 +197,12 @@ steps c ds b i lt =
     (λ q. inr (fg.unit ∙ (sym g.is.unit ∙ (q ∙ omega arith))))
     (step_at (heads ds) 0 0 0 1 (suc (length c.sites)) ds c.functions i h.function g.function b.functions h.stands g.stands)
 
-module _ (c : CheckedProgram) (ds : List Definition) (b : IsBased c ds) where
+shallow_at : (ds : List Definition) (i : ℕ) (d : Definition) → AreShallow ds → slice_get ds i ≡ Some d → depth d.body ≤ max_depth
+shallow_at [] i d h e = absurd cc
+shallow_at (x ∷ ds) zero d h e = subst (λ (z : Definition). depth z.body ≤ max_depth) (some_is x d e) h.0
+shallow_at (x ∷ ds) (suc i) d h e = shallow_at ds i d h.1 e
+
+module _ (c : CheckedProgram) (ds : List Definition) (b : IsBased c ds) (shallow : AreShallow ds) where
   below : (i : ℕ) → i < length c.functions → (program_of c).unit i ≤ i
   below = unit_below (program_of c).unit (program_of c).result (length c.functions) (first_unit c ds b) (steps c ds b)
 
@@ -217,7 +225,7 @@ module _ (c : CheckedProgram) (ds : List Definition) (b : IsBased c ds) where
       let f = fields c ds i h in
       let d : IsFormedDefinition h.def = formed_at ds i h.def b.formed h.defined in
       let w : HasWidth (program_of c) (widths_of (params_of h.def)) (tree h.function.body) h.def.width =
-      has_width (program_of c) (record { heads = heads ds; unit = h.unit }) (params_of h.def) true h.first h.end (rewritten h.def.body) h.def.width (tree h.function.body) (agrees c ds b) (formed_full h.def.body d.3) h.is.body in
+      has_width (program_of c) (record { heads = heads ds; unit = h.unit }) (params_of h.def) true h.first h.end (rewritten h.def.body) h.def.width (tree h.function.body) (agrees c ds b) (heads_wide 0 0 ds b.formed) (params_wide h.def.params d.1) (formed_full h.def.body d.3) h.is.body in
       subst (λ (l : List ℕ). HasWidth (program_of c) l ((program_of c).body i) ((program_of c).result i)) (sym f.params)
       (subst (λ (t : plain.Term). HasWidth (program_of c) (widths_of (params_of h.def)) t ((program_of c).result i)) (sym f.body)
       (subst (λ (n : ℕ). HasWidth (program_of c) (widths_of (params_of h.def)) (tree h.function.body) n) (sym f.result) w))
@@ -293,6 +301,26 @@ module _ (c : CheckedProgram) (ds : List Definition) (b : IsBased c ds) where
       (λ e. omega (arith, ap (λ (l : List ℕ). length l) (field_past (λ (f : Function). map (λ p. p.width) f.params.items) [] c i e)))
       (there c.functions i)
 
+  past_body : (i : ℕ) → slice_get c.functions i ≡ None → (program_of c).body i ≡ plain.Const no_word
+  unfolding program_of
+  past_body i e = field_past (λ (f : Function). tree f.body) (plain.Const no_word) c i e
+
+  short_lets : (i : ℕ) → sizes.HasShortLets ((program_of c).body i)
+  short_lets i = ⊎_elim
+      (λ q. let h = here c ds i b q.2 in
+      subst (λ (t : plain.Term). sizes.HasShortLets t) (sym (fields c ds i h).body)
+      (has_short (record { heads = heads ds; unit = h.unit }) (params_of h.def) true h.first h.end (rewritten h.def.body) h.def.width (tree h.function.body) h.is.body h.is.short_lets (formed_bindings h.def.body (formed_at ds i h.def b.formed h.defined).3)))
+      (λ e. subst (λ (t : plain.Term). sizes.HasShortLets t) (sym (past_body i e)) tt)
+      (there c.functions i)
+
+  few_levels : (i : ℕ) → sizes.depth ((program_of c).body i) ≤ max_depth
+  few_levels i = ⊎_elim
+      (λ q. let h = here c ds i b q.2 in
+      let e = has_depth (record { heads = heads ds; unit = h.unit }) (params_of h.def) true h.first h.end (rewritten h.def.body) h.def.width (tree h.function.body) h.is.body in
+      omega (arith, ap (λ (t : plain.Term). sizes.depth t) (fields c ds i h).body, e, rewritten_deep h.def.body (formed_at ds i h.def b.formed h.defined).3, shallow_at ds i h.def shallow h.defined))
+      (λ e. omega (arith, ap (λ (t : plain.Term). sizes.depth t) (past_body i e)))
+      (there c.functions i)
+
   limited : IsWithinLimits c
   unfolding program_of
   limited = record {
@@ -300,6 +328,8 @@ module _ (c : CheckedProgram) (ds : List Definition) (b : IsBased c ds) where
     params = few_params;
     sites = omega (arith, b.last, b.form.few_sites);
     nodes = omega (arith, nodes_same (heads ds) 0 0 0 1 (suc (length c.sites)) ds c.functions b.functions, b.form.few_nodes);
+    bindings = short_lets;
+    depth = few_levels;
   }
 
   named : (i : ℕ) → i < length c.functions → IsName (name_of c i)
@@ -392,5 +422,5 @@ module _ (c : CheckedProgram) (ds : List Definition) (b : IsBased c ds) where
     slots = slotted;
   }
 
-pub form_checked : (ds : List Definition) (c : CheckedProgram) → IsFormedProgram ds → IsFormOf ds (shown c) → All BodyHasSlots c.functions → IsChecked c
-form_checked ds c formed form = is_checked c ds (based ds c formed form)
+pub form_checked : (ds : List Definition) (c : CheckedProgram) → IsFormedProgram ds → AreShallow ds → IsFormOf ds (shown c) → All BodyHasSlots c.functions → IsChecked c
+form_checked ds c formed shallow form = is_checked c ds (based ds c formed form) shallow

@@ -1,6 +1,5 @@
 -- Names of bindings, one by one.
 use Rattle.std.proofs.Common.{◌≡◌, ℕ, suc, ◌+◌, ◌<◌, arith, drop, get_or, drop-cons, List, ◌∷◌, length, Option, Some, Bool, true, false, cond, refl, sym, ap, ◌∙◌}
-use Rattle.std.specs.Prelude.{◌||◌}
 use Rattle.std.specs.List.{list_any}
 use Rattle.std.specs.Str.{bytes_eq}
 use Rattle.std.proofs.lemmas.Option.{slice_get_read}
@@ -19,11 +18,6 @@ front : (bs : List Bound) (i : ℕ) (b : Bound) → i < length bs → b ≡ get_
 front bs i b lt is =
     let s : suc i ≡ i + 1 = omega arith in
     drop-cons bs i b lt ∙ ap (λ (z : Bound). z ∷ drop (suc i) bs) (sym is) ∙ ap (λ (j : ℕ). b ∷ drop j bs) s
-
--- one more name is looked at
-pub among_next : (bs : List Bound) (x : List ℕ) (j : ℕ) (b : Bound) (old : Bool) (c : Bool) → j < length bs → b ≡ get_or bs j b → bytes_eq x b.name ≡ c → old ≡ list_any (bytes_eq x) (earlier bs j) → (c || old) ≡ list_any (bytes_eq x) (earlier bs (j + 1))
-among_next bs x j b old c lt is q h =
-    ap (λ (z : Bool). c || z) h ∙ ap (λ (z : Bool). z || list_any (bytes_eq x) (earlier bs j)) (sym q) ∙ sym (ap (λ (l : List (List ℕ)). list_any (bytes_eq x) l) (earlier_next bs j b lt is))
 
 here : (bs : List Bound) (i : ℕ) (b : Bound) (c : Bool) → i < length bs → b ≡ get_or bs i b → list_any (bytes_eq b.name) (earlier bs i) ≡ c
     → repeated (earlier bs i) (placed (plain_bindings (drop i bs))) ≡ cond c (Some (fault rules.E07 b.place)) (repeated (earlier bs (i + 1)) (placed (plain_bindings (drop (i + 1) bs))))

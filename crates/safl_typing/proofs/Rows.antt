@@ -3,7 +3,7 @@ use Rattle.std.proofs.Common.{◌≡◌, ℕ, List, [], ◌∷◌, Some, Bool, t
 use Rattle.std.specs.Prelude.{Ok, codes}
 use Rattle.safl_word.specs.declared.fault.Rule.TheVariants as rules
 use Rattle.safl_word.specs.declared.primitive.Primitive.TheVariants as prims
-use Rattle.safl_check.specs.Terms.{Term, Const, Var, If, Let, Op, Call, Loop, Terms, Nil, Cons}
+use Rattle.safl_term.specs.Terms.{Term, Const, Var, If, Let, Op, Call, Loop, Terms, Nil, Cons}
 use Rattle.safl_tree.specs.Tree.{Tree, Number, Variable, Choice, Cases, Applied, Called, trees_of, default_arm, an_arm, Parameter, Definition}
 use Rattle.safl_typing.specs.Heads.{Slot}
 use Rattle.safl_typing.specs.Typing.{word}

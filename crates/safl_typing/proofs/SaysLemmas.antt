@@ -1,8 +1,8 @@
 -- Slots below a let, terms with their widths, and faults that stop the walk.
-use Rattle.std.proofs.Common.{◌≡◌, ℕ, ◌+◌, ◌<◌, take, get_or, length, List, [], ◌∷◌, ◌++◌, append_assoc, refl, sym, ap, ◌∙◌}
+use Rattle.std.proofs.Common.{◌≡◌, ℕ, List, [], ◌∷◌, ◌++◌, append_assoc, refl, sym, ap, ◌∙◌}
 use Rattle.std.specs.Prelude.{Result, Ok}
 use Rattle.safl_word.specs.declared.fault.Fault.{Fault}
-use Rattle.safl_check.specs.Terms.{Term}
+use Rattle.safl_term.specs.Terms.{Term}
 use Rattle.safl_typing.specs.declared.expression.Bound.{Bound}
 use Rattle.safl_typing.specs.declared.heads.Slot as code
 use Rattle.safl_typing.specs.declared.typed.CheckErr.{CheckErr}
@@ -13,7 +13,6 @@ use Rattle.safl_typing.specs.Walk.{Typed, after}
 use Rattle.safl_typing.specs.Plain.{plain_bindings}
 use Rattle.safl_typing.specs.PlainHeads.{plain_slot, plain_slots}
 use Rattle.safl_typing.specs.PlainTyped.{Refuses}
-use Rattle.safl_typing.proofs.TypedLemmas.{upto}
 
 pub same_term : (w : ℕ) (t u : Term) → t ≡ u → ◌≡◌ {A = Result Typed Fault} (Ok (record { width = w; term = t })) (Ok (record { width = w; term = u }))
 same_term w t u e = rw e refl
@@ -37,20 +36,11 @@ slots_more all more end bound b bs widths w ws name bytes eb ew en ey em h =
     ∙ sym (ap (λ (l : List Bound). plain_slots all ++ slots (plain_bindings l) (w ∷ ws)) eb)
     ∙ sym (ap (λ (l : List ℕ). plain_slots all ++ slots (plain_bindings bound) l) ew)
 
-pub slots_next : (start all more around : List code.Slot) (i : ℕ) (s : code.Slot) (name bytes : List ℕ) → i < length around → s ≡ get_or around i s
-    → plain_slots all ≡ plain_slots start ++ plain_slots (take i around) → name ≡ bytes → bytes ≡ s.name → more ≡ all ++ record { name = name; width = s.width } ∷ []
-    → plain_slots more ≡ plain_slots start ++ plain_slots (take (i + 1) around)
-slots_next start all more around i s name bytes lt is h en ey em =
-    ap (λ (l : List code.Slot). plain_slots l) em ∙ slots_append all (record { name = name; width = s.width } ∷ [])
-    ∙ ap (λ (l : List Slot). l ++ record { name = name; width = s.width } ∷ []) h
-    ∙ ap (λ (x : List ℕ). (plain_slots start ++ plain_slots (take i around)) ++ record { name = x; width = s.width } ∷ []) (en ∙ ey)
-    ∙ append_assoc (plain_slots start) (plain_slots (take i around)) (plain_slot s ∷ [])
-    ∙ sym (ap (λ (l : List Slot). plain_slots start ++ l) (upto around i s lt is).0)
-
 -- ---- faults
 
 pub fails : {A B : Type 0} (e : CheckErr) (q : Result B Fault) (r : Result A Fault) (rest : A → Result B Fault) → q ≡ after r rest → Refuses e r → Refuses e q
 fails (errors.Refused f) q r rest p h = p ∙ ap (λ z. after z rest) h
+fails errors.TooDeep q r rest p h = h
 fails errors.NoMemory q r rest p h = tt
 
 pub goes : {A B : Type 0} (q : Result B Fault) (r : Result A Fault) (rest : A → Result B Fault) (a : A) → q ≡ after r rest → r ≡ Ok a → q ≡ rest a

@@ -7,7 +7,7 @@ use Rattle.safl_word.specs.declared.fault.Rule.TheVariants as rules
 use Rattle.safl_word.specs.declared.primitive.Primitive.{Primitive}
 use Rattle.safl_word.specs.Primitives.{result_width}
 use Rattle.safl_word.specs.Words.{IsWord}
-use Rattle.safl_check.specs.Terms.{Term, Const, Var, If, Op, Call, Loop, Terms, Nil, Cons}
+use Rattle.safl_term.specs.Terms.{Term, Const, Var, If, Op, Call, Loop, Terms, Nil, Cons}
 use Rattle.safl_typing.specs.Rewriting.{Expression, Number, Sized, Variable, Choice, Binding, Applied, Called, Expressions, no_expression, an_expression, Bindings, no_binding, a_binding, Shape, Alike, Comparing, Shifting, Resizing, shape, takes_width, flexible, all_flexible, count}
 use Rattle.safl_typing.specs.Heads.{Slot, Known, Callee, Member, Above, Unknown, callee, is_site, sites, sites_in, sites_bound}
 use Rattle.safl_typing.specs.Typing.{At, innermost, word, widths_of, slots, Keeps, AreAll, AllRigid, RigidOr, Shifts, Suits, Calls, Has, HaveAll, HaveBound}
@@ -229,9 +229,6 @@ operated_sound P Resizing p m o es x same shift all e w f g h =
     resized_sound P p m o es q.0 (result_width o q.0.widths) x q.2 refl (h q.0 q.1)
 
 -- a call with its arguments
-pub length_is : (n m : ℕ) → (n == m) ≡ true → n ≡ m
-length_is n m e = eqb-true n m e
-
 same_exactly : (es : Expressions) (ps ws : List ℕ) → length ps ≡ count es → AsMany es ws → MetAll (exactly ps) es ws → ws ≡ ps
 same_exactly no_expression [] [] l a h = refl
 same_exactly no_expression (p ∷ ps) ws l a h = absurd (omega (arith, l))

@@ -1,10 +1,10 @@
 -- The sites of a term are those of its expression's interval, in order, and as many nodes stand in both.
 use Rattle.std.proofs.Common.{◌≡◌, ℕ, suc, ◌+◌, List, [], ◌∷◌, ◌++◌, length, Bool, refl, sym, ap, ◌∙◌, subst, arith, length-append}
-use Rattle.safl_check.specs.declared.checked.Site.{Site}
-use Rattle.safl_check.specs.Terms.{Term, Terms}
-use Rattle.safl_check.specs.Program.{Program}
-use Rattle.safl_check.specs.Sizes as sizes
-use Rattle.safl_check.specs.WellFormed.{Spans, SpansAll}
+use Rattle.safl_term.specs.declared.checked.Site.{Site}
+use Rattle.safl_term.specs.Terms.{Term, Terms}
+use Rattle.safl_term.specs.Program.{Program}
+use Rattle.safl_term.specs.Sizes as sizes
+use Rattle.safl_term.specs.WellFormed.{Spans, SpansAll}
 use Rattle.safl_typing.specs.Rewriting.{Expression, Number, Sized, Variable, Choice, Binding, Applied, Called, Expressions, no_expression, an_expression, Bindings, no_binding, a_binding, nodes, nodes_in, nodes_bound}
 use Rattle.safl_typing.specs.Heads.{Slot, Known, Callee, Member, Above, Unknown, callee}
 use Rattle.safl_typing.specs.Typing.{slots, Calls, Has, HaveAll, HaveBound}

@@ -6,7 +6,7 @@ use Rattle.safl_word.specs.declared.fault.Rule.TheVariants as rules
 use Rattle.safl_word.specs.declared.fault.Fault.{Fault}
 use Rattle.safl_word.specs.declared.primitive.Primitive.{Primitive}
 use Rattle.safl_word.specs.Primitives.{result_width}
-use Rattle.safl_check.specs.Terms.{Term, Terms, If, Let, Op, Call, Loop, Nil, Cons}
+use Rattle.safl_term.specs.Terms.{Term, Terms, If, Let, Op, Call, Loop, Nil, Cons}
 use Rattle.safl_typing.specs.declared.expression.Bound.{Bound}
 use Rattle.safl_typing.specs.declared.expression.Expression as code
 use Rattle.safl_typing.specs.declared.heads.Slot as code_slot
@@ -241,10 +241,6 @@ binding_known k s tail lo m p bs b o e q =
     let f : Option Fault → Result Typed Fault = λ z. unless z (after (check_bound k s lo bs) (λ r. after (check k (s ++ slots bs r.widths) tail (lo + sites_bound k bs) m b) (λ y. Ok (record { width = y.width; term = Let r.terms y.term })))) in
     ap (λ (t : Bool). unless (needs t (fault rules.E14 p)) (f (repeated [] (placed bs)))) e ∙ ap f q
 
-pub binding_twice : (k : Known) (s : List Slot) (tail : Bool) (lo : ℕ) (m : Wanted) (p : ℕ) (bs : Bindings) (b : Expression) (f : Fault) → is_known m (flexible b) ≡ true → repeated [] (placed bs) ≡ Some f
-    → check k s tail lo m (Binding p bs b) ≡ Err f
-binding_twice k s tail lo m p bs b f e q = binding_known k s tail lo m p bs b (Some f) e q
-
 pub binding_is : (k : Known) (s : List Slot) (tail : Bool) (lo : ℕ) (m : Wanted) (p : ℕ) (bs : Bindings) (b : Expression) (n : ℕ) → is_known m (flexible b) ≡ true → repeated [] (placed bs) ≡ None → n ≡ lo + sites_bound k bs
     → check k s tail lo m (Binding p bs b) ≡ after (check_bound k s lo bs) (λ r. after (check k (s ++ slots bs r.widths) tail n m b) (λ y. Ok (record { width = y.width; term = Let r.terms y.term })))
 binding_is k s tail lo m p bs b n e q en =
@@ -336,9 +332,6 @@ same_typed v w t u e q = rw (e, q) refl
 
 pub refused_is : {A : Type 0} (r : CheckErr) (q : Result A Fault) (f : Fault) → r ≡ errors.Refused f → q ≡ Err f → Refuses r q
 refused_is r q f e h = subst (λ (z : CheckErr). Refuses z q) (sym e) h
-
-pub refuses_by : {A : Type 0} (r : CheckErr) (a b : Result A Fault) → a ≡ b → Refuses r a → Refuses r b
-refuses_by r a b e h = subst (λ z. Refuses r z) e h
 
 -- ---- functions that are called
 

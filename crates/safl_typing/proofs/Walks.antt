@@ -7,13 +7,14 @@ use Rattle.std.proofs.lemmas.Bool.{eq-eqb, eqb-true, le-leb, leb-true}
 use Rattle.std.proofs.lemmas.Slice.Eq.{bytes_eq-Decides}
 use Rattle.safl_word.specs.declared.fault.Fault.{Fault}
 use Rattle.safl_word.specs.declared.fault.Rule.TheVariants as rules
-use Rattle.safl_check.specs.Terms.{Term}
+use Rattle.safl_term.specs.Terms.{Term}
 use Rattle.safl_tree.specs.Tree.{Definition, Parameter}
 use Rattle.safl_tree.specs.Printable.{OpensGroup, AreFormedDefinitions, IsFormedProgram}
 use Rattle.safl_typing.specs.Rewriting.{Expression, rewritten, nodes}
 use Rattle.safl_typing.specs.Heads.{Slot, Head, Known, sites, unit_of, params_of, heads}
 use Rattle.safl_typing.specs.Typing.{Differ, Has}
-use Rattle.safl_typing.specs.Forms.{FunctionForm, Form, all_sites, max_functions, max_params, max_bindings, max_sites, max_nodes, nodes_of, param_names, IsFunctionOf, AreFunctionsOf, IsLast, function_names, IsFormOf}
+use Rattle.safl_term.specs.Sizes.{max_bindings}
+use Rattle.safl_typing.specs.Forms.{FunctionForm, Form, all_sites, max_functions, max_params, max_sites, max_nodes, nodes_of, param_names, IsFunctionOf, AreFunctionsOf, IsLast, function_names, IsFormOf}
 use Rattle.safl_typing.specs.Walk.{after, unless, needs, or_else, fault, fault_with, excess, limit, long_let, limits_from, limits, placed_params, head_fault, joined_faults, group_fault, function, functions_from, main_fault, Exactly, outcome}
 use Rattle.safl_typing.proofs.Counts.{has_sites}
 use Rattle.safl_typing.proofs.Names.{some_none, Apart, in_order, differ_repeat, repeat_differ, unseen, not_seen, differ_rest, apart_more, differ_first}

@@ -5,10 +5,11 @@ use Rattle.std.specs.Str.{bytes_eq}
 use Rattle.std.proofs.lemmas.Bool.{eq-eqb, eqb-true, ltb-true}
 use Rattle.safl_word.specs.declared.primitive.Primitive.{Primitive}
 use Rattle.safl_word.specs.declared.primitive.Primitive.TheVariants.{Add, Sub, Mul, And, Or, Xor, Not, Eq, Ne, Lt, Le, Gt, Ge, Shl, Shr, Cat, Bits, Ext}
-use Rattle.safl_word.specs.Primitives.{result_width, equal_widths, compared_widths, one_width, two_widths}
-use Rattle.safl_check.specs.Terms.{Term, Terms}
-use Rattle.safl_check.specs.Program.{Program}
-use Rattle.safl_check.specs.WellFormed.{HasWidth, HaveWidths}
+use Rattle.safl_word.specs.Primitives.{is_width, result_width, equal_widths, compared_widths, one_width, two_widths}
+use Rattle.safl_word.proofs.Widths.{within}
+use Rattle.safl_term.specs.Terms.{Term, Terms}
+use Rattle.safl_term.specs.Program.{Program}
+use Rattle.safl_term.specs.WellFormed.{HasWidth, HaveWidths}
 use Rattle.safl_tree.specs.Tree as source
 use Rattle.safl_tree.specs.Tree.{Tree, Trees, Binds, Arms, place_of}
 use Rattle.safl_tree.specs.Printable as printable
@@ -16,7 +17,9 @@ use Rattle.safl_tree.specs.Printable.{operands, IsLabel, IsFormed, AreFormed, Ar
 use Rattle.safl_typing.specs.Rewriting.{Expression, Number, Sized, Variable, Choice, Binding, Applied, Called, Expressions, no_expression, an_expression, Bindings, no_binding, a_binding, shape, count, rewritten, rewritten_all, rewritten_binds, rewritten_arms}
 use Rattle.safl_typing.specs.Heads.{Slot, Head, Known, Numbered, first_head, Callee, Member, Above, Unknown, member_or, callee}
 use Rattle.safl_typing.specs.Typing.{At, later, innermost, widths_of, slots, AreAll, Shifts, Suits, Calls, Has, HaveAll, HaveBound}
+use Rattle.safl_typing.specs.Ranges.{IsWide, AreWide, WideSlots, WideHeads}
 use Rattle.safl_typing.proofs.Names.{some_is}
+use Rattle.safl_typing.proofs.Wide.{WideCallee, table_wide, wide_append, wide_slots, innermost_wide, callee_wide}
 use Rattle.safl_typing.proofs.Complete.{have_many, many_length}
 
 -- ---- operators have their operands
@@ -78,53 +81,88 @@ mutual
 
 -- ---- the table
 
-two_alike : (ws : List ℕ) (w : ℕ) → length ws ≡ 2 → AreAll w ws → equal_widths ws ≡ Some w
-two_alike [] w l h = absurd (omega (arith, l))
-two_alike (a ∷ []) w l h = absurd (omega (arith, l))
-two_alike (a ∷ (b ∷ [])) w l h = rw (eq-eqb a b (h.0 ∙ sym h.1.0)) (ap (λ (n : ℕ). Some n) h.0)
-two_alike (a ∷ (b ∷ (c ∷ ws))) w l h = absurd (omega (arith, l))
+row_test : (a b : ℕ) → IsWide a → IsWide b → (is_width a && is_width b) ≡ true
+row_test a b h k = rw (within a h.some h.bounded, within b k.some k.bounded) refl
 
-two_compared : (ws : List ℕ) (u : ℕ) → length ws ≡ 2 → AreAll u ws → compared_widths ws ≡ Some 1
-two_compared [] w l h = absurd (omega (arith, l))
-two_compared (a ∷ []) w l h = absurd (omega (arith, l))
-two_compared (a ∷ (b ∷ [])) w l h = rw (eq-eqb a b (h.0 ∙ sym h.1.0)) refl
-two_compared (a ∷ (b ∷ (c ∷ ws))) w l h = absurd (omega (arith, l))
+two_alike : (ws : List ℕ) (w : ℕ) → length ws ≡ 2 → AreWide ws → AreAll w ws → equal_widths ws ≡ Some w
+two_alike [] w l wide h = absurd (omega (arith, l))
+two_alike (a ∷ []) w l wide h = absurd (omega (arith, l))
+two_alike (a ∷ (b ∷ [])) w l wide h = rw (row_test a b wide.0 wide.1.0, eq-eqb a b (h.0 ∙ sym h.1.0)) (ap (λ (n : ℕ). Some n) h.0)
+two_alike (a ∷ (b ∷ (c ∷ ws))) w l wide h = absurd (omega (arith, l))
 
-one_alike : (ws : List ℕ) (w : ℕ) → length ws ≡ 1 → AreAll w ws → one_width (λ n. Some n) ws ≡ Some w
-one_alike [] w l h = absurd (omega (arith, l))
-one_alike (a ∷ []) w l h = ap (λ (n : ℕ). Some n) h.0
-one_alike (a ∷ (b ∷ ws)) w l h = absurd (omega (arith, l))
+two_compared : (ws : List ℕ) (u : ℕ) → length ws ≡ 2 → AreWide ws → AreAll u ws → compared_widths ws ≡ Some 1
+two_compared [] w l wide h = absurd (omega (arith, l))
+two_compared (a ∷ []) w l wide h = absurd (omega (arith, l))
+two_compared (a ∷ (b ∷ [])) w l wide h = rw (row_test a b wide.0 wide.1.0, eq-eqb a b (h.0 ∙ sym h.1.0)) refl
+two_compared (a ∷ (b ∷ (c ∷ ws))) w l wide h = absurd (omega (arith, l))
 
-two_shift : (es : Expressions) (ws : List ℕ) (w : ℕ) → length ws ≡ 2 → Shifts w es ws → two_widths (λ w v. Some w) ws ≡ Some w
-two_shift no_expression ws w l h = absurd h
-two_shift (an_expression e es) [] w l h = absurd h
-two_shift (an_expression e es) (a ∷ []) w l h = absurd (omega (arith, l))
-two_shift (an_expression e es) (a ∷ (b ∷ [])) w l h = ap (λ (n : ℕ). Some n) h.1
-two_shift (an_expression e es) (a ∷ (b ∷ (c ∷ ws))) w l h = absurd (omega (arith, l))
+one_alike : (ws : List ℕ) (w : ℕ) → length ws ≡ 1 → AreWide ws → AreAll w ws → one_width (λ n. Some n) ws ≡ Some w
+one_alike [] w l wide h = absurd (omega (arith, l))
+one_alike (a ∷ []) w l wide h = rw (within a wide.0.some wide.0.bounded) (ap (λ (n : ℕ). Some n) h.0)
+one_alike (a ∷ (b ∷ ws)) w l wide h = absurd (omega (arith, l))
 
-compared_is : (ws : List ℕ) (u w : ℕ) → w ≡ 1 → length ws ≡ 2 → AreAll u ws → compared_widths ws ≡ Some w
-compared_is ws u w e l h = two_compared ws u l h ∙ ap (λ (n : ℕ). Some n) (sym e)
+two_shift : (es : Expressions) (ws : List ℕ) (w : ℕ) → length ws ≡ 2 → AreWide ws → Shifts w es ws → two_widths (λ w v. Some w) ws ≡ Some w
+two_shift no_expression ws w l wide h = absurd h
+two_shift (an_expression e es) [] w l wide h = absurd h
+two_shift (an_expression e es) (a ∷ []) w l wide h = absurd (omega (arith, l))
+two_shift (an_expression e es) (a ∷ (b ∷ [])) w l wide h = rw (row_test a b wide.0 wide.1.0) (ap (λ (n : ℕ). Some n) h.1)
+two_shift (an_expression e es) (a ∷ (b ∷ (c ∷ ws))) w l wide h = absurd (omega (arith, l))
+
+compared_is : (ws : List ℕ) (u w : ℕ) → w ≡ 1 → length ws ≡ 2 → AreWide ws → AreAll u ws → compared_widths ws ≡ Some w
+compared_is ws u w e l wide h = two_compared ws u l wide h ∙ ap (λ (n : ℕ). Some n) (sym e)
 
 -- operands that suit the operator have a row of the table
-pub suits_row : (o : Primitive) (es : Expressions) (ws : List ℕ) (w : ℕ) → Suits (shape o) o es ws w → length ws ≡ operands o → result_width o ws ≡ Some w
-suits_row Add es ws w h l = two_alike ws w l h
-suits_row Sub es ws w h l = two_alike ws w l h
-suits_row Mul es ws w h l = two_alike ws w l h
-suits_row And es ws w h l = two_alike ws w l h
-suits_row Or es ws w h l = two_alike ws w l h
-suits_row Xor es ws w h l = two_alike ws w l h
-suits_row Not es ws w h l = one_alike ws w l h
-suits_row Eq es ws w h l = compared_is ws h.1 w h.0 l h.2
-suits_row Ne es ws w h l = compared_is ws h.1 w h.0 l h.2
-suits_row Lt es ws w h l = compared_is ws h.1 w h.0 l h.2
-suits_row Le es ws w h l = compared_is ws h.1 w h.0 l h.2
-suits_row Gt es ws w h l = compared_is ws h.1 w h.0 l h.2
-suits_row Ge es ws w h l = compared_is ws h.1 w h.0 l h.2
-suits_row Shl es ws w h l = two_shift es ws w l h
-suits_row Shr es ws w h l = two_shift es ws w l h
-suits_row Cat es ws w h l = h.1
-suits_row (Bits high low) es ws w h l = h.1
-suits_row (Ext n) es ws w h l = h.1
+pub suits_row : (o : Primitive) (es : Expressions) (ws : List ℕ) (w : ℕ) → Suits (shape o) o es ws w → length ws ≡ operands o → AreWide ws → result_width o ws ≡ Some w
+suits_row Add es ws w h l wide = two_alike ws w l wide h
+suits_row Sub es ws w h l wide = two_alike ws w l wide h
+suits_row Mul es ws w h l wide = two_alike ws w l wide h
+suits_row And es ws w h l wide = two_alike ws w l wide h
+suits_row Or es ws w h l wide = two_alike ws w l wide h
+suits_row Xor es ws w h l wide = two_alike ws w l wide h
+suits_row Not es ws w h l wide = one_alike ws w l wide h
+suits_row Eq es ws w h l wide = compared_is ws h.1 w h.0 l wide h.2
+suits_row Ne es ws w h l wide = compared_is ws h.1 w h.0 l wide h.2
+suits_row Lt es ws w h l wide = compared_is ws h.1 w h.0 l wide h.2
+suits_row Le es ws w h l wide = compared_is ws h.1 w h.0 l wide h.2
+suits_row Gt es ws w h l wide = compared_is ws h.1 w h.0 l wide h.2
+suits_row Ge es ws w h l wide = compared_is ws h.1 w h.0 l wide h.2
+suits_row Shl es ws w h l wide = two_shift es ws w l wide h
+suits_row Shr es ws w h l wide = two_shift es ws w l wide h
+suits_row Cat es ws w h l wide = h.1
+suits_row (Bits high low) es ws w h l wide = h.1
+suits_row (Ext n) es ws w h l wide = h.1
+
+-- ---- widths in range
+
+called_wide : (c : Callee) (tail : Bool) (lo m : ℕ) (ws : List ℕ) (us : Terms) (w : ℕ) (t : Term) → WideCallee c → Calls c tail lo m ws us w t → IsWide w
+called_wide (Member i h) tail lo m ws us w t wide q = subst IsWide q.3 wide.width
+called_wide (Above i h) tail lo m ws us w t wide q = subst IsWide q.2 wide.width
+called_wide Unknown tail lo m ws us w t wide q = absurd q
+
+mutual
+  pub has_wide : (k : Known) (s : List Slot) (tail : Bool) (lo hi : ℕ) (e : Expression) (w : ℕ) (t : Term) → WideHeads k.heads → WideSlots s → IsFull e → Has k s tail lo hi e w t → IsWide w
+  has_wide k s tail lo hi (Number p n) w t wh ws full h = record { some = h.1.some; bounded = h.1.bounded }
+  has_wide k s tail lo hi (Sized p v n) w t wh ws full h = subst IsWide h.1 (record { some = h.2.some; bounded = h.2.bounded })
+  has_wide k s tail lo hi (Variable p x) w t wh ws full (l, i, e, q) = innermost_wide x 0 s _ ws e
+  has_wide k s tail lo hi (Choice p c a b) w t wh ws full (m, n, x, y, z, hc, ha, hb, q) = has_wide k s tail m n a w y wh ws full.1 ha
+  has_wide k s tail lo hi (Binding p bs b) w t wh ws full (m, vs, us, y, d, hs, hb, q) =
+      has_wide k (s ++ slots bs vs) tail m hi b w y wh (wide_append s (slots bs vs) ws (wide_slots bs vs (bound_wide k s lo m bs vs us wh ws full.0 hs))) full.1 hb
+  has_wide k s tail lo hi (Applied p o es) w t wh ws full (vs, us, hs, su, q) =
+      let wide = have_wide k s lo hi es vs us wh ws full.1 hs in
+      table_wide o vs w wide (suits_row o es vs w su (sym (many_length es vs (have_many k s lo hi es vs us hs)) ∙ full.0) wide)
+  has_wide k s tail lo hi (Called p f es) w t wh ws full (m, vs, us, hs, q) = called_wide (callee k f) tail lo m vs us w t (callee_wide k f wh) q
+
+  pub have_wide : (k : Known) (s : List Slot) (lo hi : ℕ) (es : Expressions) (vs : List ℕ) (us : Terms) → WideHeads k.heads → WideSlots s → AreFull es → HaveAll k s lo hi es vs us → AreWide vs
+  have_wide k s lo hi no_expression [] us wh ws full h = tt
+  have_wide k s lo hi no_expression (w ∷ vs) us wh ws full h = absurd h
+  have_wide k s lo hi (an_expression e es) [] us wh ws full h = absurd h
+  have_wide k s lo hi (an_expression e es) (w ∷ vs) us wh ws full (m, t, ts, he, hs, q) = (has_wide k s _ lo m e w t wh ws full.0 he, have_wide k s m hi es vs ts wh ws full.1 hs)
+
+  pub bound_wide : (k : Known) (s : List Slot) (lo hi : ℕ) (bs : Bindings) (vs : List ℕ) (us : Terms) → WideHeads k.heads → WideSlots s → BoundFull bs → HaveBound k s lo hi bs vs us → AreWide vs
+  bound_wide k s lo hi no_binding [] us wh ws full h = tt
+  bound_wide k s lo hi no_binding (w ∷ vs) us wh ws full h = absurd h
+  bound_wide k s lo hi (a_binding p x v e bs) [] us wh ws full h = absurd h
+  bound_wide k s lo hi (a_binding p x v e bs) (w ∷ vs) us wh ws full (m, t, ts, keeps, he, hs, q) = (has_wide k s _ lo m e w t wh ws full.0 he, bound_wide k s m hi bs vs ts wh ws full.1 hs)
 
 -- ---- variables and callees
 
@@ -222,37 +260,37 @@ called_width C k (Above i h) slots tail lo m ws us w t ag at q hs =
 called_width C k Unknown slots tail lo m ws us w t ag at q hs = absurd q
 
 mutual
-  pub has_width : (C : Program) (k : Known) (s : List Slot) (tail : Bool) (lo hi : ℕ) (e : Expression) (w : ℕ) (t : Term) → Agrees C k.heads → IsFull e → Has k s tail lo hi e w t → HasWidth C (widths_of s) t w
-  has_width C k s tail lo hi (Number p n) w t ag full h = subst (λ (z : Term). HasWidth C (widths_of s) z w) (sym h.2) (h.1, refl)
-  has_width C k s tail lo hi (Sized p v n) w t ag full h = subst (λ (z : Term). HasWidth C (widths_of s) z w) (sym h.3) (h.2, h.1)
-  has_width C k s tail lo hi (Variable p x) w t ag full (l, i, e, q) =
+  pub has_width : (C : Program) (k : Known) (s : List Slot) (tail : Bool) (lo hi : ℕ) (e : Expression) (w : ℕ) (t : Term) → Agrees C k.heads → WideHeads k.heads → WideSlots s → IsFull e → Has k s tail lo hi e w t → HasWidth C (widths_of s) t w
+  has_width C k s tail lo hi (Number p n) w t ag wh wide full h = subst (λ (z : Term). HasWidth C (widths_of s) z w) (sym h.2) (h.1, refl)
+  has_width C k s tail lo hi (Sized p v n) w t ag wh wide full h = subst (λ (z : Term). HasWidth C (widths_of s) z w) (sym h.3) (h.2, h.1)
+  has_width C k s tail lo hi (Variable p x) w t ag wh wide full (l, i, e, q) =
       let r = innermost_at x 0 s _ e in
       subst (λ (z : Term). HasWidth C (widths_of s) z w) (sym q) (subst (λ (z : ℕ). slice_get (widths_of s) z ≡ Some w) (omega (arith, r.slot)) r.width)
-  has_width C k s tail lo hi (Choice p c a b) w t ag full (m, n, x, y, z, hc, ha, hb, q) =
+  has_width C k s tail lo hi (Choice p c a b) w t ag wh wide full (m, n, x, y, z, hc, ha, hb, q) =
       subst (λ (u : Term). HasWidth C (widths_of s) u w) (sym q)
-      (has_width C k s _ lo m c 1 x ag full.0 hc, has_width C k s tail m n a w y ag full.1 ha, has_width C k s tail n hi b w z ag full.2 hb)
-  has_width C k s tail lo hi (Binding p bs b) w t ag full (m, ws, us, y, d, hs, hb, q) =
+      (has_width C k s _ lo m c 1 x ag wh wide full.0 hc, has_width C k s tail m n a w y ag wh wide full.1 ha, has_width C k s tail n hi b w z ag wh wide full.2 hb)
+  has_width C k s tail lo hi (Binding p bs b) w t ag wh wide full (m, ws, us, y, d, hs, hb, q) =
       subst (λ (u : Term). HasWidth C (widths_of s) u w) (sym q) (
         ws,
-        bound_widths C k s lo m bs ws us ag full.0 hs,
-        subst (λ (l : List ℕ). HasWidth C l y w) (widths_append s (slots bs ws) ∙ ap (λ (l : List ℕ). widths_of s ++ l) (widths_back k s lo m bs ws us hs)) (has_width C k (s ++ slots bs ws) tail m hi b w y ag full.1 hb),
+        bound_widths C k s lo m bs ws us ag wh wide full.0 hs,
+        subst (λ (l : List ℕ). HasWidth C l y w) (widths_append s (slots bs ws) ∙ ap (λ (l : List ℕ). widths_of s ++ l) (widths_back k s lo m bs ws us hs)) (has_width C k (s ++ slots bs ws) tail m hi b w y ag wh (wide_append s (slots bs ws) wide (wide_slots bs ws (bound_wide k s lo m bs ws us wh wide full.0 hs))) full.1 hb),
       )
-  has_width C k s tail lo hi (Applied p o es) w t ag full (ws, us, hs, su, q) =
+  has_width C k s tail lo hi (Applied p o es) w t ag wh wide full (ws, us, hs, su, q) =
       subst (λ (u : Term). HasWidth C (widths_of s) u w) (sym q)
-      (ws, have_widths C k s lo hi es ws us ag full.1 hs, suits_row o es ws w su (sym (many_length es ws (have_many k s lo hi es ws us hs)) ∙ full.0))
-  has_width C k s tail lo hi (Called p f es) w t ag full (m, ws, us, hs, q) =
-      called_width C k (callee k f) (widths_of s) tail lo m ws us w t ag (callee_at k f) q (have_widths C k s m hi es ws us ag full hs)
+      (ws, have_widths C k s lo hi es ws us ag wh wide full.1 hs, suits_row o es ws w su (sym (many_length es ws (have_many k s lo hi es ws us hs)) ∙ full.0) (have_wide k s lo hi es ws us wh wide full.1 hs))
+  has_width C k s tail lo hi (Called p f es) w t ag wh wide full (m, ws, us, hs, q) =
+      called_width C k (callee k f) (widths_of s) tail lo m ws us w t ag (callee_at k f) q (have_widths C k s m hi es ws us ag wh wide full hs)
 
-  pub have_widths : (C : Program) (k : Known) (s : List Slot) (lo hi : ℕ) (es : Expressions) (ws : List ℕ) (us : Terms) → Agrees C k.heads → AreFull es → HaveAll k s lo hi es ws us → HaveWidths C (widths_of s) us ws
-  have_widths C k s lo hi no_expression [] us ag full h = subst (λ (z : Terms). HaveWidths C (widths_of s) z []) (sym h.1) tt
-  have_widths C k s lo hi no_expression (w ∷ ws) us ag full h = absurd h
-  have_widths C k s lo hi (an_expression e es) [] us ag full h = absurd h
-  have_widths C k s lo hi (an_expression e es) (w ∷ ws) us ag full (m, t, ts, he, hs, q) =
-      subst (λ (z : Terms). HaveWidths C (widths_of s) z (w ∷ ws)) (sym q) (has_width C k s _ lo m e w t ag full.0 he, have_widths C k s m hi es ws ts ag full.1 hs)
+  pub have_widths : (C : Program) (k : Known) (s : List Slot) (lo hi : ℕ) (es : Expressions) (ws : List ℕ) (us : Terms) → Agrees C k.heads → WideHeads k.heads → WideSlots s → AreFull es → HaveAll k s lo hi es ws us → HaveWidths C (widths_of s) us ws
+  have_widths C k s lo hi no_expression [] us ag wh wide full h = subst (λ (z : Terms). HaveWidths C (widths_of s) z []) (sym h.1) tt
+  have_widths C k s lo hi no_expression (w ∷ ws) us ag wh wide full h = absurd h
+  have_widths C k s lo hi (an_expression e es) [] us ag wh wide full h = absurd h
+  have_widths C k s lo hi (an_expression e es) (w ∷ ws) us ag wh wide full (m, t, ts, he, hs, q) =
+      subst (λ (z : Terms). HaveWidths C (widths_of s) z (w ∷ ws)) (sym q) (has_width C k s _ lo m e w t ag wh wide full.0 he, have_widths C k s m hi es ws ts ag wh wide full.1 hs)
 
-  pub bound_widths : (C : Program) (k : Known) (s : List Slot) (lo hi : ℕ) (bs : Bindings) (ws : List ℕ) (us : Terms) → Agrees C k.heads → BoundFull bs → HaveBound k s lo hi bs ws us → HaveWidths C (widths_of s) us ws
-  bound_widths C k s lo hi no_binding [] us ag full h = subst (λ (z : Terms). HaveWidths C (widths_of s) z []) (sym h.1) tt
-  bound_widths C k s lo hi no_binding (w ∷ ws) us ag full h = absurd h
-  bound_widths C k s lo hi (a_binding p x v e bs) [] us ag full h = absurd h
-  bound_widths C k s lo hi (a_binding p x v e bs) (w ∷ ws) us ag full (m, t, ts, keeps, he, hs, q) =
-      subst (λ (z : Terms). HaveWidths C (widths_of s) z (w ∷ ws)) (sym q) (has_width C k s _ lo m e w t ag full.0 he, bound_widths C k s m hi bs ws ts ag full.1 hs)
+  pub bound_widths : (C : Program) (k : Known) (s : List Slot) (lo hi : ℕ) (bs : Bindings) (ws : List ℕ) (us : Terms) → Agrees C k.heads → WideHeads k.heads → WideSlots s → BoundFull bs → HaveBound k s lo hi bs ws us → HaveWidths C (widths_of s) us ws
+  bound_widths C k s lo hi no_binding [] us ag wh wide full h = subst (λ (z : Terms). HaveWidths C (widths_of s) z []) (sym h.1) tt
+  bound_widths C k s lo hi no_binding (w ∷ ws) us ag wh wide full h = absurd h
+  bound_widths C k s lo hi (a_binding p x v e bs) [] us ag wh wide full h = absurd h
+  bound_widths C k s lo hi (a_binding p x v e bs) (w ∷ ws) us ag wh wide full (m, t, ts, keeps, he, hs, q) =
+      subst (λ (z : Terms). HaveWidths C (widths_of s) z (w ∷ ws)) (sym q) (has_width C k s _ lo m e w t ag wh wide full.0 he, bound_widths C k s m hi bs ws ts ag wh wide full.1 hs)

@@ -1,13 +1,15 @@
 -- The numbered form of a program, and which form a program has.
 use Rattle.std.specs.Prelude.{◌≡◌, ℕ, suc, ◌+◌, ◌≤◌, List, [], ◌∷◌, ◌++◌, length, map, true, codes}
+use Rattle.std.specs.List.{AllByRecursion}
 use Rattle.std.specs.String.{string_bytes}
-use Rattle.safl_check.specs.declared.checked.Site.{Site}
-use Rattle.safl_check.specs.declared.checked.Function.{Function}
-use Rattle.safl_check.specs.declared.checked.Parameter as code
-use Rattle.safl_check.specs.Checked.{CheckedProgram}
-use Rattle.safl_check.specs.Terms.{Term, Const, Var, If, Let, Op, Call, Loop, Terms, Nil, Cons}
-use Rattle.safl_check.specs.Tree.{tree}
-use Rattle.safl_tree.specs.Tree.{Definition}
+use Rattle.safl_term.specs.declared.checked.Site.{Site}
+use Rattle.safl_term.specs.declared.checked.Function.{Function}
+use Rattle.safl_term.specs.declared.checked.Parameter as code
+use Rattle.safl_term.specs.Checked.{CheckedProgram}
+use Rattle.safl_term.specs.Terms.{Term, Const, Var, If, Let, Op, Call, Loop, Terms, Nil, Cons}
+use Rattle.safl_term.specs.Sizes.{max_bindings, max_depth}
+use Rattle.safl_term.specs.Tree.{tree}
+use Rattle.safl_tree.specs.Tree.{Definition, depth}
 use Rattle.safl_typing.specs.Rewriting.{Expression, Number, Sized, Variable, Choice, Binding, Applied, Called, Expressions, no_expression, an_expression, Bindings, no_binding, a_binding, rewritten, nodes}
 use Rattle.safl_typing.specs.Heads.{Slot, Head, unit_of, params_of, heads}
 use Rattle.safl_typing.specs.Typing.{Differ, names, Has}
@@ -63,9 +65,6 @@ max_functions = 1000
 abbrev pub max_params : ℕ
 max_params = 16
 
-abbrev pub max_bindings : ℕ
-max_bindings = 16
-
 abbrev pub max_sites : ℕ
 max_sites = 4000
 
@@ -94,6 +93,10 @@ abbrev mutual
 abbrev pub nodes_of : List Definition → ℕ
 nodes_of [] = 0
 nodes_of (d ∷ ds) = nodes (rewritten d.body) + nodes_of ds
+
+-- no body is deeper than a checked one may be
+abbrev pub AreShallow : List Definition → Type 0
+AreShallow ds = AllByRecursion (λ d. depth d.body ≤ max_depth) ds
 
 -- ---- forms
 

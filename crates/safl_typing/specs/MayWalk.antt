@@ -1,10 +1,15 @@
 -- What is asked before a part of a body is checked: widths are in range, and sites, slots and operands can be counted.
 use Rattle.std.specs.Prelude.{ℕ, ◌+◌, ◌<◌, ◌≤◌, ◌^◌, List, [], ◌∷◌, length}
+use Rattle.safl_typing.specs.declared.context.Context.{Context}
+use Rattle.safl_typing.specs.declared.expression.Expression as code
 use Rattle.safl_typing.specs.declared.heads.Head as code_head
+use Rattle.safl_typing.specs.declared.scope.Scope.{Scope}
 use Rattle.safl_typing.specs.Rewriting.{Expression, Expressions, Bindings, nodes, nodes_in, nodes_bound}
 use Rattle.safl_typing.specs.Heads.{Slot, sites, sites_in, sites_bound}
 use Rattle.safl_typing.specs.Ranges.{WideSlots, WideHeads, IsInRange, AreInRange, BoundInRange}
+use Rattle.safl_typing.specs.Plain.{plain_all}
 use Rattle.safl_typing.specs.PlainHeads.{plain_heads, known}
+use Rattle.safl_typing.specs.PlainScope.{plain_scope}
 
 -- each function's parameters can be counted
 abbrev pub CountParams : List code_head.Head → Type 0
@@ -26,6 +31,10 @@ MayCheck hs unit ss lo e = MayWalk hs ss lo (IsInRange e) (sites (known hs unit)
 
 abbrev pub MayCheckAll : List code_head.Head → ℕ → List Slot → ℕ → Expressions → Type 0
 MayCheckAll hs unit ss lo es = MayWalk hs ss lo (AreInRange es) (sites_in (known hs unit) es) (nodes_in es)
+
+-- the same of expressions of the code, in this context and scope
+abbrev pub MayWalkAll : Context → Scope → ℕ → List code.Expression → Type 0
+MayWalkAll c s lo es = MayCheckAll c.heads.now c.unit (plain_scope s) lo (plain_all es)
 
 abbrev pub MayBind : List code_head.Head → ℕ → List Slot → ℕ → Bindings → Type 0
 MayBind hs unit ss lo bs = MayWalk hs ss lo (BoundInRange bs) (sites_bound (known hs unit) bs) (nodes_bound bs)

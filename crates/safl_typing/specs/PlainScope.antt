@@ -1,5 +1,8 @@
 -- Which variables a scope of the code shows.
-use Rattle.std.specs.Prelude.{ℕ, ◌+◌, List, ◌++◌, Option, Some, None}
+use Rattle.std.specs.Prelude.{ℕ, ◌+◌, List, ◌++◌, Option, Some, None, length}
+use Rattle.std.specs.List.{AllByRecursion}
+use Rattle.safl_term.specs.Slots.{HasSlots}
+use Rattle.safl_term.specs.declared.term.Term.{Term}
 use Rattle.safl_typing.specs.declared.scope.Scope.{Scope}
 use Rattle.safl_typing.specs.declared.scope.Scope.TheVariants as scopes
 use Rattle.safl_typing.specs.declared.scope.Variable.{Variable}
@@ -10,6 +13,10 @@ use Rattle.safl_typing.specs.PlainHeads.{plain_slots}
 abbrev pub plain_scope : Scope → List Slot
 plain_scope (scopes.Params slots) = plain_slots slots.now
 plain_scope (scopes.Let' q around slots) = plain_scope around ++ plain_slots slots.now
+
+-- the lets of these terms name their slots, which come after the variables of the scope
+abbrev pub HaveSlotsAfter : Scope → List Term → Type 0
+HaveSlotsAfter s ts = AllByRecursion (HasSlots (length (plain_scope s))) ts
 
 abbrev pub found_at : Option Variable → Option At
 found_at None = None

@@ -2,7 +2,7 @@
 use Rattle.std.specs.Prelude.{◌≡◌, ℕ, ◌≤◌, List, Option, Some, None, Bool, if◌then◌else◌, slice_get, Result, Ok, Err}
 use Rattle.safl_word.specs.Words.{max_width}
 use Rattle.safl_word.specs.declared.fault.Fault.{Fault}
-use Rattle.safl_check.specs.Tree.{tree, forest}
+use Rattle.safl_term.specs.Tree.{tree, forest}
 use Rattle.safl_typing.specs.declared.heads.Slot as code_slot
 use Rattle.safl_typing.specs.declared.typed.CheckErr.{CheckErr}
 use Rattle.safl_typing.specs.declared.typed.CheckErr.TheVariants as errors
@@ -42,9 +42,10 @@ plain_all_typed t = record { widths = t.widths.items; terms = forest t.terms.ite
 abbrev pub plain_alike : code_alike.TypedAlike → TypedAlike
 plain_alike t = record { width = t.width; terms = forest t.terms.items }
 
--- the fault of the code is that of the walk; want of memory says nothing
+-- the fault of the code is that of the walk; the walk itself finds nothing too deep, and out of memory says nothing
 abbrev pub Refuses : {A : Type 0} → CheckErr → Result A Fault → Type 0
 Refuses (errors.Refused f) r = r ≡ Err f
+Refuses errors.TooDeep r = ⊥
 Refuses errors.NoMemory r = Unit {0}
 
 -- the result of the code is that of the walk

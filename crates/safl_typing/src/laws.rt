@@ -17,7 +17,8 @@ pub fn one_form_law()
     ensures { OneForm }
 {}
 
-/// A program with a form, whose lets name their slots, is well formed, within the limits, and in the order of the text:
+/// A program with a form, whose bodies are shallow and whose lets name their slots, is well formed, within the limits,
+/// and in the order of the text:
 /// what is asked of every checked program holds of it.
 pub fn forms_are_checked_law()
     ensures { FormsAreChecked }

@@ -11,7 +11,7 @@ mod parts;
 mod repeats;
 pub mod rewrite;
 pub mod scope;
-pub mod shape;
+mod shape;
 pub mod sites;
 pub mod typed;
 pub mod walk;

@@ -2,9 +2,9 @@
 
 ghost use Rattle.std.specs.Prelude.{◌≡◌, ℕ, ◌+◌, ◌++◌, List, [], ◌∷◌, length, IfOk, OnOk, Ok};
 ghost use Rattle.std.specs.List.{AllByRecursion};
-ghost use Rattle.safl_check.specs.Slots.{HasSlots};
-ghost use Rattle.safl_check.specs.Terms.{Nil, Cons, If, Let, Op, Call, Loop};
-ghost use Rattle.safl_check.specs.Tree.{tree, forest};
+ghost use Rattle.safl_term.specs.Slots.{HasSlots};
+ghost use Rattle.safl_term.specs.Terms.{Nil, Cons, If, Let, Op, Call, Loop};
+ghost use Rattle.safl_term.specs.Tree.{tree, forest};
 ghost use Rattle.safl_typing.specs.Rewriting.{no_expression};
 ghost use Rattle.safl_typing.specs.Heads as plain_heads;
 ghost use Rattle.safl_typing.specs.Typing.{slots};
@@ -16,7 +16,7 @@ ghost use Rattle.safl_typing.specs.PlainTyped.{plain_wanted, plain_all_typed, Sa
 use crate::expression::Bound;
 use crate::heads::Slot;
 use crate::typed::{CheckErr, Typed, Wanted, refused, settled};
-use safl_check::Term;
+use safl_term::Term;
 use safl_tree::Name;
 use safl_word::{NoMemory, Primitive, Rule};
 use std::alloc::Global;
@@ -48,7 +48,7 @@ pub fn none_typed(alloc: Global) -> TypedAll
 
 /// No operands: E14 where no width is expected.
 pub fn none_alike(alloc: Global, place: u32, wanted: Wanted) -> Result<TypedAlike, CheckErr>
-    ensures says { (k : plain_heads.Known) (s : List plain_heads.Slot) (lo : ℕ) → SaysAlike result (check_alike k s lo place (plain_wanted wanted) no_expression) }
+    ensures says { (k : plain_heads.Known) (s : List plain_heads.Slot) (site : ℕ) → SaysAlike result (check_alike k s site place (plain_wanted wanted) no_expression) }
     ensures slots { IfOk result (λ t. (n : ℕ) → AllByRecursion (HasSlots n) t.terms.items) }
 {
     match wanted {

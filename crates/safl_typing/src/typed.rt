@@ -1,8 +1,8 @@
 //! What the walk gives: a width with a term, or a fault.
 
 ghost use Rattle.std.specs.Prelude.{◌≡◌, ℕ, ◌<◌, ◌^◌, ◌&&◌, length, IfOk};
-ghost use Rattle.safl_check.specs.Slots.{HasSlots};
-ghost use Rattle.safl_check.specs.Tree.{tree};
+ghost use Rattle.safl_term.specs.Slots.{HasSlots};
+ghost use Rattle.safl_term.specs.Tree.{tree};
 ghost use Rattle.safl_typing.specs.Typing.{innermost};
 ghost use Rattle.safl_typing.specs.Walk.{fault, settle, number, sized, variable, is_known, is_any, wanted_by};
 ghost use Rattle.safl_typing.specs.declared.typed.CheckErr.TheVariants as errors;
@@ -10,15 +10,16 @@ ghost use Rattle.safl_typing.specs.PlainScope.{plain_scope};
 ghost use Rattle.safl_typing.specs.PlainTyped.{plain_wanted, HasWideWanted, HasWidthOfWord, Says, operand_wanted};
 
 use crate::scope::{Scope, find_variable};
-use safl_check::Term;
+use safl_term::Term;
 use safl_tree::Name;
 use safl_word::{Fault, NoMemory, Raw, Rule, Word};
 use std::alloc::{AllocError, AllocFailed};
 
-/// A fault of the source, or want of memory.
+/// A fault of the source, a body that is deeper than a checked one may be, or out of memory.
 #[derive(Clone, Copy, Debug, PartialEq, Eq)]
 pub enum CheckErr {
     Refused(Fault),
+    TooDeep,
     NoMemory,
 }
 
@@ -64,12 +65,7 @@ pub struct Typed {
 pub fn refused(rule: Rule, place: u32) -> CheckErr
     ensures { result ≡ errors.Refused (fault rule place) }
 {
-    CheckErr::Refused(Fault {
-        rule,
-        place,
-        first: 0,
-        second: 0,
-    })
+    CheckErr::Refused(Fault::new(rule, place))
 }
 
 /// Whether a width is expected, or the expression is rigid.
@@ -123,12 +119,7 @@ pub fn settled(place: u32, wanted: Wanted, width: u8, term: Term) -> Result<Type
             if expected == width {
                 return Ok(Typed { width, term });
             }
-            Err(CheckErr::Refused(Fault {
-                rule: Rule::E12,
-                place,
-                first: expected as u32,
-                second: width as u32,
-            }))
+            Err(CheckErr::Refused(Fault::with(Rule::E12, place, expected as u32, width as u32)))
         }
     }
 }

@@ -1,9 +1,8 @@
 //! The walk over an expression: its width and its term, or the first fault.
 
 ghost use Rattle.std.specs.Prelude.{◌≡◌, ◌+◌, ◌<◌, ◌^◌, ◌&&◌, ◌==◌, Bool, IfOk, length};
-ghost use Rattle.std.specs.List.{AllByRecursion};
-ghost use Rattle.safl_check.specs.Slots.{HasSlots};
-ghost use Rattle.safl_check.specs.Tree.{tree};
+ghost use Rattle.safl_term.specs.Slots.{HasSlots};
+ghost use Rattle.safl_term.specs.Tree.{tree};
 ghost use Rattle.safl_word.specs.declared.fault.Rule.TheVariants as rules;
 ghost use Rattle.safl_typing.specs.declared.typed.CheckErr.TheVariants as errors;
 ghost use Rattle.safl_typing.specs.Rewriting.{Choice, Binding, Applied, Called, flexible, count, nodes};
@@ -14,10 +13,10 @@ ghost use Rattle.safl_typing.specs.Walk.{fault_with, unless, needs, is_any, bran
 ghost use Rattle.safl_typing.specs.Plain.{plain, plain_all, plain_bindings};
 ghost use Rattle.safl_typing.specs.PlainHeads.{plain_slots, plain_head};
 ghost use Rattle.safl_typing.specs.PlainContext.{seen};
-ghost use Rattle.safl_typing.specs.PlainScope.{plain_scope};
+ghost use Rattle.safl_typing.specs.PlainScope.{plain_scope, HaveSlotsAfter};
 ghost use Rattle.safl_typing.specs.PlainTyped.{plain_wanted, HasWideWanted, HasWideWritten, Says, SaysAll, SaysAlike, operands_wanted};
 ghost use Rattle.safl_typing.specs.Marks.{IsMarked, AreMarked, BoundMarked};
-ghost use Rattle.safl_typing.specs.MayWalk.{MayWalk, MayCheck, MayCheckAll, MayBind};
+ghost use Rattle.safl_typing.specs.MayWalk.{MayWalk, MayCheck, MayWalkAll, MayBind};
 
 use crate::context::Context;
 use crate::expression::{Bound, Expression};
@@ -34,9 +33,25 @@ use crate::typed::{
     CheckErr, Typed, Wanted, as_operand, as_written, comes_later, has_width, refused, typed_number,
     typed_sized, typed_variable,
 };
-use safl_check::Term;
+use safl_term::Term;
 use safl_tree::Name;
 use safl_word::{Fault, Primitive, Rule, result_width};
+
+// What is known of a part of a body by where it stands: the number of its first call site, whether it stands in tail
+// position, and at which width it is expected.
+#[derive(Clone, Copy)]
+struct Position {
+    first_site: u32,
+    tail: bool,
+    wanted: Wanted,
+}
+
+// The two branches of an if.
+#[derive(Clone, Copy)]
+struct Branches<'a> {
+    first: &'a Expression,
+    second: &'a Expression,
+}
 
 /// The width and the term of an expression with these variables in scope, or its first fault. Its call sites are numbered
 /// from `lo` on; `tail` says whether it stands in tail position, and `wanted` at which width it is expected.
@@ -55,21 +70,31 @@ pub fn check_expression(
     ensures says { Says result (check (seen context.now) (plain_scope scope.now) tail lo (plain_wanted wanted) (plain e.now)) }
     ensures slots { IfOk result (λ t. HasSlots (length (plain_scope scope.now)) t.term) }
 {
+    let position = Position {
+        first_site: lo,
+        tail,
+        wanted,
+    };
     match e {
         Expression::Number(place, value) => typed_number(*place, *value, wanted),
         Expression::Sized(place, width, value) => typed_sized(*place, *width, *value, wanted),
         Expression::Variable(place, name) => typed_variable(*place, scope, name, wanted),
         Expression::Choice(place, _, condition, first, second) => check_choice(
-            context, scope, tail, lo, wanted, *place, condition, first, second,
+            context,
+            scope,
+            position,
+            *place,
+            condition,
+            Branches { first, second },
         ),
         Expression::Binding(place, _, bound, body) => check_binding(
-            context, scope, tail, lo, wanted, *place, bound, body,
+            context, scope, position, *place, bound, body,
         ),
         Expression::Applied(place, _, operator, operands) => check_applied(
-            context, scope, lo, wanted, *place, *operator, operands,
+            context, scope, position, *place, *operator, operands,
         ),
         Expression::Called(place, _, name, arguments) => check_called(
-            context, scope, tail, lo, wanted, *place, name, arguments,
+            context, scope, position, *place, name, arguments,
         ),
     }
 }
@@ -79,29 +104,30 @@ pub fn check_expression(
 fn check_choice(
     context: &Context,
     scope: &Scope,
-    tail: bool,
-    lo: u32,
-    wanted: Wanted,
+    position: Position,
     place: u32,
     condition: &Expression,
-    first: &Expression,
-    second: &Expression,
+    both: Branches,
 ) -> Result<Typed, CheckErr>
-    requires able { MayCheck context.now.heads.now context.now.unit (plain_scope scope.now) lo (Choice place (plain condition.now) (plain first.now) (plain second.now)) }
-    requires marked { IsMarked (seen context.now) condition.now × IsMarked (seen context.now) first.now × IsMarked (seen context.now) second.now }
-    requires wanted { HasWideWanted wanted }
-    ensures says { Says result (check (seen context.now) (plain_scope scope.now) tail lo (plain_wanted wanted) (Choice place (plain condition.now) (plain first.now) (plain second.now))) }
+    requires able { MayCheck context.now.heads.now context.now.unit (plain_scope scope.now) position.first_site (Choice place (plain condition.now) (plain both.first.now) (plain both.second.now)) }
+    requires marked { IsMarked (seen context.now) condition.now × IsMarked (seen context.now) both.first.now × IsMarked (seen context.now) both.second.now }
+    requires wanted { HasWideWanted position.wanted }
+    ensures says { Says result (check (seen context.now) (plain_scope scope.now) position.tail position.first_site (plain_wanted position.wanted) (Choice place (plain condition.now) (plain both.entry.first.now) (plain both.entry.second.now))) }
     ensures slots { IfOk result (λ t. HasSlots (length (plain_scope scope.now)) t.term) }
 {
-    let flexible = are_both_flexible(first, second);
-    let known = has_width(wanted, flexible);
+    let flexible = are_both_flexible(both.first, both.second);
+    let known = has_width(position.wanted, flexible);
     if !known {
         return Err(refused(Rule::E14, place));
     }
-    let next = add_sites(lo, condition);
+    let next = add_sites(position.first_site, condition);
     let bit = Wanted::Exactly(1);
-    let x = check_expression(context, scope, false, lo, bit, condition)?;
-    check_branches(context, scope, tail, next, wanted, x.term, first, second)
+    let test = check_expression(context, scope, false, position.first_site, bit, condition)?;
+    let after = Position {
+        first_site: next,
+        ..position
+    };
+    check_branches(context, scope, after, test.term, both)
 }
 
 // Two branches: where no width is expected, the first rigid one gives it.
@@ -109,33 +135,35 @@ fn check_choice(
 fn check_branches(
     context: &Context,
     scope: &Scope,
-    tail: bool,
-    lo: u32,
-    wanted: Wanted,
+    position: Position,
     test: Term,
-    first: &Expression,
-    second: &Expression,
+    both: Branches,
 ) -> Result<Typed, CheckErr>
-    requires able { MayWalk context.now.heads.now (plain_scope scope.now) lo (IsInRange (plain first.now) × IsInRange (plain second.now)) (sites (seen context.now) (plain first.now) + sites (seen context.now) (plain second.now)) (nodes (plain first.now) + nodes (plain second.now)) }
-    requires marked { IsMarked (seen context.now) first.now × IsMarked (seen context.now) second.now }
+    requires able { MayWalk context.now.heads.now (plain_scope scope.now) position.first_site (IsInRange (plain both.first.now) × IsInRange (plain both.second.now)) (sites (seen context.now) (plain both.first.now) + sites (seen context.now) (plain both.second.now)) (nodes (plain both.first.now) + nodes (plain both.second.now)) }
+    requires marked { IsMarked (seen context.now) both.first.now × IsMarked (seen context.now) both.second.now }
     requires slots { HasSlots (length (plain_scope scope.now)) test }
-    requires wanted { HasWideWanted wanted }
-    ensures says { Says result (branches (is_any (plain_wanted wanted) && flexible (plain first.now)) (plain_wanted wanted) (λ v. check (seen context.now) (plain_scope scope.now) tail lo v (plain first.now)) (λ v. check (seen context.now) (plain_scope scope.now) tail (lo + sites (seen context.now) (plain first.now)) v (plain second.now)) (tree test)) }
+    requires wanted { HasWideWanted position.wanted }
+    ensures says { Says result (branches (is_any (plain_wanted position.wanted) && flexible (plain both.entry.first.now)) (plain_wanted position.wanted) (λ v. check (seen context.now) (plain_scope scope.now) position.tail position.first_site v (plain both.entry.first.now)) (λ v. check (seen context.now) (plain_scope scope.now) position.tail (position.first_site + sites (seen context.now) (plain both.entry.first.now)) v (plain both.entry.second.now)) (tree test)) }
     ensures slots { IfOk result (λ t. HasSlots (length (plain_scope scope.now)) t.term) }
 {
-    let next = add_sites(lo, first);
-    let flexible = is_flexible(first);
+    let Position {
+        first_site,
+        tail,
+        wanted,
+    } = position;
+    let next = add_sites(first_site, both.first);
+    let flexible = is_flexible(both.first);
     let later = comes_later(wanted, flexible);
     if later {
-        let z = check_expression(context, scope, tail, next, wanted, second)?;
-        let found = Wanted::Exactly(z.width);
-        let y = check_expression(context, scope, tail, lo, found, first)?;
-        return make_if(context.alloc, z.width, test, y.term, z.term);
+        let second = check_expression(context, scope, tail, next, wanted, both.second)?;
+        let found = Wanted::Exactly(second.width);
+        let first = check_expression(context, scope, tail, first_site, found, both.first)?;
+        return make_if(context.alloc, second.width, test, first.term, second.term);
     }
-    let y = check_expression(context, scope, tail, lo, wanted, first)?;
-    let found = Wanted::Exactly(y.width);
-    let z = check_expression(context, scope, tail, next, found, second)?;
-    make_if(context.alloc, y.width, test, y.term, z.term)
+    let first = check_expression(context, scope, tail, first_site, wanted, both.first)?;
+    let found = Wanted::Exactly(first.width);
+    let second = check_expression(context, scope, tail, next, found, both.second)?;
+    make_if(context.alloc, first.width, test, first.term, second.term)
 }
 
 // A let: E14 where its body gives no width and none is expected, E07 where it has a name twice.
@@ -143,33 +171,37 @@ fn check_branches(
 fn check_binding(
     context: &Context,
     scope: &Scope,
-    tail: bool,
-    lo: u32,
-    wanted: Wanted,
+    position: Position,
     place: u32,
     bound: &[Bound],
     body: &Expression,
 ) -> Result<Typed, CheckErr>
-    requires able { MayCheck context.now.heads.now context.now.unit (plain_scope scope.now) lo (Binding place (plain_bindings bound.now) (plain body.now)) }
+    requires able { MayCheck context.now.heads.now context.now.unit (plain_scope scope.now) position.first_site (Binding place (plain_bindings bound.now) (plain body.now)) }
     requires marked { BoundMarked (seen context.now) bound.now × IsMarked (seen context.now) body.now }
-    requires wanted { HasWideWanted wanted }
-    ensures says { Says result (check (seen context.now) (plain_scope scope.now) tail lo (plain_wanted wanted) (Binding place (plain_bindings bound.now) (plain body.now))) }
+    requires wanted { HasWideWanted position.wanted }
+    ensures says { Says result (check (seen context.now) (plain_scope scope.now) position.tail position.first_site (plain_wanted position.wanted) (Binding place (plain_bindings bound.now) (plain body.now))) }
     ensures slots { IfOk result (λ t. HasSlots (length (plain_scope scope.now)) t.term) }
 {
     let flexible = is_flexible(body);
-    let known = has_width(wanted, flexible);
+    let known = has_width(position.wanted, flexible);
     if !known {
         return Err(refused(Rule::E14, place));
     }
     if let Some(twice) = find_repeated(bound) {
         return Err(refused(Rule::E07, twice));
     }
-    let next = add_bound_sites(lo, bound);
-    let all = check_bound(context, scope, lo, bound)?;
+    let next = add_bound_sites(position.first_site, bound);
+    let all = check_bound(context, scope, position.first_site, bound)?;
     let own = own_slots(context.alloc, bound, &all.widths)?;
     let below = Scope::Let(&*scope, &own);
-    let y = check_expression(context, &below, tail, next, wanted, body)?;
-    make_let(context.alloc, y.width, count(scope), all.terms, y.term)
+    let typed = check_expression(context, &below, position.tail, next, position.wanted, body)?;
+    make_let(
+        context.alloc,
+        typed.width,
+        count(scope),
+        all.terms,
+        typed.term,
+    )
 }
 
 // Bindings in order, each expected at its written width, or else found.
@@ -177,22 +209,22 @@ fn check_binding(
 fn check_bound(
     context: &Context,
     scope: &Scope,
-    lo: u32,
+    first_site: u32,
     bound: &[Bound],
 ) -> Result<TypedAll, CheckErr>
-    requires able { MayBind context.now.heads.now context.now.unit (plain_scope scope.now) lo (plain_bindings bound.now) }
+    requires able { MayBind context.now.heads.now context.now.unit (plain_scope scope.now) first_site (plain_bindings bound.now) }
     requires marked { BoundMarked (seen context.now) bound.now }
-    ensures says { SaysAll result (check_bound (seen context.now) (plain_scope scope.now) lo (plain_bindings bound.now)) }
-    ensures slots { IfOk result (λ t. AllByRecursion (HasSlots (length (plain_scope scope.now))) t.terms.items) }
+    ensures says { SaysAll result (check_bound (seen context.now) (plain_scope scope.now) first_site (plain_bindings bound.now)) }
+    ensures slots { IfOk result (λ t. HaveSlotsAfter scope.now t.terms.items) }
 {
     let Some((first, rest)) = bound.split_first() else {
         return Ok(none_typed(context.alloc));
     };
-    let next = add_sites(lo, &first.value);
+    let next = add_sites(first_site, &first.value);
     let wanted = as_written(first.width);
-    let x = check_expression(context, scope, false, lo, wanted, &first.value)?;
+    let value = check_expression(context, scope, false, first_site, wanted, &first.value)?;
     let others = check_bound(context, scope, next, rest)?;
-    put_first(x, others)
+    put_first(value, others)
 }
 
 // An operator, by what it asks of its operands.
@@ -200,36 +232,48 @@ fn check_bound(
 fn check_applied(
     context: &Context,
     scope: &Scope,
-    lo: u32,
-    wanted: Wanted,
+    position: Position,
     place: u32,
     operator: Primitive,
     operands: &[Expression],
 ) -> Result<Typed, CheckErr>
-    requires able { MayCheck context.now.heads.now context.now.unit (plain_scope scope.now) lo (Applied place operator (plain_all operands.now)) }
+    requires able { MayCheck context.now.heads.now context.now.unit (plain_scope scope.now) position.first_site (Applied place operator (plain_all operands.now)) }
     requires marked { AreMarked (seen context.now) operands.now }
-    requires wanted { HasWideWanted wanted }
-    ensures says { (tail : Bool) → Says result (check (seen context.now) (plain_scope scope.now) tail lo (plain_wanted wanted) (Applied place operator (plain_all operands.now))) }
+    requires wanted { HasWideWanted position.wanted }
+    ensures says { Says result (check (seen context.now) (plain_scope scope.now) position.tail position.first_site (plain_wanted position.wanted) (Applied place operator (plain_all operands.now))) }
     ensures slots { IfOk result (λ t. HasSlots (length (plain_scope scope.now)) t.term) }
 {
     match shape_of(operator) {
         Shape::Alike => {
-            let r = check_alike(context, scope, lo, place, wanted, operands)?;
-            Ok(make_operation(r.width, operator, r.terms))
+            let typed = check_alike(
+                context,
+                scope,
+                position.first_site,
+                place,
+                position.wanted,
+                operands,
+            )?;
+            Ok(make_operation(typed.width, operator, typed.terms))
         }
         Shape::Comparing => {
             let any = Wanted::Any;
-            let r = check_alike(context, scope, lo, place, any, operands)?;
-            settled_operation(place, wanted, 1, operator, r.terms)
+            let typed = check_alike(context, scope, position.first_site, place, any, operands)?;
+            settled_operation(place, position.wanted, 1, operator, typed.terms)
         }
         Shape::Shifting => {
-            let r = check_shift(context, scope, lo, place, operands)?;
-            settled_operation(place, wanted, r.width, operator, r.terms)
+            let typed = check_shift(context, scope, position.first_site, place, operands)?;
+            settled_operation(place, position.wanted, typed.width, operator, typed.terms)
         }
         Shape::Resizing => {
-            let r = check_operands(context, scope, lo, None, operands)?;
-            match result_width(operator, &r.widths) {
-                Some(width) => settled_operation(place, wanted, width, operator, r.terms),
+            let typed = check_operands(context, scope, position.first_site, None, operands)?;
+            match result_width(operator, &typed.widths) {
+                Some(width) => settled_operation(
+                    place,
+                    position.wanted,
+                    width,
+                    operator,
+                    typed.terms,
+                ),
                 None => Err(refused(Rule::E05, place)),
             }
         }
@@ -241,33 +285,33 @@ fn check_applied(
 fn check_alike(
     context: &Context,
     scope: &Scope,
-    lo: u32,
+    first_site: u32,
     place: u32,
     wanted: Wanted,
-    es: &[Expression],
+    operands: &[Expression],
 ) -> Result<TypedAlike, CheckErr>
-    requires able { MayCheckAll context.now.heads.now context.now.unit (plain_scope scope.now) lo (plain_all es.now) }
-    requires marked { AreMarked (seen context.now) es.now }
+    requires able { MayWalkAll context.now scope.now first_site operands.now }
+    requires marked { AreMarked (seen context.now) operands.now }
     requires wanted { HasWideWanted wanted }
-    ensures says { SaysAlike result (check_alike (seen context.now) (plain_scope scope.now) lo place (plain_wanted wanted) (plain_all es.now)) }
-    ensures slots { IfOk result (λ t. AllByRecursion (HasSlots (length (plain_scope scope.now))) t.terms.items) }
+    ensures says { SaysAlike result (check_alike (seen context.now) (plain_scope scope.now) first_site place (plain_wanted wanted) (plain_all operands.now)) }
+    ensures slots { IfOk result (λ t. HaveSlotsAfter scope.now t.terms.items) }
 {
-    let Some((first, rest)) = es.split_first() else {
+    let Some((first, rest)) = operands.split_first() else {
         return none_alike(context.alloc, place, wanted);
     };
-    let next = add_sites(lo, first);
+    let next = add_sites(first_site, first);
     let flexible = is_flexible(first);
     let later = comes_later(wanted, flexible);
     if later {
-        let r = check_alike(context, scope, next, place, wanted, rest)?;
-        let found = Wanted::Exactly(r.width);
-        let x = check_expression(context, scope, false, lo, found, first)?;
-        return put_operand(r.width, x.term, r.terms);
+        let others = check_alike(context, scope, next, place, wanted, rest)?;
+        let found = Wanted::Exactly(others.width);
+        let operand = check_expression(context, scope, false, first_site, found, first)?;
+        return put_operand(others.width, operand.term, others.terms);
     }
-    let x = check_expression(context, scope, false, lo, wanted, first)?;
-    let found = Wanted::Exactly(x.width);
-    let r = check_alike(context, scope, next, place, found, rest)?;
-    put_operand(x.width, x.term, r.terms)
+    let operand = check_expression(context, scope, false, first_site, wanted, first)?;
+    let found = Wanted::Exactly(operand.width);
+    let others = check_alike(context, scope, next, place, found, rest)?;
+    put_operand(operand.width, operand.term, others.terms)
 }
 
 // The first operand's width is found, and then the others are looked at.
@@ -275,24 +319,24 @@ fn check_alike(
 fn check_shift(
     context: &Context,
     scope: &Scope,
-    lo: u32,
+    first_site: u32,
     place: u32,
-    es: &[Expression],
+    operands: &[Expression],
 ) -> Result<TypedAlike, CheckErr>
-    requires able { MayCheckAll context.now.heads.now context.now.unit (plain_scope scope.now) lo (plain_all es.now) }
-    requires marked { AreMarked (seen context.now) es.now }
-    ensures says { SaysAlike result (check_shift (seen context.now) (plain_scope scope.now) lo place (plain_all es.now)) }
-    ensures slots { IfOk result (λ t. AllByRecursion (HasSlots (length (plain_scope scope.now))) t.terms.items) }
+    requires able { MayWalkAll context.now scope.now first_site operands.now }
+    requires marked { AreMarked (seen context.now) operands.now }
+    ensures says { SaysAlike result (check_shift (seen context.now) (plain_scope scope.now) first_site place (plain_all operands.now)) }
+    ensures slots { IfOk result (λ t. HaveSlotsAfter scope.now t.terms.items) }
 {
-    let Some((first, rest)) = es.split_first() else {
+    let Some((first, rest)) = operands.split_first() else {
         return Err(refused(Rule::E14, place));
     };
-    let next = add_sites(lo, first);
+    let next = add_sites(first_site, first);
     let any = Wanted::Any;
-    let x = check_expression(context, scope, false, lo, any, first)?;
-    let shifted = Some(x.width);
-    let r = check_operands(context, scope, next, shifted, rest)?;
-    put_operand(x.width, x.term, r.terms)
+    let operand = check_expression(context, scope, false, first_site, any, first)?;
+    let shifted = Some(operand.width);
+    let others = check_operands(context, scope, next, shifted, rest)?;
+    put_operand(operand.width, operand.term, others.terms)
 }
 
 // Operands in order, each found, but a flexible amount of a shift has the width of what is shifted.
@@ -300,25 +344,25 @@ fn check_shift(
 fn check_operands(
     context: &Context,
     scope: &Scope,
-    lo: u32,
+    first_site: u32,
     shifted: Option<u8>,
-    es: &[Expression],
+    operands: &[Expression],
 ) -> Result<TypedAll, CheckErr>
-    requires able { MayCheckAll context.now.heads.now context.now.unit (plain_scope scope.now) lo (plain_all es.now) }
-    requires marked { AreMarked (seen context.now) es.now }
+    requires able { MayWalkAll context.now scope.now first_site operands.now }
+    requires marked { AreMarked (seen context.now) operands.now }
     requires shifted { HasWideWritten shifted }
-    ensures says { SaysAll result (check_all (seen context.now) (plain_scope scope.now) lo (operands_wanted shifted (plain_all es.now)) (plain_all es.now)) }
-    ensures slots { IfOk result (λ t. AllByRecursion (HasSlots (length (plain_scope scope.now))) t.terms.items) }
+    ensures says { SaysAll result (check_all (seen context.now) (plain_scope scope.now) first_site (operands_wanted shifted (plain_all operands.now)) (plain_all operands.now)) }
+    ensures slots { IfOk result (λ t. HaveSlotsAfter scope.now t.terms.items) }
 {
-    let Some((first, rest)) = es.split_first() else {
+    let Some((first, rest)) = operands.split_first() else {
         return Ok(none_typed(context.alloc));
     };
-    let next = add_sites(lo, first);
+    let next = add_sites(first_site, first);
     let flexible = is_flexible(first);
     let wanted = as_operand(shifted, flexible);
-    let x = check_expression(context, scope, false, lo, wanted, first)?;
+    let operand = check_expression(context, scope, false, first_site, wanted, first)?;
     let others = check_operands(context, scope, next, shifted, rest)?;
-    put_first(x, others)
+    put_first(operand, others)
 }
 
 // A call: of a member of the own group in tail position alone, or of a function of an earlier group.
@@ -326,33 +370,36 @@ fn check_operands(
 fn check_called(
     context: &Context,
     scope: &Scope,
-    tail: bool,
-    lo: u32,
-    wanted: Wanted,
+    position: Position,
     place: u32,
     name: &Name,
     arguments: &[Expression],
 ) -> Result<Typed, CheckErr>
-    requires able { MayCheck context.now.heads.now context.now.unit (plain_scope scope.now) lo (Called place name.now (plain_all arguments.now)) }
+    requires able { MayCheck context.now.heads.now context.now.unit (plain_scope scope.now) position.first_site (Called place name.now (plain_all arguments.now)) }
     requires marked { AreMarked (seen context.now) arguments.now }
-    requires wanted { HasWideWanted wanted }
-    ensures says { Says result (check (seen context.now) (plain_scope scope.now) tail lo (plain_wanted wanted) (Called place name.now (plain_all arguments.now))) }
+    requires wanted { HasWideWanted position.wanted }
+    ensures says { Says result (check (seen context.now) (plain_scope scope.now) position.tail position.first_site (plain_wanted position.wanted) (Called place name.now (plain_all arguments.now))) }
     ensures slots { IfOk result (λ t. HasSlots (length (plain_scope scope.now)) t.term) }
 {
+    let Position {
+        first_site,
+        tail,
+        wanted,
+    } = position;
     match find_callee(context.heads, context.unit, name) {
         Callee::Member(n) => {
             if !tail {
                 return Err(refused(Rule::E10, place));
             }
             let head = context.heads.get(n);
-            let all = check_counted(context, scope, lo, place, head, arguments)?;
+            let all = check_counted(context, scope, first_site, place, head, arguments)?;
             settled_loop(place, wanted, head.width, n as u32, all.terms)
         }
         Callee::Above(n) => {
             let head = context.heads.get(n);
-            let first = lo + 1;
-            let all = check_counted(context, scope, first, place, head, arguments)?;
-            settled_call(place, wanted, head.width, n as u32, lo, all.terms)
+            let next = first_site + 1;
+            let all = check_counted(context, scope, next, place, head, arguments)?;
+            settled_call(place, wanted, head.width, n as u32, first_site, all.terms)
         }
         Callee::Unknown => Err(refused(Rule::E09, place)),
     }
@@ -363,23 +410,23 @@ fn check_called(
 fn check_counted(
     context: &Context,
     scope: &Scope,
-    lo: u32,
+    first_site: u32,
     place: u32,
     head: &Head,
-    es: &[Expression],
+    arguments: &[Expression],
 ) -> Result<TypedAll, CheckErr>
-    requires able { MayCheckAll context.now.heads.now context.now.unit (plain_scope scope.now) lo (plain_all es.now) }
-    requires marked { AreMarked (seen context.now) es.now }
+    requires able { MayWalkAll context.now scope.now first_site arguments.now }
+    requires marked { AreMarked (seen context.now) arguments.now }
     requires wide { WideSlots (plain_head head.now).params }
     requires counted { length head.now.params.items < 2 ^ 32 }
-    ensures says { SaysAll result (unless (needs (length (plain_head head.now).params == count (plain_all es.now)) (fault_with rules.E11 place (length (plain_head head.now).params) (count (plain_all es.now)))) (check_all (seen context.now) (plain_scope scope.now) lo (exactly (widths_of (plain_head head.now).params)) (plain_all es.now))) }
-    ensures slots { IfOk result (λ t. AllByRecursion (HasSlots (length (plain_scope scope.now))) t.terms.items) }
+    ensures says { SaysAll result (unless (needs (length (plain_head head.now).params == count (plain_all arguments.now)) (fault_with rules.E11 place (length (plain_head head.now).params) (count (plain_all arguments.now)))) (check_all (seen context.now) (plain_scope scope.now) first_site (exactly (widths_of (plain_head head.now).params)) (plain_all arguments.now))) }
+    ensures slots { IfOk result (λ t. HaveSlotsAfter scope.now t.terms.items) }
 {
-    let same = are_as_many(&head.params, es);
+    let same = are_as_many(&head.params, arguments);
     if !same {
-        return Err(wrong_count(place, &head.params, es));
+        return Err(wrong_count(place, &head.params, arguments));
     }
-    check_arguments(context, scope, lo, &head.params, es)
+    check_arguments(context, scope, first_site, &head.params, arguments)
 }
 
 // Arguments in order, each at its parameter's width.
@@ -387,46 +434,46 @@ fn check_counted(
 fn check_arguments(
     context: &Context,
     scope: &Scope,
-    lo: u32,
+    first_site: u32,
     params: &[Slot],
-    es: &[Expression],
+    arguments: &[Expression],
 ) -> Result<TypedAll, CheckErr>
-    requires able { MayCheckAll context.now.heads.now context.now.unit (plain_scope scope.now) lo (plain_all es.now) }
-    requires marked { AreMarked (seen context.now) es.now }
+    requires able { MayWalkAll context.now scope.now first_site arguments.now }
+    requires marked { AreMarked (seen context.now) arguments.now }
     requires params { WideSlots (plain_slots params.now) }
-    ensures says { SaysAll result (check_all (seen context.now) (plain_scope scope.now) lo (exactly (widths_of (plain_slots params.now))) (plain_all es.now)) }
-    ensures slots { IfOk result (λ t. AllByRecursion (HasSlots (length (plain_scope scope.now))) t.terms.items) }
+    ensures says { SaysAll result (check_all (seen context.now) (plain_scope scope.now) first_site (exactly (widths_of (plain_slots params.now))) (plain_all arguments.now)) }
+    ensures slots { IfOk result (λ t. HaveSlotsAfter scope.now t.terms.items) }
 {
-    let Some((first, rest)) = es.split_first() else {
+    let Some((first, rest)) = arguments.split_first() else {
         return Ok(none_typed(context.alloc));
     };
     let Some((param, others)) = params.split_first() else {
         return Ok(none_typed(context.alloc));
     };
-    let next = add_sites(lo, first);
+    let next = add_sites(first_site, first);
     let wanted = Wanted::Exactly(param.width);
-    let x = check_expression(context, scope, false, lo, wanted, first)?;
-    let r = check_arguments(context, scope, next, others, rest)?;
-    put_first(x, r)
+    let argument = check_expression(context, scope, false, first_site, wanted, first)?;
+    let following = check_arguments(context, scope, next, others, rest)?;
+    put_first(argument, following)
 }
 
 // Whether a function has as many parameters as it is given arguments.
-fn are_as_many(params: &[Slot], es: &[Expression]) -> bool
-    ensures { result ≡ (length (plain_slots params.now) == count (plain_all es.now)) }
+fn are_as_many(params: &[Slot], arguments: &[Expression]) -> bool
+    ensures { result ≡ (length (plain_slots params.now) == count (plain_all arguments.now)) }
 {
-    params.len() == es.len()
+    params.len() == arguments.len()
 }
 
 // E11, with the number of the parameters and that of the arguments.
-fn wrong_count(place: u32, params: &[Slot], es: &[Expression]) -> CheckErr
+fn wrong_count(place: u32, params: &[Slot], arguments: &[Expression]) -> CheckErr
     requires params { length params.now < 2 ^ 32 }
-    requires arguments { length es.now < 2 ^ 32 }
-    ensures { result ≡ errors.Refused (fault_with rules.E11 place (length (plain_slots params.now)) (count (plain_all es.now))) }
+    requires arguments { length arguments.now < 2 ^ 32 }
+    ensures { result ≡ errors.Refused (fault_with rules.E11 place (length (plain_slots params.now)) (count (plain_all arguments.now))) }
 {
-    CheckErr::Refused(Fault {
-        rule: Rule::E11,
+    CheckErr::Refused(Fault::with(
+        Rule::E11,
         place,
-        first: params.len() as u32,
-        second: es.len() as u32,
-    })
+        params.len() as u32,
+        arguments.len() as u32,
+    ))
 }

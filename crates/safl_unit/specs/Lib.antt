@@ -1,7 +1,11 @@
-pub mod Equations
+pub mod Cycles
+pub mod Stages
+pub mod Ties
+pub mod Finished
+pub mod Declaring
+pub mod Returning
+pub mod Setting
+pub mod Outcomes
+pub mod Edges
 pub mod Steps
-pub mod Names
-pub mod Layout
-pub mod Scheme
-pub mod Correct
-pub mod Theorem
+pub mod Coming

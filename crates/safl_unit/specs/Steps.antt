@@ -1,70 +1,51 @@
--- What registers show of the machine, cycle by cycle: each cycle is a list of events.
-use Rattle.std.specs.Prelude.{◌≡◌, ℕ, zero, suc, ◌<◌, ◌++◌, List, [], Bool, true, false, ◌==◌}
-use Rattle.safl_unit.specs.Equations.{Registers, Inputs, Choice, many, next, cycle_events}
-use Rattle.safl_core.specs.Machine.{State, Mode, Idle, Runs, Delivers, Event, opening, Legal, after, last_word}
-use Rattle.safl_check.specs.Readiness.{Stage, Unsent, Sent, Returned}
-use Rattle.safl_check.specs.Program.{Program}
+-- The next words of registers: those of now, and those after the edge.
+use Rattle.std.specs.Prelude.{◌≡◌, ℕ, suc, ◌<◌, List, [], ◌∷◌, length, Option, Some, Bool, true, ◌&&◌, ◌||◌, not, cond, is_some, slice_get}
 use Rattle.safl_word.specs.Words.{Word}
+use Rattle.safl_term.specs.Program.{Program}
+use Rattle.safl_net.specs.declared.cell.Sig.{Sig}
+use Rattle.safl_net.specs.Netlist.{Netlist}
+use Rattle.safl_net.specs.Growth.{Val, Wired, words}
+use Rattle.safl_net.specs.Bits.{on}
+use Rattle.safl_circuit.specs.Equations.{Choice, many, or_word}
+use Rattle.safl_gates.specs.declared.loads.Load.{Load}
+use Rattle.safl_gates.specs.Tables.{EachAt, pin, taken_from, on_from}
+use Rattle.safl_unit.specs.declared.parts.UnitPins.{UnitPins}
+use Rattle.safl_unit.specs.declared.parts.MemberPins.{MemberPins}
+use Rattle.safl_unit.specs.declared.parts.SitePins.{SitePins}
+use Rattle.safl_unit.specs.Cycles.{UnitFits, MemberFits, SiteFits}
 
-abbrev pub is_running : Mode → Bool
-is_running Idle = false
-is_running (Runs f k ws) = true
-is_running (Delivers k v) = false
+-- of a unit, by the word with which it ends, and whether it starts
+pub record UnitStep (v : Val) (end : Option (List Word)) (start : Bool) (now after : UnitPins) : Type 0 where
+  pub run : on v after.run ≡ ((start || on v now.run) && not (is_some end))
+  pub fin : on v after.fin ≡ is_some end
+  pub res : v after.res.0 ∷ [] ≡ or_word end (v now.res.0 ∷ [])
 
-abbrev pub is_delivering : Mode → Bool
-is_delivering Idle = false
-is_delivering (Runs f k ws) = false
-is_delivering (Delivers k v) = true
+-- of a function, by whether its unit has others, it or another of them starts, and what a site and a tail call load
+pub record MemberStep (v : Val) (many entry rival : Bool) (load looped : Option (List Word)) (now after : MemberPins) : Type 0 where
+  pub at : many ≡ true → on v after.at ≡ ((entry || on v now.at) && not rival)
+  pub args : words v after.args.items ≡ or_word load (or_word looped (words v now.args.items))
 
-abbrev pub is_sent : Stage → Bool
-is_sent Unsent = false
-is_sent Sent = true
-is_sent (Returned v) = true
+-- of a site, by whether it keeps its word, is delivered to, starts and is cleared, and the word of its unit
+pub record SiteStep (v : Val) (kept ret go clear : Bool) (res : Word) (now after : SitePins) : Type 0 where
+  pub sent : on v after.sent ≡ ((on v now.sent || go) && not clear)
+  pub got : on v after.got ≡ ((on v now.got || ret) && not clear)
+  pub keep : kept ≡ true → v after.keep.0 ≡ cond ret res (v now.keep.0)
 
-abbrev pub is_returned : Stage → Bool
-is_returned Unsent = false
-is_returned Sent = false
-is_returned (Returned v) = true
+-- of so many functions: the units' registers after the edge
+pub record UnitsNext (C : Program) (n : Netlist) (now : List UnitPins) (ends : List (Option Load)) (starts : List (Option Sig)) (after : List UnitPins) (count : ℕ) : Type 0 where
+  pub entries : length after ≡ count
+  pub fits : EachAt after (λ f y. UnitFits n y (C.result f))
+  pub shows : (v : Val) → Wired n v → EachAt after (λ f y. (x : UnitPins) → slice_get now (C.unit f) ≡ Some x → UnitStep v (taken_from v ends (C.unit f)) (on_from v starts (C.unit f)) x y)
 
--- The registers show the state. run is 1 exactly for running units, and fin for delivering ones, whose res holds the
--- word. In a running unit of several members at is 1 exactly for the one that runs, and its arguments are on its
--- registers. sent is 0 exactly for unsent sites, and got is 1 exactly for those that have returned; where such a site is
--- kept, keep holds its word
-pub record Shows (C : Program) (P : Choice) (s : State) (r : Registers) : Type 0 where
-  pub run : (u : ℕ) → r.run u ≡ is_running (s.unit u)
-  pub fin : (u : ℕ) → r.fin u ≡ is_delivering (s.unit u)
-  pub res : (u k : ℕ) (v : Word) → s.unit u ≡ Delivers k v → r.res u ≡ v
-  pub at : (u f k : ℕ) (ws : List Word) → s.unit u ≡ Runs f k ws → (g : ℕ) → g < C.functions → C.unit g ≡ u → many C g ≡ true → r.at g ≡ (f == g)
-  pub arg : (u f k : ℕ) (ws : List Word) → s.unit u ≡ Runs f k ws → r.arg f ≡ ws
-  pub sent : (k : ℕ) → 0 < k → r.sent k ≡ is_sent (s.site k)
-  pub got : (k : ℕ) → 0 < k → r.got k ≡ is_returned (s.site k)
-  pub keep : (k : ℕ) (v : Word) → 0 < k → P.kept k ≡ true → s.site k ≡ Returned v → r.keep k ≡ v
+-- and their own
+pub record MembersNext (C : Program) (n : Netlist) (now : List MemberPins) (entries rivals : List (Option Sig)) (loads looped : List (Option Load)) (after : List MemberPins) (count : ℕ) : Type 0 where
+  pub entries_after : length after ≡ count
+  pub fits : EachAt after (λ f y. MemberFits n y (C.params f))
+  pub shows : (v : Val) → Wired n v → EachAt after (λ f y. (x : MemberPins) → slice_get now f ≡ Some x → MemberStep v (many C f) (on_from v entries f) (on_from v rivals f) (taken_from v loads f) (taken_from v looped f) x y)
 
--- quiet registers: nothing runs, nothing has just finished, and no site is sent or returned; what else they hold is free
-pub record Quiet (r : Registers) : Type 0 where
-  pub run : (u : ℕ) → r.run u ≡ false
-  pub fin : (u : ℕ) → r.fin u ≡ false
-  pub sent : (k : ℕ) → 0 < k → r.sent k ≡ false
-  pub got : (k : ℕ) → 0 < k → r.got k ≡ false
-
--- the inputs of a run: start is 1 in cycle 0 alone, the ports hold the arguments there, and any words later
-abbrev pub input_at : List Word → (ℕ → List Word) → ℕ → Inputs
-input_at args later zero = record { start = true; words = args }
-input_at args later (suc c) = record { start = false; words = later c }
-
--- the registers of cycle c, from those of cycle 0, and the events of the cycles before c
-unfoldable pub registers_at : Program → Choice → Registers → List Word → (ℕ → List Word) → ℕ → Registers
-registers_at C P r0 args later zero = r0
-registers_at C P r0 args later (suc c) = next C P (input_at args later c) (registers_at C P r0 args later c)
-
-unfoldable pub history : Program → Choice → Registers → List Word → (ℕ → List Word) → ℕ → List Event
-unfolding registers_at
-history C P r0 args later zero = []
-history C P r0 args later (suc c) = history C P r0 args later c ++ cycle_events C P (registers_at C P r0 args later c) (input_at args later c)
-
--- The events of the cycles before c are legal, the registers of cycle c show the state to which they lead, and each res
--- holds the word that its unit finished last, or what it held in cycle 0
-pub record StepsAt (C : Program) (P : Choice) (r0 : Registers) (args : List Word) (later : ℕ → List Word) (c : ℕ) : Type 0 where
-  pub legal : Legal C args opening (history C P r0 args later c)
-  pub shows : Shows C P (after C args opening (history C P r0 args later c)) (registers_at C P r0 args later c)
-  pub res : (u : ℕ) → (registers_at C P r0 args later c).res u ≡ last_word C args opening (history C P r0 args later c) u (r0.res u)
+-- of the sites up to a number: theirs
+pub record SitesNext (C : Program) (P : Choice) (n : Netlist) (units : List UnitPins) (now : List SitePins) (rets goes : List Sig) (clears : List (Option Sig)) (after : List SitePins) (last : ℕ) : Type 0 where
+  pub entries : length after ≡ suc last
+  pub fits : EachAt after (λ k y. 0 < k → SiteFits n y (C.result (C.callee k)))
+  pub shows : (v : Val) → Wired n v → EachAt after (λ k y. 0 < k → (u : UnitPins) (x : SitePins) → slice_get units (C.callee k) ≡ Some u → slice_get now k ≡ Some x
+      → SiteStep v (P.kept k) (on v (pin rets k)) (on v (pin goes k)) (on_from v clears (C.unit (C.caller k))) (v u.res.0) x y)

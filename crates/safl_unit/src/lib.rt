@@ -1,4 +1,19 @@
-//! The circuit of a program: its registers and wires, and what its runs show.
+//! From a planned program to its circuit.
 #![tactic(auto)]
 
-pub mod laws;
+mod arrivals;
+mod bodies;
+mod circuit;
+mod controls;
+mod declare;
+mod edge;
+mod events;
+mod finish;
+mod grants;
+mod names;
+mod next;
+mod parts;
+mod returns;
+mod rivals;
+
+pub use crate::circuit::{Circuit, SIGNALS_MAX, compile};

@@ -7,6 +7,7 @@ use Rattle.std.proofs.lemmas.Bool.Decides.{nat_tests}
 use Rattle.std.proofs.Math.Nat.{pow-le-pow_right}
 use Rattle.safl_word.specs.Words.{Word, IsWord}
 use Rattle.safl_word.specs.Primitives.{one_width, two_widths, where_true}
+use Rattle.safl_word.proofs.Widths.{only_where}
 use Rattle.safl_word.specs.Numerals.{is_digit, value}
 use Rattle.safl_word.specs.declared.primitive.Primitive.{Primitive}
 use Rattle.safl_word.specs.declared.primitive.Primitive.TheVariants as prims
@@ -100,7 +101,7 @@ Names n xs = Each (λ s. IsIdentifier (name_of n s)) xs
 
 one_case : (n : Netlist) (f : ℕ → Option ℕ) (xs : List ℕ) (w : ℕ) → one_width f (widths n xs) ≡ Some w → (a : ℕ) × (xs ≡ a ∷ []) × (f (width_of n a) ≡ Some w)
 one_case n f [] w e = absurd cc
-one_case n f (a ∷ []) w e = (a, refl, e)
+one_case n f (a ∷ []) w e = (a, refl, only_where _ _ w e)
 one_case n f (a ∷ (b ∷ xs)) w e = absurd cc
 
 two_case : (n : Netlist) (f : ℕ → ℕ → Option ℕ) (xs : List ℕ) (w : ℕ) → two_widths f (widths n xs) ≡ Some w → (a : ℕ) × (b : ℕ) × (xs ≡ a ∷ b ∷ [])

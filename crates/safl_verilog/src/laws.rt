@@ -22,7 +22,7 @@ pub fn not_both_law()
     ensures { NotBoth }
 {}
 
-/// No shorter front of a file is a file.
+/// No shorter prefix of a file is a file.
 pub fn no_shorter_file_law()
     ensures { NoShorterFile }
 {}
@@ -33,7 +33,7 @@ pub fn written_reads_law()
     ensures { WrittenReads }
 {}
 
-/// A front of the text that is written of such a net reads as no netlist, but for the whole text and the text without
+/// A prefix of the text that is written of such a net reads as no netlist, but for the whole text and the text without
 /// its last line feed.
 pub fn no_shorter_text_law()
     ensures { NoShorterText }

@@ -1,5 +1,7 @@
-pub mod Fronts
-pub mod Shown
-pub mod Gives
-pub mod Parsed
-pub mod Numbers
+pub mod Firsts
+pub mod Lists
+pub mod Scopes
+pub mod Drivers
+pub mod Parts
+pub mod Signals
+pub mod Nets

@@ -1,20 +1,22 @@
 //! From the text of a Verilog file to the net that it reads as, or to its first fault.
 #![tactic(auto)]
 
-mod error;
-mod file;
-mod front;
-mod grammar;
-mod lexer;
-pub mod numbers;
-mod parser;
+mod cells;
+mod driver;
+mod elaborate;
+mod make;
+mod missing;
+mod names;
+mod numbers;
+mod places;
+mod ports;
 mod read;
-mod symbols;
+mod scope;
+mod spans;
+mod statements;
 
-pub use crate::error::VErr;
-pub use crate::file::{Declaration, Expression, File, Range, Span, Statement, Update};
-pub use crate::read::parse;
-pub use safl_verilog::{VFault, VRule};
+pub use crate::read::read_net;
+pub use safl_vparse::{VErr, VFault, VRule};
 
 #[cfg(test)]
 mod tests;

@@ -1,105 +1,125 @@
-//! Numbers, ranges and literals: the rules on their digits and values.
+//! The rules on numbers in declarations, slices and literals.
 
-ghost use Rattle.std.specs.Prelude.{◌≡◌, ◌↔◌, ◌+◌, ◌*◌, ◌^◌, ◌<◌, ◌≤◌, ◌==◌, not, drop, IsSome, IfSome};
-ghost use Rattle.safl_word.specs.Numerals.{digit};
-ghost use Rattle.safl_verilog.specs.Faults.{base_at, before_quote, behind_quote};
-ghost use Rattle.safl_vread.specs.Numbers.{bounded_value, literal_word};
-ghost use Rattle.safl_vread.specs.Fronts.{IsRun};
+ghost use Rattle.std.specs.Prelude.{◌≡◌, ◌==◌, ◌++◌};
+ghost use Rattle.std.specs.List.{flat_map};
+ghost use Rattle.safl_word.specs.Numerals.{value};
+ghost use Rattle.safl_verilog.specs.Faults.{number_faults, literal_faults, range_faults, declared_number_faults, expression_number_faults, stated_number_faults};
+ghost use Rattle.safl_vparse.specs.Shown.{spot_at, range_at, declarations_at, expression_at, statement_at, statements_at};
+ghost use Rattle.safl_vread.specs.Firsts.{first};
 
-use safl_word::word::DIGITS_MAX;
-use safl_word::{Raw, Word};
+use crate::spans::{bytes_of, fault_at};
+use safl_verilog::{VFault, VRule};
+use safl_vparse::numbers::{bounded, literal};
+use safl_vparse::{Declaration, Expression, Range, Span, Statement};
+use safl_word::bytes::digit;
 
-/// The number of digits of a base: None exactly where they are more than `DIGITS_MAX`, or the number is not below 2 to
-/// the 128th.
-pub fn bounded(base: u8, bytes: &[u8]) -> Option<Raw>
-    requires { 1 ≤ base }
-    ensures { result ≡ bounded_value base bytes.now }
+/// The first fault in the numbers of declarations and statements.
+pub fn number_fault(
+    text: &[u8],
+    declarations: &[Declaration],
+    statements: &[Statement],
+) -> Option<VFault>
+    ensures { result ≡ first (flat_map declared_number_faults (declarations_at text.now declarations.now) ++ flat_map stated_number_faults (statements_at text.now statements.now)) }
 {
-    if bytes.len() > DIGITS_MAX {
-        return None;
-    }
-    let mut number = 0;
-    for c in bytes {
-        number = followed(base, number, *c)?;
-    }
-    Some(number)
-}
-
-// The number of digits and a further one.
-fn followed(base: u8, number: Raw, c: u8) -> Option<Raw>
-    ensures some { IsSome result ↔ (number * base + digit c < 2 ^ 128) }
-    ensures value { IfSome result (λ n. n ≡ number * base + digit c) }
-{
-    number
-        .checked_mul(Raw::from(base))?
-        .checked_add(Raw::from(digit(c)))
-}
-
-/// What a digit counts.
-pub fn digit(c: u8) -> u8
-    ensures { result ≡ digit c }
-{
-    if c <= 57 {
-        c.saturating_sub(48)
-    } else if c <= 70 {
-        c - 55
+    let declared = declared_fault(text, declarations);
+    if declared.is_some() {
+        declared
     } else {
-        c.saturating_sub(87)
+        stated_fault(text, statements)
     }
 }
 
-/// The word of a sized number: None exactly where a run of its digits is too long, a number is too great, or the width
-/// isn't that of a word which the value fits.
-pub fn literal(bytes: &[u8]) -> Option<Word>
-    ensures { result ≡ literal_word bytes.now }
+fn declared_fault(text: &[u8], declarations: &[Declaration]) -> Option<VFault>
+    ensures { result ≡ first (flat_map declared_number_faults (declarations_at text.now declarations.now)) }
 {
-    let (before, behind) = split_at_quote(bytes);
-    let width = bounded(10, before)?;
-    let value = bounded(base_at(behind), without_first(behind))?;
-    if width > 128 {
-        return None;
-    }
-    Word::new(width as u8, value)
-}
-
-// The digits before the `'`, and what stands behind it.
-fn split_at_quote(bytes: &[u8]) -> (&[u8], &[u8])
-    ensures before { result.0.now ≡ before_quote bytes.now }
-    ensures behind { result.1.now ≡ behind_quote bytes.now }
-{
-    let n = quote_at(bytes);
-    (&bytes[..n], without_first(&bytes[n..]))
-}
-
-// How many bytes stand before the `'`.
-fn quote_at(bytes: &[u8]) -> usize
-    ensures { IsRun (λ c. not (c == 39)) bytes.now result }
-{
-    for (i, c) in bytes.iter().enumerate() {
-        if *c == b'\'' {
-            return i;
+    for d in declarations {
+        let fault = range_fault(text, d.range);
+        if fault.is_some() {
+            return fault;
         }
     }
-    bytes.len()
+    None
 }
 
-fn without_first(bytes: &[u8]) -> &[u8]
-    ensures { result.now ≡ drop 1 bytes.now }
+fn stated_fault(text: &[u8], statements: &[Statement]) -> Option<VFault>
+    ensures { result ≡ first (flat_map stated_number_faults (statements_at text.now statements.now)) }
 {
-    match bytes {
-        [] => bytes,
-        [_, rest @ ..] => rest,
+    for s in statements {
+        let fault = statement_fault(text, s);
+        if fault.is_some() {
+            return fault;
+        }
+    }
+    None
+}
+
+fn range_fault(text: &[u8], range: Option<Range>) -> Option<VFault>
+    ensures { result ≡ first (range_faults (range_at text.now range)) }
+{
+    let Some(range) = range else {
+        return None;
+    };
+    match bounded(10, bytes_of(text, range.high)) {
+        None => Some(fault_at(VRule::V06, range.high.start)),
+        Some(high) if high < 128 && is_zero(bytes_of(text, range.low)) => {
+            digits_fault(text, range.low)
+        }
+        Some(_) => Some(fault_at(VRule::V05, range.high.start)),
     }
 }
 
-// The base of what stands behind the `'`.
-fn base_at(behind: &[u8]) -> u8
-    ensures base { result ≡ base_at behind.now }
-    ensures some { 1 ≤ result }
+fn statement_fault(text: &[u8], statement: &Statement) -> Option<VFault>
+    ensures { result ≡ first (stated_number_faults (statement_at text.now statement.now)) }
 {
-    match behind {
-        [b'h', ..] => 16,
-        [b'b', ..] => 2,
-        _ => 10,
+    match statement {
+        Statement::Assign(_, expression) => expression_fault(text, expression),
+        Statement::Always(update) => literal_fault(text, update.initial),
     }
+}
+
+fn expression_fault(text: &[u8], expression: &Expression) -> Option<VFault>
+    ensures { result ≡ first (expression_number_faults (expression_at text.now expression.now)) }
+{
+    match expression {
+        Expression::Literal(span) => literal_fault(text, *span),
+        Expression::Slice(_, high, low) => {
+            let fault = digits_fault(text, *high);
+            if fault.is_some() {
+                fault
+            } else {
+                digits_fault(text, *low)
+            }
+        }
+        _ => None,
+    }
+}
+
+fn digits_fault(text: &[u8], number: Span) -> Option<VFault>
+    ensures { result ≡ first (number_faults (spot_at text.now number)) }
+{
+    match bounded(10, bytes_of(text, number)) {
+        Some(_) => None,
+        None => Some(fault_at(VRule::V06, number.start)),
+    }
+}
+
+fn literal_fault(text: &[u8], number: Span) -> Option<VFault>
+    ensures { result ≡ first (literal_faults (spot_at text.now number)) }
+{
+    match literal(bytes_of(text, number)) {
+        Some(_) => None,
+        None => Some(fault_at(VRule::V06, number.start)),
+    }
+}
+
+// Whether the digits count 0, however many they are.
+fn is_zero(bytes: &[u8]) -> bool
+    ensures { result ≡ (value 10 bytes.now == 0) }
+{
+    for c in bytes {
+        if digit(*c) != 0 {
+            return false;
+        }
+    }
+    true
 }

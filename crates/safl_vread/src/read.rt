@@ -1,54 +1,26 @@
-//! From bytes to a file.
+//! From bytes to a net.
 
-ghost use Rattle.std.specs.Prelude.{◌≡◌, ◌<◌, ◌^◌, length, IfOk, IfErr};
-ghost use Rattle.safl_verilog.specs.Tokens.{HasTokens};
-ghost use Rattle.safl_verilog.specs.Reads.{place_in};
-ghost use Rattle.safl_vread.specs.Shown.{shown_all, file_at};
-ghost use Rattle.safl_vread.specs.Parsed.{IsFileText, TokensAnswer, RefusesText};
+ghost use Rattle.std.specs.Prelude.{◌<◌, ◌^◌, length, IfOk, IfErr};
+ghost use Rattle.safl_net.specs.Whole.{IsWhole};
+ghost use Rattle.safl_verilog.specs.Reads.{Reads};
+ghost use Rattle.safl_vparse.specs.Parsed.{RefusesText};
 
-use crate::error::VErr;
-use crate::file::File;
-use crate::lexer::lex;
-use crate::parser::{Parser, ReadError};
-use safl_verilog::{Token, VFault, VRule};
+use crate::elaborate::elaborate;
+use crate::make::net_of;
+use safl_net::Net;
+use safl_vparse::{VErr, parse};
 use std::alloc::Global;
 
-/// The file of the grammar that a text of fewer than 2^32 bytes is, or its first fault of the rules V01 and V02: Ok
-/// exactly where the text is one.
-pub fn parse(alloc: Global, text: &[u8]) -> Result<File, VErr>
+/// The net that a text of fewer than 2^32 bytes reads as, or its first fault. The net is whole: each wire has a cell and
+/// each register a next signal, and there are an input `start` of width 1, an output `done` of width 1 and an output
+/// `result`.
+pub fn read_net(alloc: Global, text: &[u8]) -> Result<Net, VErr>
     requires { length text.now < 2 ^ 32 }
-    ensures parsed { IfOk result (λ f. IsFileText text.now (file_at text.now f)) }
-    ensures refused { IfErr result (λ e. RefusesText text.now e) }
+    ensures net { IfOk result (Reads text.now) }
+    ensures whole { IfOk result IsWhole }
+    ensures refused { IfErr result (RefusesText text.now) }
 {
-    let tokens = lex(alloc, text)?;
-    parse_tokens(alloc, text, &tokens)
-}
-
-// The file that the tokens of a text are.
-fn parse_tokens(alloc: Global, text: &[u8], tokens: &[Token]) -> Result<File, VErr>
-    requires { length text.now < 2 ^ 32 }
-    ensures { TokensAnswer text.now (shown_all text.now tokens.now) result }
-{
-    let parser = Parser { alloc, text };
-    match parser.whole(tokens) {
-        Ok((file, _)) => Ok(file),
-        Err(ReadError::NoMemory) => Err(VErr::NoMemory),
-        Err(ReadError::Unexpected(rest)) => Err(VErr::Refused(VFault {
-            rule: VRule::V02,
-            place: place_of(text, rest),
-            first: 0,
-            second: 0,
-        })),
-    }
-}
-
-// Where the first of the tokens stands, or where the text ends.
-fn place_of(text: &[u8], rest: &[Token]) -> u32
-    requires { length text.now < 2 ^ 32 }
-    ensures { result ≡ place_in text.now (shown_all text.now rest.now) }
-{
-    match rest {
-        [] => text.len() as u32,
-        [first, ..] => first.start,
-    }
+    let file = parse(alloc, text)?;
+    let found = elaborate(alloc, text, &file)?;
+    Ok(net_of(alloc, &found.scope, &found.drivers)?)
 }

@@ -8,6 +8,7 @@ use Rattle.std.proofs.lemmas.Fmt.{length-decimal-le_wide}
 use Rattle.std.proofs.lemmas.Bool.{and_parts}
 use Rattle.std.proofs.lemmas.Bool.Decides.{nat_tests}
 use Rattle.safl_word.specs.declared.primitive.Primitive.{Primitive}
+use Rattle.safl_word.proofs.Widths.{only_where}
 use Rattle.safl_word.specs.declared.primitive.Primitive.TheVariants.{Add, Sub, Mul, And, Or, Xor, Not, Eq, Ne, Lt, Le, Gt, Ge, Shl, Shr, Cat, Bits, Ext}
 use Rattle.safl_net.specs.declared.cell.Op.{Op}
 use Rattle.safl_net.specs.declared.cell.Op.TheVariants.{Const, Copy, Mux, Apply}
@@ -126,7 +127,7 @@ module _ (n : Netlist) (net : IsNetlist n) where
   sliced_short high low [] v e = omega arith
   sliced_short high low (a ∷ []) v e =
       let x = name_at_short a in
-      let b = bounds high low (width_of n a) v e in
+      let b = bounds high low (width_of n a) v (only_where _ _ v e) in
       let w = width_short a in
       let h = number_short high (omega (arith, b.1)) in
       let l = number_short low (omega (arith, b.0, b.1)) in

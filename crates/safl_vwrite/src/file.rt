@@ -32,22 +32,22 @@ pub fn write_net<S: Shelf>(
     shelf: &mut S,
     name: &str,
 ) -> Result<(), WriteErr>
-    ensures written { OnOk result (TellsOn (Leaves name.now (written net.now)) (S.holds shelf.old) (S.holds shelf.new)) }
-    ensures failed { IsErrOf result WriteErr.Failed → Rose (S.write_faults shelf.old) (S.write_faults shelf.new) }
+    ensures written { OnOk result (TellsOn (Leaves name.now (written net.now)) (S.told shelf.old).holds (S.told shelf.new).holds) }
+    ensures failed { IsErrOf result WriteErr.Failed → Rose (S.told shelf.old).write_faults (S.told shelf.new).write_faults }
 
     // After an error the old file or a front of the text stands there. Such a front reads as no netlist, or is the whole
     // text, with or without its last line feed, where the net is whole and its signals stand as inputs, then registers,
     // then wires.
-    ensures not_written { OnErr result (TellsOn (LeavesOldOrPart name.now (written net.now)) (S.holds shelf.old) (S.holds shelf.new)) }
+    ensures not_written { OnErr result (TellsOn (LeavesOldOrPart name.now (written net.now)) (S.told shelf.old).holds (S.told shelf.new).holds) }
     ensures torn { OnErr result (IsWhole net.now → IsInOrder net.now →
-        TellsOn (LeavesOldOrTorn name.now net.now) (S.holds shelf.old) (S.holds shelf.new)) }
+        TellsOn (LeavesOldOrTorn name.now net.now) (S.told shelf.old).holds (S.told shelf.new).holds) }
 
-    ensures same_reads { S.read_faults shelf.new ≡ S.read_faults shelf.old }
-    ensures writes_later { S.write_faults shelf.old ≤ S.write_faults shelf.new }
+    ensures same_reads { (S.told shelf.new).read_faults ≡ (S.told shelf.old).read_faults }
+    ensures writes_later { (S.told shelf.old).write_faults ≤ (S.told shelf.new).write_faults }
 
     // A shelf that tells what it holds is asked for no stray name.
-    ensures same_strays { OnSome (S.holds shelf.old) (S.strays shelf.new ≡ S.strays shelf.old) }
-    ensures strays_later { S.strays shelf.old ≤ S.strays shelf.new }
+    ensures same_strays { OnSome (S.told shelf.old).holds ((S.told shelf.new).strays ≡ (S.told shelf.old).strays) }
+    ensures strays_later { (S.told shelf.old).strays ≤ (S.told shelf.new).strays }
 {
     let text = match text_of(alloc, net) {
         Ok(text) => text,

@@ -4,8 +4,9 @@ use Rattle.safl_word.specs.Tokens.{is_blank, IsLexeme, name_like, number_like, s
 use Rattle.safl_word.specs.declared.token.TokenKind.{TokenKind}
 use Rattle.safl_word.specs.declared.fault.Rule.{Rule}
 use Rattle.safl_word.specs.declared.fault.Rule.TheVariants as rules
-use Rattle.safl_word.proofs.Runs.{HeadFails, same_run, same_front}
-use Rattle.safl_word.proofs.Bytes.{name_no_blank, name_no_slash, digit_no_blank, digit_no_slash}
+use Rattle.safl_word.specs.Runs.{EndsRun}
+use Rattle.safl_word.proofs.Runs.{same_run, same_front}
+use Rattle.safl_word.proofs.ByteLemmas.{name_no_blank, name_no_slash, digit_no_blank, digit_no_slash}
 use Rattle.safl_word.proofs.Lexemes.{same_head, same_tail, sym_head, name_head, number_head, sized_head, else_blank, else_slash}
 use Rattle.safl_word.proofs.Finds.{sym_some}
 use Rattle.safl_word.proofs.KindLemmas.{token_like, kinds_agree, not_too_long}
@@ -35,7 +36,7 @@ slash_clash w v x l e = let f = token_no_slash w v 47 x l e in cc
 blank_slash : (c : ℕ) (u w : List ℕ) {A : Type 0} → is_blank c ≡ true → c ∷ u ≡ 47 ∷ w → A
 blank_slash c u w h e = let k = ap is_blank (sym (same_head c 47 u w e)) ∙ h in cc
 
-line_fails : (v : List ℕ) → EndsLine v → HeadFails (λ c. not (c == 10)) v
+line_fails : (v : List ℕ) → EndsLine v → EndsRun (λ c. not (c == 10)) v
 line_fails [] h = tt
 line_fails (c ∷ v) h = ap (λ d. not (d == 10)) h
 

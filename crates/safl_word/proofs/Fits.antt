@@ -9,7 +9,7 @@ use Rattle.safl_word.specs.declared.primitive.Primitive.{Primitive}
 use Rattle.safl_word.specs.declared.primitive.Primitive.TheVariants.{Add, Sub, Mul, And, Or, Xor, Not, Eq, Ne, Lt, Le, Gt, Ge, Shl, Shr, Cat, Bits, Ext}
 use Rattle.safl_word.specs.Primitives.{one_width, two_widths, where_true, result_width, one_word, two_words, bit_of, apply_prim}
 use Rattle.safl_word.specs.Words.{AreWords}
-use Rattle.safl_word.proofs.Widths.{widths}
+use Rattle.safl_word.proofs.Widths.{widths, only_where}
 
 none_some : {A : Type 0} (n : ℕ) → None ≡ Some n → A
 none_some n e = cc
@@ -20,13 +20,13 @@ where_is false m n e = none_some n e
 
 one_fits : (f : ℕ → Option ℕ) (g : Word → Word) (vs : List Word) (n : ℕ) → ((a : Word) → IsWord a → f a.width ≡ Some n → IsWord (g a)) → AreWords vs → one_width f (widths vs) ≡ Some n → IsWord (one_word g vs)
 one_fits f g [] n h w e = none_some n e
-one_fits f g (a ∷ []) n h w e = h a w.0 e
+one_fits f g (a ∷ []) n h w e = h a w.0 (only_where _ _ n e)
 one_fits f g (a ∷ (b ∷ vs)) n h w e = none_some n e
 
 two_fits : (f : ℕ → ℕ → Option ℕ) (g : Word → Word → Word) (vs : List Word) (n : ℕ) → ((a b : Word) → IsWord a → IsWord b → f a.width b.width ≡ Some n → IsWord (g a b)) → AreWords vs → two_widths f (widths vs) ≡ Some n → IsWord (two_words g vs)
 two_fits f g [] n h w e = none_some n e
 two_fits f g (a ∷ []) n h w e = none_some n e
-two_fits f g (a ∷ (b ∷ [])) n h w e = h a b w.0 w.1.0 e
+two_fits f g (a ∷ (b ∷ [])) n h w e = h a b w.0 w.1.0 (only_where _ _ n e)
 two_fits f g (a ∷ (b ∷ (c ∷ vs))) n h w e = none_some n e
 
 -- of the first operand's width

@@ -6,7 +6,8 @@ use Rattle.safl_word.specs.Tokens.{sym_text, is_blank, begins_name, in_name, IsL
 use Rattle.safl_word.specs.declared.token.Sym.{Sym}
 use Rattle.safl_word.specs.declared.token.TokenKind.TheVariants as kinds
 use Rattle.safl_word.specs.declared.fault.Rule.TheVariants as rules
-use Rattle.safl_word.proofs.Runs.{HeadFails, span}
+use Rattle.safl_word.specs.Runs.{EndsRun}
+use Rattle.safl_word.proofs.Runs.{span}
 use Rattle.safl_word.proofs.Lexemes.{same_head, same_tail, name_head, number_head, sized_head}
 use Rattle.safl_word.proofs.Sizes.{symbol_longest}
 use Rattle.safl_word.proofs.Finds.{sym_at, sym_sound, sym_none, sym_some, sym_short}
@@ -69,7 +70,7 @@ module _ (c : ℕ) (rest : List ℕ) (blank : is_blank c ≡ false) (name : begi
     no_token = no_token;
   }
 
-ends_line : (rest : List ℕ) → HeadFails (λ c. not (c == 10)) rest → EndsLine rest
+ends_line : (rest : List ℕ) → EndsRun (λ c. not (c == 10)) rest → EndsLine rest
 ends_line [] h = tt
 ends_line (c ∷ rest) h = by_test (c == 10) refl h
   where

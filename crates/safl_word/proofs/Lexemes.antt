@@ -6,8 +6,9 @@ use Rattle.safl_word.specs.Numerals.{is_digit, IsNumeral}
 use Rattle.safl_word.specs.Tokens.{sym_text, is_blank, begins_name, in_name, base_of, IsNameLike, SizedParts, sized_text, IsSizedLike, name_like, number_like, sized_like, symbol_like, IsLongest}
 use Rattle.safl_word.specs.declared.token.Sym.{Sym}
 use Rattle.safl_word.specs.declared.token.Sym.TheVariants as syms
-use Rattle.safl_word.proofs.Runs.{HeadFails, run_short, same_run}
-use Rattle.safl_word.proofs.Bytes.{name_not_digit}
+use Rattle.safl_word.specs.Runs.{EndsRun}
+use Rattle.safl_word.proofs.Runs.{run_short, same_run}
+use Rattle.safl_word.proofs.ByteLemmas.{name_not_digit}
 
 pub same_head : (c d : ℕ) (u w : List ℕ) → c ∷ u ≡ d ∷ w → c ≡ d
 same_head c d u w e = cc
@@ -77,7 +78,7 @@ all_in_name [] h = absurd h
 all_in_name (c ∷ u) h = rw (or_left (begins_name c) _ h.0) h.1
 
 -- a name runs to the first byte that no name holds
-pub name_longest : (c : ℕ) (w rest : List ℕ) → IsNameLike (c ∷ w) → HeadFails in_name rest → IsLongest (c ∷ w) rest
+pub name_longest : (c : ℕ) (w rest : List ℕ) → IsNameLike (c ∷ w) → EndsRun in_name rest → IsLongest (c ∷ w) rest
 name_longest c w rest n h u v e (name_like m) = run_short in_name u v (c ∷ w) rest (all_in_name u m) h e
 name_longest c w rest n h u v e (number_like m) = name_digit c n.0 (number_head u v c (w ++ rest) m e)
 name_longest c w rest n h u v e (sized_like s q m) = name_digit c n.0 (sized_head s v c (w ++ rest) m (subst (λ k. k ++ v ≡ c ∷ (w ++ rest)) q e))
@@ -88,7 +89,7 @@ unfoldable pub NoSizeFollows : List ℕ → Type 0
 NoSizeFollows rest = (letter base : ℕ) (digits v : List ℕ) → base_of letter ≡ Some base → IsNumeral base digits → rest ≡ 39 ∷ letter ∷ (digits ++ v) → ⊥
 
 -- a number runs to the first byte that is no digit, where no size follows
-pub number_longest : (w rest : List ℕ) → IsNumeral 10 w → HeadFails (is_digit 10) rest → NoSizeFollows rest → IsLongest w rest
+pub number_longest : (w rest : List ℕ) → IsNumeral 10 w → EndsRun (is_digit 10) rest → NoSizeFollows rest → IsLongest w rest
 unfolding NoSizeFollows
 number_longest [] rest n h f u v e l = absurd (omega (arith, n.some))
 number_longest (c ∷ w) rest n h f u v e (name_like m) = name_digit c (name_head u v c (w ++ rest) m e) (and_parts _ _ n.digits).0

@@ -8,7 +8,8 @@ use Rattle.safl_word.specs.declared.token.Key.{Key}
 use Rattle.safl_word.specs.declared.token.TokenKind.TheVariants as kinds
 use Rattle.safl_word.specs.declared.fault.Rule.{Rule}
 use Rattle.safl_word.specs.declared.fault.Rule.TheVariants as rules
-use Rattle.safl_word.proofs.Runs.{HeadFails, Span, span}
+use Rattle.safl_word.specs.Runs.{EndsRun}
+use Rattle.safl_word.proofs.Runs.{Span, span}
 use Rattle.safl_word.proofs.Lexemes.{same_head, same_tail, name_longest, number_longest, NoSizeFollows}
 use Rattle.safl_word.proofs.Sizes.{sized_longest}
 use Rattle.safl_word.proofs.Finds.{key_at, key_sound, key_none}
@@ -49,7 +50,7 @@ name_next c x h s = by_length (nat_lt name_max (length (c ∷ s.front))) refl (k
     by_length false e (Some k) f = goes_on (Lexeme (kinds.Key k) (c ∷ s.front)) s.rest joined (key_sound (c ∷ s.front) k f, longest)
 
 -- a number that no size follows
-number_next : (text w rest : List ℕ) → text ≡ w ++ rest → IsNumeral 10 w → HeadFails (is_digit 10) rest → NoSizeFollows rest → Next text
+number_next : (text w rest : List ℕ) → text ≡ w ++ rest → IsNumeral 10 w → EndsRun (is_digit 10) rest → NoSizeFollows rest → Next text
 number_next text w rest j n h f = by_fit (fits_or_passes 10 w n)
   where
     by_fit : Fits 10 w ⊎ Passes 10 w → Next text
@@ -57,7 +58,7 @@ number_next text w rest j n h f = by_fit (fits_or_passes 10 w n)
     by_fit (inr p) = breaks rules.E03 (record { front = w; rest = rest; joined = j; longest = number_longest w rest n h f; too_long = long_number n p })
 
 -- a sized number
-sized_next : (text : List ℕ) (s : SizedParts) (rest : List ℕ) → text ≡ sized_text s ++ rest → IsSizedLike s → HeadFails (is_digit s.base) rest → Next text
+sized_next : (text : List ℕ) (s : SizedParts) (rest : List ℕ) → text ≡ sized_text s ++ rest → IsSizedLike s → EndsRun (is_digit s.base) rest → Next text
 sized_next text s rest j k h = by_fit (fits_or_passes 10 s.width k.width) (fits_or_passes s.base s.digits k.digits)
   where
     too_long : Passes 10 s.width ⊎ Passes s.base s.digits → Next text
@@ -75,7 +76,7 @@ none_follows : (rest : List ℕ) → ((letter : ℕ) (x : List ℕ) → rest ≡
 unfolding NoSizeFollows
 none_follows rest h letter base digits v b n e = let k = h letter (digits ++ v) e in cc
 
-no_digit_follows : (letter base : ℕ) (x : List ℕ) → base_of letter ≡ Some base → HeadFails (is_digit base) x → NoSizeFollows (39 ∷ letter ∷ x)
+no_digit_follows : (letter base : ℕ) (x : List ℕ) → base_of letter ≡ Some base → EndsRun (is_digit base) x → NoSizeFollows (39 ∷ letter ∷ x)
 unfolding NoSizeFollows
 no_digit_follows letter base x b h l c [] v d n e = omega (arith, n.some)
 no_digit_follows letter base x b h l c (d ∷ digits) v g n e =
@@ -88,7 +89,7 @@ no_digit_follows letter base x b h l c (d ∷ digits) v g n e =
     some_same m n e = cc
 
     fails : x ≡ d ∷ (digits ++ v) → is_digit base d ≡ true → ⊥
-    fails q t = let f : is_digit base d ≡ false = subst (HeadFails (is_digit base)) q h in cc
+    fails q t = let f : is_digit base d ≡ false = subst (EndsRun (is_digit base)) q h in cc
 
 -- a number, of a size or of none
 module _ (c : ℕ) (x : List ℕ) (h : is_digit 10 c ≡ true) (s : Span (is_digit 10) x) where
@@ -99,13 +100,13 @@ module _ (c : ℕ) (x : List ℕ) (h : is_digit 10 c ≡ true) (s : Span (is_dig
   plain : (rest : List ℕ) → s.rest ≡ rest → NoSizeFollows rest → Next (c ∷ x)
   unfolding NoSizeFollows
   plain rest e f =
-      number_next (c ∷ x) (c ∷ s.front) rest (ap (λ w. c ∷ w) (sym s.joined ∙ ap (λ w. s.front ++ w) e)) numeral (subst (HeadFails (is_digit 10)) e s.ends) f
+      number_next (c ∷ x) (c ∷ s.front) rest (ap (λ w. c ∷ w) (sym s.joined ∙ ap (λ w. s.front ++ w) e)) numeral (subst (EndsRun (is_digit 10)) e s.ends) f
 
   with_base : (letter base : ℕ) (q : List ℕ) → s.rest ≡ 39 ∷ letter ∷ q → base_of letter ≡ Some base → Span (is_digit base) q → Next (c ∷ x)
   with_base letter base q e b t = by_front t.front t.rest t.joined t.passes t.ends
     where
-      by_front : (front rest : List ℕ) → front ++ rest ≡ q → list_all (is_digit base) front ≡ true → HeadFails (is_digit base) rest → Next (c ∷ x)
-      by_front [] rest j p n = plain (39 ∷ letter ∷ q) e (no_digit_follows letter base q b (subst (HeadFails (is_digit base)) j n))
+      by_front : (front rest : List ℕ) → front ++ rest ≡ q → list_all (is_digit base) front ≡ true → EndsRun (is_digit base) rest → Next (c ∷ x)
+      by_front [] rest j p n = plain (39 ∷ letter ∷ q) e (no_digit_follows letter base q b (subst (EndsRun (is_digit base)) j n))
       by_front (d ∷ front) rest j p n =
           let k : IsSizedLike (record { width = c ∷ s.front; letter = letter; base = base; digits = d ∷ front }) =
           record { based = b; width = numeral; digits = record { some = omega arith; digits = p } } in

@@ -2,18 +2,14 @@
 use Rattle.std.proofs.Common.{◌≡◌, ℕ, ◌≤◌, List, [], ◌∷◌, ◌++◌, length, Bool, true, false, refl, sym, ap, subst, arith}
 use Rattle.std.proofs.lemmas.Bool.{and_parts}
 use Rattle.std.specs.List.{list_all}
+use Rattle.safl_word.specs.Runs.{EndsRun}
 
--- the list is empty, or its first byte does not pass
-abbrev pub HeadFails : (ℕ → Bool) → List ℕ → Type 0
-HeadFails p [] = Unit {0}
-HeadFails p (c ∷ w) = p c ≡ false
-
-head_fails : (p : ℕ → Bool) (c : ℕ) (u w : List ℕ) {A : Type 0} → c ∷ u ≡ w → HeadFails p w → p c ≡ true → A
+head_fails : (p : ℕ → Bool) (c : ℕ) (u w : List ℕ) {A : Type 0} → c ∷ u ≡ w → EndsRun p w → p c ≡ true → A
 head_fails p c u [] e h t = cc
 head_fails p c u (d ∷ w) e h t = let k : c ≡ d = cc in let l : p d ≡ true = subst (λ x. p x ≡ true) k t in cc
 
 -- a run is not longer than one that ends
-pub run_short : (p : ℕ → Bool) (u v w rest : List ℕ) → list_all p u ≡ true → HeadFails p rest → u ++ v ≡ w ++ rest → length u ≤ length w
+pub run_short : (p : ℕ → Bool) (u v w rest : List ℕ) → list_all p u ≡ true → EndsRun p rest → u ++ v ≡ w ++ rest → length u ≤ length w
 run_short p [] v w rest a h e = omega arith
 run_short p (c ∷ u) v [] rest a h e = head_fails p c (u ++ v) rest e h (and_parts _ _ a).0
 run_short p (c ∷ u) v (d ∷ w) rest a h e =
@@ -21,7 +17,7 @@ run_short p (c ∷ u) v (d ∷ w) rest a h e =
     omega (arith, run_short p u v w rest (and_parts (p c) (list_all p u) a).1 h t)
 
 -- two runs that end are the same
-pub same_run : (p : ℕ → Bool) (u v w rest : List ℕ) → list_all p u ≡ true → list_all p w ≡ true → HeadFails p v → HeadFails p rest → u ++ v ≡ w ++ rest
+pub same_run : (p : ℕ → Bool) (u v w rest : List ℕ) → list_all p u ≡ true → list_all p w ≡ true → EndsRun p v → EndsRun p rest → u ++ v ≡ w ++ rest
     → (u ≡ w) × (v ≡ rest)
 same_run p [] v [] rest a b g h e = (refl, e)
 same_run p [] v (d ∷ w) rest a b g h e = head_fails p d (w ++ rest) v (sym e) g (and_parts _ _ b).0
@@ -49,7 +45,7 @@ pub record Span (p : ℕ → Bool) (text : List ℕ) : Type 0 where
   pub rest : List ℕ
   pub joined : front ++ rest ≡ text
   pub passes : list_all p front ≡ true
-  pub ends : HeadFails p rest
+  pub ends : EndsRun p rest
 
 span_more : (p : ℕ → Bool) (c : ℕ) (text : List ℕ) → Span p text → (b : Bool) → p c ≡ b → Span p (c ∷ text)
 span_more p c text s false e = record { front = []; rest = c ∷ text; joined = refl; passes = refl; ends = e }

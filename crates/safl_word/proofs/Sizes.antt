@@ -5,7 +5,8 @@ use Rattle.std.specs.List.{list_all}
 use Rattle.safl_word.specs.Numerals.{is_digit, IsNumeral}
 use Rattle.safl_word.specs.Tokens.{sym_text, base_of, IsNameLike, SizedParts, sized_text, IsSizedLike, name_like, number_like, sized_like, symbol_like, IsLongest}
 use Rattle.safl_word.specs.declared.token.Sym.{Sym}
-use Rattle.safl_word.proofs.Runs.{HeadFails, run_short, same_run}
+use Rattle.safl_word.specs.Runs.{EndsRun}
+use Rattle.safl_word.proofs.Runs.{run_short, same_run}
 use Rattle.safl_word.proofs.Lexemes.{same_head, same_tail, sym_head, sized_head, sized_parts, else_name, else_digit, name_digit}
 
 -- the same text has the same width, the same letter, and goes on the same way
@@ -38,7 +39,7 @@ longer_digits : (s t : SizedParts) → s.width ≡ t.width → length s.digits �
 longer_digits s t e h = omega (arith, length-append s.width (39 ∷ s.letter ∷ s.digits), length-append t.width (39 ∷ t.letter ∷ t.digits), ap length e)
 
 -- a sized number runs to the first byte that is no digit of its base
-pub sized_longest : (s : SizedParts) (rest : List ℕ) → IsSizedLike s → HeadFails (is_digit s.base) rest → IsLongest (sized_text s) rest
+pub sized_longest : (s : SizedParts) (rest : List ℕ) → IsSizedLike s → EndsRun (is_digit s.base) rest → IsLongest (sized_text s) rest
 sized_longest s rest h f u v e (name_like m) = begins s rest h u v e m
   where
     begins : (s : SizedParts) (rest : List ℕ) → IsSizedLike s → (u v : List ℕ) → u ++ v ≡ sized_text s ++ rest → IsNameLike u → length u ≤ length (sized_text s)

@@ -2,6 +2,7 @@ pub mod Words
 pub mod Primitives
 pub mod Laws
 pub mod Numerals
+pub mod Runs
 pub mod Tokens
 pub mod Faults
 pub mod TokenLaws

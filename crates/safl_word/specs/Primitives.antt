@@ -4,16 +4,20 @@ use Rattle.safl_word.specs.Words.{Word, max_width, no_word}
 use Rattle.safl_word.specs.declared.primitive.Primitive.{Primitive}
 use Rattle.safl_word.specs.declared.primitive.Primitive.TheVariants.{Add, Sub, Mul, And, Or, Xor, Not, Eq, Ne, Lt, Le, Gt, Ge, Shl, Shr, Cat, Bits, Ext}
 
--- the width of a result where the operands have these widths, if they may
+-- from 1 to the greatest
+abbrev pub is_width : ℕ → Bool
+is_width w = nat_le 1 w && nat_le w max_width
+
+-- the width of a result where the operands have these widths, if they may: each is the width of a word
 abbrev pub one_width : (ℕ → Option ℕ) → List ℕ → Option ℕ
 one_width f [] = None
-one_width f (w ∷ []) = f w
+one_width f (w ∷ []) = cond (is_width w) (f w) None
 one_width f (w ∷ (v ∷ ws)) = None
 
 abbrev pub two_widths : (ℕ → ℕ → Option ℕ) → List ℕ → Option ℕ
 two_widths f [] = None
 two_widths f (w ∷ []) = None
-two_widths f (w ∷ (v ∷ [])) = f w v
+two_widths f (w ∷ (v ∷ [])) = cond (is_width w && is_width v) (f w v) None
 two_widths f (w ∷ (v ∷ (u ∷ ws))) = None
 
 abbrev pub where_true : Bool → ℕ → Option ℕ

@@ -1,4 +1,6 @@
-//! Faults of a source, and want of memory.
+//! Faults of a source, and running out of memory.
+
+ghost use Rattle.std.specs.Prelude.{◌≡◌};
 
 use std::alloc::{AllocError, AllocFailed};
 
@@ -31,6 +33,27 @@ pub struct Fault {
     pub place: u32,
     pub first: u32,
     pub second: u32,
+}
+
+impl Fault {
+    /// The fault of a rule that has no numbers.
+    pub fn new(rule: Rule, place: u32) -> Fault
+        ensures { result ≡ record { rule = rule; place = place; first = 0; second = 0 } }
+    {
+        Fault::with(rule, place, 0, 0)
+    }
+
+    /// The fault of a rule with its two numbers.
+    pub fn with(rule: Rule, place: u32, first: u32, second: u32) -> Fault
+        ensures { result ≡ record { rule = rule; place = place; first = first; second = second } }
+    {
+        Fault {
+            rule,
+            place,
+            first,
+            second,
+        }
+    }
 }
 
 /// Memory ran out.

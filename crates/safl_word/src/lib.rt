@@ -1,6 +1,7 @@
 //! Words of 1 to 128 bits, and the primitives on them.
 #![tactic(auto)]
 
+pub mod bytes;
 pub mod fault;
 pub mod laws;
 pub mod numbers;
@@ -18,4 +19,4 @@ pub use crate::operators::{apply, result_width};
 pub use crate::primitive::Primitive;
 pub use crate::report::push_fault;
 pub use crate::token::{Key, Sym, Token, TokenKind};
-pub use crate::word::{Raw, Word};
+pub use crate::word::{Raw, SOURCE_MAX, Word};

@@ -2,17 +2,19 @@
 
 ghost use Rattle.std.specs.Prelude.{◌≡◌, ◌↔◌, ◌+◌, ◌*◌, ◌^◌, ◌<◌, ◌≤◌, ◌++◌, true, is_some, IsSome, IfSome, OnOk, OnErr, decimal, drop, length, map};
 ghost use Rattle.std.specs.Int.Digits.{digits_of};
+ghost use Rattle.safl_word.specs.declared.word.TheConstants.{ARGUMENT_MAX, DECIMAL_MAX, WIDTH_MAX};
 ghost use Rattle.safl_word.specs.Numerals.{digit, is_digit, value, IsBounded, binary};
 
+use crate::bytes::{digit, is_digit};
 use crate::fault::NoMemory;
-use crate::word::Raw;
+use crate::word::{ARGUMENT_MAX, DECIMAL_MAX, Raw};
 use itoa::Buffer;
 
 /// The number of a numeral of this base, of at most so many digits: None exactly where the bytes are none, or its
 /// number is not below 2 to the 128th.
 pub fn numeral(base: u8, most: usize, bytes: &[u8]) -> Option<Raw>
     requires { 1 ≤ base }
-    ensures some { IsSome result ↔ IsBounded base most (2 ^ 128) bytes.now }
+    ensures some { IsSome result ↔ IsBounded base most (2 ^ WIDTH_MAX) bytes.now }
     ensures value { IfSome result (λ n. n ≡ value base bytes.now) }
 {
     if bytes.is_empty() || bytes.len() > most {
@@ -27,7 +29,7 @@ pub fn numeral(base: u8, most: usize, bytes: &[u8]) -> Option<Raw>
 
 // The number of a numeral and a further digit.
 fn followed(base: u8, number: Raw, c: u8) -> Option<Raw>
-    ensures some { IsSome result ↔ ((is_digit base c ≡ true) × (number * base + digit c < 2 ^ 128)) }
+    ensures some { IsSome result ↔ ((is_digit base c ≡ true) × (number * base + digit c < 2 ^ WIDTH_MAX)) }
     ensures value { IfSome result (λ n. n ≡ number * base + digit c) }
 {
     let digit = digit_of(base, c)?;
@@ -41,29 +43,23 @@ fn digit_of(base: u8, c: u8) -> Option<u8>
     ensures some { is_some result ≡ is_digit base c }
     ensures value { IfSome result (λ d. d ≡ digit c) }
 {
-    let digit = match c {
-        b'0'..=b'9' => c - b'0',
-        b'A'..=b'F' => c - b'A' + 10,
-        b'a'..=b'f' => c - b'a' + 10,
-        _ => return None,
-    };
-    (digit < base).then_some(digit)
+    is_digit(base, c).then_some(digit(c))
 }
 
 /// The number of a decimal word: None exactly where the bytes are not 1 to 20 digits whose number is below 2 to the 64th.
 pub fn decimal(bytes: &[u8]) -> Option<u64>
-    ensures some { IsSome result ↔ IsBounded 10 20 (2 ^ 64) bytes.now }
+    ensures some { IsSome result ↔ IsBounded 10 DECIMAL_MAX (2 ^ 64) bytes.now }
     ensures value { IfSome result (λ n. n ≡ value 10 bytes.now) }
 {
-    u64::try_from(numeral(10, 20, bytes)?).ok()
+    u64::try_from(numeral(10, DECIMAL_MAX, bytes)?).ok()
 }
 
 /// The number of an argument: None exactly where the bytes are not 1 to 39 digits whose number is below 2 to the 128th.
 pub fn argument(bytes: &[u8]) -> Option<Raw>
-    ensures some { IsSome result ↔ IsBounded 10 39 (2 ^ 128) bytes.now }
+    ensures some { IsSome result ↔ IsBounded 10 ARGUMENT_MAX (2 ^ WIDTH_MAX) bytes.now }
     ensures value { IfSome result (λ n. n ≡ value 10 bytes.now) }
 {
-    numeral(10, 39, bytes)
+    numeral(10, ARGUMENT_MAX, bytes)
 }
 
 /// Appends the shortest decimal digits of a number, and nothing where memory runs out.
@@ -92,8 +88,8 @@ pub fn push_binary(n: Raw, out: &mut Vec<u8>) -> Result<(), NoMemory>
 
 // Writes the binary digits of a number at the end of the text, and returns where they begin.
 fn write_binary(n: Raw, text: &mut [u8]) -> usize
-    requires { length text.old ≡ 128 }
-    ensures start { result ≤ 128 }
+    requires { length text.old ≡ WIDTH_MAX }
+    ensures start { result ≤ WIDTH_MAX }
     ensures written { drop result text.new ≡ map (λ d. 48 + d) (digits_of 2 n) }
 {
     let mut start = text.len();

@@ -1,24 +1,32 @@
 //! What the primitives give.
 
-ghost use Rattle.std.specs.Prelude.{◌≡◌, ◌+◌, ◌-◌, ◌*◌, ◌/◌, ◌%◌, ◌^◌, ◌<◌, ◌≤◌, [], ◌∷◌, IsSome, map, cond, nat_lt, bit_and, bit_or, bit_xor};
+ghost use Rattle.std.specs.Prelude.{◌≡◌, ◌+◌, ◌-◌, ◌*◌, ◌/◌, ◌%◌, ◌^◌, ◌<◌, ◌≤◌, [], ◌∷◌, IsSome, map, cond, nat_lt, bit_and, bit_or, bit_xor, true};
 ghost use Rattle.safl_word.specs.Words.{max_width};
-ghost use Rattle.safl_word.specs.Primitives.{result_width, apply_prim, bit_of};
+ghost use Rattle.safl_word.specs.Primitives.{is_width, result_width, apply_prim, bit_of};
 
 use crate::primitive::Primitive;
 use crate::word::{Raw, WIDTH_MAX, Word, greatest};
 
-/// The width that a primitive gives on words of these widths: None exactly where the table has no row for them.
+/// The width that a primitive gives on words of these widths: None exactly where the table has no row for them. Each row has
+/// operands of widths from 1 to `WIDTH_MAX`, and so has its result.
 pub fn result_width(p: Primitive, widths: &[u8]) -> Option<u8>
     ensures { result ≡ result_width p widths.now }
 {
     match widths {
-        [a] => width_of_one(p, *a),
-        [a, b] => width_of_two(p, *a, *b),
+        [a] if is_width(*a) => width_of_one(p, *a),
+        [a, b] if is_width(*a) && is_width(*b) => width_of_two(p, *a, *b),
         _ => None,
     }
 }
 
+fn is_width(width: u8) -> bool
+    ensures { result ≡ is_width width }
+{
+    1 <= width && width <= WIDTH_MAX
+}
+
 fn width_of_one(p: Primitive, a: u8) -> Option<u8>
+    requires { is_width a ≡ true }
     ensures { result ≡ result_width p (a ∷ []) }
 {
     match p {
@@ -30,6 +38,8 @@ fn width_of_one(p: Primitive, a: u8) -> Option<u8>
 }
 
 fn width_of_two(p: Primitive, a: u8, b: u8) -> Option<u8>
+    requires first { is_width a ≡ true }
+    requires second { is_width b ≡ true }
     ensures { result ≡ result_width p (a ∷ b ∷ []) }
 {
     match p {
@@ -52,9 +62,10 @@ pub fn apply(p: Primitive, args: &[Word]) -> Word
     ensures { result ≡ apply_prim p args.now }
 {
     match args {
+        [] => unreachable!(),
         [a] => apply_to_one(p, *a),
         [a, b] => apply_to_two(p, *a, *b),
-        _ => unreachable!(),
+        [_, _, _, ..] => unreachable!(),
     }
 }
 

@@ -11,8 +11,17 @@ pub type Raw = u128;
 /// The greatest width of a word, in bits.
 pub const WIDTH_MAX: u8 = 128;
 
+/// The most bytes of a source.
+pub const SOURCE_MAX: usize = 1_048_576;
+
 /// The most digits of a number in a source.
 pub const DIGITS_MAX: usize = 128;
+
+/// The most digits of a decimal number below 2 to the 64th.
+pub const DECIMAL_MAX: usize = 20;
+
+/// The most digits of an argument, which is a decimal number below 2 to the 128th.
+pub const ARGUMENT_MAX: usize = 39;
 
 /// A word: its width, from 1 to `WIDTH_MAX`, and a number below 2 to that width.
 #[derive(Clone, Copy, Debug, PartialEq, Eq)]

@@ -1,5 +1,5 @@
 use Rattle.std.proofs.Common.{[], ◌∷◌}
-use Rattle.safl_lower.proofs.BitWords.{mux_width, mux_value}
+use Rattle.safl_gates.proofs.BitWords.{mux_width, mux_value}
 use Rattle.safl_gates.proofs.Cells.{three_sources}
 use Rattle.safl_gates.proofs.gates.mux.Goals as goal
 

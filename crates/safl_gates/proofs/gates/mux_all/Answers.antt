@@ -4,7 +4,7 @@ use Rattle.safl_net.specs.declared.cell.Sig.{Sig}
 use Rattle.safl_net.specs.Netlist.{Netlist}
 use Rattle.safl_net.specs.Growth.{words}
 use Rattle.safl_net.proofs.Growth.{wired_before}
-use Rattle.safl_lower.specs.Bits.{on}
+use Rattle.safl_net.specs.Bits.{on}
 use Rattle.safl_gates.specs.Sources.{IsSource, AreSources}
 use Rattle.safl_gates.proofs.Building.{builds_on, builds_within, source_kept, sources_kept}
 use Rattle.safl_gates.proofs.Cells.{chosen_more, get_there, source_at, sources_length, sources_more}

@@ -1,7 +1,7 @@
 use Rattle.std.proofs.Common.{◌≡◌, ℕ, List, cond, take}
 use Rattle.safl_net.specs.Names.{IsTidy}
 use Rattle.safl_net.specs.Growth.{Val, words, Wired}
-use Rattle.safl_lower.specs.Bits.{on}
+use Rattle.safl_net.specs.Bits.{on}
 use Rattle.safl_gates.specs.Sources.{AreSources, Builds}
 use Rattle.safl_gates.proofs.gates.mux_all.Given as goal
 

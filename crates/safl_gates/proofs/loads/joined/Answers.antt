@@ -2,7 +2,7 @@ use Rattle.std.proofs.Common.{◌+◌, List, length, subst, sym, ap, ◌∙◌, 
 use Rattle.safl_net.specs.declared.cell.Sig.{Sig}
 use Rattle.safl_net.specs.Growth.{words}
 use Rattle.safl_net.proofs.Growth.{wired_before}
-use Rattle.safl_lower.specs.Bits.{on}
+use Rattle.safl_net.specs.Bits.{on}
 use Rattle.safl_gates.specs.Sources.{AreSources}
 use Rattle.safl_gates.proofs.Building.{builds_on, builds_within, source_kept, sources_kept}
 use Rattle.safl_gates.proofs.Joining.{first_fits, as_many, joined_shows}

@@ -3,11 +3,11 @@ use Rattle.std.proofs.lemmas.Option.{slice_get_read}
 use Rattle.std.specs.Prelude.{IsSome}
 use Rattle.safl_word.specs.Words.{Word}
 use Rattle.safl_word.specs.Primitives.{apply_prim, result_width}
-use Rattle.safl_check.specs.Checked.{program_of}
-use Rattle.safl_check.specs.Fuel.{eval, eval_all, Gave, Words, NoWords}
-use Rattle.safl_check.specs.Sizes.{nodes, nodes_in}
-use Rattle.safl_check.specs.Tree.{tree, forest}
-use Rattle.safl_check.proofs.TreeLemmas.{tree-Op, tree-Let}
+use Rattle.safl_term.specs.Checked.{program_of}
+use Rattle.safl_term.specs.Fuel.{eval, eval_all, Gave, Words, NoWords}
+use Rattle.safl_term.specs.Sizes.{nodes, nodes_in}
+use Rattle.safl_term.specs.Tree.{tree, forest}
+use Rattle.safl_term.proofs.TreeLemmas.{tree-Op, tree-Let}
 use Rattle.safl_interpreter.specs.Interpreting.{widths, shown, shown_all, applied, finished, GoesOn}
 use Rattle.safl_interpreter.proofs.Meanings.{term_saves, terms_save}
 use Rattle.safl_interpreter.proofs.Steps

@@ -1,8 +1,8 @@
 use Rattle.std.proofs.Common.{◌≡◌, ◌<◌, ◌+◌, ◌*◌, ◌≤◌, drop}
-use Rattle.safl_check.specs.Checked.{program_of}
-use Rattle.safl_check.specs.Fuel.{eval_all}
-use Rattle.safl_check.specs.Sizes.{nodes, nodes_in}
-use Rattle.safl_check.specs.Tree.{tree, forest}
+use Rattle.safl_term.specs.Checked.{program_of}
+use Rattle.safl_term.specs.Fuel.{eval_all}
+use Rattle.safl_term.specs.Sizes.{nodes, nodes_in}
+use Rattle.safl_term.specs.Tree.{tree, forest}
 use Rattle.safl_interpreter.specs.Interpreting.{widths, applied}
 use Rattle.safl_interpreter.proofs.Steps.{after, call_size}
 use Rattle.safl_interpreter.proofs.evaluate.+evaluate.Given as goal

@@ -1,8 +1,8 @@
 use Rattle.std.proofs.Common.{rules, ◌+◌, ◌*◌, ◌<◌, ◌||◌, Bool, List, length, refl, sym, ap, ◌∙◌, arith}
 use Rattle.std.proofs.lemmas.Option.{slice_get_read}
-use Rattle.safl_check.specs.declared.term.Term as declared
-use Rattle.safl_check.specs.Tree.{tree, forest}
-use Rattle.safl_check.proofs.TreeLemmas.{tree-Op, tree-Let}
+use Rattle.safl_term.specs.declared.term.Term as declared
+use Rattle.safl_term.specs.Tree.{tree, forest}
+use Rattle.safl_term.proofs.TreeLemmas.{tree-Op, tree-Let}
 use Rattle.safl_lower.specs.Typing.{nodes, nodes_in, holds_calls, hold_calls}
 use Rattle.safl_lower.proofs.Trees.{smaller_at, holds_at, none_so_far}
 use Rattle.safl_lower.proofs.holding.+holding.Goals as goal

@@ -1,6 +1,6 @@
 use Rattle.std.proofs.Common.{◌≡◌, ◌+◌, ◌*◌, false, take}
 use Rattle.safl_lower.specs.Typing.{nodes, nodes_in, hold_calls}
-use Rattle.safl_check.specs.Tree.{tree, forest}
+use Rattle.safl_term.specs.Tree.{tree, forest}
 use Rattle.safl_lower.proofs.holding.+holding.Given as goal
 
 abbrev pub invariant-hold_calls-loop-t : goal.invariant-hold_calls-loop-t

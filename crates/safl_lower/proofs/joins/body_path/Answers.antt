@@ -1,7 +1,8 @@
 use Rattle.std.proofs.Common.{◌≡◌, ◌&&◌, true}
 use Rattle.safl_net.specs.Growth.{Val, Wired}
-use Rattle.safl_check.specs.Tree.{tree}
-use Rattle.safl_lower.specs.Bits.{on, is_ready}
+use Rattle.safl_term.specs.Tree.{tree}
+use Rattle.safl_net.specs.Bits.{on}
+use Rattle.safl_lower.specs.Bits.{is_ready}
 use Rattle.safl_lower.specs.Typing.{holds_calls}
 use Rattle.safl_lower.proofs.Kept.{weaker}
 use Rattle.safl_lower.proofs.joins.body_path.Goals as goal
@@ -12,9 +13,7 @@ returns-then-holds_calls c =
     let m = c.and_ready.new.net in
     record {
       tidy = e.tidy;
-      grows = e.grows;
-      count = e.count;
-      width = e.width;
+      built = e.built;
+      fits = e.fits;
       value = weaker c.and_ready.result (λ s. (v : Val) → Wired m v → on v s ≡ (on v c.args.path && is_ready v c.args.bound)) (λ s. holds_calls (tree c.args.body.now) ≡ true → (v : Val) → Wired m v → on v s ≡ (on v c.args.path && is_ready v c.args.bound)) (λ s h k. h) e.value;
-      settled = e.settled;
     }

@@ -1,9 +1,11 @@
-use Rattle.std.proofs.Common.{◌≡◌, true, Some, cond}
-use Rattle.safl_net.specs.Growth.{Val, Wired, width_at}
+use Rattle.std.proofs.Common.{◌≡◌, true, cond}
+use Rattle.safl_net.specs.Growth.{Val, Wired}
 use Rattle.safl_lower.specs.declared.parts.Readiness.TheVariants.{Never}
-use Rattle.safl_lower.specs.Bits.{on, is_ready}
+use Rattle.safl_net.specs.Bits.{on}
+use Rattle.safl_lower.specs.Bits.{is_ready}
 use Rattle.safl_lower.proofs.Kept.{weaker}
 use Rattle.safl_lower.proofs.joins.choose_value.Goals as goal
+use Rattle.safl_gates.specs.Sources.{IsSource}
 
 pub returns-in_default : goal.returns-in_default
 returns-in_default c =
@@ -12,9 +14,7 @@ returns-in_default c =
     let m = c.mux.new.net in
     record {
       tidy = e.tidy;
-      grows = e.grows;
-      count = e.count;
-      width = λ w y n. weaker r (λ s. width_at m s.0 ≡ Some w) (λ s. ((c.args.yes.ready ≡ Never) × (c.args.no.ready ≡ Never) → ⊥) → width_at m s.0 ≡ Some w) (λ s h k. h) (e.width w (y.width c.in_default.not-Never-0) (n.width c.in_default.not-Never-1));
+      built = e.built;
+      fits = λ w y n. weaker r (λ s. IsSource m s w) (λ s. ((c.args.yes.ready ≡ Never) × (c.args.no.ready ≡ Never) → ⊥) → IsSource m s w) (λ s h k. h) (e.fits w (y.width c.in_default.not-Never-0) (n.width c.in_default.not-Never-1));
       value = weaker r (λ s. (v : Val) → Wired m v → v s.0 ≡ cond (on v c.args.c) (v c.args.yes.value.0) (v c.args.no.value.0)) (λ s. (v : Val) → Wired m v → cond (on v c.args.c) (is_ready v c.args.yes.ready) (is_ready v c.args.no.ready) ≡ true → v s.0 ≡ cond (on v c.args.c) (v c.args.yes.value.0) (v c.args.no.value.0)) (λ s h v w k. h v w) e.value;
-      settled = e.settled;
     }

@@ -33,7 +33,7 @@ pub add_call-requires-clause-room : goal.add_call-requires-clause-room
 add_call-requires-clause-room c = last_room c.pop.new.self.items c.in-Some.call c.in-Some.ensures.items c.calls.invariant.merging c.requires.room
 
 pub calls-preserved : goal.calls-preserved
-calls-preserved c = record { tidy = c.add_call.ensures.tidy; merging = merging_step c.pop.new.self.items c.in-Some.call c.in-Some.ensures.items c.calls.invariant.merging c.add_call.ensures.grows c.in_ok-add_call.ensures.added c.add_call.ensures.count }
+calls-preserved c = record { tidy = c.add_call.ensures.tidy; merging = merging_step c.pop.new.self.items c.in-Some.call c.in-Some.ensures.items c.calls.invariant.merging c.add_call.ensures.built c.in_ok-add_call.ensures.added }
 
 pub overflow_sub-place : goal.overflow_sub-place
 overflow_sub-place c = let h = last_in c.pop.new.self.items c.in-Some.call c.in-Some.ensures.items c.calls.invariant.merging in let i = h.0 in omega (arith, i)
@@ -55,4 +55,4 @@ add_call-requires-clause-args c =
     omega (arith, i, j, w)
 
 pub returns-in_err-add_call-clause-grows : goal.returns-in_err-add_call-clause-grows
-returns-in_err-add_call-clause-grows c = grows_on c.calls.invariant.merging.grows c.add_call.ensures.grows
+returns-in_err-add_call-clause-grows c = grows_on c.calls.invariant.merging.grows c.add_call.ensures.built.grows

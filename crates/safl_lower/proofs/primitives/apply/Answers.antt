@@ -1,18 +1,18 @@
-use Rattle.std.proofs.Common.{◌≡◌, List, [], ◌∷◌, IfOk, slice_index_or, sym, ap, subst, ◌∙◌, arith}
+use Rattle.std.proofs.Common.{◌≡◌, List, IfOk, slice_index_or, sym, ap, subst, ◌∙◌, arith}
 use Rattle.safl_word.specs.declared.primitive.Primitive.{Primitive}
 use Rattle.safl_word.specs.declared.primitive.Primitive.TheVariants.{Ext}
 use Rattle.safl_word.specs.Primitives.{apply_prim, result_width}
 use Rattle.safl_net.specs.declared.cell.Sig.{Sig}
 use Rattle.safl_net.specs.Growth.{Val, Wired, words}
-use Rattle.safl_net.specs.Settled.{AreSteady, SettlesOn}
 use Rattle.safl_lower.proofs.Extending.{cell_width, operand}
 use Rattle.safl_lower.proofs.primitives.apply.Goals as goal
+use Rattle.safl_gates.proofs.Building.{builds_within}
 
 pub extend-requires-clause-narrow : goal.extend-requires-clause-narrow
 extend-requires-clause-narrow c =
     let b = c.requires.sized in
     let o = operand c.args.net.now c.args.operands.now b.0 (record { 0 = 0 }) c.in-Ext.width b.1 b.2 (ap (λ (p : Primitive). result_width p b.0) (sym c.in-Ext.is) ∙ b.3) in
-    (o.narrow, o.sized, o.below)
+    (o.narrow, o.sized, o.some, o.below)
 
 pub returns-in-Ext-clause-value : goal.returns-in-Ext-clause-value
 returns-in-Ext-clause-value c =
@@ -25,18 +25,9 @@ returns-in-Ext-clause-value c =
 pub returns-in_default : goal.returns-in_default
 returns-in_default c =
     let e = c.operate.ensures in
-    let n = e.count in
     record {
       tidy = e.tidy;
-      grows = e.grows;
-      count = omega (arith, n);
-      width = λ ws w p q. e.width ws w p (cell_width c.args.primitive ws c.in_default.not-Ext ∙ q);
+      built = builds_within 2 e.built (omega arith);
+      fits = λ ws w p q. e.fits ws w p (cell_width c.args.primitive ws c.in_default.not-Ext ∙ q);
       value = e.value;
-      settled = e.settled;
     }
-
-pub returns-in-Ext-clause-settled : goal.returns-in-Ext-clause-settled
-returns-in-Ext-clause-settled c =
-    let b = c.requires.sized in
-    let o = operand c.args.net.now c.args.operands.now b.0 (record { 0 = 0 }) c.in-Ext.width b.1 b.2 (ap (λ (p : Primitive). result_width p b.0) (sym c.in-Ext.is) ∙ b.3) in
-    subst (λ (xs : List Sig). IfOk c.extend.result (λ s. AreSteady c.args.net.now xs → SettlesOn c.args.net.now c.extend.new.net (s ∷ []))) (sym o.is) c.extend.ensures.settled

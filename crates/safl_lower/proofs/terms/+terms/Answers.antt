@@ -1,14 +1,13 @@
-use Rattle.std.proofs.Common.{rules, ◌≡◌, ℕ, ◌+◌, ◌*◌, ◌<◌, List, [], ◌∷◌, ◌++◌, length, drop, suc, Some, true, refl, sym, ap, subst, ◌∙◌, arith}
+use Rattle.std.proofs.Common.{rules, ◌≡◌, ℕ, ◌+◌, ◌*◌, ◌<◌, List, ◌++◌, length, drop, suc, Some, true, refl, sym, ap, subst, ◌∙◌, arith}
 use Rattle.std.proofs.lemmas.Option.{slice_get_read}
 use Rattle.safl_word.specs.Primitives.{apply_prim, result_width}
 use Rattle.safl_net.specs.declared.cell.Sig.{Sig}
-use Rattle.safl_net.specs.Growth.{words, Sized}
-use Rattle.safl_net.proofs.Growth.{grows_on, width_kept}
-use Rattle.safl_net.specs.Settled.{AreSteady, SettlesOn}
-use Rattle.safl_check.specs.declared.term.Term as declared
-use Rattle.safl_check.specs.Terms.{Term, Terms, Cons}
-use Rattle.safl_check.specs.Tree.{tree, forest}
-use Rattle.safl_check.proofs.TreeLemmas.{tree-Op, tree-Loop, tree-Call, tree-Let}
+use Rattle.safl_net.specs.Growth.{words}
+use Rattle.safl_net.proofs.Growth.{grows_on}
+use Rattle.safl_term.specs.declared.term.Term as declared
+use Rattle.safl_term.specs.Terms.{Term, Terms, Cons}
+use Rattle.safl_term.specs.Tree.{tree, forest}
+use Rattle.safl_term.proofs.TreeLemmas.{tree-Op, tree-Loop, tree-Call, tree-Let}
 use Rattle.safl_lower.specs.declared.parts.Readiness.TheVariants.{Always}
 use Rattle.safl_lower.specs.Typing.{nodes, nodes_in, holds_calls}
 use Rattle.safl_lower.specs.Lowering.{Lowerable, LowerableAll, Lowers, LowersAll}
@@ -21,6 +20,8 @@ use Rattle.safl_lower.proofs.Members.{take_all}
 use Rattle.safl_lower.proofs.Trees.{forest_more, forest_at, smaller_at}
 use Rattle.safl_lower.proofs.Walk.{renamed, renamed_all, done_if, done_call, done_loop}
 use Rattle.safl_lower.proofs.terms.+terms.Goals as goal
+use Rattle.safl_gates.specs.Sources.{AreSources}
+use Rattle.safl_gates.proofs.Building.{source_grown}
 
 -- the same of another name of a term
 same_holds : {x y : declared.Term} → x ≡ y → holds_calls (tree y) ≡ true → holds_calls (tree x) ≡ true
@@ -68,7 +69,7 @@ lower_all-loop-t-preserved t c =
       lowered = subst (λ (x : Terms). LowersAll c.args.ports.now c.args.slots.now.items c.args.path c.args.net.now c.both_ready.new.net c.args.out.now c.lower_term.new.out (record { ready = c.in_ok-ready.ready; values = c.push.new.self }) x)
           (sym (forest_more c.args.ts.now c.loop-t.t-index c.t-item.result at))
           (lowers_more c.loop-t.invariant.lowered (renamed c.loop-t.invariant.same refl c.in_ok-one.ensures.done)
-          (record { grows = c.in_ok-ready.ensures.grows; count = c.in_ok-ready.ensures.count; bit = c.in_ok-ready.ensures.width; is = c.in_ok-ready.ensures.value; never = c.in_ok-ready.ensures.never; settled = c.in_ok-ready.ensures.settled })
+          (record { grows = c.in_ok-ready.ensures.built.grows; count = c.in_ok-ready.ensures.built.count; settles = c.in_ok-ready.ensures.built.settles; bit = c.in_ok-ready.ensures.fits; is = c.in_ok-ready.ensures.value; never = c.in_ok-ready.ensures.never })
           c.in_ok-push.ensures.items);
       same = c.in_ok-one.ensures.slots ∙ c.loop-t.invariant.same;
     }
@@ -85,7 +86,7 @@ pub lower_term-returns-in_ok-value-in-Const-clause-done : goal.lower_term-return
 lower_term-returns-in_ok-value-in-Const-clause-done t c =
     let h = c.in_ok-value-in-Const.ensures in
     subst (λ (x : Term). Lowers c.args.ports.now c.args.slots.now.items c.args.path c.args.net.now c.constant.new.net c.args.out.now c.args.out.now (record { ready = Always; value = c.in_ok-value-in-Const.value }) x) (sym (ap tree c.in-Const.is))
-    (lowers_const h.grows h.count h.width h.value h.settled)
+    (lowers_const h.built h.fits h.value)
 
 pub lower_term-index-requires : goal.lower_term-index-requires
 lower_term-index-requires t c =
@@ -112,7 +113,7 @@ pub lower_term-apply-requires-clause-sized : goal.lower_term-apply-requires-clau
 lower_term-apply-requires-clause-sized t c =
     let e = ap tree c.in-Op.is ∙ tree-Op c.in-Op.p c.in-Op.ts in
     let hs = renamed_all refl c.deref-in-Op.ensures.value c.in_ok-all-in-Op.ensures.done in
-    subst (λ (xs : List Sig). (ws : List ℕ) × (w : ℕ) × Sized c.lower_all-in-Op.new.net xs ws × (result_width c.in-Op.p ws ≡ Some w)) (sym c.deref-in-Op-2.ensures.value) (Able.parts_sized (subst (λ (x : Term). Lowerable c.args.net.now c.args.ports.now c.args.slots.now.items c.args.path x) e c.requires.able) hs)
+    subst (λ (xs : List Sig). (ws : List ℕ) × (w : ℕ) × AreSources c.lower_all-in-Op.new.net xs ws × (result_width c.in-Op.p ws ≡ Some w)) (sym c.deref-in-Op-2.ensures.value) (Able.parts_sized (subst (λ (x : Term). Lowerable c.args.net.now c.args.ports.now c.args.slots.now.items c.args.path x) e c.requires.able) hs)
 
 pub lower_term-apply-requires-clause-room : goal.lower_term-apply-requires-clause-room
 lower_term-apply-requires-clause-room t c =
@@ -130,8 +131,7 @@ lower_term-returns-in_ok-value-in-Op-clause-done t c =
     let h = c.in_ok-value-in-Op.ensures in
     let d = c.deref-in-Op-2.ensures.value in
     subst (λ (x : Term). Lowers c.args.ports.now c.args.slots.now.items c.args.path c.args.net.now c.apply.new.net c.args.out.now c.lower_all-in-Op.new.out (record { ready = c.in_ok-all-in-Op.all.ready; value = c.in_ok-value-in-Op.value }) x) (sym e)
-    (lowers_op hs h.grows h.count (λ ws w p q. h.width ws w (subst (λ (xs : List Sig). Sized c.lower_all-in-Op.new.net xs ws) (sym d) p) q) (λ v w. h.value v w ∙ ap (λ (xs : List Sig). apply_prim c.in-Op.p (words v xs)) d)
-    (subst (λ (xs : List Sig). AreSteady c.lower_all-in-Op.new.net xs → SettlesOn c.lower_all-in-Op.new.net c.apply.new.net (c.in_ok-value-in-Op.value ∷ [])) d h.settled))
+    (lowers_op hs h.built (λ ws w p q. h.fits ws w (subst (λ (xs : List Sig). AreSources c.lower_all-in-Op.new.net xs ws) (sym d) p) q) (λ v w. h.value v w ∙ ap (λ (xs : List Sig). apply_prim c.in-Op.p (words v xs)) d))
 
 -- ---- a call
 
@@ -172,7 +172,7 @@ lower_term-returns-in_ok-all-in-Call-clause-done t c =
     let e = ap tree c.in-Call.is ∙ tree-Call c.in-Call.field-0 c.in-Call.k c.in-Call.ts in
     let hs = renamed_all refl c.deref-in-Call.ensures.value c.in_ok-all-in-Call.ensures.done in
     let h = c.ask.ensures in
-    done_call c.ask.new.out c.in-Call.field-0 c.in-Call.k c.ask.result e hs h.grows h.count h.given h.entry h.loops h.wants h.settled
+    done_call c.ask.new.out c.in-Call.field-0 c.in-Call.k c.ask.result e hs h.built h.given h.entry h.loops h.wants
 
 -- ---- a tail call
 
@@ -207,7 +207,7 @@ lower_term-returns-in_ok-all-in-Loop-clause-done t c =
     let e = ap tree c.in-Loop.is ∙ tree-Loop c.in-Loop.h c.in-Loop.ts in
     let hs = renamed_all refl c.deref-in-Loop.ensures.value c.in_ok-all-in-Loop.ensures.done in
     let h = c.go_on.ensures in
-    done_loop c.go_on.new.out c.go_on.result e hs h.grows h.count h.never h.entry h.wants h.loops h.settled
+    done_loop c.go_on.new.out c.go_on.result e hs h.built h.never h.entry h.wants h.loops
 
 -- ---- an if
 
@@ -241,7 +241,7 @@ lower_term-lower_term-requires-in-If t c =
     let a = subst (λ (x : Term). Lowerable c.args.net.now c.args.ports.now c.args.slots.now.items c.args.path x) e c.requires.able in
     let hc = renamed refl c.deref.ensures c.in_ok-test-in-If.ensures.done in
     let p = c.in_ok-paths-in-If.ensures in
-    let hp : Branches c.args.path c.lower_term.new.net c.branch_paths.new.net c.in_ok-test-in-If.test (tree c.in-If.a.value) (tree c.in-If.b.value) c.in_ok-paths-in-If.paths.yes c.in_ok-paths-in-If.paths.no = record { grows = p.grows; count = p.count; yes_bit = p.widths.0; no_bit = p.widths.1; yes_on = λ h. p.yes (same_holds c.deref-in-If.ensures h); no_on = λ h. p.no (same_holds c.deref-in-If-2.ensures h); settled = p.settled } in
+    let hp : Branches c.args.path c.lower_term.new.net c.branch_paths.new.net c.in_ok-test-in-If.test (tree c.in-If.a.value) (tree c.in-If.b.value) c.in_ok-paths-in-If.paths.yes c.in_ok-paths-in-If.paths.no = record { grows = p.built.grows; count = p.built.count; settles = p.built.settles; yes_bit = p.widths.0; no_bit = p.widths.1; yes_on = λ h. p.yes (same_holds c.deref-in-If.ensures h); no_on = λ h. p.no (same_holds c.deref-in-If-2.ensures h) } in
     let smaller : 2 * nodes (tree c.deref-in-If-3.result.now) < 2 * nodes (tree c.args.t.now) = omega (arith, ap nodes e, ap (λ (x : declared.Term). nodes (tree x)) c.deref-in-If-3.ensures) in
     let ok : Lowerable c.branch_paths.new.net c.args.ports.now c.lower_term.new.slots.items c.in_ok-paths-in-If.paths.yes (tree c.deref-in-If-3.result.now) = subst (λ (x : declared.Term). Lowerable c.branch_paths.new.net c.args.ports.now c.lower_term.new.slots.items c.in_ok-paths-in-If.paths.yes (tree x)) (sym c.deref-in-If-3.ensures)
     (subst (λ (s : List Sig). Lowerable c.branch_paths.new.net c.args.ports.now s c.in_ok-paths-in-If.paths.yes (tree c.in-If.a.value)) (sym c.in_ok-test-in-If.ensures.slots) (Able.able_yes a hc hp)) in
@@ -253,7 +253,7 @@ lower_term-lower_term-requires-in-If-2 t c =
     let a = subst (λ (x : Term). Lowerable c.args.net.now c.args.ports.now c.args.slots.now.items c.args.path x) e c.requires.able in
     let hc = renamed refl c.deref.ensures c.in_ok-test-in-If.ensures.done in
     let p = c.in_ok-paths-in-If.ensures in
-    let hp : Branches c.args.path c.lower_term.new.net c.branch_paths.new.net c.in_ok-test-in-If.test (tree c.in-If.a.value) (tree c.in-If.b.value) c.in_ok-paths-in-If.paths.yes c.in_ok-paths-in-If.paths.no = record { grows = p.grows; count = p.count; yes_bit = p.widths.0; no_bit = p.widths.1; yes_on = λ h. p.yes (same_holds c.deref-in-If.ensures h); no_on = λ h. p.no (same_holds c.deref-in-If-2.ensures h); settled = p.settled } in
+    let hp : Branches c.args.path c.lower_term.new.net c.branch_paths.new.net c.in_ok-test-in-If.test (tree c.in-If.a.value) (tree c.in-If.b.value) c.in_ok-paths-in-If.paths.yes c.in_ok-paths-in-If.paths.no = record { grows = p.built.grows; count = p.built.count; settles = p.built.settles; yes_bit = p.widths.0; no_bit = p.widths.1; yes_on = λ h. p.yes (same_holds c.deref-in-If.ensures h); no_on = λ h. p.no (same_holds c.deref-in-If-2.ensures h) } in
     let s1 = c.in_ok-test-in-If.ensures.slots in
     let ha = renamed s1 c.deref-in-If-3.ensures c.in_ok-yes-in-If.ensures.done in
     let smaller : 2 * nodes (tree c.deref-in-If-4.result.now) < 2 * nodes (tree c.args.t.now) = omega (arith, ap nodes e, ap (λ (x : declared.Term). nodes (tree x)) c.deref-in-If-4.ensures) in
@@ -266,14 +266,14 @@ lower_term-choose-requires-clause-ready t c =
     let e = ap tree c.in-If.is in
     let a = subst (λ (x : Term). Lowerable c.args.net.now c.args.ports.now c.args.slots.now.items c.args.path x) e c.requires.able in
     let hc = renamed refl c.deref.ensures c.in_ok-test-in-If.ensures.done in
-    ready_kept (grows_on c.branch_paths.ensures.grows (grows_on c.lower_term-in-If.ensures.kept c.lower_term-in-If-2.ensures.kept)) c.in_ok-test-in-If.test.ready (Able.test_shape a hc).ready
+    ready_kept (grows_on c.branch_paths.ensures.built.grows (grows_on c.lower_term-in-If.ensures.kept c.lower_term-in-If-2.ensures.kept)) c.in_ok-test-in-If.test.ready (Able.test_shape a hc).ready
 
 pub lower_term-choose-requires-clause-test : goal.lower_term-choose-requires-clause-test
 lower_term-choose-requires-clause-test t c =
     let e = ap tree c.in-If.is in
     let a = subst (λ (x : Term). Lowerable c.args.net.now c.args.ports.now c.args.slots.now.items c.args.path x) e c.requires.able in
     let hc = renamed refl c.deref.ensures c.in_ok-test-in-If.ensures.done in
-    width_kept (grows_on c.branch_paths.ensures.grows (grows_on c.lower_term-in-If.ensures.kept c.lower_term-in-If-2.ensures.kept)) c.in_ok-test-in-If.test.value.0 1 (Able.test_bit a hc)
+    source_grown (grows_on c.branch_paths.ensures.built.grows (grows_on c.lower_term-in-If.ensures.kept c.lower_term-in-If-2.ensures.kept)) c.in_ok-test-in-If.test.value 1 (Able.test_bit a hc)
 
 pub lower_term-choose-requires-clause-branches : goal.lower_term-choose-requires-clause-branches
 lower_term-choose-requires-clause-branches t c =
@@ -281,7 +281,7 @@ lower_term-choose-requires-clause-branches t c =
     let a = subst (λ (x : Term). Lowerable c.args.net.now c.args.ports.now c.args.slots.now.items c.args.path x) e c.requires.able in
     let hc = renamed refl c.deref.ensures c.in_ok-test-in-If.ensures.done in
     let p = c.in_ok-paths-in-If.ensures in
-    let hp : Branches c.args.path c.lower_term.new.net c.branch_paths.new.net c.in_ok-test-in-If.test (tree c.in-If.a.value) (tree c.in-If.b.value) c.in_ok-paths-in-If.paths.yes c.in_ok-paths-in-If.paths.no = record { grows = p.grows; count = p.count; yes_bit = p.widths.0; no_bit = p.widths.1; yes_on = λ h. p.yes (same_holds c.deref-in-If.ensures h); no_on = λ h. p.no (same_holds c.deref-in-If-2.ensures h); settled = p.settled } in
+    let hp : Branches c.args.path c.lower_term.new.net c.branch_paths.new.net c.in_ok-test-in-If.test (tree c.in-If.a.value) (tree c.in-If.b.value) c.in_ok-paths-in-If.paths.yes c.in_ok-paths-in-If.paths.no = record { grows = p.built.grows; count = p.built.count; settles = p.built.settles; yes_bit = p.widths.0; no_bit = p.widths.1; yes_on = λ h. p.yes (same_holds c.deref-in-If.ensures h); no_on = λ h. p.no (same_holds c.deref-in-If-2.ensures h) } in
     let s1 = c.in_ok-test-in-If.ensures.slots in
     let ha = renamed s1 c.deref-in-If-3.ensures c.in_ok-yes-in-If.ensures.done in
     let s2 = c.in_ok-yes-in-If.ensures.slots ∙ s1 in
@@ -294,7 +294,7 @@ lower_term-choose-requires-clause-room t c =
     let a = subst (λ (x : Term). Lowerable c.args.net.now c.args.ports.now c.args.slots.now.items c.args.path x) e c.requires.able in
     let hc = renamed refl c.deref.ensures c.in_ok-test-in-If.ensures.done in
     let p = c.in_ok-paths-in-If.ensures in
-    let hp : Branches c.args.path c.lower_term.new.net c.branch_paths.new.net c.in_ok-test-in-If.test (tree c.in-If.a.value) (tree c.in-If.b.value) c.in_ok-paths-in-If.paths.yes c.in_ok-paths-in-If.paths.no = record { grows = p.grows; count = p.count; yes_bit = p.widths.0; no_bit = p.widths.1; yes_on = λ h. p.yes (same_holds c.deref-in-If.ensures h); no_on = λ h. p.no (same_holds c.deref-in-If-2.ensures h); settled = p.settled } in
+    let hp : Branches c.args.path c.lower_term.new.net c.branch_paths.new.net c.in_ok-test-in-If.test (tree c.in-If.a.value) (tree c.in-If.b.value) c.in_ok-paths-in-If.paths.yes c.in_ok-paths-in-If.paths.no = record { grows = p.built.grows; count = p.built.count; settles = p.built.settles; yes_bit = p.widths.0; no_bit = p.widths.1; yes_on = λ h. p.yes (same_holds c.deref-in-If.ensures h); no_on = λ h. p.no (same_holds c.deref-in-If-2.ensures h) } in
     let s1 = c.in_ok-test-in-If.ensures.slots in
     let ha = renamed s1 c.deref-in-If-3.ensures c.in_ok-yes-in-If.ensures.done in
     let s2 = c.in_ok-yes-in-If.ensures.slots ∙ s1 in
@@ -311,13 +311,13 @@ lower_term-returns-in_ok-no-in-If-clause-done t c =
     let e = ap tree c.in-If.is in
     let hc = renamed refl c.deref.ensures c.in_ok-test-in-If.ensures.done in
     let p = c.in_ok-paths-in-If.ensures in
-    let hp : Branches c.args.path c.lower_term.new.net c.branch_paths.new.net c.in_ok-test-in-If.test (tree c.in-If.a.value) (tree c.in-If.b.value) c.in_ok-paths-in-If.paths.yes c.in_ok-paths-in-If.paths.no = record { grows = p.grows; count = p.count; yes_bit = p.widths.0; no_bit = p.widths.1; yes_on = λ h. p.yes (same_holds c.deref-in-If.ensures h); no_on = λ h. p.no (same_holds c.deref-in-If-2.ensures h); settled = p.settled } in
+    let hp : Branches c.args.path c.lower_term.new.net c.branch_paths.new.net c.in_ok-test-in-If.test (tree c.in-If.a.value) (tree c.in-If.b.value) c.in_ok-paths-in-If.paths.yes c.in_ok-paths-in-If.paths.no = record { grows = p.built.grows; count = p.built.count; settles = p.built.settles; yes_bit = p.widths.0; no_bit = p.widths.1; yes_on = λ h. p.yes (same_holds c.deref-in-If.ensures h); no_on = λ h. p.no (same_holds c.deref-in-If-2.ensures h) } in
     let s1 = c.in_ok-test-in-If.ensures.slots in
     let ha = renamed s1 c.deref-in-If-3.ensures c.in_ok-yes-in-If.ensures.done in
     let s2 = c.in_ok-yes-in-If.ensures.slots ∙ s1 in
     let hb = renamed s2 c.deref-in-If-4.ensures c.in_ok-no-in-If.ensures.done in
     let h = c.choose.ensures in
-    done_if c.choose.result e hc hp ha hb h.grows h.count h.shape h.value h.never h.settled
+    done_if c.choose.result e hc hp ha hb h.built h.shape h.value h.never
 
 -- ---- a let
 
@@ -355,7 +355,7 @@ lower_term-lower_term-requires-in-Let t c =
     let a = subst (λ (x : Term). Lowerable c.args.net.now c.args.ports.now c.args.slots.now.items c.args.path x) e c.requires.able in
     let hs = renamed_all refl c.deref-in-Let.ensures.value c.in_ok-bound-in-Let.ensures.done in
     let q = c.in_ok-inner-in-Let.ensures in
-    let hi : Inner c.args.path c.lower_all.new.net c.body_path.new.net (tree c.in-Let.b.value) c.in_ok-bound-in-Let.bound.ready c.in_ok-inner-in-Let.inner = record { grows = q.grows; count = q.count; bit = q.width; is = λ h. q.value (same_holds c.deref-in-Let-2.ensures h); settled = q.settled } in
+    let hi : Inner c.args.path c.lower_all.new.net c.body_path.new.net (tree c.in-Let.b.value) c.in_ok-bound-in-Let.bound.ready c.in_ok-inner-in-Let.inner = record { grows = q.built.grows; count = q.built.count; settles = q.built.settles; bit = q.fits; is = λ h. q.value (same_holds c.deref-in-Let-2.ensures h) } in
     let s3 = c.in_ok-extend_from_slice-in-Let.ensures.items ∙ ap (λ (l : List Sig). c.lower_all.new.slots.items ++ l) c.deref-in-Let-3.ensures.value ∙ ap (λ (l : List Sig). l ++ c.in_ok-bound-in-Let.bound.values.items) c.in_ok-bound-in-Let.ensures.slots in
     let smaller : 2 * nodes (tree c.deref-in-Let-4.result.now) < 2 * nodes (tree c.args.t.now) = omega (arith, ap nodes e, ap (λ (x : declared.Term). nodes (tree x)) c.deref-in-Let-4.ensures) in
     let ok : Lowerable c.body_path.new.net c.args.ports.now c.extend_from_slice.new.self.items c.in_ok-inner-in-Let.inner (tree c.deref-in-Let-4.result.now) = subst (λ (x : declared.Term). Lowerable c.body_path.new.net c.args.ports.now c.extend_from_slice.new.self.items c.in_ok-inner-in-Let.inner (tree x)) (sym c.deref-in-Let-4.ensures)
@@ -367,7 +367,7 @@ lower_term-both_ready-requires-clause-first t c =
     let e = ap tree c.in-Let.is ∙ tree-Let c.in-Let.field-0 c.in-Let.ts c.in-Let.b in
     let a = subst (λ (x : Term). Lowerable c.args.net.now c.args.ports.now c.args.slots.now.items c.args.path x) e c.requires.able in
     let hs = renamed_all refl c.deref-in-Let.ensures.value c.in_ok-bound-in-Let.ensures.done in
-    ready_kept (grows_on c.body_path.ensures.grows c.lower_term-in-Let.ensures.kept) c.in_ok-bound-in-Let.bound.ready (Able.bound_shape a hs)
+    ready_kept (grows_on c.body_path.ensures.built.grows c.lower_term-in-Let.ensures.kept) c.in_ok-bound-in-Let.bound.ready (Able.bound_shape a hs)
 
 pub lower_term-both_ready-requires-clause-second : goal.lower_term-both_ready-requires-clause-second
 lower_term-both_ready-requires-clause-second t c =
@@ -375,7 +375,7 @@ lower_term-both_ready-requires-clause-second t c =
     let a = subst (λ (x : Term). Lowerable c.args.net.now c.args.ports.now c.args.slots.now.items c.args.path x) e c.requires.able in
     let hs = renamed_all refl c.deref-in-Let.ensures.value c.in_ok-bound-in-Let.ensures.done in
     let q = c.in_ok-inner-in-Let.ensures in
-    let hi : Inner c.args.path c.lower_all.new.net c.body_path.new.net (tree c.in-Let.b.value) c.in_ok-bound-in-Let.bound.ready c.in_ok-inner-in-Let.inner = record { grows = q.grows; count = q.count; bit = q.width; is = λ h. q.value (same_holds c.deref-in-Let-2.ensures h); settled = q.settled } in
+    let hi : Inner c.args.path c.lower_all.new.net c.body_path.new.net (tree c.in-Let.b.value) c.in_ok-bound-in-Let.bound.ready c.in_ok-inner-in-Let.inner = record { grows = q.built.grows; count = q.built.count; settles = q.built.settles; bit = q.fits; is = λ h. q.value (same_holds c.deref-in-Let-2.ensures h) } in
     let s3 = c.in_ok-extend_from_slice-in-Let.ensures.items ∙ ap (λ (l : List Sig). c.lower_all.new.slots.items ++ l) c.deref-in-Let-3.ensures.value ∙ ap (λ (l : List Sig). l ++ c.in_ok-bound-in-Let.bound.values.items) c.in_ok-bound-in-Let.ensures.slots in
     let hb = renamed s3 c.deref-in-Let-4.ensures c.in_ok-body-in-Let.ensures.done in
     (Able.body_shape a hs hi hb).ready
@@ -386,7 +386,7 @@ lower_term-both_ready-requires-clause-room t c =
     let a = subst (λ (x : Term). Lowerable c.args.net.now c.args.ports.now c.args.slots.now.items c.args.path x) e c.requires.able in
     let hs = renamed_all refl c.deref-in-Let.ensures.value c.in_ok-bound-in-Let.ensures.done in
     let q = c.in_ok-inner-in-Let.ensures in
-    let hi : Inner c.args.path c.lower_all.new.net c.body_path.new.net (tree c.in-Let.b.value) c.in_ok-bound-in-Let.bound.ready c.in_ok-inner-in-Let.inner = record { grows = q.grows; count = q.count; bit = q.width; is = λ h. q.value (same_holds c.deref-in-Let-2.ensures h); settled = q.settled } in
+    let hi : Inner c.args.path c.lower_all.new.net c.body_path.new.net (tree c.in-Let.b.value) c.in_ok-bound-in-Let.bound.ready c.in_ok-inner-in-Let.inner = record { grows = q.built.grows; count = q.built.count; settles = q.built.settles; bit = q.fits; is = λ h. q.value (same_holds c.deref-in-Let-2.ensures h) } in
     let s3 = c.in_ok-extend_from_slice-in-Let.ensures.items ∙ ap (λ (l : List Sig). c.lower_all.new.slots.items ++ l) c.deref-in-Let-3.ensures.value ∙ ap (λ (l : List Sig). l ++ c.in_ok-bound-in-Let.bound.values.items) c.in_ok-bound-in-Let.ensures.slots in
     let hb = renamed s3 c.deref-in-Let-4.ensures c.in_ok-body-in-Let.ensures.done in
     let r = a.room in
@@ -400,12 +400,12 @@ lower_term-returns-in_ok-ready-in-Let-clause-done t c =
     let e = ap tree c.in-Let.is ∙ tree-Let c.in-Let.field-0 c.in-Let.ts c.in-Let.b in
     let hs = renamed_all refl c.deref-in-Let.ensures.value c.in_ok-bound-in-Let.ensures.done in
     let q = c.in_ok-inner-in-Let.ensures in
-    let hi : Inner c.args.path c.lower_all.new.net c.body_path.new.net (tree c.in-Let.b.value) c.in_ok-bound-in-Let.bound.ready c.in_ok-inner-in-Let.inner = record { grows = q.grows; count = q.count; bit = q.width; is = λ h. q.value (same_holds c.deref-in-Let-2.ensures h); settled = q.settled } in
+    let hi : Inner c.args.path c.lower_all.new.net c.body_path.new.net (tree c.in-Let.b.value) c.in_ok-bound-in-Let.bound.ready c.in_ok-inner-in-Let.inner = record { grows = q.built.grows; count = q.built.count; settles = q.built.settles; bit = q.fits; is = λ h. q.value (same_holds c.deref-in-Let-2.ensures h) } in
     let s3 = c.in_ok-extend_from_slice-in-Let.ensures.items ∙ ap (λ (l : List Sig). c.lower_all.new.slots.items ++ l) c.deref-in-Let-3.ensures.value ∙ ap (λ (l : List Sig). l ++ c.in_ok-bound-in-Let.bound.values.items) c.in_ok-bound-in-Let.ensures.slots in
     let hb = renamed s3 c.deref-in-Let-4.ensures c.in_ok-body-in-Let.ensures.done in
     let b = c.in_ok-ready-in-Let.ensures in
     subst (λ (x : Term). Lowers c.args.ports.now c.args.slots.now.items c.args.path c.args.net.now c.both_ready.new.net c.args.out.now c.lower_term-in-Let.new.out (record { ready = c.in_ok-ready-in-Let.ready; value = c.in_ok-body-in-Let.body.value }) x) (sym e)
-    (lowers_let hs hi hb (record { grows = b.grows; count = b.count; bit = b.width; is = b.value; never = b.never; settled = b.settled }))
+    (lowers_let hs hi hb (record { grows = b.built.grows; count = b.built.count; settles = b.built.settles; bit = b.fits; is = b.value; never = b.never }))
 
 -- ---- the net grows
 
@@ -413,46 +413,46 @@ pub lower_all-returns-in_err-one-clause-kept : goal.lower_all-returns-in_err-one
 lower_all-returns-in_err-one-clause-kept t c = grows_on c.loop-t.invariant.lowered.grows c.lower_term.ensures.kept
 
 pub lower_all-returns-in_err-ready-clause-kept : goal.lower_all-returns-in_err-ready-clause-kept
-lower_all-returns-in_err-ready-clause-kept t c = grows_on c.loop-t.invariant.lowered.grows (grows_on c.lower_term.ensures.kept c.both_ready.ensures.grows)
+lower_all-returns-in_err-ready-clause-kept t c = grows_on c.loop-t.invariant.lowered.grows (grows_on c.lower_term.ensures.kept c.both_ready.ensures.built.grows)
 
 pub lower_all-returns-in_err-push-clause-kept : goal.lower_all-returns-in_err-push-clause-kept
-lower_all-returns-in_err-push-clause-kept t c = grows_on c.loop-t.invariant.lowered.grows (grows_on c.lower_term.ensures.kept c.both_ready.ensures.grows)
+lower_all-returns-in_err-push-clause-kept t c = grows_on c.loop-t.invariant.lowered.grows (grows_on c.lower_term.ensures.kept c.both_ready.ensures.built.grows)
 
 pub lower_term-returns-in_err-paths-in-If-clause-kept : goal.lower_term-returns-in_err-paths-in-If-clause-kept
-lower_term-returns-in_err-paths-in-If-clause-kept t c = grows_on c.lower_term.ensures.kept c.branch_paths.ensures.grows
+lower_term-returns-in_err-paths-in-If-clause-kept t c = grows_on c.lower_term.ensures.kept c.branch_paths.ensures.built.grows
 
 pub lower_term-returns-in_err-yes-in-If-clause-kept : goal.lower_term-returns-in_err-yes-in-If-clause-kept
-lower_term-returns-in_err-yes-in-If-clause-kept t c = grows_on c.lower_term.ensures.kept (grows_on c.branch_paths.ensures.grows c.lower_term-in-If.ensures.kept)
+lower_term-returns-in_err-yes-in-If-clause-kept t c = grows_on c.lower_term.ensures.kept (grows_on c.branch_paths.ensures.built.grows c.lower_term-in-If.ensures.kept)
 
 pub lower_term-returns-in_err-no-in-If-clause-kept : goal.lower_term-returns-in_err-no-in-If-clause-kept
-lower_term-returns-in_err-no-in-If-clause-kept t c = grows_on c.lower_term.ensures.kept (grows_on c.branch_paths.ensures.grows (grows_on c.lower_term-in-If.ensures.kept c.lower_term-in-If-2.ensures.kept))
+lower_term-returns-in_err-no-in-If-clause-kept t c = grows_on c.lower_term.ensures.kept (grows_on c.branch_paths.ensures.built.grows (grows_on c.lower_term-in-If.ensures.kept c.lower_term-in-If-2.ensures.kept))
 
 pub lower_term-returns-in_ok-no-in-If-clause-kept : goal.lower_term-returns-in_ok-no-in-If-clause-kept
-lower_term-returns-in_ok-no-in-If-clause-kept t c = grows_on c.lower_term.ensures.kept (grows_on c.branch_paths.ensures.grows (grows_on c.lower_term-in-If.ensures.kept (grows_on c.lower_term-in-If-2.ensures.kept c.choose.ensures.grows)))
+lower_term-returns-in_ok-no-in-If-clause-kept t c = grows_on c.lower_term.ensures.kept (grows_on c.branch_paths.ensures.built.grows (grows_on c.lower_term-in-If.ensures.kept (grows_on c.lower_term-in-If-2.ensures.kept c.choose.ensures.built.grows)))
 
 pub lower_term-returns-in_err-inner-in-Let-clause-kept : goal.lower_term-returns-in_err-inner-in-Let-clause-kept
-lower_term-returns-in_err-inner-in-Let-clause-kept t c = grows_on c.lower_all.ensures.kept c.body_path.ensures.grows
+lower_term-returns-in_err-inner-in-Let-clause-kept t c = grows_on c.lower_all.ensures.kept c.body_path.ensures.built.grows
 
 pub lower_term-returns-in_err-extend_from_slice-in-Let-clause-kept : goal.lower_term-returns-in_err-extend_from_slice-in-Let-clause-kept
-lower_term-returns-in_err-extend_from_slice-in-Let-clause-kept t c = grows_on c.lower_all.ensures.kept c.body_path.ensures.grows
+lower_term-returns-in_err-extend_from_slice-in-Let-clause-kept t c = grows_on c.lower_all.ensures.kept c.body_path.ensures.built.grows
 
 pub lower_term-returns-in_err-body-in-Let-clause-kept : goal.lower_term-returns-in_err-body-in-Let-clause-kept
-lower_term-returns-in_err-body-in-Let-clause-kept t c = grows_on c.lower_all.ensures.kept (grows_on c.body_path.ensures.grows c.lower_term-in-Let.ensures.kept)
+lower_term-returns-in_err-body-in-Let-clause-kept t c = grows_on c.lower_all.ensures.kept (grows_on c.body_path.ensures.built.grows c.lower_term-in-Let.ensures.kept)
 
 pub lower_term-returns-in_err-ready-in-Let-clause-kept : goal.lower_term-returns-in_err-ready-in-Let-clause-kept
-lower_term-returns-in_err-ready-in-Let-clause-kept t c = grows_on c.lower_all.ensures.kept (grows_on c.body_path.ensures.grows (grows_on c.lower_term-in-Let.ensures.kept c.both_ready.ensures.grows))
+lower_term-returns-in_err-ready-in-Let-clause-kept t c = grows_on c.lower_all.ensures.kept (grows_on c.body_path.ensures.built.grows (grows_on c.lower_term-in-Let.ensures.kept c.both_ready.ensures.built.grows))
 
 pub lower_term-returns-in_ok-ready-in-Let-clause-kept : goal.lower_term-returns-in_ok-ready-in-Let-clause-kept
-lower_term-returns-in_ok-ready-in-Let-clause-kept t c = grows_on c.lower_all.ensures.kept (grows_on c.body_path.ensures.grows (grows_on c.lower_term-in-Let.ensures.kept c.both_ready.ensures.grows))
+lower_term-returns-in_ok-ready-in-Let-clause-kept t c = grows_on c.lower_all.ensures.kept (grows_on c.body_path.ensures.built.grows (grows_on c.lower_term-in-Let.ensures.kept c.both_ready.ensures.built.grows))
 
 pub lower_term-returns-in_err-value-in-Op-clause-kept : goal.lower_term-returns-in_err-value-in-Op-clause-kept
-lower_term-returns-in_err-value-in-Op-clause-kept t c = grows_on c.lower_all-in-Op.ensures.kept c.apply.ensures.grows
+lower_term-returns-in_err-value-in-Op-clause-kept t c = grows_on c.lower_all-in-Op.ensures.kept c.apply.ensures.built.grows
 
 pub lower_term-returns-in_ok-value-in-Op-clause-kept : goal.lower_term-returns-in_ok-value-in-Op-clause-kept
-lower_term-returns-in_ok-value-in-Op-clause-kept t c = grows_on c.lower_all-in-Op.ensures.kept c.apply.ensures.grows
+lower_term-returns-in_ok-value-in-Op-clause-kept t c = grows_on c.lower_all-in-Op.ensures.kept c.apply.ensures.built.grows
 
 pub lower_term-returns-in_ok-all-in-Call-clause-kept : goal.lower_term-returns-in_ok-all-in-Call-clause-kept
-lower_term-returns-in_ok-all-in-Call-clause-kept t c = grows_on c.lower_all-in-Call.ensures.kept c.ask.ensures.grows
+lower_term-returns-in_ok-all-in-Call-clause-kept t c = grows_on c.lower_all-in-Call.ensures.kept c.ask.ensures.built.grows
 
 pub lower_term-returns-in_ok-all-in-Loop-clause-kept : goal.lower_term-returns-in_ok-all-in-Loop-clause-kept
-lower_term-returns-in_ok-all-in-Loop-clause-kept t c = grows_on c.lower_all-in-Loop.ensures.kept c.go_on.ensures.grows
+lower_term-returns-in_ok-all-in-Loop-clause-kept t c = grows_on c.lower_all-in-Loop.ensures.kept c.go_on.ensures.built.grows

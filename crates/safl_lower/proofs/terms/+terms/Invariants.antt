@@ -1,7 +1,7 @@
 use Rattle.std.proofs.Common.{◌≡◌, ◌+◌, ◌*◌, take}
 use Rattle.safl_net.specs.Names.{IsTidy}
 use Rattle.safl_lower.specs.Typing.{nodes, nodes_in}
-use Rattle.safl_check.specs.Tree.{tree, forest}
+use Rattle.safl_term.specs.Tree.{tree, forest}
 use Rattle.safl_lower.specs.Lowering.{LowersAll}
 use Rattle.safl_lower.proofs.terms.+terms.Given as goal
 

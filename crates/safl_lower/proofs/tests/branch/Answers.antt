@@ -1,8 +1,8 @@
 use Rattle.std.proofs.Common.{List, ap, ◌∙◌}
-use Rattle.safl_check.specs.declared.term.Term as declared
-use Rattle.safl_check.specs.Terms.{Term, Var, If, Call, Cons, Nil}
-use Rattle.safl_check.specs.Tree.{tree, forest}
-use Rattle.safl_check.proofs.TreeLemmas.{tree-Call}
+use Rattle.safl_term.specs.declared.term.Term as declared
+use Rattle.safl_term.specs.Terms.{Term, Var, If, Call, Cons, Nil}
+use Rattle.safl_term.specs.Tree.{tree, forest}
+use Rattle.safl_term.proofs.TreeLemmas.{tree-Call}
 use Rattle.safl_lower.specs.Sample.{is_zero}
 use Rattle.safl_lower.proofs.tests.branch.Goals as goal
 

@@ -1,10 +1,10 @@
 use Rattle.std.proofs.Common.{List, ap, ◌∙◌}
 use Rattle.safl_word.specs.Words.{Word}
 use Rattle.safl_word.specs.declared.primitive.Primitive.TheVariants.{Eq}
-use Rattle.safl_check.specs.declared.term.Term as declared
-use Rattle.safl_check.specs.Terms.{Var, Const, Op, Cons, Nil}
-use Rattle.safl_check.specs.Tree.{forest}
-use Rattle.safl_check.proofs.TreeLemmas.{tree-Op}
+use Rattle.safl_term.specs.declared.term.Term as declared
+use Rattle.safl_term.specs.Terms.{Var, Const, Op, Cons, Nil}
+use Rattle.safl_term.specs.Tree.{forest}
+use Rattle.safl_term.proofs.TreeLemmas.{tree-Op}
 use Rattle.safl_lower.proofs.tests.is_zero.Goals as goal
 
 pub returns : goal.returns

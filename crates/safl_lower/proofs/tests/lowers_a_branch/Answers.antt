@@ -1,5 +1,5 @@
 use Rattle.std.proofs.Common.{refl}
-use Rattle.safl_check.specs.Tree.{tree}
+use Rattle.safl_term.specs.Tree.{tree}
 use Rattle.safl_lower.proofs.Sample.{can_lower}
 use Rattle.safl_lower.proofs.tests.lowers_a_branch.Goals as goal
 

@@ -1,8 +1,8 @@
 use Rattle.std.proofs.Common.{List, ap, ◌∙◌}
-use Rattle.safl_check.specs.declared.term.Term as declared
-use Rattle.safl_check.specs.Terms.{Term, Var, If, Loop}
-use Rattle.safl_check.specs.Tree.{tree, forest}
-use Rattle.safl_check.proofs.TreeLemmas.{tree-Loop}
+use Rattle.safl_term.specs.declared.term.Term as declared
+use Rattle.safl_term.specs.Terms.{Term, Var, If, Loop}
+use Rattle.safl_term.specs.Tree.{tree, forest}
+use Rattle.safl_term.proofs.TreeLemmas.{tree-Loop}
 use Rattle.safl_lower.specs.Sample.{is_zero}
 use Rattle.safl_lower.proofs.tests.repeat.Goals as goal
 

@@ -1,6 +1,6 @@
 use Rattle.std.proofs.Common.{◌≡◌, ℕ, ◌-◌, true, get_or, slice_set, arith, sym, ◌∙◌, ap, subst}
-use Rattle.safl_check.specs.Checked.{program_of}
-use Rattle.safl_check.specs.Program.{unit_for}
+use Rattle.safl_term.specs.Checked.{program_of}
+use Rattle.safl_term.specs.Program.{unit_for}
 use Rattle.safl_sites.specs.Collecting.{IsCollected}
 use Rattle.safl_sites.specs.Rows.{Has, Adds, IsCommon, Meets, no_row}
 use Rattle.safl_sites.proofs.BeforeLemmas.{clash}
@@ -15,7 +15,7 @@ returns-then-meets c =
     let B = c.args.before.now in
     let P = c.args.peers.now in
     let row = get_or B k no_row in
-    let to : c.unit-unit.result ≡ unit_for C k = c.unit-unit.ensures ∙ ap C.unit c.callee.ensures in
+    let to : c.unit_for-unit.result ≡ unit_for C k = c.unit_for-unit.ensures.number in
     let low = unit_within c.args.c.now c.functions-functions.ensures.checked k c.requires.least c.requires.most in
     let meets : Meets row (get_or P (unit_for C k) no_row) k = subst (λ (u : ℕ). Meets row (get_or P u no_row) k) to (c.meets.ensures.0 c.if-meets.true) in
     let common : (j : ℕ) → Adds (Has c.insert.new.self j) (Has c.add_common.new.self j) (IsCommon row (get_or P (unit_for C k) no_row) k j) =
@@ -29,7 +29,7 @@ returns-else-meets c =
     let k = c.args.k in
     let B = c.args.before.now in
     let P = c.args.peers.now in
-    let to : c.unit-unit.result ≡ unit_for C k = c.unit-unit.ensures ∙ ap C.unit c.callee.ensures in
+    let to : c.unit_for-unit.result ≡ unit_for C k = c.unit_for-unit.ensures.number in
     let none : Meets (get_or B k no_row) (get_or P (unit_for C k) no_row) k → ⊥ =
     λ h. clash c.meets.result c.if-meets.false (c.meets.ensures.1 (subst (λ (u : ℕ). Meets (get_or B k no_row) (get_or P u no_row) k) (sym to) h)) in
     collected_none C (k - 1) k B P (omega (arith, c.requires.least)) c.requires.most c.requires.conflicts c.requires.peers c.args.arbiters.now c.args.kept.now c.requires.collected none

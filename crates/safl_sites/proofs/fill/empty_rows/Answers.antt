@@ -1,5 +1,5 @@
 use Rattle.std.proofs.Common.{◌≡◌, List, replicate, subst}
-use Rattle.safl_sites.specs.declared.row.Row.{Row}
+use Rattle.safl_sites.specs.declared.site_set.SiteSet.{SiteSet}
 use Rattle.safl_sites.specs.Rows.{HasAt}
 use Rattle.safl_sites.proofs.FillLemmas.{empty_table}
 use Rattle.safl_sites.proofs.fill.empty_rows.Goals as goal
@@ -7,4 +7,4 @@ use Rattle.safl_sites.proofs.fill.empty_rows.Goals as goal
 pub returns-clause-empty : goal.returns-clause-empty
 returns-clause-empty c = λ i k h.
     let same : c.in_ok-rows.rows.items ≡ replicate c.args.count c.new-empty.result = c.in_ok-rows.ensures.items_if_clones_equal (λ y e. e) in
-    empty_table c.args.count c.new-empty.result c.new-empty.ensures i k (subst (λ (rows : List Row). HasAt rows i k) same h)
+    empty_table c.args.count c.new-empty.result c.new-empty.ensures i k (subst (λ (rows : List SiteSet). HasAt rows i k) same h)

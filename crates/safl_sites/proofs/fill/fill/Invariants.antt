@@ -1,4 +1,4 @@
-use Rattle.safl_check.specs.Checked.{program_of}
+use Rattle.safl_term.specs.Checked.{program_of}
 use Rattle.safl_sites.specs.Filling.{IsFilled}
 use Rattle.safl_sites.proofs.fill.fill.Given as goal
 

@@ -1,11 +1,11 @@
 use Rattle.std.proofs.Common.{rules, ◌≡◌, ℕ, ◌+◌, ◌*◌, ◌<◌, ◌≤◌, List, [], ◌∷◌, ◌++◌, length, refl, sym, ap, subst, ◌∙◌, arith}
-use Rattle.safl_check.specs.Checked.{program_of}
-use Rattle.safl_check.specs.declared.term.Term as declared
-use Rattle.safl_check.specs.Sizes.{nodes, nodes_in}
-use Rattle.safl_check.specs.Terms.{Term, Cons}
-use Rattle.safl_check.specs.Tree.{tree, forest}
-use Rattle.safl_check.proofs.TreeLemmas.{tree-Op, tree-Loop, tree-Call, tree-Let}
-use Rattle.safl_sites.specs.declared.row.Row.{Row}
+use Rattle.safl_term.specs.Checked.{program_of}
+use Rattle.safl_term.specs.declared.term.Term as declared
+use Rattle.safl_term.specs.Sizes.{nodes, nodes_in}
+use Rattle.safl_term.specs.Terms.{Term, Cons}
+use Rattle.safl_term.specs.Tree.{tree, forest}
+use Rattle.safl_term.proofs.TreeLemmas.{tree-Op, tree-Loop, tree-Call, tree-Let}
+use Rattle.safl_sites.specs.declared.site_set.SiteSet.{SiteSet}
 use Rattle.safl_sites.specs.Keeping.{MayKeep, MayKeepIn, IsHeldHere, Walks, WalksIn, Binds}
 use Rattle.safl_sites.specs.Rows.{Has, Adds}
 use Rattle.safl_sites.proofs.AbleLemmas.{keep_cond, keep_then, keep_else, keep_bound, keep_body, keep_op, keep_args, keep_loop, keep_first, keep_rest, keep_tree, keep_forest, slot_within, bound_length}
@@ -37,7 +37,7 @@ walk-walk-requires-in-If t c =
     let e = ap tree c.in-If.is in
     let may : MayKeep C U P (length R) _ = subst (λ (x : Term). MayKeep C U P (length R) x) e c.requires in
     let smaller : 2 * nodes (tree c.deref-in-If.result.now) < 2 * nodes (tree c.args.t.now) = omega (arith, ap nodes e, ap (λ (x : declared.Term). nodes (tree x)) c.deref-in-If.ensures) in
-    let ok : MayKeep C U P (length c.walk.new.slots.items) (tree c.deref-in-If.result.now) = keep_tree c.deref-in-If.ensures (ap (λ (l : List Row). length l) c.in_ok-walk-in-If.ensures.same) (keep_then may) in
+    let ok : MayKeep C U P (length c.walk.new.slots.items) (tree c.deref-in-If.result.now) = keep_tree c.deref-in-If.ensures (ap (λ (l : List SiteSet). length l) c.in_ok-walk-in-If.ensures.same) (keep_then may) in
     search rules
 
 pub walk-walk-requires-in-If-2 : goal.walk-walk-requires-in-If-2
@@ -49,7 +49,7 @@ walk-walk-requires-in-If-2 t c =
     let e = ap tree c.in-If.is in
     let may : MayKeep C U P (length R) _ = subst (λ (x : Term). MayKeep C U P (length R) x) e c.requires in
     let smaller : 2 * nodes (tree c.deref-in-If-2.result.now) < 2 * nodes (tree c.args.t.now) = omega (arith, ap nodes e, ap (λ (x : declared.Term). nodes (tree x)) c.deref-in-If-2.ensures) in
-    let ok : MayKeep C U P (length c.walk-in-If.new.slots.items) (tree c.deref-in-If-2.result.now) = keep_tree c.deref-in-If-2.ensures (ap (λ (l : List Row). length l) (c.in_ok-walk-in-If-2.ensures.same ∙ c.in_ok-walk-in-If.ensures.same)) (keep_else may) in
+    let ok : MayKeep C U P (length c.walk-in-If.new.slots.items) (tree c.deref-in-If-2.result.now) = keep_tree c.deref-in-If-2.ensures (ap (λ (l : List SiteSet). length l) (c.in_ok-walk-in-If-2.ensures.same ∙ c.in_ok-walk-in-If.ensures.same)) (keep_else may) in
     search rules
 
 pub walk-bind_all-requires : goal.walk-bind_all-requires
@@ -155,7 +155,7 @@ walk-returns-in-Var-clause-done t c =
     let within : c.in-Var.slot < length R = slot_within may in
     let is = row_at R c.in-Var.slot c.index.result.now within c.index.ensures in
     subst (λ (x : Term). Walks C R c.args.feeds.now c.union.new.self c.args.keeps.now c.args.keeps.now x) (sym e)
-    (walks_var C R c.args.feeds.now c.union.new.self c.args.keeps.now c.in-Var.slot (λ k. subst (λ (r : Row). Adds (Has c.args.feeds.now k) (Has c.union.new.self k) (Has r k)) is (c.union.ensures k)))
+    (walks_var C R c.args.feeds.now c.union.new.self c.args.keeps.now c.in-Var.slot (λ k. subst (λ (r : SiteSet). Adds (Has c.args.feeds.now k) (Has c.union.new.self k) (Has r k)) is (c.union.ensures k)))
 
 pub walk-index-requires : goal.walk-index-requires
 walk-index-requires t c =
@@ -267,7 +267,7 @@ bind_all-bind_all-requires t c =
     let e : c.args.ts.now ≡ c.in-Some.first.now ∷ c.in-Some.rest.now = c.in-Some.ensures.cases.0 in
     let may = subst (λ (x : List declared.Term). MayKeepIn C U P (length R) (forest x)) e c.requires in
     let smaller : 2 * nodes_in (forest c.in-Some.rest.now) + 1 < 2 * nodes_in (forest c.args.ts.now) + 1 = omega (arith, some_node (tree c.in-Some.first.now), ap (λ (x : List declared.Term). nodes_in (forest x)) e) in
-    let ok : MayKeepIn C U P (length c.walk.new.slots.items) (forest c.in-Some.rest.now) = keep_forest refl (ap (λ (l : List Row). length l) c.in_ok-walk.ensures.same) (keep_rest may) in
+    let ok : MayKeepIn C U P (length c.walk.new.slots.items) (forest c.in-Some.rest.now) = keep_forest refl (ap (λ (l : List SiteSet). length l) c.in_ok-walk.ensures.same) (keep_rest may) in
     search rules
 
 pub walk_all-walk_all-requires : goal.walk_all-walk_all-requires
@@ -279,7 +279,7 @@ walk_all-walk_all-requires t c =
     let e : c.args.ts.now ≡ c.in-Some.first.now ∷ c.in-Some.rest.now = c.in-Some.ensures.cases.0 in
     let may = subst (λ (x : List declared.Term). MayKeepIn C U P (length R) (forest x)) e c.requires in
     let smaller : 2 * nodes_in (forest c.in-Some.rest.now) + 1 < 2 * nodes_in (forest c.args.ts.now) + 1 = omega (arith, some_node (tree c.in-Some.first.now), ap (λ (x : List declared.Term). nodes_in (forest x)) e) in
-    let ok : MayKeepIn C U P (length c.walk.new.slots.items) (forest c.in-Some.rest.now) = keep_forest refl (ap (λ (l : List Row). length l) c.in_ok-walk.ensures.same) (keep_rest may) in
+    let ok : MayKeepIn C U P (length c.walk.new.slots.items) (forest c.in-Some.rest.now) = keep_forest refl (ap (λ (l : List SiteSet). length l) c.in_ok-walk.ensures.same) (keep_rest may) in
     search rules
 
 pub walk_all-returns-in_default-clause-done : goal.walk_all-returns-in_default-clause-done
@@ -322,8 +322,8 @@ bind_all-returns t c =
     let may = subst (λ (x : List declared.Term). MayKeepIn C U P (length R) (forest x)) e c.requires in
     let rest = binds_same c.in_ok-walk.ensures.same c.in_ok-bind_all.ensures in
     let M = c.bind_all.new.slots.items in
-    let at : c.len-at.result ≡ length R = omega (arith, c.walk.new.slots.ok.0, ap (λ (l : List Row). length l) c.in_ok-walk.ensures.same) in
+    let at : c.len-at.result ≡ length R = omega (arith, c.walk.new.slots.ok.0, ap (λ (l : List SiteSet). length l) c.in_ok-walk.ensures.same) in
     let is : c.insert.new.self.items ≡ R ++ (c.walk.new.feeds ∷ rest.bound) = c.in_ok-insert.ensures.items ∙ inserted R rest.bound M c.len-at.result c.walk.new.feeds rest.joined at in
     subst (λ (x : List declared.Term). Binds C R c.insert.new.self.items c.args.keeps.now c.bind_all.new.keeps (forest x)) (sym e)
-    (subst (λ (l : List Row). Binds C R l c.args.keeps.now c.bind_all.new.keeps (Cons (tree c.in-Some.first.now) (forest c.in-Some.rest.now))) (sym is)
+    (subst (λ (l : List SiteSet). Binds C R l c.args.keeps.now c.bind_all.new.keeps (Cons (tree c.in-Some.first.now) (forest c.in-Some.rest.now))) (sym is)
     (binds_more C R M c.new-row.result c.walk.new.feeds c.args.keeps.now c.walk.new.keeps c.bind_all.new.keeps _ _ c.new-row.ensures c.in_ok-walk.ensures.done rest))

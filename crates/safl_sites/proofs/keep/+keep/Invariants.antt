@@ -1,6 +1,6 @@
 use Rattle.std.proofs.Common.{◌+◌, ◌*◌}
-use Rattle.safl_check.specs.Sizes.{nodes, nodes_in}
-use Rattle.safl_check.specs.Tree.{tree, forest}
+use Rattle.safl_term.specs.Sizes.{nodes, nodes_in}
+use Rattle.safl_term.specs.Tree.{tree, forest}
 use Rattle.safl_sites.proofs.keep.+keep.Given as goal
 
 abbrev pub decreases-walk : goal.decreases-walk

@@ -1,8 +1,8 @@
 use Rattle.std.proofs.Common.{◌≡◌, ℕ, ◌+◌, ◌⊎◌, get_or, refl, sym, ◌∙◌, ap, subst, inl, inr, arith}
-use Rattle.safl_check.specs.Checked.{program_of}
-use Rattle.safl_check.specs.Program.{unit_for}
-use Rattle.safl_check.specs.Tree.{tree}
-use Rattle.safl_sites.specs.declared.row.Row.{Row}
+use Rattle.safl_term.specs.Checked.{program_of}
+use Rattle.safl_term.specs.Program.{unit_for}
+use Rattle.safl_term.specs.Tree.{tree}
+use Rattle.safl_sites.specs.declared.site_set.SiteSet.{SiteSet}
 use Rattle.safl_sites.specs.Keeping.{IsHeldHere}
 use Rattle.safl_sites.specs.Kept.{InBody}
 use Rattle.safl_sites.specs.Rows.{Has, Adds, Meets, no_row}
@@ -23,7 +23,7 @@ pub loop-done-preserved : goal.loop-done-preserved
 loop-done-preserved c =
     let p = c.args.c.now in
     let C = program_of p in
-    let h = c.functions-functions.ensures.checked in
+    let h = c.sites-sites.ensures.checked in
     let U = c.args.units.now in
     let S = c.args.slots.now in
     let P = c.args.peers.now in
@@ -40,15 +40,15 @@ loop-done-preserved c =
     let back : (j : ℕ) → InBody C j body → Has within j = λ j x. (c.reach_body.ensures j).joins x in
     let alternatives : (((j : ℕ) → Adds (Has c.loop-done.held j) (Has c.if-contains.held j) (j ≡ k)) × IsHeldHere C S low k body) ⊎ ((c.if-contains.held ≡ c.loop-done.held) × (IsHeldHere C S low k body → ⊥)) = elim c.if-contains.branch [
       | then-contains+then-meets w ↦
-          let to : w.unit.result ≡ unit_for C k = w.unit.ensures ∙ ap C.unit w.callee.ensures in
+          let to = w.unit_for.ensures.number in
           let x : Has used k = sym c.contains.ensures ∙ w.if-contains.true in
           let y : Meets within (get_or P (unit_for C k) no_row) k = subst (λ (u : ℕ). Meets within (get_or P u no_row) k) to (w.meets.ensures.0 w.if-meets.true) in
-          inl (λ j. subst (λ (r : Row). Adds (Has c.loop-done.held j) (Has r j) (j ≡ k)) (sym w.held-is) (w.insert.ensures j), held_here p h U S P n low body m sites used within k fed inside x y)
+          inl (λ j. subst (λ (r : SiteSet). Adds (Has c.loop-done.held j) (Has r j) (j ≡ k)) (sym w.held-is) (w.insert.ensures j), held_here p h U S P n low body m sites used within k fed inside x y)
       | else-contains w ↦ inr (
         w.held-is,
         λ x. elim w.else-contains.branch [
           | else-contains-via-then-contains+else-meets v ↦
-              let to : v.unit.result ≡ unit_for C k = v.unit.ensures ∙ ap C.unit v.callee.ensures in
+              let to = v.unit_for.ensures.number in
               let y : Meets within (get_or P (unit_for C k) no_row) k = held_meets p h U S P n low body m sites within k back x in
               clash v.meets.result v.if-meets.false (v.meets.ensures.1 (subst (λ (u : ℕ). Meets within (get_or P u no_row) k) (sym to) y))
           | else-contains-via-else-contains v ↦ clash c.contains.result v.if-contains.false (c.contains.ensures ∙ (c.touch.ensures k).joins x.touched)

@@ -1,5 +1,5 @@
-use Rattle.safl_check.specs.Checked.{program_of}
-use Rattle.safl_check.specs.Tree.{tree}
+use Rattle.safl_term.specs.Checked.{program_of}
+use Rattle.safl_term.specs.Tree.{tree}
 use Rattle.safl_sites.proofs.HoldLemmas.{Looked}
 use Rattle.safl_sites.proofs.keep.hold.Given as goal
 

@@ -1,8 +1,8 @@
 use Rattle.std.proofs.Common.{sym, ◌∙◌, ap, subst}
-use Rattle.safl_check.specs.Checked.{program_of}
-use Rattle.safl_check.specs.Terms.{Term}
-use Rattle.safl_check.specs.Tree.{tree}
-use Rattle.safl_check.proofs.TreeLemmas.{tree-Call, tree-Let, tree-Op, tree-Loop}
+use Rattle.safl_term.specs.Checked.{program_of}
+use Rattle.safl_term.specs.Terms.{Term}
+use Rattle.safl_term.specs.Tree.{tree}
+use Rattle.safl_term.proofs.TreeLemmas.{tree-Call, tree-Let, tree-Op, tree-Loop}
 use Rattle.safl_sites.specs.Kept.{InBody}
 use Rattle.safl_sites.specs.Reach.{MayReach}
 use Rattle.safl_sites.specs.Rows.{Has, Adds}

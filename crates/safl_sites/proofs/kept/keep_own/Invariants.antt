@@ -1,5 +1,5 @@
 use Rattle.std.proofs.Common.{ℕ, ◌+◌}
-use Rattle.safl_check.specs.Checked.{program_of}
+use Rattle.safl_term.specs.Checked.{program_of}
 use Rattle.safl_sites.specs.Bodies.{IsOwnKept}
 use Rattle.safl_sites.specs.Rows.{Has, Adds}
 use Rattle.safl_sites.proofs.kept.keep_own.Given as goal

@@ -1,10 +1,10 @@
 use Rattle.std.proofs.Common.{rules, ◌≡◌, ℕ, ◌+◌, ◌*◌, ◌<◌, List, [], ◌∷◌, length, length-set, slice_set, sym, ap, subst, ◌∙◌, arith}
-use Rattle.safl_check.specs.Checked.{program_of}
-use Rattle.safl_check.specs.declared.term.Term as declared
-use Rattle.safl_check.specs.Sizes.{nodes, nodes_in}
-use Rattle.safl_check.specs.Terms.{Term}
-use Rattle.safl_check.specs.Tree.{tree, forest}
-use Rattle.safl_check.proofs.TreeLemmas.{tree-Op, tree-Loop, tree-Call, tree-Let}
+use Rattle.safl_term.specs.Checked.{program_of}
+use Rattle.safl_term.specs.declared.term.Term as declared
+use Rattle.safl_term.specs.Sizes.{nodes, nodes_in}
+use Rattle.safl_term.specs.Terms.{Term}
+use Rattle.safl_term.specs.Tree.{tree, forest}
+use Rattle.safl_term.proofs.TreeLemmas.{tree-Op, tree-Loop, tree-Call, tree-Let}
 use Rattle.safl_sites.specs.Parallel.{Marked, MarkedIn}
 use Rattle.safl_sites.specs.Reach.{MayReach, MayReachIn}
 use Rattle.safl_sites.specs.Rows.{Has, HasAt, Adds}

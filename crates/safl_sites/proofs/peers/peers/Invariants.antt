@@ -1,4 +1,4 @@
-use Rattle.safl_check.specs.Checked.{program_of}
+use Rattle.safl_term.specs.Checked.{program_of}
 use Rattle.safl_sites.specs.Peers.{ArePeers}
 use Rattle.safl_sites.proofs.peers.peers.Given as goal
 

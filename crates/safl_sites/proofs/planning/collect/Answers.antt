@@ -1,5 +1,5 @@
 use Rattle.std.proofs.Common.{◌≡◌, ℕ, ◌+◌, ◌-◌, Bool, List, arith, sym, subst}
-use Rattle.safl_check.specs.Checked.{program_of}
+use Rattle.safl_term.specs.Checked.{program_of}
 use Rattle.safl_sites.specs.Collecting.{IsCollected}
 use Rattle.safl_sites.proofs.planning.collect.Goals as goal
 

@@ -1,4 +1,4 @@
-use Rattle.safl_check.specs.Checked.{program_of}
+use Rattle.safl_term.specs.Checked.{program_of}
 use Rattle.safl_sites.specs.Collecting.{IsCollected}
 use Rattle.safl_sites.proofs.planning.collect.Given as goal
 

@@ -1,17 +1,17 @@
 use Rattle.std.proofs.Common.{◌≡◌, ℕ, suc, ◌<◌, ◌++◌, false, List, length, take, drop, get_or, arith, refl, sym, ◌∙◌, ap, subst}
 use Rattle.std.proofs.Math.Seq.{take-append_seam}
-use Rattle.safl_check.specs.Checked.{program_of}
-use Rattle.safl_sites.specs.declared.row.Row.{Row}
+use Rattle.safl_term.specs.Checked.{program_of}
+use Rattle.safl_sites.specs.declared.site_set.SiteSet.{SiteSet}
 use Rattle.safl_sites.specs.Planned.{PlannedProgram, BeforeTable}
 use Rattle.safl_sites.specs.Rows.{has}
 use Rattle.safl_sites.proofs.PlanLemmas.{plan_is}
 use Rattle.safl_sites.proofs.planning.find.Goals as goal
 
 pub overflow_add-sites : goal.overflow_add-sites
-overflow_add-sites c = omega (arith, c.functions-functions.ensures.checked.limits.sites)
+overflow_add-sites c = omega (arith, c.sites.ensures.most)
 
 pub listed-requires : goal.listed-requires
-listed-requires c = omega (arith, c.functions-functions.ensures.checked.limits.sites)
+listed-requires c = omega (arith, c.sites.ensures.most)
 
 pub returns : goal.returns
 returns c =
@@ -24,11 +24,11 @@ returns c =
     let same : take old.len (rows ++ drop (length rows) old.items) ≡ rows = ap (λ n. take n (rows ++ drop (length rows) old.items)) long ∙ take-append_seam rows (drop (length rows) old.items) in
     let planned : PlannedProgram = record { program = p; arbiters = c.in_ok-arbiters.arbiters.items; keeps = c.in_ok-keeps.keeps.items } in
     let all = c.keep_all.new.kept in
-    let listed : (k : ℕ) → k < suc C.sites → get_or planned.keeps k false ≡ has all k = λ k less. c.in_ok-keeps.ensures.items k (omega (arith, c.sites.ensures)) in
+    let listed : (k : ℕ) → k < suc C.sites → get_or planned.keeps k false ≡ has all k = λ k less. c.in_ok-keeps.ensures.items k (omega (arith, c.sites.ensures.count)) in
     record {
       reach = record { count = filled.bodies_count; rows = λ f k within. filled.body_rows f k within };
-      conflicts = subst (λ (l : List Row). BeforeTable C l) (sym same) c.in_ok-spread.ensures;
+      conflicts = subst (λ (l : List SiteSet). BeforeTable C l) (sym same) c.in_ok-spread.ensures;
       units = c.in_ok-arbiters.ensures.count;
-      sites = omega (arith, c.in_ok-keeps.ensures.count, c.sites.ensures);
-      plan = plan_is p c.functions-functions.ensures.checked planned c.collect.new.kept all refl c.in_ok-arbiters.ensures c.in_ok-keep_all.ensures listed;
+      sites = omega (arith, c.in_ok-keeps.ensures.count, c.sites.ensures.count);
+      plan = plan_is p c.sites.ensures.checked planned c.collect.new.kept all refl c.in_ok-arbiters.ensures c.in_ok-keep_all.ensures listed;
     }

@@ -1,10 +1,10 @@
 use Rattle.std.proofs.Common.{rules, ◌≡◌, ℕ, ◌+◌, ◌*◌, ◌<◌, List, [], ◌∷◌, sym, ap, subst, ◌∙◌, arith}
-use Rattle.safl_check.specs.Checked.{program_of}
-use Rattle.safl_check.specs.declared.term.Term as declared
-use Rattle.safl_check.specs.Sizes.{nodes, nodes_in}
-use Rattle.safl_check.specs.Terms.{Term}
-use Rattle.safl_check.specs.Tree.{tree, forest}
-use Rattle.safl_check.proofs.TreeLemmas.{tree-Op, tree-Loop, tree-Call, tree-Let}
+use Rattle.safl_term.specs.Checked.{program_of}
+use Rattle.safl_term.specs.declared.term.Term as declared
+use Rattle.safl_term.specs.Sizes.{nodes, nodes_in}
+use Rattle.safl_term.specs.Terms.{Term}
+use Rattle.safl_term.specs.Tree.{tree, forest}
+use Rattle.safl_term.proofs.TreeLemmas.{tree-Op, tree-Loop, tree-Call, tree-Let}
 use Rattle.safl_sites.specs.Conflicts.{Reaches, ReachesIn}
 use Rattle.safl_sites.specs.Reach.{MayReach, MayReachIn}
 use Rattle.safl_sites.specs.Rows.{Has, Adds}
@@ -159,7 +159,7 @@ reach-returns-in-Call t c = λ k.
     let may : MayReach C U n _ = subst (λ (x : Term). MayReach C U n x) e c.requires.1 in
     subst (λ (x : Term). Adds (Has c.args.row.now k) (Has c.reach_in-in-Call.new.row k) (Reaches C k x)) (sym e)
     (reach_call (may_call may).callee
-    (adds_then (adds_then (c.insert.ensures k) (row_of_unit may _ k c.unit.ensures (c.union.ensures k))) (same_forest C k c.deref-in-Call.ensures.value (c.reach_in-in-Call.ensures k))))
+    (adds_then (adds_then (c.insert.ensures k) (row_of_unit may _ k c.unit.ensures.number (c.union.ensures k))) (same_forest C k c.deref-in-Call.ensures.value (c.reach_in-in-Call.ensures k))))
 
 pub reach-returns-in-Const : goal.reach-returns-in-Const
 reach-returns-in-Const t c = λ k.

@@ -1,6 +1,6 @@
 use Rattle.std.proofs.Common.{◌≡◌, ℕ, ◌-◌, slice_set, sym, ap, subst, ◌∙◌, arith}
-use Rattle.safl_check.specs.Checked.{program_of}
-use Rattle.safl_check.specs.Program.{unit_for}
+use Rattle.safl_term.specs.Checked.{program_of}
+use Rattle.safl_term.specs.Program.{unit_for}
 use Rattle.safl_sites.specs.Rows.{Has, HasAt, Adds}
 use Rattle.safl_sites.specs.Spreading.{IsSpread}
 use Rattle.safl_sites.proofs.SpreadLemmas.{spread_more}
@@ -11,8 +11,8 @@ returns c =
     let C = program_of c.args.c.now in
     let k = c.args.k in
     let h = c.functions-functions.ensures.checked in
-    let from : c.unit.result ≡ C.unit (C.caller k) = c.unit.ensures ∙ ap C.unit c.caller.ensures in
-    let to : c.unit-2.result ≡ unit_for C k = c.unit-2.ensures ∙ ap C.unit c.callee.ensures in
+    let from : c.unit.result ≡ C.unit (C.caller k) = c.unit.ensures.number ∙ ap C.unit c.caller.ensures.number in
+    let to = c.unit_for.ensures.number in
     let union : (j : ℕ) → Adds (HasAt c.args.rows.now k j) (Has c.union.new.self j) (HasAt c.args.handed.now (C.unit (C.caller k)) j) =
     λ j. subst (λ (u : ℕ). Adds (HasAt c.args.rows.now k j) (Has c.union.new.self j) (HasAt c.args.handed.now u j)) from (c.union.ensures j) in
     let down : (j : ℕ) → Adds (HasAt c.args.handed.now (unit_for C k) j) (Has c.union-2.new.self j) (Has c.union.new.self j) =

@@ -1,9 +1,9 @@
 use Rattle.std.proofs.Common.{rules, ◌≡◌, ◌+◌, ◌*◌, ◌<◌, List, [], ◌∷◌, sym, ap, subst, ◌∙◌, arith}
-use Rattle.safl_check.specs.declared.term.Term as declared
-use Rattle.safl_check.specs.Sizes.{nodes, nodes_in}
-use Rattle.safl_check.specs.Terms.{Term, Var}
-use Rattle.safl_check.specs.Tree.{tree, forest}
-use Rattle.safl_check.proofs.TreeLemmas.{tree-Op, tree-Loop, tree-Call, tree-Let}
+use Rattle.safl_term.specs.declared.term.Term as declared
+use Rattle.safl_term.specs.Sizes.{nodes, nodes_in}
+use Rattle.safl_term.specs.Terms.{Term, Var}
+use Rattle.safl_term.specs.Tree.{tree, forest}
+use Rattle.safl_term.proofs.TreeLemmas.{tree-Op, tree-Loop, tree-Call, tree-Let}
 use Rattle.safl_sites.specs.Rows.{Has, Adds}
 use Rattle.safl_sites.specs.Touched.{IsTouched, IsTouchedIn}
 use Rattle.safl_sites.proofs.AddsLemmas.{adds_then, adds_none}

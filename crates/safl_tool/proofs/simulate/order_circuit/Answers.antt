@@ -1,7 +1,7 @@
 use Rattle.std.proofs.Common.{subst}
 use Rattle.safl_net.specs.Making.{numbers}
 use Rattle.safl_order.specs.Refusals.{Refuses}
-use Rattle.safl_order.specs.declared.order.OrderErr.{OrderErr}
+use Rattle.safl_order.specs.declared.ordered.OrderErr.{OrderErr}
 use Rattle.safl_tool.proofs.Ran.{set_at}
 use Rattle.safl_tool.proofs.simulate.order_circuit.Goals as goal
 

@@ -1,7 +1,7 @@
 use Rattle.std.proofs.Common.{map, string_bytes, ap, subst, sym, ◌∙◌}
 use Rattle.safl_net.specs.Netlist.{Netlist}
 use Rattle.safl_sim.specs.Simulation.{Simulation}
-use Rattle.safl_run.specs.Arguments.{argument_widths, AreArguments}
+use Rattle.safl_sim.specs.Arguments.{argument_widths, AreArguments}
 use Rattle.safl_tool.proofs.Simulated.{read_arguments_are}
 use Rattle.safl_tool.proofs.simulate.run_net.Goals as goal
 

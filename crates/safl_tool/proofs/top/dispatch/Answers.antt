@@ -1,14 +1,24 @@
-use Rattle.std.proofs.Common.{◌∙◌, sym, ap, subst, Option}
-use Rattle.safl_tool.specs.Commands.{Command, shown}
-use Rattle.safl_tool.specs.Outside.{SinkState}
-use Rattle.safl_tool.specs.Answers.{Told}
-use Rattle.safl_tool.proofs.Telling.{usage_told}
+use Rattle.std.proofs.Common.{map, string_bytes, refl, subst, Option}
+use Rattle.safl_io.specs.Sink.{SinkState}
+use Rattle.safl_tool.specs.Commands.{Command, command_of, shown}
+use Rattle.safl_tool.specs.CommandTasks.{task_of}
+use Rattle.safl_tool.specs.Endings.{Outside, outside, Ends}
+use Rattle.safl_tool.proofs.Ending.{ended_ends, refusal_ends}
 use Rattle.safl_tool.proofs.top.dispatch.Goals as goal
 
-pub returns-in-None-clause-told : goal.returns-in-None-clause-told
-returns-in-None-clause-told g c =
-    let e = sym (ap shown c.in-None.is) ∙ c.read_words.ensures in
-    let before : SinkState = record { sent = g.E.Sink.sent c.args.err.now; faults = g.E.Sink.faults c.args.err.now } in
-    let after : SinkState = record { sent = g.E.Sink.sent c.tell.new.err; faults = g.E.Sink.faults c.tell.new.err } in
-    subst (λ (m : Option Command). Told m (g.S.Shelf.holds c.args.shelf.now) before after c.tell.result) e
-    (usage_told (g.S.Shelf.holds c.args.shelf.now) before after c.tell.result c.tell.ensures)
+pub returns-in-Ok-clause-ends : goal.returns-in-Ok-clause-ends
+returns-in-Ok-clause-ends g c =
+    let old : Outside = outside (g.S.Shelf.told c.args.shelf.now) (g.O.Sink.told c.args.out.now) in
+    let new : Outside = outside (g.S.Shelf.told c.perform.new.shelf) (g.O.Sink.told c.perform.new.out) in
+    let before : SinkState = g.E.Sink.told c.args.err.now in
+    subst (λ (m : Option Command). Ends (task_of m) old new before before c.in-Ok.status) c.read_words-command.ensures
+    (ended_ends (task_of (shown c.read_words-command.result)) old new before before c.in-Ok.status c.in-Ok.ensures.ended refl)
+
+pub returns-in-Err-clause-ends : goal.returns-in-Err-clause-ends
+returns-in-Err-clause-ends g c =
+    let old : Outside = outside (g.S.Shelf.told c.args.shelf.now) (g.O.Sink.told c.args.out.now) in
+    let new : Outside = outside (g.S.Shelf.told c.perform.new.shelf) (g.O.Sink.told c.perform.new.out) in
+    let before : SinkState = g.E.Sink.told c.args.err.now in
+    let after : SinkState = g.E.Sink.told c.refuse.new.err in
+    subst (λ (m : Option Command). Ends (task_of m) old new before after c.refuse.result) c.read_words-command.ensures
+    (refusal_ends (task_of (shown c.read_words-command.result)) old new before after c.in-Err.refusal c.refuse.result c.in-Err.ensures.refused c.refuse.ensures)

@@ -1,13 +1,55 @@
 use Rattle.std.proofs.Common.{map, string_bytes}
+use Rattle.safl_io.specs.Sink.{SinkState}
 use Rattle.safl_tool.specs.Commands.{command_of}
-use Rattle.safl_tool.specs.Outside.{ShelfState, SinkState}
-use Rattle.safl_tool.proofs.Complete.{completes}
+use Rattle.safl_tool.specs.CommandTasks.{task_of}
+use Rattle.safl_tool.specs.Tasks.{Task}
+use Rattle.safl_tool.specs.Endings.{Outside, outside}
+use Rattle.safl_tool.proofs.Following.{end_keeps, end_tells, end_left, left_others}
+use Rattle.safl_tool.proofs.Kept as kept
 use Rattle.safl_tool.proofs.top.run.Goals as goal
 
-pub returns-clause-complete : goal.returns-clause-complete
-returns-clause-complete g c =
-    let old : ShelfState = record { holds = g.S.Shelf.holds c.args.shelf.now; read_faults = g.S.Shelf.read_faults c.args.shelf.now; write_faults = g.S.Shelf.write_faults c.args.shelf.now; strays = g.S.Shelf.strays c.args.shelf.now } in
-    let new : ShelfState = record { holds = g.S.Shelf.holds c.dispatch.new.shelf; read_faults = g.S.Shelf.read_faults c.dispatch.new.shelf; write_faults = g.S.Shelf.write_faults c.dispatch.new.shelf; strays = g.S.Shelf.strays c.dispatch.new.shelf } in
-    let before : SinkState = record { sent = g.O.Sink.sent c.args.out.now; faults = g.O.Sink.faults c.args.out.now } in
-    let after : SinkState = record { sent = g.O.Sink.sent c.dispatch.new.out; faults = g.O.Sink.faults c.dispatch.new.out } in
-    completes c.one_program_law.ensures c.not_both_law.ensures c.meaning_law.ensures.same c.one_netlist_law.ensures c.not_both_law-2.ensures (command_of (map string_bytes c.args.words.now)) old new before after c.dispatch.result c.dispatch.ensures.says
+pub returns-clause-keeps : goal.returns-clause-keeps
+returns-clause-keeps g c =
+    let t : Task = task_of (command_of (map string_bytes c.args.words.now)) in
+    let old : Outside = outside (g.S.Shelf.told c.args.shelf.now) (g.O.Sink.told c.args.out.now) in
+    let new : Outside = outside (g.S.Shelf.told c.dispatch.new.shelf) (g.O.Sink.told c.dispatch.new.out) in
+    let before : SinkState = g.E.Sink.told c.args.err.now in
+    let after : SinkState = g.E.Sink.told c.dispatch.new.err in
+    end_keeps t old new before after c.dispatch.result c.dispatch.ensures.ends
+
+pub returns-clause-others : goal.returns-clause-others
+returns-clause-others g c =
+    let t : Task = task_of (command_of (map string_bytes c.args.words.now)) in
+    let old : Outside = outside (g.S.Shelf.told c.args.shelf.now) (g.O.Sink.told c.args.out.now) in
+    let new : Outside = outside (g.S.Shelf.told c.dispatch.new.shelf) (g.O.Sink.told c.dispatch.new.out) in
+    let before : SinkState = g.E.Sink.told c.args.err.now in
+    let after : SinkState = g.E.Sink.told c.dispatch.new.err in
+    left_others t old new (end_left t old new before after c.dispatch.result c.dispatch.ensures.ends)
+
+pub returns-clause-left : goal.returns-clause-left
+returns-clause-left g c =
+    let t : Task = task_of (command_of (map string_bytes c.args.words.now)) in
+    let old : Outside = outside (g.S.Shelf.told c.args.shelf.now) (g.O.Sink.told c.args.out.now) in
+    let new : Outside = outside (g.S.Shelf.told c.dispatch.new.shelf) (g.O.Sink.told c.dispatch.new.out) in
+    let before : SinkState = g.E.Sink.told c.args.err.now in
+    let after : SinkState = g.E.Sink.told c.dispatch.new.err in
+    end_left t old new before after c.dispatch.result c.dispatch.ensures.ends
+
+pub returns-clause-tells : goal.returns-clause-tells
+returns-clause-tells g c =
+    let t : Task = task_of (command_of (map string_bytes c.args.words.now)) in
+    let old : Outside = outside (g.S.Shelf.told c.args.shelf.now) (g.O.Sink.told c.args.out.now) in
+    let new : Outside = outside (g.S.Shelf.told c.dispatch.new.shelf) (g.O.Sink.told c.dispatch.new.out) in
+    let before : SinkState = g.E.Sink.told c.args.err.now in
+    let after : SinkState = g.E.Sink.told c.dispatch.new.err in
+    end_tells t old new before after c.dispatch.result c.dispatch.ensures.ends
+
+pub returns-clause-completes : goal.returns-clause-completes
+returns-clause-completes g c =
+    let t : Task = task_of (command_of (map string_bytes c.args.words.now)) in
+    let old : Outside = outside (g.S.Shelf.told c.args.shelf.now) (g.O.Sink.told c.args.out.now) in
+    let new : Outside = outside (g.S.Shelf.told c.dispatch.new.shelf) (g.O.Sink.told c.dispatch.new.out) in
+    let before : SinkState = g.E.Sink.told c.args.err.now in
+    let after : SinkState = g.E.Sink.told c.dispatch.new.err in
+    kept.completes (record { once = c.one_program_law.ensures; apart = c.not_both_law.ensures; meaning = c.meaning_law.ensures.same; one = c.one_netlist_law.ensures; free = c.not_both_law-2.ensures })
+    (command_of (map string_bytes c.args.words.now)) old new before after c.dispatch.result c.dispatch.ensures.ends

@@ -1,5 +1,5 @@
 use Rattle.std.proofs.Common.{◌≡◌, take}
-use Rattle.safl_check.specs.Checked.{program_of}
+use Rattle.safl_term.specs.Checked.{program_of}
 use Rattle.safl_tool.proofs.walk.main_widths.Given as goal
 
 abbrev pub invariant-params : goal.invariant-params

@@ -1,17 +1,19 @@
 use Rattle.std.proofs.Common.{ℕ, List, map, string_bytes, ap, subst, ◌∙◌}
 use Rattle.safl_word.specs.Words.{Word}
-use Rattle.safl_check.specs.Checked.{program_of}
-use Rattle.safl_unit.specs.Names.{names_of}
+use Rattle.safl_term.specs.Checked.{program_of}
+use Rattle.safl_circuit.specs.Names.{names_of}
 use Rattle.safl_tool.specs.Arguments.{AreRead}
 use Rattle.safl_tool.specs.Walking.{WalksFrom}
-use Rattle.safl_tool.proofs.Simulated.{read_widths}
-use Rattle.safl_tool.proofs.Walked.{misgiven_refused}
+use Rattle.safl_tool.proofs.Simulated.{read_widths, arguments_refused, source_refused}
 use Rattle.safl_tool.proofs.walk.walk_machine.Goals as goal
+
+pub returns-in-Err-clause-refused : goal.returns-in-Err-clause-refused
+returns-in-Err-clause-refused c = source_refused c.args.name.now c.args.source.now (map string_bytes c.args.args.now) c.in-Err.refusal c.in-Err.ensures.refused
 
 pub returns-in-Err-read_arguments-clause-refused : goal.returns-in-Err-read_arguments-clause-refused
 returns-in-Err-read_arguments-clause-refused c =
-    misgiven_refused c.args.source.now (program_of c.in-Ok.checked) (names_of c.in-Ok.checked) (map string_bytes c.args.args.now) c.deref.result.now
-    (c.deref.ensures.value ∙ c.in-Ok-main_widths.ensures) c.requires c.in-Ok.ensures.accepted c.in-Err-read_arguments.refusal c.in-Err-read_arguments.ensures.refused
+    arguments_refused c.args.name.now c.args.source.now (program_of c.in-Ok.checked) (names_of c.in-Ok.checked) (map string_bytes c.args.args.now) c.deref.result.now
+    (c.deref.ensures.value ∙ c.in-Ok-main_widths.ensures) c.in-Ok.ensures.accepted c.in-Err-read_arguments.refusal c.in-Err-read_arguments.ensures.refused
 
 pub walk_with-requires : goal.walk_with-requires
 walk_with-requires c =
@@ -25,8 +27,7 @@ returns-in-Ok-walk_with-clause-walks c =
       program = program_of c.in-Ok.checked;
       names = names_of c.in-Ok.checked;
       words = c.in-Ok-read_arguments.words.items;
-      small = c.requires;
       source_of = c.in-Ok.ensures.accepted;
       read = subst (λ (l : List ℕ). AreRead l (map string_bytes c.args.args.now) c.in-Ok-read_arguments.words.items) (c.deref.ensures.value ∙ c.in-Ok-main_widths.ensures) c.in-Ok-read_arguments.ensures.read;
-      walk = subst (λ (l : List Word). WalksFrom (program_of c.in-Ok.checked) l c.args.seed c.args.steps c.in-Ok-walk_with.walked) c.deref-2.ensures.value c.in-Ok-walk_with.ensures;
+      walk = subst (λ (l : List Word). WalksFrom (program_of c.in-Ok.checked) l c.args.turns.seed c.args.turns.steps c.in-Ok-walk_with.walked) c.deref-2.ensures.value c.in-Ok-walk_with.ensures;
     }

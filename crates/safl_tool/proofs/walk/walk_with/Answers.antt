@@ -1,5 +1,5 @@
 use Rattle.std.proofs.Common.{ℕ, subst}
-use Rattle.safl_check.specs.Checked.{program_of}
+use Rattle.safl_term.specs.Checked.{program_of}
 use Rattle.safl_tool.specs.Walking.{WalksFrom}
 use Rattle.safl_tool.proofs.Walked.{walks_from}
 use Rattle.safl_tool.proofs.walk.walk_with.Goals as goal

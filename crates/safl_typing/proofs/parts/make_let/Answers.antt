@@ -1,10 +1,10 @@
 use Rattle.std.proofs.Common.{◌+◌, length, ◌∙◌, ap, sym, subst}
-use Rattle.safl_check.specs.Slots.{HasSlots}
-use Rattle.safl_check.proofs.SlotLemmas.{slots-Let}
-use Rattle.safl_check.specs.declared.term.Term as declared
-use Rattle.safl_check.specs.Terms.{Let}
-use Rattle.safl_check.specs.Tree.{tree, forest}
-use Rattle.safl_check.proofs.TreeLemmas.{tree-Let}
+use Rattle.safl_term.specs.Slots.{HasSlots}
+use Rattle.safl_term.proofs.SlotLemmas.{slots-Let}
+use Rattle.safl_term.specs.declared.term.Term as declared
+use Rattle.safl_term.specs.Terms.{Let}
+use Rattle.safl_term.specs.Tree.{tree, forest}
+use Rattle.safl_term.proofs.TreeLemmas.{tree-Let}
 use Rattle.safl_typing.proofs.SaysLemmas.{same_term}
 use Rattle.safl_typing.proofs.parts.make_let.Goals as goal
 

@@ -1,5 +1,5 @@
-use Rattle.safl_check.proofs.SlotLemmas.{slots-Op}
-use Rattle.safl_check.proofs.TreeLemmas.{tree-Op}
+use Rattle.safl_term.proofs.SlotLemmas.{slots-Op}
+use Rattle.safl_term.proofs.TreeLemmas.{tree-Op}
 use Rattle.safl_typing.proofs.parts.make_operation.Goals as goal
 
 pub returns-clause-term : goal.returns-clause-term

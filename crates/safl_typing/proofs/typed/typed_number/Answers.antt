@@ -1,5 +1,5 @@
 use Rattle.std.proofs.lemmas.Bool.{false≢true}
-use Rattle.safl_check.proofs.SlotLemmas.{slots-Const}
+use Rattle.safl_term.proofs.SlotLemmas.{slots-Const}
 use Rattle.safl_typing.proofs.TypedLemmas.{number_refused}
 use Rattle.safl_typing.proofs.typed.typed_number.Goals as goal
 

@@ -1,6 +1,6 @@
 use Rattle.std.proofs.lemmas.Result.{IfOk-weaker}
 use Rattle.std.proofs.lemmas.Bool.{false≢true}
-use Rattle.safl_check.proofs.SlotLemmas.{slots-Const}
+use Rattle.safl_term.proofs.SlotLemmas.{slots-Const}
 use Rattle.safl_typing.proofs.TypedLemmas.{sized_refused}
 use Rattle.safl_typing.proofs.typed.typed_sized.Goals as goal
 

@@ -3,4 +3,4 @@ use Rattle.safl_typing.proofs.WalkLemmas.{same_count}
 use Rattle.safl_typing.proofs.walk.are_as_many.Goals as goal
 
 pub returns : goal.returns
-returns c = same_count (length c.args.params.now) (length c.args.es.now) c.args.params.now c.args.es.now refl refl
+returns c = same_count (length c.args.params.now) (length c.args.arguments.now) c.args.params.now c.args.arguments.now refl refl

@@ -1,8 +1,8 @@
 use Rattle.std.proofs.Common.{◌<◌, ◌≤◌, length, arith, sym, ◌∙◌, ap, subst}
-use Rattle.safl_check.specs.Checked.{CheckedProgram, program_of}
+use Rattle.safl_term.specs.Checked.{CheckedProgram, program_of}
 use Rattle.safl_sites.specs.Parallel.{ComesBefore}
 use Rattle.safl_sites.specs.Rows.{has}
-use Rattle.safl_sites.specs.declared.row.Row.{Row}
+use Rattle.safl_sites.specs.declared.site_set.SiteSet.{SiteSet}
 use Rattle.safl_sites.proofs.RowLemmas.{row_at}
 use Rattle.safl_sites.proofs.planned.Planned.comes_before.Goals as goal
 
@@ -17,6 +17,6 @@ returns c =
     let within : o < length c.self.inside.before.items = omega (arith, table.count) in
     let row = row_at c.self.inside.before.items o c.index.result.now within c.index.ensures in
     let both = table.rows k o c.requires.least most in (
-      λ h. subst (λ (q : CheckedProgram). ComesBefore (program_of q) k o) v (both.0 (ap (λ (r : Row). has r k) (sym row) ∙ (sym c.contains.ensures ∙ h))),
-      λ h. c.contains.ensures ∙ (ap (λ (r : Row). has r k) row ∙ both.1 (subst (λ (q : CheckedProgram). ComesBefore (program_of q) k o) (sym v) h)),
+      λ h. subst (λ (q : CheckedProgram). ComesBefore (program_of q) k o) v (both.0 (ap (λ (r : SiteSet). has r k) (sym row) ∙ (sym c.contains.ensures ∙ h))),
+      λ h. c.contains.ensures ∙ (ap (λ (r : SiteSet). has r k) row ∙ both.1 (subst (λ (q : CheckedProgram). ComesBefore (program_of q) k o) (sym v) h)),
     )

@@ -1,0 +1,23 @@
+mod Rows
+pub mod Numbered
+pub mod Basics
+pub mod Locality
+pub mod Bodies
+pub mod Invariant
+pub mod Activities
+pub mod Owed
+pub mod Holds
+pub mod Preserved
+pub mod Progress
+pub mod Ledger
+pub mod Permutes
+pub mod PictureLaws
+pub mod Picture
+pub mod FromWellFormed
+pub mod MachineLaws
+pub mod Counts
+pub mod Interference
+pub mod Spared
+pub mod Effects
+pub mod Positions
+pub mod KeptWords

@@ -1,0 +1,45 @@
+-- What is claimed of the machine, for every legal list of events.
+use Rattle.std.specs.Prelude.{◌≡◌, ℕ, ◌+◌, ◌*◌, ◌<◌, ◌≤◌, List, length}
+use Rattle.std.specs.List.Sorted.{IsPermutation}
+use Rattle.safl_word.specs.Words.{Word}
+use Rattle.safl_term.specs.Program.{Program, arity}
+use Rattle.safl_term.specs.Readiness.{Unsent, Returned}
+use Rattle.safl_term.specs.Meaning.{Main, main_cost, main_calls, loops}
+use Rattle.safl_calls.specs.Machine.{Event, opening, Enabled, CallerRests, after, EachList}
+use Rattle.safl_calls.specs.Starts.{starts_of, starts_count}
+
+-- after these events main has returned v
+abbrev pub HasReturned : Program → List Word → List Event → Word → Type 0
+HasReturned C args es v = (after C args opening es).site 0 ≡ Returned v
+
+-- what main has returned is its value, and the list has three events for each call but two less for each tail call
+abbrev pub Right : Program → Type 0
+Right C = EachList C (λ args es. (v : Word) → HasReturned C args es v → (d : Main C args v) × (length es + 2 * loops C d ≡ 3 * main_cost C args d))
+
+-- until main has returned some event is enabled, where main has as many arguments as parameters
+abbrev pub GoesOn : Program → Type 0
+GoesOn C =
+    EachList C (λ args es. length args ≡ arity C C.main → ((v : Word) → HasReturned C args es v → ⊥)
+    → (e : Event) × Enabled C args (after C args opening es) e)
+
+-- and afterwards none is
+abbrev pub Stops : Program → Type 0
+Stops C = EachList C (λ args es. (v : Word) (e : Event) → HasReturned C args es v → Enabled C args (after C args opening es) e → ⊥)
+
+-- where main has a value, no legal list is longer than its calls and tail calls allow
+abbrev pub Bounded : Program → Type 0
+Bounded C = EachList C (λ args es. (v : Word) (d : Main C args v) → length es + 2 * loops C d ≤ 3 * main_cost C args d)
+
+-- where main has returned, each function was started with the argument lists of the evaluation, in some order
+abbrev pub SameCalls : Program → Type 0
+SameCalls C =
+    EachList C (λ args es. (v w : Word) (d : Main C args w) → HasReturned C args es v
+    → (f : ℕ) → IsPermutation (main_calls C args d f) (starts_of C args opening es f))
+
+-- and as often as the evaluation makes calls
+abbrev pub SameNumber : Program → Type 0
+SameNumber C = EachList C (λ args es. (v w : Word) (d : Main C args w) → HasReturned C args es v → starts_count es ≡ main_cost C args d)
+
+-- a site of a function that does not run is unsent
+abbrev pub SitesRest : Program → Type 0
+SitesRest C = EachList C (λ args es. (k : ℕ) → 0 < k → CallerRests C (after C args opening es) k → (after C args opening es).site k ≡ Unsent)

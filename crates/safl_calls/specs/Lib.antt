@@ -1,0 +1,5 @@
+pub mod Machine
+pub mod Picks
+pub mod Starts
+pub mod Laws
+pub mod Interference

@@ -1,0 +1,65 @@
+//! What the file of a source shows of its plan.
+
+use crate::calls::plain_call;
+use crate::texts::bytes_of;
+use safl_io::MemShelf;
+use safl_word::NoMemory;
+use std::alloc::Global;
+
+/// The sites that have an arbiter's wire and those that have a kept word, by number, and the numbers of registers and of
+/// their bits, as the file says that is built of the source.
+pub fn plan_of(alloc: Global, source: &str) -> Result<String, NoMemory> {
+    let mut shelf = MemShelf::new(alloc);
+    shelf.add("p", &bytes_of(alloc, source, 0)?)?;
+    let _built = plain_call(alloc, "build p v", &mut shelf)?;
+    let text = str::from_utf8(shelf.file("v").unwrap_or(b"")).unwrap_or("");
+    let mut told = String::new(alloc);
+    told.push_str("arb")?;
+    push_sites(&mut told, text, "  wire [0:0] arb$")?;
+    told.push_str(", keep")?;
+    push_kept(&mut told, text)?;
+    let (registers, bits) = registers_of(text);
+    told.push_str(format!(in alloc; ", {registers} registers of {bits} bits")?.as_str())?;
+    Ok(told)
+}
+
+// The numbers behind the lines that begin so.
+fn push_sites(told: &mut String, text: &str, start: &str) -> Result<(), NoMemory> {
+    for line in text.lines() {
+        if let Some(rest) = line.strip_prefix(start) {
+            told.push_str(" ")?;
+            told.push_str(rest.strip_suffix(";").unwrap_or(rest))?;
+        }
+    }
+    Ok(())
+}
+
+fn push_kept(told: &mut String, text: &str) -> Result<(), NoMemory> {
+    for line in text.lines() {
+        let Some(rest) = line.strip_prefix("  reg [") else {
+            continue;
+        };
+        if let Some((_, site)) = rest.split_once(":0] keep$") {
+            told.push_str(" ")?;
+            told.push_str(site.strip_suffix(";").unwrap_or(site))?;
+        }
+    }
+    Ok(())
+}
+
+// How many registers there are, and how many bits they have.
+fn registers_of(text: &str) -> (usize, usize) {
+    let mut registers: usize = 0;
+    let mut bits: usize = 0;
+    for line in text.lines() {
+        let Some(rest) = line.strip_prefix("  reg [") else {
+            continue;
+        };
+        let high = rest.split_once(':').map(|parts| parts.0).unwrap_or("");
+        registers = registers.saturating_add(1);
+        bits = bits
+            .saturating_add(high.parse::<usize>().unwrap_or(0))
+            .saturating_add(1);
+    }
+    (registers, bits)
+}

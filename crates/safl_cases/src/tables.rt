@@ -1,0 +1,108 @@
+//! Tables: cases of one line each.
+
+use crate::calls::{Ended, plain_call};
+use crate::entries::Entry;
+use crate::plans::plan_of;
+use crate::shelves::{changed, spread};
+use crate::tally::Tally;
+use crate::texts::{Wanted, bytes_of};
+use safl_io::MemShelf;
+use safl_word::NoMemory;
+use std::alloc::Global;
+
+/// What the rows of a table are.
+#[derive(Clone, Copy)]
+pub enum Rows<'a> {
+    /// Sources, each of which is put in this file; `with` and arguments may follow.
+    Sources(&'a str),
+    /// Changes of this file.
+    Changes(&'a str),
+    /// Words that follow those of the table, on the case's own shelf.
+    Words,
+    /// Sources that are simulated, and built and run, and run with the built file spread out, all to the same end.
+    Circuits,
+    /// Sources that are built, and what of the file shows their plan.
+    Plans,
+}
+
+/// Does what the rows say. Rows of words are calls on this shelf, one after the other; each other row has a shelf of its own.
+pub fn run_rows(
+    alloc: Global,
+    shelf: &mut MemShelf,
+    rows: Rows<'_>,
+    words: &str,
+    entry: &Entry<'_>,
+    tally: &mut Tally,
+) -> Result<(), NoMemory> {
+    for (place, row) in entry.body.iter().enumerate() {
+        let number = entry.number.saturating_add(place).saturating_add(1);
+        let (left, right) = row.rsplit_once(" -> ").unwrap_or((*row, ""));
+        match rows {
+            Rows::Plans => {
+                let told = plan_of(alloc, left)?;
+                tally.count(number, told.as_str() == right, told.as_str())?;
+            }
+            Rows::Circuits => run_circuit(alloc, words, left, right, number, tally)?,
+            _ => {
+                let wanted = Wanted::of_row(alloc, right)?;
+                let ended = run_row(alloc, shelf, rows, words, left)?;
+                tally.count_call(number, ended.agrees(&wanted), &ended)?;
+            }
+        }
+    }
+    Ok(())
+}
+
+// The call of a row of sources, changes or words.
+fn run_row(
+    alloc: Global,
+    shelf: &mut MemShelf,
+    rows: Rows<'_>,
+    words: &str,
+    left: &str,
+) -> Result<Ended, NoMemory> {
+    let mut own = MemShelf::new(alloc);
+    match rows {
+        Rows::Sources(name) => {
+            let (source, args) = left.rsplit_once(" with ").unwrap_or((left, ""));
+            own.add(name, &bytes_of(alloc, source, 0)?)?;
+            let words = format!(in alloc; "{words} {args}")?;
+            plain_call(alloc, words.as_str(), &mut own)
+        }
+        Rows::Changes(name) => {
+            let text = shelf.file(name).unwrap_or(b"");
+            let text = changed(alloc, text, left)?;
+            own.add(name, &text.unwrap_or(Vec::new(alloc)))?;
+            plain_call(alloc, words, &mut own)
+        }
+        _ => {
+            let words = format!(in alloc; "{words} {left}")?;
+            plain_call(alloc, words.as_str(), shelf)
+        }
+    }
+}
+
+// Simulates the source of a row, builds it, runs the file, and runs the file spread out.
+fn run_circuit(
+    alloc: Global,
+    words: &str,
+    left: &str,
+    right: &str,
+    number: usize,
+    tally: &mut Tally,
+) -> Result<(), NoMemory> {
+    let (source, args) = left.rsplit_once(" with ").unwrap_or((left, ""));
+    let wanted = Wanted::of_row(alloc, right)?;
+    let mut shelf = MemShelf::new(alloc);
+    shelf.add("p", &bytes_of(alloc, source, 0)?)?;
+    let built = plain_call(alloc, "build p v", &mut shelf)?;
+    tally.count_call(number, built.agrees(&Wanted::of_row(alloc, "0")?), &built)?;
+    let text = spread(alloc, shelf.file("v").unwrap_or(b""))?;
+    shelf.add("w", &text)?;
+    for command in ["sim p", "run v", "run w"] {
+        let words = format!(in alloc; "{command} {words} {args}")?;
+        let ended = plain_call(alloc, words.as_str(), &mut shelf)?;
+        tally.count_call(number, ended.agrees(&wanted), &ended)?;
+    }
+    Ok(())
+}

@@ -1,0 +1,121 @@
+-- The outcome of the walk, by its parts.
+use Rattle.std.proofs.Common.{◌≡◌, ℕ, suc, ◌≤◌, List, [], ◌∷◌, length, map, Option, Some, None, ◌⊎◌, inl, inr, refl, sym, ap, ◌∙◌, subst, arith}
+use Rattle.std.specs.Prelude.{Result, Ok, Err, IfErr, OnOk}
+use Rattle.std.proofs.lemmas.List.{length-map}
+use Rattle.safl_word.specs.declared.fault.Fault.{Fault}
+use Rattle.safl_term.specs.declared.checked.Function.{Function}
+use Rattle.safl_term.specs.declared.checked.Site.{Site}
+use Rattle.safl_tree.specs.Tree.{Definition}
+use Rattle.safl_tree.specs.Shown.{shows_def, shows_defs}
+use Rattle.safl_tree.specs.declared.tree.Def.{Def}
+use Rattle.safl_tree.specs.Printable.{IsFormedProgram}
+use Rattle.safl_typing.specs.Heads.{Head, heads, unit_of}
+use Rattle.safl_typing.specs.Forms.{FunctionForm, Form, AreFunctionsOf, AreShallow, IsFormOf, all_sites, shown, shown_function, max_functions}
+use Rattle.safl_typing.specs.Laws.{WalkGivesForm}
+use Rattle.safl_typing.specs.PlainTyped.{Refuses}
+use Rattle.safl_typing.specs.Walk.{limits, limits_from, limit, excess, or_else, functions_from, main_fault, outcome, first_fault}
+use Rattle.safl_typing.specs.declared.typed.CheckErr.{CheckErr}
+use Rattle.safl_typing.specs.declared.typed.CheckErr.TheVariants as errors
+use Rattle.safl_typing.proofs.Limits.{none_limit, none_excess}
+use Rattle.safl_check.specs.Answers.{RefusesProgram, RefusesLimits, RefusesShallow, IsTooDeep, FindsTooDeep}
+
+-- ---- faults
+
+fault_of_limits : (ds : List Definition) (f : Fault) → limits ds ≡ Some f → first_fault ds ≡ Some f
+unfolding outcome
+fault_of_limits ds f e = rw e refl
+
+pub refused_limits : (ds : List Definition) (e : CheckErr) → RefusesLimits ds e → RefusesProgram ds e
+refused_limits ds (errors.Refused f) h = (fault_of_limits ds f h, inl h)
+refused_limits ds errors.TooDeep h = absurd h
+refused_limits ds errors.NoMemory h = tt
+
+pub refused_shallow : (ds : List Definition) (e : CheckErr) → AreShallow ds → RefusesShallow ds e → RefusesProgram ds e
+refused_shallow ds (errors.Refused f) s h = (h, inr s)
+refused_shallow ds errors.TooDeep s h = absurd h
+refused_shallow ds errors.NoMemory s h = tt
+
+pub if_refused : {A : Type 0} (r : Result A CheckErr) (ds : List Definition) → AreShallow ds → IfErr r (RefusesShallow ds) → IfErr r (RefusesProgram ds)
+if_refused (Ok a) ds s h = h
+if_refused (Err e) ds s h = refused_shallow ds e s h
+
+pub where_ok : {A E : Type 0} (r : Result A E) (P : Type 0) → P → OnOk r P
+where_ok (Ok a) P p = p
+where_ok (Err e) P p = tt
+
+-- where a body is too deep, no limit refuses
+pub limits_find : {A : Type 0} (r : Result A CheckErr) (ds : List Definition) (e : CheckErr) → r ≡ Err e → RefusesLimits ds e → IsTooDeep ds → FindsTooDeep r
+limits_find r ds (errors.Refused f) q h d = absurd (none_some f (sym d.0 ∙ h))
+  where
+    none_some : (g : Fault) → None ≡ Some g → ⊥
+    none_some g e = absurd cc
+limits_find r ds errors.TooDeep q h d = inl q
+limits_find r ds errors.NoMemory q h d = inr q
+
+pub fault_of_functions : (ds : List Definition) (f : Fault) → limits ds ≡ None → functions_from (heads ds) [] 0 0 1 ds ≡ Err f → first_fault ds ≡ Some f
+unfolding outcome
+fault_of_functions ds f e p = rw e (rw p refl)
+
+pub fault_of_main : (ds : List Definition) (fs : List FunctionForm) (f : Fault) → limits ds ≡ None → functions_from (heads ds) [] 0 0 1 ds ≡ Ok fs → main_fault ds ≡ Some f → first_fault ds ≡ Some f
+unfolding outcome
+fault_of_main ds fs f e p m = rw e (rw p (rw m refl))
+
+-- a fault of the walk over the functions is the program's
+pub refused_functions : (ds : List Definition) (e : CheckErr) → limits ds ≡ None → Refuses e (functions_from (heads ds) [] 0 0 1 ds) → RefusesShallow ds e
+refused_functions ds (errors.Refused f) within h = fault_of_functions ds f within h
+refused_functions ds errors.TooDeep within h = h
+refused_functions ds errors.NoMemory within h = tt
+
+first_of : (a b : Option Fault) (f : Fault) → a ≡ Some f → or_else a b ≡ Some f
+first_of a b f e = rw e refl
+
+second_of : (a b : Option Fault) (f : Fault) → a ≡ None → b ≡ Some f → or_else a b ≡ Some f
+second_of a b f e h = rw e h
+
+abbrev count_fault : List Definition → Option Fault
+count_fault ds = limit 1 max_functions (excess max_functions (map (λ d. d.place) ds))
+
+pub count_first : (ds : List Definition) (f : Fault) → count_fault ds ≡ Some f → limits ds ≡ Some f
+count_first ds f e = first_of _ _ f e
+
+pub limit_next : (ds : List Definition) (f : Fault) → count_fault ds ≡ None → limits_from (heads ds) 0 0 0 0 ds ≡ Some f → limits ds ≡ Some f
+limit_next ds f e h = second_of _ _ f e h
+
+pub no_limit : (ds : List Definition) → count_fault ds ≡ None → limits_from (heads ds) 0 0 0 0 ds ≡ None → limits ds ≡ None
+no_limit ds e h = rw e h
+
+-- definitions that are not too many
+pub few : (defs : List Def) → count_fault (shows_defs defs) ≡ None → length defs ≤ 1000
+few defs e =
+    let places = none_excess max_functions (map (λ d. d.place) (shows_defs defs)) (none_limit _ _ _ e) in
+    omega (arith, places, length-map (shows_defs defs) (λ d. d.place), length-map defs shows_def)
+
+-- ---- forms
+
+abbrev form_of : List FunctionForm → Form
+form_of fs = record { functions = fs; sites = all_sites 0 fs }
+
+outcome_ok : (ds : List Definition) (fs : List FunctionForm) → limits ds ≡ None → functions_from (heads ds) [] 0 0 1 ds ≡ Ok fs → main_fault ds ≡ None → outcome ds ≡ Ok (form_of fs)
+unfolding outcome
+outcome_ok ds fs e p m = rw e (rw p (rw m refl))
+
+pub is_form : WalkGivesForm → (ds : List Definition) (fs : List FunctionForm) → IsFormedProgram ds → limits ds ≡ None → functions_from (heads ds) [] 0 0 1 ds ≡ Ok fs → main_fault ds ≡ None → IsFormOf ds (form_of fs)
+is_form law ds fs formed e p m = (law ds (form_of fs) formed).0 (outcome_ok ds fs e p m)
+
+-- the form of a program with these functions and sites
+pub form_shown : WalkGivesForm → (ds : List Definition) (fs : List Function) (sites : List Site) → IsFormedProgram ds → limits ds ≡ None → functions_from (heads ds) [] 0 0 1 ds ≡ Ok (map shown_function fs) → main_fault ds ≡ None
+    → sites ≡ all_sites 0 (map shown_function fs) → IsFormOf ds (shown (record { functions = fs; sites = sites }))
+form_shown law ds fs sites formed e p m s =
+    subst (λ (l : List Site). IsFormOf ds (record { functions = map shown_function fs; sites = l })) (sym s) (is_form law ds (map shown_function fs) formed e p m)
+
+as_many : (all : List Head) (n u w lo hi : ℕ) (ds : List Definition) (fs : List FunctionForm) → AreFunctionsOf all n u w lo hi ds fs → length fs ≡ length ds
+as_many all n u w lo hi [] [] h = refl
+as_many all n u w lo hi [] (f ∷ fs) h = absurd h
+as_many all n u w lo hi (d ∷ ds) [] h = absurd h
+as_many all n u w lo hi (d ∷ ds) (f ∷ fs) (m, is, j, rest) = ap (λ k. suc k) (as_many all (suc n) (unit_of n u d) d.width m hi ds fs rest)
+
+-- the functions of a form are not too many
+pub few_functions : (ds : List Definition) (fs : List Function) (sites : List Site) → IsFormOf ds (shown (record { functions = fs; sites = sites })) → length fs ≤ 1000
+few_functions ds fs sites h =
+    let count = as_many (heads ds) 0 0 0 1 (suc h.last_site) ds (map shown_function fs) h.functions in
+    omega (arith, h.few_functions, count, length-map fs shown_function)

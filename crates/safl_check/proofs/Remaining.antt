@@ -1,0 +1,160 @@
+-- The definitions that are left of a walk: their bodies may be checked, where no limit is passed.
+use Rattle.std.proofs.Common.{◌≡◌, ℕ, suc, ◌+◌, ◌<◌, ◌≤◌, ◌^◌, List, [], ◌∷◌, length, map, None, Bool, true, false, refl, sym, ap, ◌∙◌, subst, arith}
+use Rattle.std.specs.Prelude.{nat_le}
+use Rattle.std.proofs.lemmas.Bool.{leb-true}
+use Rattle.std.proofs.lemmas.List.{length-map}
+use Rattle.safl_word.specs.declared.fault.Fault.{Fault}
+use Rattle.safl_tree.specs.Tree.{Definition, Parameter}
+use Rattle.safl_tree.specs.Printable.{AreFormedDefinitions, IsFormedProgram}
+use Rattle.safl_typing.specs.declared.expression.Expression as code_expression
+use Rattle.safl_typing.specs.declared.heads.Slot as code_slot
+use Rattle.safl_typing.specs.declared.heads.Head as code_head
+use Rattle.safl_typing.specs.Rewriting.{Expression, rewritten, nodes}
+use Rattle.safl_typing.specs.Heads.{Slot, Head, Known, unit_of, slot_of, params_of, head_of, heads_from, heads, sites}
+use Rattle.safl_term.specs.Sizes.{max_bindings}
+use Rattle.safl_typing.specs.Forms.{max_functions, max_params, max_sites, max_nodes}
+use Rattle.safl_typing.specs.Ranges.{WideSlots, WideHeads, IsInRange}
+use Rattle.safl_typing.specs.Walk.{fault_with, needs, excess, limit, long_let, limits_from, limits}
+use Rattle.safl_typing.specs.Plain.{plain}
+use Rattle.safl_typing.specs.PlainHeads.{plain_slots, plain_head, plain_heads, known}
+use Rattle.safl_typing.specs.MayWalk.{CountParams, MayCheck}
+use Rattle.safl_typing.proofs.Names.{some_none}
+use Rattle.safl_typing.proofs.Formed.{params_wide, heads_wide, formed_range}
+use Rattle.safl_typing.proofs.Limits.{none_both, none_limit, none_excess}
+use Rattle.safl_typing.proofs.Placing.{heads_length}
+
+parts_same : {A : Type 0} (x y : A) (xs ys : List A) → x ∷ xs ≡ y ∷ ys → (x ≡ y) × (xs ≡ ys)
+parts_same x y xs ys e = (cc, cc)
+
+-- ---- limits
+
+-- the first definition passes none, and nor do those after it
+pub record KeepsLimits (all : List Head) (n u s m : ℕ) (d : Definition) (ds : List Definition) : Type 0 where
+  pub few_params : length d.params ≤ max_params
+  pub few_sites : s + sites (record { heads = all; unit = unit_of n u d }) (rewritten d.body) ≤ max_sites
+  pub few_nodes : m + nodes (rewritten d.body) ≤ max_nodes
+  pub rest : limits_from all (suc n) (unit_of n u d) (s + sites (record { heads = all; unit = unit_of n u d }) (rewritten d.body)) (m + nodes (rewritten d.body)) ds ≡ None
+
+none_needs : (b : Bool) (f : Fault) → needs b f ≡ None → b ≡ true
+none_needs true f e = refl
+none_needs false f e = some_none f e
+
+keeps_limits : (all : List Head) (n u s m : ℕ) (d : Definition) (ds : List Definition) → limits_from all n u s m (d ∷ ds) ≡ None → KeepsLimits all n u s m d ds
+keeps_limits all n u s m d ds e =
+    let places : List ℕ = map (λ (p : Parameter). p.place) d.params in
+    let in_all : ℕ = s + sites (record { heads = all; unit = unit_of n u d }) (rewritten d.body) in
+    let nodes_all : ℕ = m + nodes (rewritten d.body) in
+    let q1 = none_both (limit 2 max_params (excess max_params places)) _ e in
+    let q2 = none_both (limit 3 max_bindings (long_let (rewritten d.body))) _ q1.1 in
+    let q3 = none_both (needs (nat_le in_all max_sites) (fault_with _ d.place 4 max_sites)) _ q2.1 in
+    let q4 = none_both (needs (nat_le nodes_all max_nodes) (fault_with _ d.place 5 max_nodes)) _ q3.1 in
+    record {
+      few_params = subst (λ (k : ℕ). k ≤ max_params) (length-map d.params (λ (p : Parameter). p.place)) (none_excess max_params places (none_limit 2 max_params _ q1.0));
+      few_sites = leb-true in_all max_sites (none_needs _ _ q3.0);
+      few_nodes = leb-true nodes_all max_nodes (none_needs _ _ q4.0);
+      rest = q4.1;
+    }
+
+params_count : (hs : List code_slot.Slot) (d : Definition) → plain_slots hs ≡ params_of d → length hs ≡ length d.params
+params_count hs d e = sym (length-map hs _) ∙ (ap (λ (l : List Slot). length l) e ∙ length-map d.params _)
+
+counts_params : (all : List Head) (n u s m : ℕ) (ds : List Definition) (hs : List code_head.Head) → limits_from all n u s m ds ≡ None → plain_heads hs ≡ heads_from n u ds → CountParams hs
+counts_params all n u s m ds [] e q = tt
+counts_params all n u s m [] (h ∷ hs) e q = absurd cc
+counts_params all n u s m (d ∷ ds) (h ∷ hs) e q =
+    let k = keeps_limits all n u s m d ds e in
+    let p = parts_same (plain_head h) (head_of (unit_of n u d) d) (plain_heads hs) (heads_from (suc n) (unit_of n u d) ds) q in
+    (omega (arith, params_count h.params.items d (ap (λ (z : Head). z.params) p.0), k.few_params), counts_params all (suc n) (unit_of n u d) _ _ ds hs k.rest p.1)
+
+-- ---- the heads of the whole program
+
+heads_count : (hs : List code_head.Head) → length (plain_heads hs) ≡ length hs
+heads_count [] = refl
+heads_count (h ∷ hs) = ap (λ (n : ℕ). suc n) (heads_count hs)
+
+pub as_many_heads : (ds : List Definition) (hs : List code_head.Head) → plain_heads hs ≡ heads ds → length hs ≡ length ds
+as_many_heads ds hs is = sym (heads_count hs) ∙ (ap (λ (l : List Head). length l) is ∙ heads_length 0 0 ds)
+
+-- the heads can be walked
+pub record AreKnown (all : List Head) (hs : List code_head.Head) : Type 0 where
+  pub same : plain_heads hs ≡ all
+  pub wide : WideHeads (plain_heads hs)
+  pub counted : length hs < 2 ^ 32
+  pub params : CountParams hs
+
+few_functions : (ds : List Definition) → limits ds ≡ None → length ds ≤ max_functions
+few_functions ds e =
+    let q = none_both (limit 1 max_functions (excess max_functions (map (λ (d : Definition). d.place) ds))) _ e in
+    subst (λ (k : ℕ). k ≤ max_functions) (length-map ds (λ (d : Definition). d.place)) (none_excess max_functions _ (none_limit 1 max_functions _ q.0))
+
+no_limit_from : (ds : List Definition) → limits ds ≡ None → limits_from (heads ds) 0 0 0 0 ds ≡ None
+no_limit_from ds e = (none_both (limit 1 max_functions (excess max_functions (map (λ (d : Definition). d.place) ds))) _ e).1
+
+pub are_known : (ds : List Definition) (hs : List code_head.Head) → IsFormedProgram ds → plain_heads hs ≡ heads ds → limits ds ≡ None → AreKnown (heads ds) hs
+are_known ds hs formed is e =
+    record {
+      same = is;
+      wide = subst WideHeads (sym is) (heads_wide 0 0 ds formed.formed);
+      counted = omega (arith, as_many_heads ds hs is, few_functions ds e);
+      params = counts_params (heads ds) 0 0 0 0 ds hs (no_limit_from ds e) is;
+    }
+
+-- ---- what is left
+
+-- the definitions from number n on, with their heads, where u is the group before them, and their sites are numbered from lo on
+pub record AreLeft (all : List Head) (n u lo : ℕ) (ds : List Definition) (hs : List code_head.Head) : Type 0 where
+  pub formed : AreFormedDefinitions ds
+  pub heads : plain_heads hs ≡ heads_from n u ds
+  pub sites_before : ℕ
+  pub nodes_before : ℕ
+  pub first : lo ≡ suc sites_before
+  pub limits : limits_from all n u sites_before nodes_before ds ≡ None
+
+pub all_left : (ds : List Definition) (hs : List code_head.Head) → IsFormedProgram ds → plain_heads hs ≡ heads ds → limits ds ≡ None → AreLeft (heads ds) 0 0 1 ds hs
+all_left ds hs formed is e =
+    record { formed = formed.formed; heads = is; sites_before = 0; nodes_before = 0; first = refl; limits = no_limit_from ds e }
+
+-- a definition with its head
+pub record IsPaired (u : ℕ) (d : Definition) (h : code_head.Head) : Type 0 where
+  pub unit : h.unit ≡ u
+  pub params : plain_slots h.params.items ≡ params_of d
+
+pub same_known : (all : List Head) (u : ℕ) (whole : List code_head.Head) (h : code_head.Head) → AreKnown all whole → h.unit ≡ u → ◌≡◌ {A = Known} (known whole h.unit) (record { heads = all; unit = u })
+same_known all u whole h k e = rw (k.same, e) refl
+
+module _ (all : List Head) (n u lo : ℕ) (d : Definition) (ds : List Definition) (h : code_head.Head) (hs : List code_head.Head) (left : AreLeft all n u lo (d ∷ ds) (h ∷ hs)) where
+  pub is_paired : IsPaired (unit_of n u d) d h
+  is_paired =
+      let p = parts_same (plain_head h) (head_of (unit_of n u d) d) (plain_heads hs) (heads_from (suc n) (unit_of n u d) ds) left.heads in
+      record { unit = ap (λ (z : Head). z.unit) p.0; params = ap (λ (z : Head). z.params) p.0 }
+
+  pub rest_left : AreLeft all (suc n) (unit_of n u d) (lo + sites (record { heads = all; unit = unit_of n u d }) (rewritten d.body)) ds hs
+  rest_left =
+      let k = keeps_limits all n u left.sites_before left.nodes_before d ds left.limits in
+      let p = parts_same (plain_head h) (head_of (unit_of n u d) d) (plain_heads hs) (heads_from (suc n) (unit_of n u d) ds) left.heads in
+      record {
+        formed = left.formed.1;
+        heads = p.1;
+        sites_before = left.sites_before + sites (record { heads = all; unit = unit_of n u d }) (rewritten d.body);
+        nodes_before = left.nodes_before + nodes (rewritten d.body);
+        first = omega (arith, left.first);
+        limits = k.rest;
+      }
+
+  pub same_sites : (b : code_expression.Expression) → plain b ≡ rewritten d.body → (whole : List code_head.Head) → AreKnown all whole → sites (known whole h.unit) (plain b) ≡ sites (record { heads = all; unit = unit_of n u d }) (rewritten d.body)
+  same_sites b body whole k =
+      ap (λ (z : Known). sites z (plain b)) (same_known all (unit_of n u d) whole h k is_paired.unit) ∙ ap (λ (e : Expression). sites (record { heads = all; unit = unit_of n u d }) e) body
+
+  pub may_check : (b : code_expression.Expression) → plain b ≡ rewritten d.body → (whole : List code_head.Head) → AreKnown all whole → MayCheck whole h.unit (plain_slots h.params.items) lo (plain b)
+  may_check b body whole known_all =
+      let k = keeps_limits all n u left.sites_before left.nodes_before d ds left.limits in
+      let same = same_sites b body whole known_all in
+      record {
+        heads = known_all.wide;
+        counted = known_all.counted;
+        params = known_all.params;
+        slots = subst WideSlots (sym is_paired.params) (params_wide d.params left.formed.0.1);
+        range = subst IsInRange (sym body) (formed_range d.body left.formed.0.3);
+        within = omega (arith, same, left.first, k.few_sites);
+        room = omega (arith, ap (λ (l : List Slot). length l) is_paired.params, length-map d.params slot_of, k.few_params, k.few_nodes, ap (λ (e : Expression). nodes e) body);
+      }

@@ -1,0 +1,5 @@
+use Rattle.safl_check.proofs.NumberedLemmas.{numbered}
+use Rattle.safl_check.proofs.laws.forms_are_numbered_law.Goals as goal
+
+pub returns : goal.returns
+returns c = numbered

@@ -1,5 +1,0 @@
-use Rattle.safl_check.proofs.Values.{main_word}
-use Rattle.safl_check.proofs.laws.values_law.Goals as goal
-
-pub returns : goal.returns
-returns c = main_word

@@ -1,0 +1,15 @@
+use Rattle.std.proofs.Common.{◌∙◌, ap, sym, Some}
+use Rattle.std.specs.Prelude.{ℕ, Option}
+use Rattle.safl_word.specs.declared.fault.Fault.{Fault}
+use Rattle.safl_tree.specs.Shown.{shows_def}
+use Rattle.safl_tree.specs.Tree.{Definition}
+use Rattle.safl_typing.specs.Walk.{limit}
+use Rattle.safl_typing.specs.Forms.{max_functions}
+use Rattle.safl_check.proofs.LimitLemmas.{excess_some}
+use Rattle.safl_check.proofs.limits.find_function_fault.Goals as goal
+
+pub returns : goal.returns
+returns c =
+    let found = c.in_ok-def.ensures.lookup in
+    ap (λ (f : Fault). Some f) c.past_limit.ensures
+    ∙ sym (ap (λ (o : Option ℕ). limit 1 max_functions o) (excess_some shows_def (λ (d : Definition). d.place) c.args.defs.now 1000 c.in_ok-def.def.now found.0 found.1))

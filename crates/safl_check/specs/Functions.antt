@@ -1,0 +1,20 @@
+-- What the checker answers of a single function.
+use Rattle.std.specs.Prelude.{ℕ, List, true, Result, Ok, Err, ◌≡◌}
+use Rattle.safl_word.specs.declared.fault.Fault.{Fault}
+use Rattle.safl_term.specs.declared.checked.Function.{Function}
+use Rattle.safl_tree.specs.Tree.{Definition}
+use Rattle.safl_typing.specs.Rewriting.{Expression}
+use Rattle.safl_typing.specs.Heads.{Slot, Known}
+use Rattle.safl_typing.specs.Forms.{FunctionForm, shown_function}
+use Rattle.safl_typing.specs.PlainTyped.{Refuses}
+use Rattle.safl_typing.specs.Walk.{Exactly, after, check, function}
+use Rattle.safl_typing.specs.declared.typed.CheckErr.{CheckErr}
+
+-- the function of a definition with these parameters and this body, in a group that sees k
+abbrev pub checked_function : Known → List Slot → ℕ → Definition → Expression → Result FunctionForm Fault
+checked_function k params lo d body = after (check k params true lo (Exactly d.width) body) (λ x. Ok (function k.unit lo d x.term))
+
+-- the function of the code is that of the walk, or its fault is
+abbrev pub SaysFunction : Result Function CheckErr → Result FunctionForm Fault → Type 0
+SaysFunction (Ok f) r = r ≡ Ok (shown_function f)
+SaysFunction (Err e) r = Refuses e r

@@ -1,0 +1,42 @@
+-- The program in numbers that a form is.
+use Rattle.std.specs.Prelude.{ℕ, zero, suc, ◌-◌, List, [], length, map, slice_get}
+use Rattle.std.specs.Option.{option_map_or}
+use Rattle.safl_word.specs.Words.{no_word}
+use Rattle.safl_term.specs.Program.{Program}
+use Rattle.safl_term.specs.Terms.{Const}
+use Rattle.safl_term.specs.declared.checked.Site.{Site}
+use Rattle.safl_typing.specs.Forms.{FunctionForm, Form}
+
+-- what a function of the form has, or a default where it is not there
+abbrev pub of_function : {A : Type 0} → (FunctionForm → A) → A → Form → ℕ → A
+of_function has default c f = option_map_or has (slice_get c.functions f) default
+
+-- what a site has, where sites are numbered from 1; site 0 has a number of its own
+abbrev pub of_site : (Site → ℕ) → ℕ → Form → ℕ → ℕ
+of_site has outside c zero = outside
+of_site has outside c (suc k) = option_map_or has (slice_get c.sites k) 0
+
+-- the last function
+abbrev pub main_in : Form → ℕ
+main_in c = length c.functions - 1
+
+-- the program in numbers
+unfoldable pub program_in : Form → Program
+program_in c = record {
+  functions = length c.functions;
+  sites = length c.sites;
+  main = main_in c;
+  unit = of_function (λ f. f.unit) 0 c;
+  body = of_function (λ f. f.body) (Const no_word) c;
+  params = of_function (λ f. map (λ p. p.width) f.params) [] c;
+  result = of_function (λ f. f.width) 0 c;
+  caller = of_site (λ s. s.caller) 0 c;
+  callee = of_site (λ s. s.callee) (main_in c) c;
+}
+
+-- the names of its functions, and of their parameters
+unfoldable pub name_in : Form → ℕ → List ℕ
+name_in = of_function (λ f. f.name) []
+
+unfoldable pub param_names_in : Form → ℕ → List (List ℕ)
+param_names_in = of_function (λ f. map (λ p. p.name) f.params) []

@@ -1,0 +1,99 @@
+//! The functions of a program, in the order of the text.
+
+ghost use Rattle.std.specs.Prelude.{◌≡◌, ◌↔◌, [], None, IfOk, IsTrue};
+ghost use Rattle.std.specs.List.{All};
+ghost use Rattle.safl_term.specs.Checked.{BodyHasSlots};
+ghost use Rattle.safl_tree.specs.Shown.{shows_def, shows_defs};
+ghost use Rattle.safl_tree.specs.Printable.{IsFormedDefinition, IsFormedProgram};
+ghost use Rattle.safl_typing.specs.Forms.{AreShallow};
+ghost use Rattle.safl_typing.specs.Heads.{heads, params_of};
+ghost use Rattle.safl_typing.specs.Marks.{IsMarked};
+ghost use Rattle.safl_typing.specs.MayWalk.{MayCheck};
+ghost use Rattle.safl_typing.specs.Plain.{plain};
+ghost use Rattle.safl_typing.specs.PlainHeads.{plain_heads, plain_slots, known};
+ghost use Rattle.safl_typing.specs.Walk.{limits, functions_from};
+ghost use Rattle.safl_check.specs.Answers.{SaysFunctions};
+ghost use Rattle.safl_check.specs.Functions.{SaysFunction, checked_function};
+
+use crate::form::function_of;
+use crate::groups::find_group_fault;
+use safl_term::Function;
+use safl_tree::{Def, is_within};
+use safl_typing::context::Context;
+use safl_typing::expression::Expression;
+use safl_typing::heads::{Head, Heads};
+use safl_typing::marks::add_sites;
+use safl_typing::rewrite::rewrite;
+use safl_typing::scope::Scope;
+use safl_typing::typed::{CheckErr, Wanted};
+use safl_typing::walk::check_expression;
+use std::alloc::Global;
+
+// How deep a body may be: what recurses on one has a stack that is large enough. A source's are at most 1,100 deep, by a
+// law on what keeps the levels.
+const DEPTH_MAX: u32 = 2_000;
+
+/// Whether no body is deeper than 2,000.
+pub fn are_shallow(defs: &[Def]) -> bool
+    ensures { IsTrue result ↔ AreShallow (shows_defs defs.now) }
+{
+    for def in defs {
+        if !is_within(&def.body, DEPTH_MAX) {
+            return false;
+        }
+    }
+    true
+}
+
+/// The checked functions of definitions that pass no limit, or the first fault of a head or a body.
+pub fn check_functions(
+    alloc: Global,
+    defs: &[Def],
+    all_heads: &Heads,
+) -> Result<Vec<Function>, CheckErr>
+    requires formed { IsFormedProgram (shows_defs defs.now) }
+    requires heads { plain_heads all_heads.now ≡ heads (shows_defs defs.now) }
+    requires within { limits (shows_defs defs.now) ≡ None }
+    requires shallow { AreShallow (shows_defs defs.now) }
+    ensures says { SaysFunctions result (functions_from (heads (shows_defs defs.now)) [] 0 0 1 (shows_defs defs.now)) }
+    ensures slots { IfOk result (λ fs. All BodyHasSlots fs.items) }
+{
+    let mut functions = Vec::new(alloc);
+    let mut first_site = 1;
+    for number in 0..defs.len() {
+        if let Some(fault) = find_group_fault(defs, all_heads, number) {
+            return Err(CheckErr::Refused(fault));
+        }
+        let def = &defs[number];
+        let head = all_heads.get(number);
+        let body = rewrite(alloc, all_heads, head.unit, &def.body)?;
+        let function = check_function(alloc, all_heads, def, head, first_site, &body)?;
+        functions.push(function)?;
+        first_site = add_sites(first_site, &body);
+    }
+    Ok(functions)
+}
+
+// The function of a definition with its own head, whose sites are numbered from `first_site` on.
+fn check_function(
+    alloc: Global,
+    heads: &Heads,
+    def: &Def,
+    head: &Head,
+    first_site: u32,
+    body: &Expression,
+) -> Result<Function, CheckErr>
+    requires formed { IsFormedDefinition (shows_def def.now) }
+    requires params { plain_slots head.now.params.items ≡ params_of (shows_def def.now) }
+    requires able { MayCheck heads.now head.now.unit (plain_slots head.now.params.items) first_site (plain body.now) }
+    requires marked { IsMarked (known heads.now head.now.unit) body.now }
+    ensures says { SaysFunction result (checked_function (known heads.now head.now.unit) (plain_slots head.now.params.items) first_site (shows_def def.now) (plain body.now)) }
+    ensures slots { IfOk result BodyHasSlots }
+{
+    let unit = head.unit;
+    let context = Context { alloc, heads, unit };
+    let scope = Scope::Params(&head.params);
+    let wanted = Wanted::Exactly(def.width);
+    let typed = check_expression(&context, &scope, true, first_site, wanted, body)?;
+    Ok(function_of(alloc, def, unit, first_site, typed.term)?)
+}

@@ -1,0 +1,113 @@
+//! Limits: E16 at the first place that passes one. And E15, where the last definition is not `main`.
+
+ghost use Rattle.std.specs.Prelude.{◌≡◌, ◌≤◌, length, map, nat_le, IfOk};
+ghost use Rattle.safl_word.specs.declared.fault.Rule.TheVariants as rules;
+ghost use Rattle.safl_tree.specs.Shown.{shows_defs, shows_params};
+ghost use Rattle.safl_typing.specs.Heads.{heads};
+ghost use Rattle.safl_term.specs.Sizes.{max_bindings};
+ghost use Rattle.safl_typing.specs.Forms.{max_functions, max_params, max_sites, max_nodes};
+ghost use Rattle.safl_typing.specs.PlainHeads.{plain_heads};
+ghost use Rattle.safl_typing.specs.Walk.{fault_with, needs, or_else, limit, excess, limits_from, main_fault};
+
+use crate::heads::next_unit;
+use crate::nodes::{BINDINGS_MAX, measure};
+use safl_tree::{Def, Param};
+use safl_typing::heads::Heads;
+use safl_word::{Fault, NoMemory, Rule};
+use std::alloc::Global;
+
+const FUNCTIONS_MAX: usize = 1_000;
+
+const PARAMS_MAX: usize = 16;
+
+const SITES_MAX: u32 = 4_000;
+
+const NODES_MAX: u32 = 50_000;
+
+const MAIN: &[u8] = b"main";
+
+/// E16 at the definition that is one too many.
+pub fn find_function_fault(defs: &[Def]) -> Option<Fault>
+    ensures { result ≡ limit 1 max_functions (excess max_functions (map (λ d. d.place) (shows_defs defs.now))) }
+{
+    let def = defs.get(FUNCTIONS_MAX)?;
+    Some(past_limit(def.place, 1, FUNCTIONS_MAX as u32))
+}
+
+/// The first E16 of definitions whose number is within the limit: parameters, bindings, call sites, nodes.
+pub fn find_limit_fault(
+    alloc: Global,
+    defs: &[Def],
+    all_heads: &Heads,
+) -> Result<Option<Fault>, NoMemory>
+    requires few { length defs.now ≤ 1000 }
+    requires heads { plain_heads all_heads.now ≡ heads (shows_defs defs.now) }
+    ensures { IfOk result (λ fault. fault ≡ limits_from (heads (shows_defs defs.now)) 0 0 0 0 (shows_defs defs.now)) }
+{
+    let mut unit = 0;
+    let mut sites = 0;
+    let mut nodes = 0;
+    for (number, def) in defs.iter().enumerate() {
+        unit = next_unit(number as u32, unit, def);
+        let measures = measure(alloc, all_heads, unit, sites, nodes, &def.body)?;
+        if let Some(fault) = find_list_fault(&def.params, measures.long_let) {
+            return Ok(Some(fault));
+        }
+        sites = measures.sites;
+        nodes = measures.nodes;
+        if let Some(fault) = find_sum_fault(def.place, sites, nodes) {
+            return Ok(Some(fault));
+        }
+    }
+    Ok(None)
+}
+
+// Too many parameters, or too many bindings of one let.
+fn find_list_fault(params: &[Param], long_let: Option<u32>) -> Option<Fault>
+    ensures { result ≡ or_else (limit 2 max_params (excess max_params (map (λ p. p.place) (shows_params params.now)))) (limit 3 max_bindings long_let) }
+{
+    if let Some(param) = params.get(PARAMS_MAX) {
+        return Some(past_limit(param.place, 2, PARAMS_MAX as u32));
+    }
+    let place = long_let?;
+    Some(past_limit(place, 3, BINDINGS_MAX as u32))
+}
+
+// Too many sites or nodes, up to the definition at this place.
+fn find_sum_fault(place: u32, sites: u32, nodes: u32) -> Option<Fault>
+    ensures { result ≡ or_else (needs (nat_le sites max_sites) (fault_with rules.E16 place 4 max_sites)) (needs (nat_le nodes max_nodes) (fault_with rules.E16 place 5 max_nodes)) }
+{
+    if sites > SITES_MAX {
+        Some(past_limit(place, 4, SITES_MAX))
+    } else if nodes > NODES_MAX {
+        Some(past_limit(place, 5, NODES_MAX))
+    } else {
+        None
+    }
+}
+
+fn past_limit(place: u32, number: u32, value: u32) -> Fault
+    ensures { result ≡ fault_with rules.E16 place number value }
+{
+    Fault::with(Rule::E16, place, number, value)
+}
+
+/// E15 at the last definition where it is not `main`, or at place 0 where there is none.
+pub fn find_main_fault(defs: &[Def]) -> Option<Fault>
+    ensures { result ≡ main_fault (shows_defs defs.now) }
+{
+    let Some(last) = defs.last() else {
+        return Some(no_main(0));
+    };
+    if last.name.bytes() == MAIN {
+        None
+    } else {
+        Some(no_main(last.place))
+    }
+}
+
+fn no_main(place: u32) -> Fault
+    ensures { result ≡ fault_with rules.E15 place 0 0 }
+{
+    Fault::new(Rule::E15, place)
+}

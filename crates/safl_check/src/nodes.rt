@@ -1,0 +1,190 @@
+//! What rule E16 limits in a body, counted node by node on a stack: a tree may be of any depth.
+
+ghost use Rattle.std.specs.Prelude.{◌≡◌, ◌+◌, ◌*◌, ◌≤◌, ◌++◌, map, min, IfOk, OnOk};
+ghost use Rattle.safl_tree.specs.Shown.{shows, shows_all};
+ghost use Rattle.safl_term.specs.Sizes.{max_bindings};
+ghost use Rattle.safl_typing.specs.PlainHeads.{known};
+ghost use Rattle.safl_typing.specs.Heads.{sites};
+ghost use Rattle.safl_typing.specs.Rewriting.{rewritten, nodes};
+ghost use Rattle.safl_typing.specs.Walk.{excess, long_let};
+ghost use Rattle.safl_check.specs.Parts.{parts, pending, values_of, arms_of, own_long_let, own_nodes, own_sites};
+
+use safl_tree::tree::{Arm, Bind, Expr, Node};
+use safl_typing::heads::{Heads, find_callee};
+use safl_typing::sites::{SITES_COUNTED, sites_of_callee};
+use safl_word::NoMemory;
+use std::alloc::Global;
+
+/// The most bindings of a let.
+pub const BINDINGS_MAX: usize = 16;
+
+// The most nodes that are counted: one more than a program may have.
+const NODES_COUNTED: u32 = 50_001;
+
+/// What rule E16 limits, up to the end of a body.
+#[derive(Clone, Copy)]
+pub struct Measures {
+    /// The place of the binding that is one too many, of the body's first let that has one.
+    pub long_let: Option<u32>,
+    /// How many call sites, up to 4,001.
+    pub sites: u32,
+    /// How many nodes where each `case` is rewritten, up to 50,001.
+    pub nodes: u32,
+}
+
+/// Measures a body of this group, where so many sites and nodes stand before it.
+pub fn measure(
+    alloc: Global,
+    heads: &Heads,
+    unit: u32,
+    sites_before: u32,
+    nodes_before: u32,
+    body: &Expr,
+) -> Result<Measures, NoMemory>
+    requires sites { sites_before ≤ 4001 }
+    requires nodes { nodes_before ≤ 50001 }
+    ensures long_let { IfOk result (λ m. m.long_let ≡ long_let (rewritten (shows body.now))) }
+    ensures sites { IfOk result (λ m. m.sites ≡ min 4001 (sites_before + sites (known heads.now unit) (rewritten (shows body.now)))) }
+    ensures nodes { IfOk result (λ m. m.nodes ≡ min 50001 (nodes_before + nodes (rewritten (shows body.now)))) }
+{
+    let mut long_let = None;
+    let mut sites = sites_before;
+    let mut nodes = nodes_before;
+    let mut stack = Vec::new(alloc);
+    stack.push(body)?;
+    while let Some(e) = stack.pop() {
+        long_let = long_let.or(find_excess_binding(e));
+        sites = (sites + sites_at(heads, unit, e)).min(SITES_COUNTED);
+        nodes = (nodes + nodes_at(e)).min(NODES_COUNTED);
+        push_parts(&mut stack, e)?;
+    }
+    Ok(Measures {
+        long_let,
+        sites,
+        nodes,
+    })
+}
+
+// The place of the binding that is one too many, where this is a let that has one.
+fn find_excess_binding(e: &Expr) -> Option<u32>
+    ensures { result ≡ own_long_let (shows e.now) }
+{
+    match &e.node {
+        Node::Num(_) => None,
+        Node::Sized(_, _) => None,
+        Node::Var(_) => None,
+        Node::If(_, _, _) => None,
+        Node::Let(binds, _) => find_excess(binds),
+        Node::Case(_, _, _) => None,
+        Node::Op(_, _) => None,
+        Node::Call(_, _) => None,
+    }
+}
+
+fn find_excess(binds: &[Bind]) -> Option<u32>
+    ensures { result ≡ excess max_bindings (map (λ b. b.place) binds.now) }
+{
+    let bind = binds.get(BINDINGS_MAX)?;
+    Some(bind.place)
+}
+
+// Whether this is a call of a function of another group: 1, or else 0.
+fn sites_at(heads: &Heads, unit: u32, e: &Expr) -> u32
+    ensures { result ≡ own_sites (known heads.now unit) (shows e.now) }
+{
+    match &e.node {
+        Node::Num(_) => 0,
+        Node::Sized(_, _) => 0,
+        Node::Var(_) => 0,
+        Node::If(_, _, _) => 0,
+        Node::Let(_, _) => 0,
+        Node::Case(_, _, _) => 0,
+        Node::Op(_, _) => 0,
+        Node::Call(name, _) => sites_of_callee(find_callee(heads, unit, name)),
+    }
+}
+
+// A node, or those that a `case` stands for: a let, and for each labelled arm an if and its test of two nodes.
+fn nodes_at(e: &Expr) -> u32
+    ensures { result ≡ min 50001 (own_nodes (shows e.now)) }
+{
+    match &e.node {
+        Node::Num(_) => 1,
+        Node::Sized(_, _) => 1,
+        Node::Var(_) => 1,
+        Node::If(_, _, _) => 1,
+        Node::Let(_, _) => 1,
+        Node::Case(_, arms, _) => nodes_of_case(arms.len()),
+        Node::Op(_, _) => 1,
+        Node::Call(_, _) => 1,
+    }
+}
+
+fn nodes_of_case(arms: usize) -> u32
+    ensures { result ≡ min 50001 (1 + 3 * arms) }
+{
+    if arms < NODES_COUNTED as usize {
+        (1 + 3 * arms as u32).min(NODES_COUNTED)
+    } else {
+        NODES_COUNTED
+    }
+}
+
+// Puts the parts of an expression on the stack, the first one on top.
+fn push_parts<'a>(stack: &mut Vec<&'a Expr>, e: &'a Expr) -> Result<(), NoMemory>
+    ensures { OnOk result (pending stack.new.items ≡ parts (shows e.now) ++ pending stack.old.items) }
+{
+    match &e.node {
+        Node::Num(_) => Ok(()),
+        Node::Sized(_, _) => Ok(()),
+        Node::Var(_) => Ok(()),
+        Node::If(condition, first, second) => {
+            stack.push(second)?;
+            stack.push(first)?;
+            stack.push(condition)?;
+            Ok(())
+        }
+        Node::Let(binds, body) => {
+            stack.push(body)?;
+            push_values(stack, binds)
+        }
+        Node::Case(looked_at, arms, other) => {
+            stack.push(other)?;
+            push_arms(stack, arms)?;
+            stack.push(looked_at)?;
+            Ok(())
+        }
+        Node::Op(_, operands) => push_all(stack, operands),
+        Node::Call(_, arguments) => push_all(stack, arguments),
+    }
+}
+
+fn push_all<'a>(stack: &mut Vec<&'a Expr>, es: &'a [Expr]) -> Result<(), NoMemory>
+    ensures { OnOk result (pending stack.new.items ≡ shows_all es.now ++ pending stack.old.items) }
+{
+    for i in (0..es.len()).rev() {
+        stack.push(&es[i])?;
+    }
+    Ok(())
+}
+
+fn push_values<'a>(stack: &mut Vec<&'a Expr>, binds: &'a [Bind]) -> Result<(), NoMemory>
+    ensures { OnOk result (pending stack.new.items ≡ values_of binds.now ++ pending stack.old.items) }
+{
+    for i in (0..binds.len()).rev() {
+        let bind = &binds[i];
+        stack.push(&bind.value)?;
+    }
+    Ok(())
+}
+
+fn push_arms<'a>(stack: &mut Vec<&'a Expr>, arms: &'a [Arm]) -> Result<(), NoMemory>
+    ensures { OnOk result (pending stack.new.items ≡ arms_of arms.now ++ pending stack.old.items) }
+{
+    for i in (0..arms.len()).rev() {
+        let arm = &arms[i];
+        stack.push(&arm.value)?;
+        stack.push(&arm.label)?;
+    }
+    Ok(())
+}

@@ -1,0 +1,61 @@
+//! The call sites of all functions.
+
+ghost use Rattle.std.specs.Prelude.{◌≡◌, ◌≤◌, ◌++◌, length, map, IfOk, OnOk};
+ghost use Rattle.safl_term.specs.Tree.{tree, forest};
+ghost use Rattle.safl_typing.specs.Forms.{all_sites, sites_of, sites_of_all, shown_function};
+
+use safl_term::{Function, Site, Term};
+use safl_word::NoMemory;
+use std::alloc::Global;
+
+/// The call sites of the functions' bodies, in the order of the text.
+pub fn sites_of(alloc: Global, functions: &[Function]) -> Result<Vec<Site>, NoMemory>
+    requires { length functions.now ≤ 1000 }
+    ensures { IfOk result (λ sites. sites.items ≡ all_sites 0 (map shown_function functions.now)) }
+{
+    let mut sites = Vec::new(alloc);
+    for (caller, function) in functions.iter().enumerate() {
+        push_sites(&mut sites, caller as u32, &function.body)?;
+    }
+    Ok(sites)
+}
+
+// Adds the sites of a term in the body of `caller`.
+#[cycle(sites)]
+fn push_sites(sites: &mut Vec<Site>, caller: u32, term: &Term) -> Result<(), NoMemory>
+    ensures { OnOk result (sites.new.items ≡ sites.old.items ++ sites_of caller (tree term.now)) }
+{
+    match term {
+        Term::Const(_) => Ok(()),
+        Term::Var(_) => Ok(()),
+        Term::If(condition, first, second) => {
+            push_sites(sites, caller, condition)?;
+            push_sites(sites, caller, first)?;
+            push_sites(sites, caller, second)
+        }
+        Term::Let(_, bound, body) => {
+            push_all(sites, caller, bound)?;
+            push_sites(sites, caller, body)
+        }
+        Term::Op(_, operands) => push_all(sites, caller, operands),
+        Term::Call(callee, _, arguments) => {
+            sites.push(Site {
+                caller,
+                callee: *callee,
+            })?;
+            push_all(sites, caller, arguments)
+        }
+        Term::Loop(_, arguments) => push_all(sites, caller, arguments),
+    }
+}
+
+// Adds the sites of several terms, in order.
+#[cycle(sites)]
+fn push_all(sites: &mut Vec<Site>, caller: u32, terms: &[Term]) -> Result<(), NoMemory>
+    ensures { OnOk result (sites.new.items ≡ sites.old.items ++ sites_of_all caller (forest terms.now)) }
+{
+    for term in terms {
+        push_sites(sites, caller, term)?;
+    }
+    Ok(())
+}

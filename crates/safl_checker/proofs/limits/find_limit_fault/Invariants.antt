@@ -1,8 +1,0 @@
-use Rattle.safl_tree.specs.Shown.{shows_defs}
-use Rattle.safl_typing.specs.Heads.{heads}
-use Rattle.safl_checker.proofs.LimitLemmas.{IsSearched}
-use Rattle.safl_checker.proofs.limits.find_limit_fault.Given as goal
-
--- the rest decides, and the counts are within their limits
-abbrev pub invariant-loop-number : goal.invariant-loop-number
-invariant-loop-number l = IsSearched (heads (shows_defs l.defs)) l.defs l.number l.unit l.sites l.nodes

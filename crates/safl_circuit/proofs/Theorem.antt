@@ -1,0 +1,113 @@
+-- The last theorem, from its parts.
+use Rattle.std.proofs.Common.{◌≡◌, ◌≢◌, ℕ, ◌+◌, ◌*◌, ◌≤◌, List, [], ◌∷◌, length, Some, true, sym, subst, arith, inl, inr, cond, ap, refl, ◌++◌, suc, ◌<◌}
+use Rattle.std.specs.Prelude.{slice_get, codes}
+use Rattle.safl_word.specs.Words.{Word}
+use Rattle.safl_term.specs.Program.{Program, unit_for}
+use Rattle.safl_term.specs.Fuel.{GivesInCalls}
+use Rattle.safl_term.specs.WellFormed.{IsWellFormed, AreWordsOf}
+use Rattle.safl_term.proofs.Fuelled.{agree_to}
+use Rattle.safl_calls.proofs.FromWellFormed.{numbered}
+use Rattle.safl_calls.proofs.Basics.{some_none}
+use Rattle.safl_calls.specs.Interference.{OneInUse, ShownWordsServe}
+use Rattle.safl_calls.proofs.Interference.{arbiter_serves}
+use Rattle.safl_calls.proofs.KeptWords.{kept_serves}
+use Rattle.safl_circuit.specs.Equations.{Choice}
+use Rattle.safl_net.specs.Netlist.{Netlist}
+use Rattle.safl_net.specs.Valuations.{Valuation, read, read_output, reset_state}
+use Rattle.safl_net.specs.Runs.{RunFrom}
+use Rattle.safl_circuit.specs.Names.{Names, of_function, as_word, numbers, of_site}
+use Rattle.safl_circuit.specs.Scheme.{Scheme, go_up}
+use Rattle.safl_circuit.specs.Correct.{DoneIn, QuietAfterDone, SameCalls, Behaves, IsQuietState}
+use Rattle.safl_circuit.specs.Theorem.{IsCircuit, SchemesAreCircuits, ServingSchemesAreCircuits, CyclesAreEvents, Runs}
+use Rattle.safl_circuit.proofs.Cycle as cycle
+use Rattle.safl_circuit.proofs.NetSteps.{first_run, first_quiet}
+use Rattle.safl_circuit.proofs.NetRuns as run
+use Rattle.std.proofs.lemmas.Bool.{lt-ltb}
+use Rattle.safl_calls.proofs.Numbered.{Numbered}
+use Rattle.safl_circuit.specs.Layout.{Line, Has, lines, each_line, register_kind, wire_kind, function_wires, site_wires, layout_wires}
+use Rattle.safl_circuit.proofs.Laid.{has_left, has_right, lines_has, in_unit, unit_is, unit_lt, units}
+
+module _ (C : Program) (D : Names) (P : Choice) (n : Netlist) (wf : IsWellFormed C) (h1 : OneInUse C P.arbiter) (h2 : ShownWordsServe C P.kept) (scheme : Scheme C D P n) where
+  module _ (state : ℕ → ℕ) (quiet0 : IsQuietState C D n state) where
+    comes : (args : List Word) → AreWordsOf args (C.params C.main) → (vs : List Valuation) → RunFrom n state (numbers args) vs → (v : Word) (m : ℕ) → GivesInCalls C args v m → 3 * m ≤ length vs → DoneIn n vs v (3 * m)
+    comes args sized [] r v m gives long =
+        let d = agree_to C args v m gives in
+        absurd (omega (arith, d.1, long))
+    comes args sized (v0 ∷ vs) r v m gives long =
+        let d = agree_to C args v m gives in
+        subst (λ k. 3 * k ≤ length (v0 ∷ vs) → DoneIn n (v0 ∷ vs) v (3 * k)) d.1 (λ l. run.comes C D P n wf h1 h2 scheme args sized state quiet0 v0 vs r v d.0 l) long
+
+    only : (args : List Word) → AreWordsOf args (C.params C.main) → (vs : List Valuation) → RunFrom n state (numbers args) vs → (c : ℕ) (w : Valuation) → slice_get vs c ≡ Some w → read_output n w (codes "done") ≡ 1
+        → (m : ℕ) × GivesInCalls C args (as_word (C.result C.main) (read_output n w (codes "result"))) m × (m ≤ C.functions * (c + 1))
+    only args sized [] r c w e up = absurd (some_none w (sym e))
+    only args sized (v0 ∷ vs) r c w e up = run.only C D P n wf h1 h2 scheme args sized state quiet0 v0 vs r c w e up
+
+    alone : (args : List Word) → AreWordsOf args (C.params C.main) → (vs : List Valuation) → RunFrom n state (numbers args) vs → (c : ℕ) (w : Valuation) → slice_get vs c ≡ Some w → (j k : ℕ) → j ≤ C.sites → k ≤ C.sites → go_up n w j ≡ true → go_up n w k ≡ true → unit_for C j ≡ unit_for C k → j ≡ k
+    alone args sized [] r c w e j k lej lek a b same = absurd (some_none w (sym e))
+    alone args sized (v0 ∷ vs) r c w e j k lej lek a b same = run.alone C D P n wf h1 h2 scheme args sized state quiet0 v0 vs r c w e j k lej lek a b same
+
+    rests : (args : List Word) → AreWordsOf args (C.params C.main) → (vs : List Valuation) → RunFrom n state (numbers args) vs → (c : ℕ) (w : Valuation) → slice_get vs c ≡ Some w → (k : ℕ) → k ≤ C.sites → go_up n w k ≡ true → read n w (of_function D (codes "run$") (unit_for C k)) ≢ 1
+    rests args sized [] r c w e k le up is = some_none w (sym e)
+    rests args sized (v0 ∷ vs) r c w e k le up is = run.rests C D P n wf h1 h2 scheme args sized state quiet0 v0 vs r c w e k le up is
+
+    quiet : QuietAfterDone C D n state
+    quiet args sized [] r a c v w ea ec up lt = absurd (some_none v (sym ea))
+    quiet args sized (v0 ∷ vs) r a c v w ea ec up lt = run.quiet_then C D P n wf h1 h2 scheme args sized state quiet0 v0 vs r a c v w ea ec up lt
+
+    calls : SameCalls C D n state
+    calls args sized [] r v d c le long f lt = absurd (omega (arith, le))
+    calls args sized (v0 ∷ vs) r v d c le long f lt = run.same_lists C D P n wf h1 h2 scheme args sized state quiet0 v0 vs r v d c le long f lt
+
+    behaves : Behaves C D n state
+    behaves = record { comes = comes; only = only; alone = alone; rests = rests }
+
+    runs : Runs C D n state
+    runs = record { behaves = behaves; quiet = quiet; calls = calls }
+
+  reset_quiet : IsQuietState C D n (reset_state n)
+  reset_quiet v fits = first_quiet C D P n wf h1 h2 scheme [] v fits
+
+  good : Numbered C
+  good = numbered C wf
+
+  running : (f : ℕ) → f < C.functions → Has (of_function D (codes "run$") (C.unit f), 1) (each_line register_kind n.signals)
+  running f lt =
+      let u = units C D P n good scheme f lt in
+      let line : Line = (of_function D (codes "run$") (C.unit f), 1) in
+      subst (Has line) (sym scheme.registers) (in_unit C D P n good scheme (C.unit f) line (unit_lt C D P n good scheme (C.unit f) u) (subst (Has line) (sym (unit_is C D P n good scheme (C.unit f) u)) (inl refl)))
+
+  in_wires : (x : Line) → Has x (layout_wires C D P) → Has x (each_line wire_kind n.signals)
+  in_wires x h = subst (Has x) (sym scheme.named) (has_left x (layout_wires C D P) scheme.others h)
+
+  starting : (k : ℕ) → 0 < k → k ≤ C.sites → Has (of_site (codes "go$") k, 1) (each_line wire_kind n.signals)
+  starting k pos le =
+      let line : Line = (of_site (codes "go$") k, 1) in
+      let arbiter : List Line = cond (P.arbiter (unit_for C k)) ((of_site (codes "arb$") k, 1) ∷ []) [] in
+      let own : List Line = (of_site (codes "want$") k, 1) ∷ (of_site (codes "ret$") k, 1) ∷ (arbiter ++ line ∷ []) in
+      let here : Has line (site_wires C P k) = subst (Has line) (sym (ap (λ b. cond b own []) (lt-ltb 0 k pos))) (inr (inr (has_right line arbiter (line ∷ []) (inl refl)))) in
+      in_wires line (has_right line (lines (function_wires D) C.functions) (lines (site_wires C P) (suc C.sites) ++ (codes "go$main", 1) ∷ [])
+      (has_left line (lines (site_wires C P) (suc C.sites)) ((codes "go$main", 1) ∷ []) (lines_has (site_wires C P) (suc C.sites) k line (omega arith) here)))
+
+  starting_main : Has (codes "go$main", 1) (each_line wire_kind n.signals)
+  starting_main =
+      in_wires (codes "go$main", 1) (has_right (codes "go$main", 1) (lines (function_wires D) C.functions) (lines (site_wires C P) (suc C.sites) ++ (codes "go$main", 1) ∷ [])
+      (has_right (codes "go$main", 1) (lines (site_wires C P) (suc C.sites)) ((codes "go$main", 1) ∷ []) (inl refl)))
+
+  pub is_circuit : IsCircuit C D P n
+  is_circuit = record {
+    correct = record { whole = scheme.whole; acyclic = scheme.acyclic; inputs = scheme.inputs; outputs = scheme.outputs; running = running; starting = starting; starting_main = starting_main; behaves = behaves (reset_state n) reset_quiet };
+    steps = λ args sized vs r. first_run C D P n wf h1 h2 scheme args sized vs r;
+    first = runs (reset_state n) reset_quiet;
+    again = runs;
+  }
+
+pub serving_schemes_are_circuits : ServingSchemesAreCircuits
+serving_schemes_are_circuits = is_circuit
+
+pub schemes_are_circuits : SchemesAreCircuits
+schemes_are_circuits C D P n wf enough scheme =
+    let good : Numbered C = numbered C wf in
+    is_circuit C D P n wf (arbiter_serves C P.arbiter good enough.arbiters) (kept_serves C P.kept good enough.keeps) scheme
+
+pub cycles_are_events : CyclesAreEvents
+cycles_are_events C P wf h1 h2 r0 quiet args sized later c = cycle.steps C P (numbered C wf) h1 h2 r0 quiet args sized later c

@@ -1,0 +1,112 @@
+-- What a netlist does in its runs, by its ports and names.
+use Rattle.std.specs.Prelude.{◌≡◌, ◌≢◌, ℕ, zero, suc, ◌+◌, ◌*◌, ◌<◌, ◌≤◌, List, [], ◌∷◌, ◌++◌, length, Option, Some, None, Bool, true, cond, is_some, slice_get, codes, ◌==◌, ◌&&◌, ◌||◌}
+use Rattle.std.specs.List.Sorted.{IsPermutation}
+use Rattle.safl_word.specs.Words.{Word}
+use Rattle.safl_term.specs.Program.{Program, unit_for}
+use Rattle.safl_term.specs.Meaning.{Main, main_cost, main_calls}
+use Rattle.safl_term.specs.Fuel.{GivesInCalls}
+use Rattle.safl_term.specs.WellFormed.{AreWordsOf}
+use Rattle.safl_calls.specs.Machine.{Event, opening, Legal, after, last_word}
+use Rattle.safl_calls.specs.Picks.{first}
+use Rattle.safl_net.specs.Netlist.{Netlist, AllSet}
+use Rattle.safl_net.specs.Valuations.{Valuation, read, read_output, IsAcyclic, Fits, reset_state}
+use Rattle.safl_net.specs.Runs.{RunFrom}
+use Rattle.safl_circuit.specs.Equations.{Choice}
+use Rattle.safl_circuit.specs.Steps.{Shows, Quiet}
+use Rattle.safl_circuit.specs.Layout.{each_line, input_kind, register_kind, wire_kind, layout_inputs, output_lines, layout_outputs, Has}
+use Rattle.safl_circuit.specs.Names.{Names, of_function, one, as_word, numbers, registers_now, of_site}
+use Rattle.safl_circuit.specs.Scheme.{go_up, net_events}
+
+-- it holds of all arguments, words of main's widths, and of all runs with them from a state
+abbrev pub EachRun : Program → Netlist → (ℕ → ℕ) → (List Word → List Valuation → Type 0) → Type 0
+EachRun C n state Q =
+    (args : List Word) → AreWordsOf args (C.params C.main) → (vs : List Valuation) → RunFrom n state (numbers args) vs → Q args vs
+
+-- it holds of each cycle of all these runs
+abbrev pub EachCycle : Program → Netlist → (ℕ → ℕ) → (List Word → ℕ → Valuation → Type 0) → Type 0
+EachCycle C n state Q = EachRun C n state (λ args vs. (c : ℕ) (w : Valuation) → slice_get vs c ≡ Some w → Q args c w)
+
+abbrev pub is_done : Netlist → Valuation → ℕ
+is_done n v = read_output n v (codes "done")
+
+-- done is 1 in one cycle below the bound, with this word as result, and 0 in all others
+pub record DoneIn (n : Netlist) (vs : List Valuation) (v : Word) (bound : ℕ) : Type 0 where
+  pub cycle : ℕ
+  pub in_time : cycle < bound
+  pub words : Valuation
+  pub there : slice_get vs cycle ≡ Some words
+  pub done : is_done n words ≡ 1
+  pub result : read_output n words (codes "result") ≡ v.bits
+  pub once : (c : ℕ) (w : Valuation) → slice_get vs c ≡ Some w → c ≢ cycle → is_done n w ≡ 0
+
+-- of all runs from a state
+pub record Behaves (C : Program) (D : Names) (n : Netlist) (state : ℕ → ℕ) : Type 0 where
+  -- where main gives v in m calls, done comes once, before cycle 3m, with v
+  pub comes : EachRun C n state (λ args vs. (v : Word) (m : ℕ) → GivesInCalls C args v m → 3 * m ≤ length vs → DoneIn n vs v (3 * m))
+  -- where done comes, main gives that cycle's result, in a number of calls that the cycle bounds
+  pub only : EachCycle C n state (λ args c w. is_done n w ≡ 1
+      → (m : ℕ) × GivesInCalls C args (as_word (C.result C.main) (read_output n w (codes "result"))) m × (m ≤ C.functions * (c + 1)))
+  -- no unit is started by two sites at once, main's call from outside counted
+  pub alone : EachCycle C n state (λ args c w. (j k : ℕ) → j ≤ C.sites → k ≤ C.sites
+      → go_up n w j ≡ true → go_up n w k ≡ true → unit_for C j ≡ unit_for C k → j ≡ k)
+  -- nor while it runs
+  pub rests : EachCycle C n state (λ args c w. (k : ℕ) → k ≤ C.sites → go_up n w k ≡ true → read n w (of_function D (codes "run$") (unit_for C k)) ≢ 1)
+
+-- The netlist is whole and acyclic, has the ports of the program, and behaves in all runs from reset; and the registers
+-- and wires of which that speaks are there, with width 1
+pub record Correct (C : Program) (D : Names) (n : Netlist) : Type 0 where
+  pub whole : AllSet n
+  pub acyclic : IsAcyclic n
+  pub inputs : each_line input_kind n.signals ≡ layout_inputs C D
+  pub outputs : output_lines n ≡ layout_outputs C
+  pub running : (f : ℕ) → f < C.functions → Has (of_function D (codes "run$") (C.unit f), 1) (each_line register_kind n.signals)
+  pub starting : (k : ℕ) → 0 < k → k ≤ C.sites → Has (of_site (codes "go$") k, 1) (each_line wire_kind n.signals)
+  pub starting_main : Has (codes "go$main", 1) (each_line wire_kind n.signals)
+  pub behaves : Behaves C D n (reset_state n)
+
+-- a state of the netlist whose registers are quiet
+abbrev pub IsQuietState : Program → Names → Netlist → (ℕ → ℕ) → Type 0
+IsQuietState C D n state = (v : Valuation) → Fits n state v → Quiet (registers_now C D n v)
+
+-- The cycles of a run are steps of the machine, where these events came before: the registers show its state, each res
+-- holds the word that its unit finished last, or 0, and the events of the cycle are enabled in turn
+abbrev pub StepsFrom : Program → Names → Choice → Netlist → List Word → List Event → List Valuation → Type 0
+StepsFrom C D P n args es [] = Unit {0}
+StepsFrom C D P n args es (v ∷ vs) =
+    Shows C P (after C args opening es) (registers_now C D n v)
+    × ((u : ℕ) → (registers_now C D n v).res u ≡ last_word C args opening es u (as_word (C.result u) 0))
+    × Legal C args opening (es ++ net_events C D n v)
+    × StepsFrom C D P n args (es ++ net_events C D n v) vs
+
+-- the same of all runs from reset, from the opening state on
+abbrev pub Steps : Program → Names → Choice → Netlist → Type 0
+Steps C D P n = EachRun C n (reset_state n) (λ args vs. StepsFrom C D P n args [] vs)
+
+-- in each cycle after one with done the registers are quiet
+abbrev pub QuietAfterDone : Program → Names → Netlist → (ℕ → ℕ) → Type 0
+QuietAfterDone C D n state =
+    EachRun C n state (λ args vs. (a c : ℕ) (v w : Valuation) → slice_get vs a ≡ Some v → slice_get vs c ≡ Some w
+    → is_done n v ≡ 1 → a < c → Quiet (registers_now C D n w))
+
+-- f is started in a cycle: the go wire of a site of f is 1, or f's loop wire
+abbrev pub go_at : Program → Netlist → Valuation → ℕ → ℕ → Option ℕ
+go_at C n v f k = cond (C.callee k == f && go_up n v k) (Some k) None
+
+abbrev pub is_started : Program → Names → Netlist → Valuation → ℕ → Bool
+is_started C D n v f = is_some (first (go_at C n v f) (suc C.sites)) || one (read n v (of_function D (codes "loop$") f))
+
+-- the words on f's argument registers in the cycle after one in which f is started
+abbrev pub seen_at : Program → Names → Netlist → ℕ → Option Valuation → Option Valuation → List (List Word)
+seen_at C D n f (Some v) (Some w) = cond (is_started C D n v f) ((registers_now C D n w).arg f ∷ []) []
+seen_at C D n f _ _ = []
+
+-- those after the cycles before c, in order
+unfoldable pub words_seen_in : Program → Names → Netlist → List Valuation → ℕ → ℕ → List (List Word)
+words_seen_in C D n vs f zero = []
+words_seen_in C D n vs f (suc c) = words_seen_in C D n vs f c ++ seen_at C D n f (slice_get vs c) (slice_get vs (suc c))
+
+-- where main has a value and the run is long enough, they are the argument lists of the evaluation, in some order
+abbrev pub SameCalls : Program → Names → Netlist → (ℕ → ℕ) → Type 0
+SameCalls C D n state =
+    EachRun C n state (λ args vs. (v : Word) (d : Main C args v) (c : ℕ) → c < length vs → 3 * main_cost C args d ≤ suc c
+    → (f : ℕ) → f < C.functions → IsPermutation (main_calls C args d f) (words_seen_in C D n vs f c))

@@ -1,0 +1,183 @@
+-- The equations of a circuit: its wires from its registers, and the registers after the edge, without names.
+use Rattle.std.specs.Prelude.{ℕ, zero, suc, ◌++◌, List, Option, Some, None, Bool, false, cond, not, ◌==◌, ◌&&◌, ◌||◌, nat_le, is_some}
+use Rattle.safl_calls.specs.Machine.{Event, Accept, Finish, Return, LoopInto}
+use Rattle.safl_term.specs.Readiness.{Answer, Ready, LoopTo, NotYet, answer, wanted, word_of, or_else}
+use Rattle.safl_term.specs.Program.{Program, unit_for}
+use Rattle.safl_word.specs.Words.{Word}
+use Rattle.safl_calls.specs.Picks.{first, picks}
+
+-- what the registers of a cycle hold
+pub record Registers : Type 0 where
+  -- of a unit: it runs, it has just finished, and the word with which it finished last
+  pub run : ℕ → Bool
+  pub fin : ℕ → Bool
+  pub res : ℕ → Word
+  -- of a function: its unit runs it, and its arguments
+  pub at : ℕ → Bool
+  pub arg : ℕ → List Word
+  -- of a site: its call has started, it has returned, and its word
+  pub sent : ℕ → Bool
+  pub got : ℕ → Bool
+  pub keep : ℕ → Word
+
+-- the inputs of a cycle: start, and the words on main's argument ports
+pub record Inputs : Type 0 where
+  pub start : Bool
+  pub words : List Word
+
+-- which units have arbiters, and which sites keep their words
+pub record Choice : Type 0 where
+  pub arbiter : ℕ → Bool
+  pub kept : ℕ → Bool
+
+-- the unit of f has another member
+abbrev pub other_than : Program → ℕ → ℕ → Option ℕ
+other_than C f g = cond (C.unit g == C.unit f && not (g == f)) (Some g) None
+
+-- f's unit has two or more members
+abbrev pub many : Program → ℕ → Bool
+many C f = is_some (first (other_than C f) C.functions)
+
+-- ret: site k's unit has just finished, and the site was sent and has not got its word. For main's call it is done
+abbrev pub ret : Program → Registers → ℕ → Bool
+ret C r zero = r.fin (C.unit C.main)
+ret C r (suc k) = r.fin (unit_for C (suc k)) && (r.sent (suc k) && not (r.got (suc k)))
+
+-- the word of a site that has returned: its unit's, or the kept one where the site is kept and not returning now
+abbrev pub word_on : Program → Choice → Registers → ℕ → Word
+word_on C P r k = cond (P.kept k && not (ret C r k)) (r.keep k) (r.res (unit_for C k))
+
+-- a site has returned where it has got its word or gets it now
+abbrev pub on_wires : Program → Choice → Registers → ℕ → Option Word
+on_wires C P r zero = None
+on_wires C P r (suc k) = cond (r.got (suc k) || ret C r (suc k)) (Some (word_on C P r (suc k))) None
+
+-- the path of f's body: its unit runs, and runs f
+abbrev pub path : Program → Registers → ℕ → Bool
+path C r f = r.run (C.unit f) && (not (many C f) || r.at f)
+
+-- what the body of f comes to, and the words with which site k, unsent, is wanted
+unfoldable pub body_says : Program → Choice → Registers → ℕ → Answer
+body_says C P r f = cond (path C r f) (answer (on_wires C P r) (r.arg f) (C.body f)) NotYet
+
+unfoldable pub body_wants : Program → Choice → Registers → ℕ → Option (List Word)
+body_wants C P r k = cond (not (r.sent k) && nat_le k C.sites) (cond (path C r (C.caller k)) (wanted (on_wires C P r) (r.arg (C.caller k)) (C.body (C.caller k)) k) None) None
+
+-- want: the call has its path, its arguments are ready, and it was not sent
+abbrev pub want : Program → Choice → Registers → ℕ → Bool
+want C P r k = is_some (body_wants C P r k)
+
+-- a lower site of the same unit wants
+abbrev pub wants_at : Program → Choice → Registers → ℕ → ℕ → Option ℕ
+wants_at C P r u zero = None
+wants_at C P r u (suc j) = cond (unit_for C (suc j) == u && want C P r (suc j)) (Some (suc j)) None
+
+-- go: a site starts where it wants; where its unit has an arbiter, only while the unit rests and no lower site of the
+-- unit wants. Main starts by `start`, while its unit rests
+unfoldable pub go : Program → Choice → Registers → Inputs → ℕ → Bool
+go C P r i zero = i.start && not (r.run (C.unit C.main))
+go C P r i (suc k) =
+    cond (P.arbiter (unit_for C (suc k)))
+    (want C P r (suc k) && (not (r.run (unit_for C (suc k))) && not (is_some (first (wants_at C P r (unit_for C (suc k))) (suc k)))))
+    (want C P r (suc k))
+
+-- the arguments that a starting site loads
+abbrev pub go_words : Program → Choice → Registers → Inputs → ℕ → Option (List Word)
+go_words C P r i zero = cond (go C P r i 0) (Some i.words) None
+go_words C P r i (suc k) = cond (go C P r i (suc k)) (body_wants C P r (suc k)) None
+
+-- end: the body of f is ready, with this word. loop: a tail call to h in the body of a member of its unit has its path
+-- and ready arguments, which are these, of the earliest such member
+abbrev pub end_word : Program → Choice → Registers → ℕ → Option Word
+end_word C P r f = word_of (body_says C P r f)
+
+abbrev pub goes_to : ℕ → Answer → Option (List Word)
+goes_to h (Ready v) = None
+goes_to h (LoopTo g vs) = cond (g == h) (Some vs) None
+goes_to h NotYet = None
+
+abbrev pub loop_from : Program → Choice → Registers → ℕ → ℕ → Option (List Word)
+loop_from C P r h g = cond (C.unit g == C.unit h) (goes_to h (body_says C P r g)) None
+
+abbrev pub loop_words : Program → Choice → Registers → ℕ → Option (List Word)
+loop_words C P r h = first (loop_from C P r h) C.functions
+
+-- in unit u: the word of a member that ends, a member that is looped to, a site that starts; and the arguments that a
+-- starting site of f loads
+abbrev pub end_in : Program → Choice → Registers → ℕ → ℕ → Option Word
+end_in C P r u f = cond (C.unit f == u) (end_word C P r f) None
+
+abbrev pub loop_in : Program → Choice → Registers → ℕ → ℕ → Option ℕ
+loop_in C P r u h = cond (C.unit h == u && is_some (loop_words C P r h)) (Some h) None
+
+abbrev pub go_in : Program → Choice → Registers → Inputs → ℕ → ℕ → Option ℕ
+go_in C P r i u k = cond (unit_for C k == u && go C P r i k) (Some k) None
+
+abbrev pub load_in : Program → Choice → Registers → Inputs → ℕ → ℕ → Option (List Word)
+load_in C P r i f k = cond (C.callee k == f) (go_words C P r i k) None
+
+-- of several the first: the earlier member ends, and the site of the least number loads
+unfoldable pub ends : Program → Choice → Registers → ℕ → Option Word
+ends C P r u = first (end_in C P r u) C.functions
+
+unfoldable pub loops : Program → Choice → Registers → ℕ → Option ℕ
+loops C P r u = first (loop_in C P r u) C.functions
+
+unfoldable pub starts : Program → Choice → Registers → Inputs → ℕ → Option ℕ
+starts C P r i u = first (go_in C P r i u) (suc C.sites)
+
+unfoldable pub loads : Program → Choice → Registers → Inputs → ℕ → Option (List Word)
+loads C P r i f = first (load_in C P r i f) (suc C.sites)
+
+-- the own sites of u's members are cleared: a member ends or is looped to
+abbrev pub clears : Program → Choice → Registers → ℕ → Bool
+clears C P r u = is_some (ends C P r u) || is_some (loops C P r u)
+
+-- a go or a loop starts f; or starts another member of its unit
+abbrev pub starts_it : Program → Choice → Registers → Inputs → ℕ → Bool
+starts_it C P r i f = is_some (loads C P r i f) || is_some (loop_words C P r f)
+
+abbrev pub if_other : Program → Choice → Registers → Inputs → ℕ → ℕ → Option ℕ
+if_other C P r i f g = cond (C.unit g == C.unit f && (not (g == f) && starts_it C P r i g)) (Some g) None
+
+abbrev pub starts_other : Program → Choice → Registers → Inputs → ℕ → Bool
+starts_other C P r i f = is_some (first (if_other C P r i f) C.functions)
+
+-- what is there, or else the other
+abbrev pub or_word : {A : Type 0} → Option A → A → A
+or_word None d = d
+or_word (Some v) d = v
+
+-- The registers after the edge; clearing wins over setting, and all else stays.
+-- run: set by a go, cleared by an end. fin: 1 after an end alone. res: loaded by an end.
+-- at: set by a go or loop to the function, cleared by one to another member. arg: loaded by a go, and else by a loop.
+-- sent and got: set by go and by ret, cleared by an end or loop of the unit in which the site stands.
+-- keep: loaded by ret, from the unit's res
+unfoldable pub next : Program → Choice → Inputs → Registers → Registers
+next C P i r = record {
+  run = λ u. cond (is_some (ends C P r u)) false (r.run u || is_some (starts C P r i u));
+  fin = λ u. is_some (ends C P r u);
+  res = λ u. or_word (ends C P r u) (r.res u);
+  at = λ f. cond (starts_other C P r i f) false (r.at f || starts_it C P r i f);
+  arg = λ f. or_word (or_else (loads C P r i f) (loop_words C P r f)) (r.arg f);
+  sent = λ k. cond (clears C P r (C.unit (C.caller k))) false (r.sent k || go C P r i k);
+  got = λ k. cond (clears C P r (C.unit (C.caller k))) false (r.got k || ret C r k);
+  keep = λ k. cond (ret C r k) (r.res (unit_for C k)) (r.keep k);
+}
+
+-- the events of a cycle, in this order, each kind by rising number
+abbrev pub returns : Program → Registers → ℕ → List Event
+returns C r n = picks (ret C r) Return n
+
+abbrev pub accepts : Program → Choice → Registers → Inputs → ℕ → List Event
+accepts C P r i n = picks (go C P r i) Accept n
+
+abbrev pub finishes : Program → Choice → Registers → ℕ → List Event
+finishes C P r n = picks (λ f. is_some (end_word C P r f)) Finish n
+
+abbrev pub goes_on : Program → Choice → Registers → ℕ → List Event
+goes_on C P r n = picks (λ h. is_some (loop_words C P r h)) LoopInto n
+
+abbrev pub cycle_events : Program → Choice → Registers → Inputs → List Event
+cycle_events C P r i =
+    returns C r (suc C.sites) ++ (accepts C P r i (suc C.sites) ++ (finishes C P r C.functions ++ goes_on C P r C.functions))

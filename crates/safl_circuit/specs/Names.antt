@@ -1,0 +1,79 @@
+-- The names of registers and wires, and the words that a netlist shows under them.
+use Rattle.std.specs.Prelude.{ℕ, List, [], ◌∷◌, ◌++◌, map, Bool, cond, ◌==◌, ◌&&◌, nat_lt, nat_le, codes}
+use Rattle.std.specs.Fmt.{decimal}
+use Rattle.safl_word.specs.Words.{Word}
+use Rattle.safl_term.specs.Checked.{CheckedProgram, name_of, param_names}
+use Rattle.safl_term.specs.Program.{Program}
+use Rattle.safl_circuit.specs.Equations.{Registers, Inputs}
+use Rattle.safl_net.specs.Netlist.{Netlist}
+use Rattle.safl_net.specs.Valuations.{Valuation, read, read_next}
+use Rattle.safl_net.specs.Runs.{start_number, input_numbers}
+
+-- the names of a program's functions, and of their parameters
+pub record Names : Type 0 where
+  pub name : ℕ → List ℕ
+  pub params : ℕ → List (List ℕ)
+
+-- those of a checked program
+abbrev pub names_of : CheckedProgram → Names
+names_of c = record { name = name_of c; params = param_names c }
+
+-- a name with a head: of a function, of a site, and of the register of a parameter
+abbrev pub of_function : Names → List ℕ → ℕ → List ℕ
+of_function D head f = head ++ D.name f
+
+abbrev pub of_site : List ℕ → ℕ → List ℕ
+of_site head k = head ++ decimal k
+
+abbrev pub of_param : Names → ℕ → List ℕ → List ℕ
+of_param D f p = codes "arg$" ++ (D.name f ++ (codes "$" ++ p))
+
+-- a number of one bit as a truth value, and back
+abbrev pub one : ℕ → Bool
+one w = w == 1
+
+abbrev pub bit : Bool → ℕ
+bit b = cond b 1 0
+
+-- u is the number of a unit; k is the number of a site
+abbrev pub is_unit : Program → ℕ → Bool
+is_unit C u = nat_lt u C.functions && C.unit u == u
+
+abbrev pub is_site : Program → ℕ → Bool
+is_site C k = nat_lt 0 k && nat_le k C.sites
+
+-- numbers as words of these widths, and back
+abbrev pub as_word : ℕ → ℕ → Word
+as_word width bits = record { width = width; bits = bits }
+
+abbrev pub as_words : List ℕ → List ℕ → List Word
+as_words [] bs = []
+as_words (w ∷ ws) [] = []
+as_words (w ∷ ws) (b ∷ bs) = as_word w b ∷ as_words ws bs
+
+abbrev pub numbers : List Word → List ℕ
+numbers vs = map (λ v. v.bits) vs
+
+-- the registers by their names, where `get` gives each name its number; what is no unit or site has no registers
+abbrev pub view : Program → Names → (List ℕ → ℕ) → Registers
+view C D get = record {
+  run = λ u. is_unit C u && one (get (of_function D (codes "run$") u));
+  fin = λ u. is_unit C u && one (get (of_function D (codes "fin$") u));
+  res = λ u. as_word (C.result u) (cond (is_unit C u) (get (of_function D (codes "res$") u)) 0);
+  at = λ f. one (get (of_function D (codes "at$") f));
+  arg = λ f. as_words (C.params f) (map (λ p. get (of_param D f p)) (D.params f));
+  sent = λ k. is_site C k && one (get (of_site (codes "sent$") k));
+  got = λ k. is_site C k && one (get (of_site (codes "got$") k));
+  keep = λ k. as_word (C.result (C.callee k)) (get (of_site (codes "keep$") k));
+}
+
+-- the registers of a cycle, and those that it leaves
+abbrev pub registers_now : Program → Names → Netlist → Valuation → Registers
+registers_now C D n v = view C D (read n v)
+
+abbrev pub registers_next : Program → Names → Netlist → Valuation → Registers
+registers_next C D n v = view C D (read_next n v)
+
+-- the inputs of a cycle
+abbrev pub input_now : Program → Netlist → Valuation → Inputs
+input_now C n v = record { start = one (start_number n v); words = as_words (C.params C.main) (input_numbers n.signals v) }

@@ -1,0 +1,68 @@
+-- The scheme of a circuit: what a netlist has to be and to do in each cycle, for any state and any inputs.
+use Rattle.std.specs.Prelude.{◌≡◌, ℕ, zero, suc, ◌<◌, ◌≤◌, List, ◌++◌, length, Some, Bool, true, is_some, slice_get, codes}
+use Rattle.safl_term.specs.Program.{Program, unit_for}
+use Rattle.safl_calls.specs.Machine.{Event, Accept, Finish, Return, LoopInto}
+use Rattle.safl_calls.specs.Picks.{picks}
+use Rattle.safl_circuit.specs.Equations.{Registers, Inputs, Choice, many, ret, want, go, end_word, loop_words, next}
+use Rattle.safl_net.specs.Netlist.{Netlist, Signal, AllSet}
+use Rattle.safl_net.specs.Valuations.{Valuation, Fits, read, read_output, reset_state, IsAcyclic}
+use Rattle.safl_circuit.specs.Names.{Names, of_function, of_site, one, bit, numbers, registers_now, registers_next, input_now}
+use Rattle.safl_circuit.specs.Layout.{Line, layout_registers, layout_wires, layout_inputs, layout_outputs, input_kind, register_kind, wire_kind, each_line, output_lines}
+
+-- the registers hold equal numbers, where they exist: at in units of several members, keep at kept sites
+pub record Agree (C : Program) (P : Choice) (r q : Registers) : Type 0 where
+  pub run : (u : ℕ) → r.run u ≡ q.run u
+  pub fin : (u : ℕ) → r.fin u ≡ q.fin u
+  pub res : (u : ℕ) → (r.res u).bits ≡ (q.res u).bits
+  pub at : (f : ℕ) → f < C.functions → many C f ≡ true → r.at f ≡ q.at f
+  pub arg : (f : ℕ) → f < C.functions → numbers (r.arg f) ≡ numbers (q.arg f)
+  pub sent : (k : ℕ) → 0 < k → r.sent k ≡ q.sent k
+  pub got : (k : ℕ) → 0 < k → r.got k ≡ q.got k
+  pub keep : (k : ℕ) → 0 < k → k ≤ C.sites → P.kept k ≡ true → (r.keep k).bits ≡ (q.keep k).bits
+
+-- the named wires and outputs of a cycle have the numbers that the registers and inputs give them
+pub record Wires (C : Program) (D : Names) (P : Choice) (n : Netlist) (v : Valuation) (r : Registers) (i : Inputs) : Type 0 where
+  pub ends : (f : ℕ) → f < C.functions → read n v (of_function D (codes "end$") f) ≡ bit (is_some (end_word C P r f))
+  pub loops : (f : ℕ) → f < C.functions → read n v (of_function D (codes "loop$") f) ≡ bit (is_some (loop_words C P r f))
+  pub wants : (k : ℕ) → 0 < k → k ≤ C.sites → read n v (of_site (codes "want$") k) ≡ bit (want C P r k)
+  pub rets : (k : ℕ) → 0 < k → k ≤ C.sites → read n v (of_site (codes "ret$") k) ≡ bit (ret C r k)
+  pub arbs : (k : ℕ) → 0 < k → k ≤ C.sites → P.arbiter (unit_for C k) ≡ true → read n v (of_site (codes "arb$") k) ≡ bit (go C P r i k)
+  pub goes : (k : ℕ) → 0 < k → k ≤ C.sites → read n v (of_site (codes "go$") k) ≡ bit (go C P r i k)
+  pub goes_main : read n v (codes "go$main") ≡ bit (go C P r i 0)
+  pub done : read_output n v (codes "done") ≡ bit (ret C r 0)
+  pub result : read_output n v (codes "result") ≡ (r.res (C.unit C.main)).bits
+
+-- The netlist is whole and acyclic, has the ports, registers and named wires of the layout, and resets to 0. In every
+-- valuation that fits any state the named wires are as the equations say, and each register's next number too
+pub record Scheme (C : Program) (D : Names) (P : Choice) (n : Netlist) : Type 0 where
+  pub whole : AllSet n
+  pub acyclic : IsAcyclic n
+  -- each parameter has a name
+  pub params : (f : ℕ) → f < C.functions → length (D.params f) ≡ length (C.params f)
+  -- no two signals have one name
+  pub distinct : (s t : ℕ) (g h : Signal) → slice_get n.signals s ≡ Some g → slice_get n.signals t ≡ Some h → g.name ≡ h.name → s ≡ t
+  pub outputs : output_lines n ≡ layout_outputs C
+  pub inputs : each_line input_kind n.signals ≡ layout_inputs C D
+  pub registers : each_line register_kind n.signals ≡ layout_registers C D P
+  -- the named wires come first
+  pub others : List Line
+  pub named : each_line wire_kind n.signals ≡ layout_wires C D P ++ others
+  pub resets : (s : ℕ) → reset_state n s ≡ 0
+  pub wires : (v : Valuation) (state : ℕ → ℕ) → Fits n state v → Wires C D P n v (registers_now C D n v) (input_now C n v)
+  pub edge : (v : Valuation) (state : ℕ → ℕ) → Fits n state v → Agree C P (registers_next C D n v) (next C P (input_now C n v) (registers_now C D n v))
+
+-- the events of a cycle, by its named wires
+abbrev pub ret_on : Netlist → Valuation → ℕ → Bool
+ret_on n v zero = one (read_output n v (codes "done"))
+ret_on n v (suc k) = one (read n v (of_site (codes "ret$") (suc k)))
+
+abbrev pub go_up : Netlist → Valuation → ℕ → Bool
+go_up n v zero = one (read n v (codes "go$main"))
+go_up n v (suc k) = one (read n v (of_site (codes "go$") (suc k)))
+
+abbrev pub net_events : Program → Names → Netlist → Valuation → List Event
+net_events C D n v =
+    picks (ret_on n v) Return (suc C.sites)
+    ++ (picks (go_up n v) Accept (suc C.sites)
+    ++ (picks (λ f. one (read n v (of_function D (codes "end$") f))) Finish C.functions
+    ++ picks (λ f. one (read n v (of_function D (codes "loop$") f))) LoopInto C.functions))

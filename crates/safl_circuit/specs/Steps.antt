@@ -1,0 +1,72 @@
+-- What registers show of the machine, cycle by cycle: each cycle is a list of events.
+use Rattle.std.specs.Prelude.{◌≡◌, ℕ, zero, suc, ◌<◌, ◌++◌, List, [], Bool, true, false, ◌==◌}
+use Rattle.safl_circuit.specs.Equations.{Registers, Inputs, Choice, many, next, cycle_events}
+use Rattle.safl_calls.specs.Machine.{State, Mode, Idle, Runs, Delivers, Event, opening, CallerRests, Legal, after, last_word}
+use Rattle.safl_term.specs.Readiness.{Stage, Unsent, Sent, Returned}
+use Rattle.safl_term.specs.Program.{Program}
+use Rattle.safl_word.specs.Words.{Word}
+
+abbrev pub is_running : Mode → Bool
+is_running Idle = false
+is_running (Runs f k ws) = true
+is_running (Delivers k v) = false
+
+abbrev pub is_delivering : Mode → Bool
+is_delivering Idle = false
+is_delivering (Runs f k ws) = false
+is_delivering (Delivers k v) = true
+
+-- sent, and perhaps returned by now
+abbrev pub was_sent : Stage → Bool
+was_sent Unsent = false
+was_sent Sent = true
+was_sent (Returned v) = true
+
+abbrev pub is_returned : Stage → Bool
+is_returned Unsent = false
+is_returned Sent = false
+is_returned (Returned v) = true
+
+-- The registers show the state. run is 1 exactly for running units, and fin for delivering ones, whose res holds the
+-- word. In a running unit of several members at is 1 exactly for the one that runs, and its arguments are on its
+-- registers. sent is 0 exactly for unsent sites, and got is 1 exactly for those that have returned; where such a site is
+-- kept, keep holds its word. The sites of a function that does not run are neither sent nor returned
+pub record Shows (C : Program) (P : Choice) (s : State) (r : Registers) : Type 0 where
+  pub run : (u : ℕ) → r.run u ≡ is_running (s.unit u)
+  pub fin : (u : ℕ) → r.fin u ≡ is_delivering (s.unit u)
+  pub res : (u k : ℕ) (v : Word) → s.unit u ≡ Delivers k v → r.res u ≡ v
+  pub at : (u f k : ℕ) (ws : List Word) → s.unit u ≡ Runs f k ws → (g : ℕ) → g < C.functions → C.unit g ≡ u → many C g ≡ true → r.at g ≡ (f == g)
+  pub arg : (u f k : ℕ) (ws : List Word) → s.unit u ≡ Runs f k ws → r.arg f ≡ ws
+  pub sent : (k : ℕ) → 0 < k → r.sent k ≡ was_sent (s.site k)
+  pub got : (k : ℕ) → 0 < k → r.got k ≡ is_returned (s.site k)
+  pub keep : (k : ℕ) (v : Word) → 0 < k → P.kept k ≡ true → s.site k ≡ Returned v → r.keep k ≡ v
+  pub others : (k : ℕ) → 0 < k → CallerRests C s k → (r.sent k ≡ false) × (r.got k ≡ false)
+
+-- quiet registers: nothing runs, nothing has just finished, and no site is sent or returned; what else they hold is free
+pub record Quiet (r : Registers) : Type 0 where
+  pub run : (u : ℕ) → r.run u ≡ false
+  pub fin : (u : ℕ) → r.fin u ≡ false
+  pub sent : (k : ℕ) → 0 < k → r.sent k ≡ false
+  pub got : (k : ℕ) → 0 < k → r.got k ≡ false
+
+-- the inputs of a run: start is 1 in cycle 0 alone, the ports hold the arguments there, and any words later
+abbrev pub input_at : List Word → (ℕ → List Word) → ℕ → Inputs
+input_at args later zero = record { start = true; words = args }
+input_at args later (suc c) = record { start = false; words = later c }
+
+-- the registers of cycle c, from those of cycle 0, and the events of the cycles before c
+unfoldable pub registers_at : Program → Choice → Registers → List Word → (ℕ → List Word) → ℕ → Registers
+registers_at C P r0 args later zero = r0
+registers_at C P r0 args later (suc c) = next C P (input_at args later c) (registers_at C P r0 args later c)
+
+unfoldable pub history : Program → Choice → Registers → List Word → (ℕ → List Word) → ℕ → List Event
+unfolding registers_at
+history C P r0 args later zero = []
+history C P r0 args later (suc c) = history C P r0 args later c ++ cycle_events C P (registers_at C P r0 args later c) (input_at args later c)
+
+-- The events of the cycles before c are legal, the registers of cycle c show the state to which they lead, and each res
+-- holds the word that its unit finished last, or what it held in cycle 0
+pub record StepsAt (C : Program) (P : Choice) (r0 : Registers) (args : List Word) (later : ℕ → List Word) (c : ℕ) : Type 0 where
+  pub legal : Legal C args opening (history C P r0 args later c)
+  pub shows : Shows C P (after C args opening (history C P r0 args later c)) (registers_at C P r0 args later c)
+  pub res : (u : ℕ) → (registers_at C P r0 args later c).res u ≡ last_word C args opening (history C P r0 args later c) u (r0.res u)

@@ -1,0 +1,19 @@
+//! Laws of circuits, over the definitions alone.
+
+ghost use Rattle.safl_circuit.specs.Theorem.{CyclesAreEvents, SchemesAreCircuits, ServingSchemesAreCircuits};
+
+/// A netlist with the scheme of a well-formed program, whose arbiters and kept words suffice, does what the program
+/// means.
+pub fn circuit_law()
+    ensures { SchemesAreCircuits }
+{}
+
+/// The same for all arbiters and kept words with which no two sites of a unit meet and shown words serve.
+pub fn serving_law()
+    ensures { ServingSchemesAreCircuits }
+{}
+
+/// The cycles of the registers are events of the call machine, from any quiet state.
+pub fn cycle_law()
+    ensures { CyclesAreEvents }
+{}

@@ -1,6 +1,0 @@
-use Rattle.std.proofs.Common.{◌≡◌, map, take}
-use Rattle.safl_compile.specs.Edges.{bit_of}
-use Rattle.safl_compile.proofs.edge.load_bits.Given as goal
-
-abbrev pub invariant-loop-i : goal.invariant-loop-i
-invariant-loop-i l = record { same : l.bits.items ≡ map bit_of (take l.i l.loads.items) }

@@ -1,6 +1,0 @@
-use Rattle.std.proofs.Common.{◌≡◌, map, take}
-use Rattle.safl_compile.specs.Setting.{with_kinds, copy_kind}
-use Rattle.safl_compile.proofs.finish.set_copies.Given as goal
-
-abbrev pub invariant-loop-i : goal.invariant-loop-i
-invariant-loop-i l = l.net ≡ with_kinds l.initial.net l.first (map copy_kind (take l.i l.all))

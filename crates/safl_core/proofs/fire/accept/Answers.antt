@@ -1,0 +1,31 @@
+use Rattle.std.proofs.Common.{◌≡◌, Some, sym, ap, ◌∙◌}
+use Rattle.safl_term.specs.Checked.{program_of}
+use Rattle.safl_calls.specs.Machine as core
+use Rattle.safl_core.specs.States.{calls_of}
+use Rattle.safl_core.proofs.KeptLemmas.{inv, good, after_accept, accept_words}
+use Rattle.safl_core.proofs.StatesLemmas.{can_refresh, leads}
+use Rattle.safl_core.proofs.fire.accept.Goals as goal
+use Rattle.safl_core.proofs.fire.accept.Goals.{then-k-eq0, else-k-eq0}
+
+pub refresh-requires : goal.refresh-requires
+refresh-requires c =
+    let C = program_of c.args.c.now in
+    let s = calls_of c.args.state.now in
+    let h = c.requires.kept.1 in
+    let words : core.asked C c.args.opening.now s c.args.k ≡ Some c.if-k-eq0.words = elim c.if-k-eq0.branch [
+      | then-k-eq0 w ↦ accept_words h c.args.k c.requires.can.0 c.if-k-eq0.words c.requires.can.1 (λ q. w.words-is ∙ w.again-words.ensures) (λ q. absurd (q w.if-k-eq0.true))
+      | else-k-eq0 w ↦ accept_words h c.args.k c.requires.can.0 c.if-k-eq0.words c.requires.can.1 (λ q. absurd (w.if-k-eq0.false q)) (λ q. w.asked-words.ensures ∙ ap Some (sym w.words-is))
+    ] in
+    can_refresh c.args.c.now c.args.opening.now c.requires.kept.0 c.args.state.now _ h (core.Accept c.args.k) c.requires.can _ c.accept.ensures (ap (core.accept C s c.args.k) (sym words)) c.unit_for-unit.result c.unit_for-unit.ensures.within
+
+pub returns : goal.returns
+returns c =
+    let C = program_of c.args.c.now in
+    let s = calls_of c.args.state.now in
+    let h = c.requires.kept.1 in
+    let words : core.asked C c.args.opening.now s c.args.k ≡ Some c.if-k-eq0.words = elim c.if-k-eq0.branch [
+      | then-k-eq0 w ↦ accept_words h c.args.k c.requires.can.0 c.if-k-eq0.words c.requires.can.1 (λ q. w.words-is ∙ w.again-words.ensures) (λ q. absurd (q w.if-k-eq0.true))
+      | else-k-eq0 w ↦ accept_words h c.args.k c.requires.can.0 c.if-k-eq0.words c.requires.can.1 (λ q. absurd (w.if-k-eq0.false q)) (λ q. w.asked-words.ensures ∙ ap Some (sym w.words-is))
+    ] in
+    leads c.args.c.now c.args.opening.now (core.Accept c.args.k) c.args.state.now _ _ _ _ c.accept.ensures c.refresh.ensures (ap (core.accept C s c.args.k) (sym words)) (λ v ne.
+    after_accept C c.args.opening.now (good h) s (inv h) c.args.state.now.answers.items c.args.state.now.wants.items h.known c.args.k c.if-k-eq0.words words v (λ q. ne (q ∙ sym c.unit_for-unit.ensures.number)))

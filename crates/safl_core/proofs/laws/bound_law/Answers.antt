@@ -1,6 +1,0 @@
-use Rattle.safl_core.proofs.FromWellFormed.{numbered}
-use Rattle.safl_core.proofs.MachineLaws as law
-use Rattle.safl_core.proofs.laws.bound_law.Goals as goal
-
-pub returns : goal.returns
-returns c = λ C wf args es legal v d. law.bounded C C.functions (numbered C wf) wf.numbered args es legal v d

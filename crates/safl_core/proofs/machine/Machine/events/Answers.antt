@@ -1,0 +1,8 @@
+use Rattle.std.proofs.Common.{subst}
+use Rattle.safl_core.specs.Outcomes.{IsBounded}
+use Rattle.safl_core.specs.Shown.{Shown}
+use Rattle.safl_core.proofs.OutcomeLemmas.{bounded}
+use Rattle.safl_core.proofs.machine.Machine.events.Goals as goal
+
+pub returns-clause-bounded : goal.returns-clause-bounded
+returns-clause-bounded c = subst (λ (m : Shown). IsBounded m) c.self.view_is (bounded c.self.invariant)

@@ -1,0 +1,7 @@
+use Rattle.std.proofs.Common.{◌≡◌, ℕ, length}
+use Rattle.safl_calls.specs.Machine as core
+use Rattle.safl_core.specs.Modes.{unit_at}
+use Rattle.safl_core.proofs.make.idle.Given as goal
+
+abbrev pub invariant-loop-made : goal.invariant-loop-made
+invariant-loop-made l = (length l.modes.items ≡ l._made) × ((u : ℕ) → unit_at l.modes.items u ≡ core.Idle)

@@ -1,0 +1,22 @@
+use Rattle.std.proofs.Common.{◌<◌, length, refl, ap, ◌∙◌, rules, arith}
+use Rattle.safl_calls.specs.Machine as core
+use Rattle.safl_core.specs.declared.mode.Mode.TheVariants.{Idle}
+use Rattle.safl_core.specs.declared.stage.Stage.TheVariants.{Returned}
+use Rattle.safl_core.specs.Modes.{unit_at}
+use Rattle.safl_core.proofs.StateLemmas.{unit_put, stage_put, state_is}
+use Rattle.safl_core.proofs.step.give_back.Goals as goal
+
+pub returns : goal.returns
+returns c =
+    let s = c.args.state.now in
+    let k = c.args.k in
+    let unit : c.unit_for.result < length s.modes.items = omega (arith, c.unit_for.ensures.within, c.requires.sized.units) in
+    let site : k < length s.stages.items = omega (arith, c.requires.site, c.requires.sized.sites) in
+    record {
+      next = state_is _ _ _ _
+          (unit_put s.modes.items c.unit_for.result Idle unit ∙ ap (λ u. core.put (unit_at s.modes.items) u core.Idle) c.unit_for.ensures.number)
+          (stage_put s.stages.items k (Returned c.args.word) site);
+      answers = refl;
+      wants = refl;
+      sized = search rules;
+    }

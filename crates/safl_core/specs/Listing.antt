@@ -1,0 +1,44 @@
+-- The enabled events in order, and the units that are busy.
+use Rattle.std.specs.Prelude.{◌≡◌, ℕ, zero, suc, ◌+◌, ◌-◌, ◌<◌, ◌≤◌, List, length, ◌++◌, Some, slice_get, get_or, Bool, true, cond, not, nat_lt}
+use Rattle.safl_word.specs.Words.{Word}
+use Rattle.safl_term.specs.Program.{Program}
+use Rattle.safl_calls.specs.Machine.{State, Event, Accept, Finish, Return, LoopInto}
+use Rattle.safl_calls.specs.Picks.{picks}
+use Rattle.safl_core.specs.Testing.{can, is_idle}
+
+-- the accepts that are enabled, the finishes, the returns and the loops, each by rising number
+abbrev pub listed : Program → List Word → State → List Event
+listed C args s =
+    picks (λ k. can C args s (Accept k)) Accept (suc C.sites)
+    ++ (picks (λ f. can C args s (Finish f)) Finish C.functions
+    ++ (picks (λ k. can C args s (Return k)) Return (suc C.sites)
+    ++ picks (λ h. can C args s (LoopInto h)) LoopInto C.functions))
+
+-- all events of a program in that order
+abbrev pub event_at : Program → ℕ → Event
+event_at C i =
+    cond (nat_lt i (suc C.sites)) (Accept i)
+    (cond (nat_lt (i - suc C.sites) C.functions) (Finish (i - suc C.sites))
+    (cond (nat_lt (i - suc C.sites - C.functions) (suc C.sites)) (Return (i - suc C.sites - C.functions))
+    (LoopInto (i - suc C.sites - C.functions - suc C.sites))))
+
+-- how many events there are, enabled or not
+abbrev pub places : Program → ℕ
+places C = suc C.sites + (C.functions + (suc C.sites + C.functions))
+
+-- these are the places of the enabled events among the first n, in order
+pub record Lists (C : Program) (args : List Word) (s : State) (found : List ℕ) (count n : ℕ) : Type 0 where
+  pub count_is : count ≡ length (picks (λ i. can C args s (event_at C i)) (event_at C) n)
+  pub within : count ≤ n
+  pub each : (j : ℕ) → j < count → slice_get (picks (λ i. can C args s (event_at C i)) (event_at C) n) j ≡ Some (event_at C (get_or found j 0))
+  pub fires : (j : ℕ) → j < count → can C args s (event_at C (get_or found j 0)) ≡ true
+  pub below : (j : ℕ) → j < count → get_or found j 0 < n
+
+-- how many numbers below n pass a test
+unfoldable pub count_below : (ℕ → Bool) → ℕ → ℕ
+count_below p zero = 0
+count_below p (suc n) = count_below p n + cond (p n) 1 0
+
+-- how many units are not idle
+abbrev pub busy : Program → State → ℕ
+busy C s = count_below (λ u. not (is_idle (s.unit u))) C.functions

@@ -1,0 +1,27 @@
+-- The modes and answers that the code keeps, as those of the definitions.
+use Rattle.std.specs.Prelude.{ℕ, List, get_or}
+use Rattle.safl_term.specs.Readiness as plain
+use Rattle.safl_calls.specs.Machine as machine
+use Rattle.safl_core.specs.declared.mode.Answer.{Answer}
+use Rattle.safl_core.specs.declared.mode.Answer.TheVariants.{Ready, Loop, NotYet}
+use Rattle.safl_core.specs.declared.mode.Mode.{Mode}
+use Rattle.safl_core.specs.declared.mode.Mode.TheVariants.{Idle, Runs, Delivers}
+use Rattle.safl_core.specs.declared.stage.Stage.{Stage}
+use Rattle.safl_core.specs.Stages.{stage_at}
+
+abbrev pub mode_of : Mode → machine.Mode
+mode_of Idle = machine.Idle
+mode_of (Runs f k ws) = machine.Runs f k ws
+mode_of (Delivers k v) = machine.Delivers k v
+
+-- the mode of a unit; a unit that is not there is idle
+abbrev pub unit_at : List Mode → ℕ → machine.Mode
+unit_at modes u = mode_of (get_or modes u Idle)
+
+abbrev pub state_of : List Mode → List Stage → machine.State
+state_of modes sites = record { unit = unit_at modes; site = stage_at sites }
+
+abbrev pub answer_of : Answer → plain.Answer
+answer_of (Ready v) = plain.Ready v
+answer_of (Loop h ws) = plain.LoopTo h ws
+answer_of NotYet = plain.NotYet

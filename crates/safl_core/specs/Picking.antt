@@ -1,0 +1,33 @@
+-- Which of the enabled events is picked.
+use Rattle.std.specs.Prelude.{◌≡◌, ℕ, ◌<◌, ◌%◌, ◌⊎◌, List, length, Some, slice_get}
+use Rattle.safl_word.specs.Words.{Word}
+use Rattle.safl_term.specs.Program.{Program}
+use Rattle.safl_calls.specs.Machine.{State, Event, Accept, Finish, Return, LoopInto, Enabled}
+
+abbrev pub rank : Event → ℕ
+rank (Accept k) = 0
+rank (Finish f) = 1
+rank (Return k) = 2
+rank (LoopInto h) = 3
+
+abbrev pub number : Event → ℕ
+number (Accept k) = k
+number (Finish f) = f
+number (Return k) = k
+number (LoopInto h) = h
+
+-- accepts come before finishes, these before returns, and loops come last; each kind by rising number
+abbrev pub Precedes : Event → Event → Type 0
+Precedes d e = (rank d < rank e) ⊎ ((rank d ≡ rank e) × (number d < number e))
+
+-- the list has all enabled events and no others, in this order, and so each once
+pub record IsListing (C : Program) (args : List Word) (s : State) (es : List Event) : Type 0 where
+  pub enabled : (i : ℕ) (e : Event) → slice_get es i ≡ Some e → Enabled C args s e
+  pub all : (e : Event) → Enabled C args s e → (i : ℕ) × (slice_get es i ≡ Some e)
+  pub order : (i j : ℕ) (d e : Event) → slice_get es i ≡ Some d → slice_get es j ≡ Some e → i < j → Precedes d e
+
+-- the event stands there at the place that a number has modulo their number
+pub record IsPicked (C : Program) (args : List Word) (s : State) (x : ℕ) (e : Event) : Type 0 where
+  pub list : List Event
+  pub lists : IsListing C args s list
+  pub there : slice_get list (x % length list) ≡ Some e

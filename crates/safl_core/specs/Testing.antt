@@ -1,0 +1,48 @@
+-- Which events are enabled, by tests.
+use Rattle.std.specs.Prelude.{ℕ, zero, suc, List, Option, None, Bool, true, false, ◌==◌, ◌&&◌, is_some, get_or}
+use Rattle.safl_word.specs.Words.{Word}
+use Rattle.safl_term.specs.Program.{Program, unit_for}
+use Rattle.safl_term.specs.Readiness.{Stage, Unsent, Sent, Returned, Answer, Ready, LoopTo, NotYet}
+use Rattle.safl_calls.specs.Machine.{State, Mode, Idle, Runs, Delivers, Event, Accept, Finish, Return, LoopInto, asked, says}
+
+abbrev pub is_idle : Mode → Bool
+is_idle Idle = true
+is_idle (Runs f k ws) = false
+is_idle (Delivers k v) = false
+
+abbrev pub runs : Mode → ℕ → Bool
+runs Idle f = false
+runs (Runs g k ws) f = g == f
+runs (Delivers k v) f = false
+
+abbrev pub delivers_to : Mode → ℕ → Bool
+delivers_to Idle k = false
+delivers_to (Runs f j ws) k = false
+delivers_to (Delivers j v) k = j == k
+
+abbrev pub is_sent : Stage → Bool
+is_sent Unsent = false
+is_sent Sent = true
+is_sent (Returned v) = false
+
+abbrev pub is_ready : Answer → Bool
+is_ready (Ready v) = true
+is_ready (LoopTo h vs) = false
+is_ready NotYet = false
+
+abbrev pub loops_to : Answer → ℕ → Bool
+loops_to (Ready v) h = false
+loops_to (LoopTo g vs) h = g == h
+loops_to NotYet h = false
+
+-- whether the event is enabled
+abbrev pub can : Program → List Word → State → Event → Bool
+can C args s (Accept k) = is_some (asked C args s k) && is_idle (s.unit (unit_for C k))
+can C args s (Finish f) = runs (s.unit (C.unit f)) f && is_ready (says C s (C.unit f))
+can C args s (Return k) = delivers_to (s.unit (unit_for C k)) k
+can C args s (LoopInto h) = loops_to (says C s (C.unit h)) h
+
+-- whether a site other than main's is wanted by its caller's body
+abbrev pub wanted_at : List (Option (List Word)) → ℕ → Bool
+wanted_at wants zero = true
+wanted_at wants (suc k) = is_some (get_or wants (suc k) None)

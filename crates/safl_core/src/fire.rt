@@ -1,0 +1,154 @@
+//! Events are fired.
+
+ghost use Rattle.std.specs.Prelude.{◌≡◌, ℕ, ◌<◌, ◌≤◌, length, Some, None, IsSome, get_or};
+ghost use Rattle.safl_term.specs.Checked.{program_of};
+ghost use Rattle.safl_term.specs.Readiness as plain;
+ghost use Rattle.safl_calls.specs.Machine as core;
+ghost use Rattle.safl_core.specs.Modes.{answer_of, unit_at};
+ghost use Rattle.safl_core.specs.Shown.{serves_of, word_given, args_given, event_of};
+ghost use Rattle.safl_core.specs.States.{Keeps, Leads, calls_of};
+
+use crate::args::Args;
+use crate::event::Event;
+use crate::mode::{Answer, Mode};
+use crate::refresh::refresh;
+use crate::state::State;
+use crate::step;
+use safl_term::Checked;
+use safl_word::Word;
+
+/// Fires an event that is enabled: the modes and stages are those of the next state, and what is kept of partial
+/// evaluation is that of this state.
+pub fn fire(c: &Checked, opening: &Args, state: &mut State, e: Event)
+    requires kept { (n : ℕ) × Keeps c.now opening.now n state.old }
+    requires can { core.Enabled (program_of c.now) opening.now (calls_of state.old) (event_of e) }
+    ensures { Leads c.now opening.now (event_of e) state.old state.new }
+{
+    match e {
+        Event::Accept(k) => accept(c, opening, state, k),
+        Event::Finish(f) => finish(c, opening, state, f),
+        Event::Return(k) => give_back(c, opening, state, k),
+        Event::Loop(h) => loop_into(c, opening, state, h),
+    }
+}
+
+// A site's call is accepted.
+fn accept(c: &Checked, opening: &Args, state: &mut State, k: u32)
+    requires kept { (n : ℕ) × Keeps c.now opening.now n state.old }
+    requires can { core.Enabled (program_of c.now) opening.now (calls_of state.old) (core.Accept k) }
+    ensures { Leads c.now opening.now (core.Accept k) state.old state.new }
+{
+    let words = if k == 0 {
+        opening.again()
+    } else {
+        asked(state, k)
+    };
+    step::accept(c, state, k, words);
+    let unit = c.unit_for(k);
+    refresh(c, state, unit);
+}
+
+// A function finishes.
+fn finish(c: &Checked, opening: &Args, state: &mut State, f: u32)
+    requires kept { (n : ℕ) × Keeps c.now opening.now n state.old }
+    requires can { core.Enabled (program_of c.now) opening.now (calls_of state.old) (core.Finish f) }
+    ensures { Leads c.now opening.now (core.Finish f) state.old state.new }
+{
+    let unit = c.unit(f);
+    let serves = served(state, unit);
+    let Some(word) = ready(state, unit) else {
+        unreachable!()
+    };
+    step::end(c, state, unit, Mode::Delivers(serves, word));
+    refresh(c, state, unit);
+}
+
+// A site gets its word.
+fn give_back(c: &Checked, opening: &Args, state: &mut State, k: u32)
+    requires kept { (n : ℕ) × Keeps c.now opening.now n state.old }
+    requires can { core.Enabled (program_of c.now) opening.now (calls_of state.old) (core.Return k) }
+    ensures { Leads c.now opening.now (core.Return k) state.old state.new }
+{
+    let unit = c.unit_for(k);
+    let Some(word) = delivered(state, unit) else {
+        unreachable!()
+    };
+    step::give_back(c, state, k, word);
+    let waiting = if k == 0 { unit } else { c.unit(c.caller(k)) };
+    refresh(c, state, waiting);
+}
+
+// A unit loops to a member.
+fn loop_into(c: &Checked, opening: &Args, state: &mut State, h: u32)
+    requires kept { (n : ℕ) × Keeps c.now opening.now n state.old }
+    requires can { core.Enabled (program_of c.now) opening.now (calls_of state.old) (core.LoopInto h) }
+    ensures { Leads c.now opening.now (core.LoopInto h) state.old state.new }
+{
+    let unit = c.unit(h);
+    let serves = served(state, unit);
+    let Some(args) = passed(state, unit) else {
+        unreachable!()
+    };
+    step::end(c, state, unit, Mode::Runs(h, serves, args));
+    refresh(c, state, unit);
+}
+
+// The words with which a site is wanted.
+fn asked(state: &State, k: u32) -> Args
+    requires within { k < length state.now.wants.items }
+    requires some { IsSome (get_or state.now.wants.items k None) }
+    ensures { get_or state.now.wants.items k None ≡ Some result }
+{
+    match &state.wants[k as usize] {
+        Some(words) => words.again(),
+        None => unreachable!(),
+    }
+}
+
+// The site that a unit serves, or else 0.
+fn served(state: &State, u: u32) -> u32
+    requires { u < length state.now.modes.items }
+    ensures { result ≡ serves_of (unit_at state.now.modes.items u) }
+{
+    match &state.modes[u as usize] {
+        Mode::Idle => 0,
+        Mode::Runs(_, serves, _) => *serves,
+        Mode::Delivers(serves, _) => *serves,
+    }
+}
+
+// The word that a unit's body comes to.
+fn ready(state: &State, u: u32) -> Option<Word>
+    requires { u < length state.now.answers.items }
+    ensures { result ≡ plain.word_of (answer_of (get_or state.now.answers.items u Answer.NotYet)) }
+{
+    match &state.answers[u as usize] {
+        Answer::Ready(word) => Some(*word),
+        Answer::Loop(_, _) => None,
+        Answer::NotYet => None,
+    }
+}
+
+// The arguments of the tail call that a unit's body comes to.
+fn passed(state: &State, u: u32) -> Option<Args>
+    requires { u < length state.now.answers.items }
+    ensures { result ≡ args_given (get_or state.now.answers.items u Answer.NotYet) }
+{
+    match &state.answers[u as usize] {
+        Answer::Ready(_) => None,
+        Answer::Loop(_, args) => Some(args.again()),
+        Answer::NotYet => None,
+    }
+}
+
+// The word that a unit delivers.
+fn delivered(state: &State, u: u32) -> Option<Word>
+    requires { u < length state.now.modes.items }
+    ensures { result ≡ word_given (unit_at state.now.modes.items u) }
+{
+    match &state.modes[u as usize] {
+        Mode::Idle => None,
+        Mode::Runs(_, _, _) => None,
+        Mode::Delivers(_, word) => Some(*word),
+    }
+}

@@ -1,0 +1,249 @@
+//! The call machine.
+
+use crate::args::Args;
+use crate::event::Event;
+use crate::stage::Stage;
+use crate::state::State;
+use crate::{check, fire, make};
+use safl_term::Checked;
+use safl_word::Word;
+use std::alloc::{AllocError, Global};
+use std::marker::Model;
+
+/// The words of the slots of any body: at most as many as its parameters and nodes.
+const ROOM: usize = 50_016;
+
+/// The most events of a program, enabled or not: accepts and returns of 4,001 sites, finishes and loops of 1,000
+/// functions.
+const PLACES: usize = 10_002;
+
+/// Why there is no machine: the arguments differ from main's parameters in number or in a width, or no memory is left.
+#[derive(Clone, Copy, Debug, PartialEq, Eq)]
+pub enum MachineErr {
+    BadArgs,
+    NoMemory,
+}
+
+/// Units that serve the calls of a program, one event at a time. Once made it takes no memory.
+#[derive(Drop)]
+pub struct Machine<'a> {
+    checked: &'a Checked,
+    opening: Args,
+    state: State,
+    events: u64,
+}
+
+impl<'a> Model for Machine<'a> {
+    ghost use Rattle.std.specs.Coded.{codes};
+    ghost use Rattle.safl_term.specs.contracts.checked.Checked as inner;
+    ghost use Rattle.safl_core.specs.Shown.{Shown, shown_of};
+    ghost use Rattle.safl_core.specs.States.{Keeps};
+
+    ghost Value = { Shown };
+
+    ghost coded = { Prim.hlevel (codes, inner.the_row.coded) };
+
+    ghost view = { λ m. shown_of m.checked.now m.opening m.state.modes.items m.state.stages.items m.events };
+
+    ghost invariant = { λ m. Keeps m.checked.now m.opening m.events m.state };
+}
+
+impl<'a> Machine<'a> {
+    ghost use Rattle.std.specs.Prelude.{◌≡◌, ◌+◌, ◌-◌, ◌^◌, ◌<◌, ◌≤◌, ◌↔◌, Err, IsTrue, IfOk, IfSome, IfNone, IsNone, IsSome, suc, length};
+    ghost use Rattle.safl_calls.specs.Machine as core;
+    ghost use Rattle.safl_term.specs.Checked.{program_of};
+    ghost use Rattle.safl_term.specs.Readiness.{back_word};
+    ghost use Rattle.safl_core.specs.Evaluating.{widths};
+    ghost use Rattle.safl_core.specs.Listing.{Lists, busy, event_at, places};
+    ghost use Rattle.safl_core.specs.Picking.{IsPicked};
+    ghost use Rattle.safl_core.specs.Outcomes.{IsValue, IsBounded, GoesOn, IsOver};
+    ghost use Rattle.safl_core.specs.Walking.{IsShort};
+    ghost use Rattle.safl_core.specs.Shown.{state, event_of, IsReached, CanFire, Fires, Opens};
+
+    /// A machine whose units are idle, and whose main waits to be accepted with these arguments.
+    pub fn new(alloc: Global, c: &'a Checked, args: &[Word]) -> Result<Machine<'a>, MachineErr>
+        ensures bad_args { result ≡ Err MachineErr.BadArgs ↔ (widths args.now ≡ (program_of c.now).params (program_of c.now).main → ⊥) }
+        ensures opens { IfOk result (λ m. Opens c.now args.now m) }
+    {
+        if !make::fits(c, args) {
+            return Err(MachineErr::BadArgs);
+        }
+        match Machine::opened(alloc, c, args) {
+            Ok(machine) => Ok(machine),
+            Err(_) => Err(MachineErr::NoMemory),
+        }
+    }
+
+    fn opened(alloc: Global, c: &'a Checked, args: &[Word]) -> Result<Machine<'a>, AllocError>
+        requires { widths args.now ≡ (program_of c.now).params (program_of c.now).main }
+        ensures { IfOk result (λ m. Opens c.now args.now m) }
+    {
+        let functions = c.functions() as usize;
+        let sites = c.sites() as usize + 1;
+        let modes = make::idle(alloc, functions)?;
+        let stages = make::unsent(alloc, sites)?;
+        let answers = make::unanswered(alloc, functions)?;
+        let wants = make::unwanted(alloc, sites)?;
+        let env = make::room(alloc, ROOM)?;
+        Ok(Machine {
+            checked: c,
+            opening: Args::new(args),
+            state: State {
+                modes,
+                stages,
+                answers,
+                wants,
+                env,
+            },
+            events: 0,
+        })
+    }
+
+    /// The number of events that were fired.
+    pub fn events(&self) -> u64
+        ensures count { result ≡ self.now.events }
+        ensures reached { IsReached self.now }
+        ensures bounded { IsBounded self.now }
+    {
+        self.events
+    }
+
+    /// What main has returned: its value, in three events for each call but two less for each tail call. Until
+    /// then some event is enabled, and afterwards none is.
+    pub fn result(&self) -> Option<Word>
+        ensures returned { result ≡ back_word ((state self.now).site 0) }
+        ensures value { IfSome result (λ v. IsValue self.now v) }
+        ensures goes_on { IfNone result (GoesOn self.now) }
+        ensures over { IsSome result → IsOver self.now }
+        ensures short { IfNone result (IsShort self.now self.now.events) }
+    {
+        match self.state.stages[0] {
+            Stage::Unsent => None,
+            Stage::Sent => None,
+            Stage::Returned(word) => Some(word),
+        }
+    }
+
+    /// Whether an event is enabled now.
+    pub fn enabled(&self, e: Event) -> bool
+        ensures { IsTrue result ↔ CanFire self.now (event_of e) }
+    {
+        let c = self.checked;
+        let functions = c.functions();
+        match e {
+            Event::Accept(k) => {
+                if k > c.sites() {
+                    return false;
+                }
+                check::accepts(
+                    c,
+                    &self.state.modes,
+                    &self.state.stages,
+                    &self.state.wants,
+                    k,
+                )
+            }
+            Event::Finish(f) => {
+                if f >= functions {
+                    return false;
+                }
+                check::finishes(&self.state.modes, &self.state.answers, c.unit(f), f)
+            }
+            Event::Return(k) => {
+                if k > c.sites() {
+                    return false;
+                }
+                check::returns(c, &self.state.modes, &self.state.stages, k)
+            }
+            Event::Loop(h) => {
+                if h >= functions {
+                    return false;
+                }
+                check::loops(&self.state.answers, c.unit(h), h)
+            }
+        }
+    }
+
+    /// The number of units that are not idle.
+    pub fn busy(&self) -> u32
+        ensures { result ≡ busy (program_of self.now.program) (state self.now) }
+    {
+        check::busy(&self.state.modes, self.checked.functions())
+    }
+
+    // The event at a place in the order of all events.
+    fn event_at(&self, place: u32) -> Event
+        requires { place < 2 ^ 31 }
+        ensures { event_of result ≡ event_at (program_of self.now.program) place }
+    {
+        let c = self.checked;
+        let functions = c.functions();
+        let sites = c.sites() + 1;
+        if place < sites {
+            return Event::Accept(place);
+        }
+        let place = place - sites;
+        if place < functions {
+            return Event::Finish(place);
+        }
+        let place = place - functions;
+        if place < sites {
+            return Event::Return(place);
+        }
+        Event::Loop(place - sites)
+    }
+
+    // How many events there are, enabled or not.
+    fn places(&self) -> u32
+        ensures places { result ≡ places (program_of self.now.program) }
+        ensures few { result ≤ 10002 }
+    {
+        let functions = self.checked.functions();
+        let sites = self.checked.sites() + 1;
+        sites + functions + sites + functions
+    }
+
+    /// The event at place `x` modulo their number among the enabled ones, which are listed as accepts, finishes,
+    /// returns and loops, each by rising number: None where none is enabled, which is where main has returned.
+    pub fn pick(&self, x: u64) -> Option<Event>
+        ensures picked { IfSome result (λ e. IsPicked (program_of self.now.program) self.now.args (state self.now) x (event_of e)) }
+        ensures fires { IfSome result (λ e. CanFire self.now (event_of e)) }
+        ensures none { IsNone result ↔ IsSome (back_word ((state self.now).site 0)) }
+    {
+        let _ = &self.checked;
+        let mut found = [0; PLACES];
+        let count = self.enabled_places(&mut found);
+        if count == 0 {
+            return None;
+        }
+        let place = found[(x % u64::from(count)) as usize];
+        Some(self.event_at(place))
+    }
+
+    // Puts the places of the enabled events in order, and says how many there are.
+    fn enabled_places(&self, found: &mut [u32]) -> u32
+        requires { length found.old ≡ 10002 }
+        ensures lists { Lists (program_of self.now.program) self.now.args (state self.now) found.new result (places (program_of self.now.program)) }
+        ensures few { places (program_of self.now.program) ≤ 10002 }
+    {
+        let mut count = 0;
+        for i in 0..self.places() {
+            let fires = self.enabled(self.event_at(i));
+            if fires {
+                found[count as usize] = i;
+                count += 1;
+            }
+        }
+        count
+    }
+
+    /// Fires an event that is enabled.
+    pub fn fire(&mut self, e: Event)
+        requires can { CanFire self.old (event_of e) }
+        requires few { self.old.events < 2 ^ 64 - 1 }
+        ensures { Fires self.old (event_of e) self.new }
+    {
+        fire::fire(self.checked, &self.opening, &mut self.state, e);
+        self.events += 1;
+    }
+}

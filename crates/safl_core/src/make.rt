@@ -1,0 +1,92 @@
+//! What a machine begins with.
+
+ghost use Rattle.std.specs.Prelude.{◌≡◌, ◌↔◌, ℕ, IsTrue, IfOk, length, get_or, None};
+ghost use Rattle.safl_term.specs.Checked.{program_of};
+ghost use Rattle.safl_term.specs.Readiness as plain;
+ghost use Rattle.safl_calls.specs.Machine as core;
+ghost use Rattle.safl_core.specs.Evaluating.{widths};
+ghost use Rattle.safl_core.specs.Modes.{answer_of, unit_at};
+ghost use Rattle.safl_core.specs.Stages.{stage_at};
+
+use crate::args::Args;
+use crate::mode::{Answer, Mode};
+use crate::stage::Stage;
+use safl_term::Checked;
+use safl_word::Word;
+use std::alloc::{AllocError, Global};
+
+/// Whether these are as many words as main has parameters, each of its width.
+pub fn fits(c: &Checked, args: &[Word]) -> bool
+    ensures { IsTrue result ↔ (widths args.now ≡ (program_of c.now).params (program_of c.now).main) }
+{
+    let main = c.main();
+    let count = c.params(main);
+    if args.len() != count as usize {
+        return false;
+    }
+    for i in 0..count {
+        if args[i as usize].width() != c.param_width(main, i) {
+            return false;
+        }
+    }
+    true
+}
+
+/// So many idle units.
+pub fn idle(alloc: Global, count: usize) -> Result<Vec<Mode>, AllocError>
+    ensures count { IfOk result (λ v. length v.items ≡ count) }
+    ensures idle { IfOk result (λ v. (u : ℕ) → unit_at v.items u ≡ core.Idle) }
+{
+    let mut modes = Vec::new(alloc);
+    for _made in 0..count {
+        modes.push(Mode::Idle)?;
+    }
+    Ok(modes)
+}
+
+/// So many bodies that come to nothing yet.
+pub fn unanswered(alloc: Global, count: usize) -> Result<Vec<Answer>, AllocError>
+    ensures count { IfOk result (λ v. length v.items ≡ count) }
+    ensures none { IfOk result (λ v. (u : ℕ) → answer_of (get_or v.items u Answer.NotYet) ≡ plain.NotYet) }
+{
+    let mut answers = Vec::new(alloc);
+    for _made in 0..count {
+        answers.push(Answer::NotYet)?;
+    }
+    Ok(answers)
+}
+
+/// So many sites that are not wanted.
+pub fn unwanted(alloc: Global, count: usize) -> Result<Vec<Option<Args>>, AllocError>
+    ensures count { IfOk result (λ v. length v.items ≡ count) }
+    ensures none { IfOk result (λ v. (k : ℕ) → get_or v.items k None ≡ None) }
+{
+    let mut wants = Vec::new(alloc);
+    for _made in 0..count {
+        wants.push(None)?;
+    }
+    Ok(wants)
+}
+
+/// So many unsent sites.
+pub fn unsent(alloc: Global, count: usize) -> Result<Vec<Stage>, AllocError>
+    ensures count { IfOk result (λ v. length v.items ≡ count) }
+    ensures unsent { IfOk result (λ v. (k : ℕ) → stage_at v.items k ≡ plain.Unsent) }
+{
+    let mut stages = Vec::new(alloc);
+    for _made in 0..count {
+        stages.push(Stage::Unsent)?;
+    }
+    Ok(stages)
+}
+
+/// Room for so many words.
+pub fn room(alloc: Global, count: usize) -> Result<Vec<Word>, AllocError>
+    ensures { IfOk result (λ v. length v.items ≡ count) }
+{
+    let mut words = Vec::new(alloc);
+    for _made in 0..count {
+        words.push(Word::from_parts(1, 0))?;
+    }
+    Ok(words)
+}

@@ -1,0 +1,99 @@
+//! What is kept of partial evaluation, found anew for a unit.
+
+ghost use Rattle.std.specs.Prelude.{◌≡◌, ℕ, suc, ◌+◌, ◌<◌, ◌≤◌, ◌==◌, List, length, cond, None, IfSome, IfNone, get_or};
+ghost use Rattle.safl_term.specs.Checked.{program_of};
+ghost use Rattle.safl_term.specs.Readiness.{answer, wanted};
+ghost use Rattle.safl_term.specs.Sizes.{nodes};
+ghost use Rattle.safl_term.specs.Tree.{tree};
+ghost use Rattle.safl_calls.specs.Machine as core;
+ghost use Rattle.safl_core.specs.Evaluating.{CanRun, Unasked, Notes};
+ghost use Rattle.safl_core.specs.Modes.{answer_of, unit_at};
+ghost use Rattle.safl_core.specs.Stages.{back_at};
+ghost use Rattle.safl_core.specs.States.{CanRefresh, Refreshes, Evaluates};
+
+use crate::args::Args;
+use crate::evaluate::{Outcome, evaluate, part};
+use crate::mode::{Answer, Mode};
+use crate::stage::Stage;
+use crate::state::State;
+use safl_term::{Checked, Term};
+use safl_word::Word;
+
+/// Forgets the words with which a unit wanted its sites.
+pub fn clear(c: &Checked, asks: &mut [Option<Args>], u: u32)
+    requires { length asks.old ≡ suc (program_of c.now).sites }
+    ensures { (k : ℕ) → 0 < k → k ≤ (program_of c.now).sites → get_or asks.new k None ≡ cond ((program_of c.now).unit ((program_of c.now).caller k) == u) None (get_or asks.old k None) }
+{
+    for i in 0..c.sites() {
+        let k = i + 1;
+        if c.unit(c.caller(k)) == u {
+            asks[k as usize] = None;
+        }
+    }
+}
+
+/// What a body comes to with these arguments. The words with which it wants its sites are noted.
+pub fn run(
+    stages: &[Stage],
+    asks: &mut [Option<Args>],
+    env: &mut [Word],
+    body: &Term,
+    args: &Args,
+) -> Answer
+    requires can { CanRun stages.now (length asks.old) args.now (tree body.now) }
+    requires room { length args.now + nodes (tree body.now) ≤ length env.old }
+    requires unasked { Unasked asks.old (tree body.now) }
+    ensures answer { answer_of result ≡ answer (back_at stages.now) args.now (tree body.now) }
+    ensures notes { Notes asks.old asks.new (wanted (back_at stages.now) args.now (tree body.now)) }
+{
+    let words = args.words();
+    let slots = words.len();
+    env[..slots].copy_from_slice(words);
+    match evaluate(stages, asks, env, slots, body) {
+        Outcome::Ready(word) => Answer::Ready(word),
+        Outcome::Loop(h, at, count) => Answer::Loop(h, Args::new(part(env, at, count))),
+        Outcome::NotYet => Answer::NotYet,
+    }
+}
+
+/// Finds anew what a unit's body comes to, and with which words it wants its sites. What is kept for the other
+/// units stays.
+pub fn refresh(c: &Checked, state: &mut State, u: u32)
+    requires { CanRefresh c.now u state.old }
+    ensures { Refreshes (program_of c.now) u state.old state.new }
+{
+    clear(c, &mut state.wants, u);
+    let answer = evaluated(c, state, u);
+    state.answers[u as usize] = answer;
+}
+
+// What a unit's body comes to. The words with which it wants its sites are noted.
+fn evaluated(c: &Checked, state: &mut State, u: u32) -> Answer
+    requires can { CanRefresh c.now u state.old }
+    requires cleared { (k : ℕ) → 0 < k → k ≤ (program_of c.now).sites → (program_of c.now).unit ((program_of c.now).caller k) ≡ u → get_or state.old.wants.items k None ≡ None }
+    ensures { Evaluates (program_of c.now) u state.old state.new result }
+{
+    match running(state, u) {
+        Some((f, args)) => run(
+            &state.stages,
+            &mut state.wants,
+            &mut state.env,
+            c.body(f),
+            &args,
+        ),
+        None => Answer::NotYet,
+    }
+}
+
+// The member that a unit runs, with its arguments.
+fn running(state: &State, u: u32) -> Option<(u32, Args)>
+    requires { u < length state.now.modes.items }
+    ensures runs { IfSome result (λ r. (k : ℕ) × (unit_at state.now.modes.items u ≡ core.Runs r.0 k r.1)) }
+    ensures none { IfNone result ((f k : ℕ) (ws : List Word) → unit_at state.now.modes.items u ≡ core.Runs f k ws → ⊥) }
+{
+    match &state.modes[u as usize] {
+        Mode::Idle => None,
+        Mode::Runs(f, _, args) => Some((*f, args.again())),
+        Mode::Delivers(_, _) => None,
+    }
+}

@@ -1,0 +1,17 @@
+//! What an event changes.
+
+use crate::args::Args;
+use crate::mode::{Answer, Mode};
+use crate::stage::Stage;
+use safl_word::Word;
+
+/// The modes of the units and the stages of the sites. Beside them is what is kept of partial evaluation: what each
+/// unit's body comes to, the words with which the sites are wanted, and room for the words of a body's slots.
+#[derive(Drop)]
+pub struct State {
+    pub modes: Vec<Mode>,
+    pub stages: Vec<Stage>,
+    pub answers: Vec<Answer>,
+    pub wants: Vec<Option<Args>>,
+    pub env: Vec<Word>,
+}

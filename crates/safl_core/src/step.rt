@@ -1,0 +1,58 @@
+//! The steps of units and sites.
+
+ghost use Rattle.std.specs.Prelude.{◌≡◌, ℕ, suc, ◌<◌, ◌≤◌, Some, length};
+ghost use Rattle.safl_term.specs.Checked.{program_of};
+ghost use Rattle.safl_calls.specs.Machine as core;
+ghost use Rattle.safl_core.specs.Modes.{mode_of};
+ghost use Rattle.safl_core.specs.Stages.{stage_at};
+ghost use Rattle.safl_core.specs.States.{IsSized, Steps, calls_of, ended_with};
+
+use crate::args::Args;
+use crate::mode::Mode;
+use crate::stage::Stage;
+use crate::state::State;
+use safl_term::Checked;
+use safl_word::Word;
+
+/// A call is accepted: the site is sent, and its unit runs the callee for it.
+pub fn accept(c: &Checked, state: &mut State, k: u32, words: Args)
+    requires site { k ≤ (program_of c.now).sites }
+    requires sized { IsSized (program_of c.now) state.old }
+    ensures { Steps (program_of c.now) state.old state.new (core.accept (program_of c.now) (calls_of state.old) k (Some words)) }
+{
+    state.modes[c.unit_for(k) as usize] = Mode::Runs(c.callee(k), k, words);
+    state.stages[k as usize] = Stage::Sent;
+}
+
+/// A unit ends: its mode is this one from now on, and the sites of its members are unsent again.
+pub fn end(c: &Checked, state: &mut State, u: u32, mode: Mode)
+    requires unit { u < (program_of c.now).functions }
+    requires sized { IsSized (program_of c.now) state.old }
+    ensures { Steps (program_of c.now) state.old state.new (ended_with (program_of c.now) state.old u (mode_of mode)) }
+{
+    state.modes[u as usize] = mode;
+    end_sites(c, &mut state.stages, u);
+}
+
+// The sites of a unit's members are unsent again.
+fn end_sites(c: &Checked, stages: &mut [Stage], u: u32)
+    requires { length stages.old ≡ suc (program_of c.now).sites }
+    ensures { (k : ℕ) → stage_at stages.new k ≡ core.ended (program_of c.now) u (stage_at stages.old) k }
+{
+    for i in 0..c.sites() {
+        let k = i + 1;
+        if c.unit(c.caller(k)) == u {
+            stages[k as usize] = Stage::Unsent;
+        }
+    }
+}
+
+/// A site gets its word, and its unit is idle.
+pub fn give_back(c: &Checked, state: &mut State, k: u32, word: Word)
+    requires site { k ≤ (program_of c.now).sites }
+    requires sized { IsSized (program_of c.now) state.old }
+    ensures { Steps (program_of c.now) state.old state.new (core.give_back (program_of c.now) (calls_of state.old) k (core.Delivers k word)) }
+{
+    state.modes[c.unit_for(k) as usize] = Mode::Idle;
+    state.stages[k as usize] = Stage::Returned(word);
+}

@@ -1,0 +1,53 @@
+//! Walks: events are picked by a row of numbers.
+
+ghost use Rattle.std.specs.Prelude.{◌≡◌, ◌+◌, ◌-◌, ◌^◌, ◌<◌, IfSome, IfNone};
+ghost use Rattle.safl_term.specs.Readiness.{back_word};
+ghost use Rattle.safl_core.specs.Outcomes.{IsValue};
+ghost use Rattle.safl_core.specs.Shown.{state};
+ghost use Rattle.safl_core.specs.Walking.{number_after, IsWalk, IsShort};
+
+use crate::machine::Machine;
+use safl_word::Word;
+
+/// What a walk came to: what main has returned, how many events were fired, and the greatest number of units that
+/// were busy in a state on the way, the first and the last one included.
+#[derive(Clone, Copy, Debug, PartialEq, Eq)]
+pub struct Walked {
+    pub result: Option<Word>,
+    pub events: u64,
+    pub units: u32,
+}
+
+/// Fires so many events, or fewer where main has returned before. Each turn asks the machine to pick by the next
+/// number of the row that the seed begins.
+pub fn walk(machine: &mut Machine, seed: u64, steps: u64) -> Walked
+    requires { machine.old.events + steps < 2 ^ 64 - 1 }
+    ensures walk { IsWalk machine.old seed steps machine.new result.units }
+    ensures result { result.result ≡ back_word ((state machine.new).site 0) }
+    ensures events { result.events ≡ machine.new.events }
+    ensures value { IfSome result.result (λ v. IsValue machine.new v) }
+    ensures short { IfNone result.result (IsShort machine.old (machine.old.events + steps)) }
+{
+    let mut number = seed;
+    let mut units = machine.busy();
+    for _turn in 0..steps {
+        number = following(number);
+        let Some(event) = machine.pick(number) else {
+            break;
+        };
+        machine.fire(event);
+        units = units.max(machine.busy());
+    }
+    Walked {
+        result: machine.result(),
+        events: machine.events(),
+        units,
+    }
+}
+
+// The number after x in the row.
+fn following(x: u64) -> u64
+    ensures { result ≡ number_after x }
+{
+    ((u128::from(x) * 1_103_515_245 + 12_345) % (1 << 31)) as u64
+}

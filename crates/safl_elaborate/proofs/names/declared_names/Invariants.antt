@@ -1,7 +1,0 @@
-use Rattle.safl_verilog.specs.Faults.{declared_names}
-use Rattle.safl_vread.specs.Shown.{declarations_at}
-use Rattle.safl_elaborate.proofs.NameLemmas.{IsApart}
-use Rattle.safl_elaborate.proofs.names.declared_names.Given as goal
-
-abbrev pub invariant-loop-d : goal.invariant-loop-d
-invariant-loop-d l = IsApart (declared_names (declarations_at l.text l.declarations)) l.d-index l.names

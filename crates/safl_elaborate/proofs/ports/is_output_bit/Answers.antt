@@ -1,9 +1,0 @@
-use Rattle.std.proofs.Common.{refl}
-use Rattle.safl_elaborate.proofs.ScopeLemmas.{none_passes, some_passes}
-use Rattle.safl_elaborate.proofs.ports.is_output_bit.Goals as goal
-
-pub returns-in-None : goal.returns-in-None
-returns-in-None c = none_passes _ _ _ c.in-None.ensures
-
-pub returns-in-Some : goal.returns-in-Some
-returns-in-Some c = some_passes _ _ _ _ _ c.in-Some.ensures (λ d h. rw (c.is_output.ensures, h.sort, h.width) refl)

@@ -1,6 +1,0 @@
-pub mod Firsts
-pub mod Lists
-pub mod Scopes
-pub mod Drivers
-pub mod Parts
-pub mod Laws

@@ -1,7 +1,0 @@
-use Rattle.std.proofs.Common.{◌≡◌, ℕ, length}
-use Rattle.safl_core.specs.Machine as core
-use Rattle.safl_machine.specs.Modes.{unit_at}
-use Rattle.safl_machine.proofs.make.idle.Given as goal
-
-abbrev pub invariant-loop-made : goal.invariant-loop-made
-invariant-loop-made l = (length l.modes.items ≡ l._made) × ((u : ℕ) → unit_at l.modes.items u ≡ core.Idle)

@@ -1,7 +1,0 @@
-use Rattle.std.proofs.Common.{◌≡◌, ℕ, length}
-use Rattle.safl_check.specs.Readiness as plain
-use Rattle.safl_machine.specs.Stages.{stage_at}
-use Rattle.safl_machine.proofs.make.unsent.Given as goal
-
-abbrev pub invariant-loop-made : goal.invariant-loop-made
-invariant-loop-made l = (length l.stages.items ≡ l._made) × ((k : ℕ) → stage_at l.stages.items k ≡ plain.Unsent)

@@ -1,5 +1,0 @@
-use Rattle.safl_print.proofs.Depths.{bodies_shallow}
-use Rattle.safl_print.proofs.laws.shallow_law.Goals as goal
-
-pub returns : goal.returns
-returns c = λ text p s. bodies_shallow p (c.printable_law.ensures text p s).kept

@@ -1,8 +1,0 @@
-use Rattle.std.proofs.Common.{◌≡◌, ◌++◌, drop}
-use Rattle.safl_tree.specs.Shown.{shows_defs}
-use Rattle.safl_print.specs.Printed.{printed}
-use Rattle.safl_print.proofs.program.print.Given as goal
-
--- with what is left the text is that of all
-abbrev pub invariant-loop-def : goal.invariant-loop-def
-invariant-loop-def l = l.out.items ++ printed (shows_defs (drop l.def-index l.p.defs.items)) ≡ printed (shows_defs l.p.defs.items)

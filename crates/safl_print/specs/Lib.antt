@@ -1,4 +1,0 @@
-pub mod Printed
-pub mod Places
-pub mod Laws
-pub mod Keeps

@@ -1,7 +1,0 @@
-use Rattle.std.proofs.Common.{◌≡◌}
-use Rattle.safl_vread.specs.Shown.{declarations_at}
-use Rattle.safl_reader.specs.Nets.{signals_at, partly}
-use Rattle.safl_reader.proofs.make.connect.Given as goal
-
-abbrev pub invariant-loop-i : goal.invariant-loop-i
-invariant-loop-i l = l.net ≡ record { signals = partly l.i (signals_at (declarations_at l.scope.text.now l.scope.declarations.now) l.drivers l.numbers l.order); outputs = l.initial.net.outputs }

@@ -1,7 +1,0 @@
-use Rattle.std.proofs.Common.{◌≡◌, ℕ, List, [], map, take}
-use Rattle.safl_vread.specs.Shown.{declarations_at}
-use Rattle.safl_reader.specs.Nets.{opened, signals_at}
-use Rattle.safl_reader.proofs.make.declare.Given as goal
-
-abbrev pub invariant-loop-place : goal.invariant-loop-place
-invariant-loop-place l = (ns : List ℕ) → l.net ≡ record { signals = map opened (signals_at (declarations_at l.scope.text.now l.scope.declarations.now) l.drivers ns (take l.place-index l.order)); outputs = [] }

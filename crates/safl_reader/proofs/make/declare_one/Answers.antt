@@ -1,9 +1,0 @@
-use Rattle.std.proofs.Common.{rules, List, ℕ, sym, subst}
-use Rattle.std.specs.Str.{IsUtf8}
-use Rattle.safl_reader.proofs.GoodNames.{good_text}
-use Rattle.safl_reader.proofs.make.declare_one.Goals as goal
-
-pub unreachable-requires : goal.unreachable-requires
-unreachable-requires c =
-    let text : IsUtf8 c.bytes_of.result.now = subst (λ (w : List ℕ). IsUtf8 w) (sym c.bytes_of.ensures) (good_text _ c.requires.good) in
-    search (rules, text)

@@ -1,7 +1,0 @@
-use Rattle.std.proofs.Common.{◌≡◌, take}
-use Rattle.safl_check.specs.Checked.{program_of}
-use Rattle.safl_interpreter.specs.Interpreting.{widths}
-use Rattle.safl_rows.proofs.meanings.words_of.Given as goal
-
-abbrev pub invariant-params : goal.invariant-params
-invariant-params l = widths l.words.items ≡ take l.i ((program_of l.c).params l.main)

@@ -1,4 +1,0 @@
-pub mod Arguments
-pub mod Outcomes
-pub mod Words
-pub mod Ticks

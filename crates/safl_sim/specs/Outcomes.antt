@@ -1,0 +1,51 @@
+-- What a run shows until `done` is 1.
+use Rattle.std.specs.Prelude.{◌≡◌, ℕ, suc, ◌+◌, ◌<◌, List, map, length, Option, Some, None, slice_get, codes}
+use Rattle.safl_word.specs.Words.{Word, no_word}
+use Rattle.safl_net.specs.Netlist.{Netlist, output_place}
+use Rattle.safl_net.specs.Valuations.{Valuation, signal_word, read_output}
+use Rattle.safl_net.specs.Runs.{Run, input_numbers}
+use Rattle.safl_sim.specs.declared.done.Done.{Done}
+
+-- a run from reset with these arguments, in which all inputs are 0 after cycle 0
+pub record IsRun (n : Netlist) (args : List Word) (vs : List Valuation) : Type 0 where
+  pub run : Run n (map (λ (w : Word). w.bits) args) vs
+  pub zeros : (c : ℕ) (v : Valuation) → slice_get vs (suc c) ≡ Some v → input_numbers n.signals v ≡ map (λ (w : Word). 0) args
+
+-- it has that many cycles, and no other run has
+pub record IsOnlyRun (n : Netlist) (args : List Word) (count : ℕ) (vs : List Valuation) : Type 0 where
+  pub is : IsRun n args vs
+  pub long : length vs ≡ count
+  pub alone : (ws : List Valuation) → IsRun n args ws → length ws ≡ count → ws ≡ vs
+
+-- the word of an output in a cycle
+abbrev pub word_at : Netlist → Valuation → Option ℕ → Word
+word_at n v None = no_word
+word_at n v (Some s) = signal_word n v s
+
+abbrev pub output_word : Netlist → Valuation → List ℕ → Word
+output_word n v name = word_at n v (output_place n.outputs name)
+
+-- in the cycles before this one `done` is 0
+abbrev pub NotDoneBefore : Netlist → List Valuation → ℕ → Type 0
+NotDoneBefore n vs count = (c : ℕ) (v : Valuation) → c < count → slice_get vs c ≡ Some v → read_output n v (codes "done") ≡ 0
+
+-- done is 1 in that cycle of the run, with that word as result, and 0 before
+pub record IsDone (n : Netlist) (args : List Word) (limit : ℕ) (d : Done) : Type 0 where
+  pub in_time : d.cycle < limit
+  pub run : List Valuation
+  pub only : IsOnlyRun n args (d.cycle + 1) run
+  pub last : Valuation
+  pub there : slice_get run d.cycle ≡ Some last
+  pub done : read_output n last (codes "done") ≡ 1
+  pub result : d.result ≡ output_word n last (codes "result")
+  pub before : NotDoneBefore n run d.cycle
+
+-- done is 0 in all cycles of the run below the limit
+pub record IsNotDone (n : Netlist) (args : List Word) (limit : ℕ) : Type 0 where
+  pub run : List Valuation
+  pub only : IsOnlyRun n args limit run
+  pub never : NotDoneBefore n run limit
+
+abbrev pub IsOutcome : Netlist → List Word → ℕ → Option Done → Type 0
+IsOutcome n args limit None = IsNotDone n args limit
+IsOutcome n args limit (Some d) = IsDone n args limit d

@@ -1,0 +1,108 @@
+//! Runs until `done` is 1.
+
+ghost use Rattle.std.specs.Prelude.{◌≡◌, ◌↔◌, ◌<◌, Some, IsSome, IsTrue, IfOk, OnErr, length, slice_index};
+ghost use Rattle.safl_net.specs.Netlist.{width_of, output_place};
+ghost use Rattle.safl_net.specs.Rules.{IsNetlist};
+ghost use Rattle.safl_net.specs.Whole.{IsWhole};
+ghost use Rattle.safl_sim.specs.Places.{AreInputs, resets};
+ghost use Rattle.safl_sim.specs.Arguments.{AreArguments};
+ghost use Rattle.safl_sim.specs.Outcomes.{IsOutcome};
+ghost use Rattle.safl_sim.specs.Ticks.{IsWatched, words_of};
+
+use crate::Sim;
+use crate::inputs::{bit, input_words, zeros};
+use safl_net::{Net, Sig};
+use safl_word::{NoMemory, Word};
+use std::alloc::Global;
+
+/// The cycle, from 0, in which `done` is 1, and the word of `result` in it.
+#[derive(Clone, Copy, Debug, PartialEq, Eq)]
+pub struct Done {
+    pub cycle: u64,
+    pub result: Word,
+}
+
+/// Simulates a net from reset until `done` is 1, but at most `limit` cycles, and answers the first such cycle. In
+/// cycle 0 `start` is 1 and the other inputs have the arguments in order; after it all inputs are 0. Only the room
+/// for the words of the inputs is memory that may lack; the simulator is then as it was.
+pub fn run_until_done(
+    alloc: Global,
+    sim: &mut Sim,
+    args: &[Word],
+    limit: u64,
+) -> Result<Option<Done>, NoMemory>
+    requires whole { IsWhole sim.old.net }
+    requires fresh { sim.old.state ≡ resets sim.old.net }
+    requires arguments { AreArguments sim.old.net args.now }
+    ensures outcome { IfOk result (IsOutcome sim.old.net args.now limit) }
+    ensures net { sim.new.net ≡ sim.old.net }
+    ensures refused { OnErr result (sim.new ≡ sim.old) }
+{
+    let net = sim.net();
+    let done = output(net, "done");
+    let result = output(net, "result");
+    let first = input_words(alloc, net, bit(1), args)?;
+    let zeros = zeros(alloc, args)?;
+    let later = input_words(alloc, net, bit(0), &zeros)?;
+    Ok(watch(sim, &first, &later, done, result, limit))
+}
+
+// The signal that the output of a name shows.
+fn output(net: &Net, name: &str) -> Sig
+    requires { IsSome (output_place net.now.outputs name.now) }
+    ensures shown { Some result.0 ≡ output_place net.now.outputs name.now }
+    ensures known { result.0 < length net.now.signals }
+    ensures netlist { IsNetlist net.now }
+{
+    let _count = net.signals();
+    match net.find(name) {
+        Some(s) => s,
+        None => unreachable!(),
+    }
+}
+
+// Ticks until a signal is 1, with the first words in cycle 0 and the later ones after it.
+fn watch(
+    sim: &mut Sim,
+    first: &[Word],
+    later: &[Word],
+    signal: Sig,
+    value: Sig,
+    limit: u64,
+) -> Option<Done>
+    requires first { AreInputs sim.old.net first.now }
+    requires later { AreInputs sim.old.net later.now }
+    requires signal { signal.0 < length sim.old.net.signals }
+    requires bit { width_of sim.old.net signal.0 ≡ 1 }
+    requires value { value.0 < length sim.old.net.signals }
+    ensures watched { IsWatched sim.old.net (slice_index sim.old.state) first.now later.now signal.0 value.0 limit result }
+    ensures net { sim.new.net ≡ sim.old.net }
+{
+    'cycles: for cycle in 0..limit {
+        sim.tick(words_of(cycle, first, later));
+        if is_on(sim, signal) {
+            return Some(Done {
+                cycle,
+                result: sim.value(value),
+            });
+        }
+    }
+    None
+}
+
+// The words of a cycle.
+fn words_of<'a>(cycle: u64, first: &'a [Word], later: &'a [Word]) -> &'a [Word]
+    ensures { result.now ≡ words_of cycle first.now later.now }
+{
+    if cycle == 0 { first } else { later }
+}
+
+// Whether a signal of one bit is 1 in the last cycle.
+fn is_on(sim: &Sim, signal: Sig) -> bool
+    requires known { signal.0 < length sim.now.net.signals }
+    requires bit { width_of sim.now.net signal.0 ≡ 1 }
+    ensures on { IsTrue result ↔ (slice_index sim.now.values signal.0 ≡ 1) }
+    ensures off { (slice_index sim.now.values signal.0 < 2) }
+{
+    sim.value(signal).bits() == 1
+}

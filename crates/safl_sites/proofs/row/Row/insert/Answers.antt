@@ -1,6 +1,0 @@
-use Rattle.std.proofs.Common.{arith}
-use Rattle.safl_sites.proofs.RowLemmas.{has-insert}
-use Rattle.safl_sites.proofs.row.Row.insert.Goals as goal
-
-pub returns : goal.returns
-returns c = λ j. has-insert c.args.self.now.words c.args.k j (omega arith)

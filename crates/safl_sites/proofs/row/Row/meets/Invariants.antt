@@ -1,6 +1,0 @@
-use Rattle.std.proofs.Common.{◌≡◌, ℕ, ◌<◌, ◌/◌}
-use Rattle.safl_sites.specs.Rows.{Has}
-use Rattle.safl_sites.proofs.row.Row.meets.Given as goal
-
-abbrev pub invariant-loop-i : goal.invariant-loop-i
-invariant-loop-i l = (j : ℕ) → j / 64 < l.i → Has l.self j → Has l.other j → l.except ≡ j

@@ -1,0 +1,13 @@
+pub mod Shows
+pub mod Unique
+pub mod Places
+pub mod Fuelled
+pub mod Bridge
+pub mod Once
+pub mod Picking
+pub mod Order
+pub mod Widths
+pub mod Values
+pub mod TreeLemmas
+pub mod SlotLemmas
+pub mod CheckedLemmas

@@ -1,0 +1,12 @@
+pub mod Terms
+pub mod Tree
+pub mod Slots
+pub mod Program
+pub mod Readiness
+pub mod Meaning
+pub mod Fuel
+pub mod Standing
+pub mod WellFormed
+pub mod Laws
+pub mod Sizes
+pub mod Checked

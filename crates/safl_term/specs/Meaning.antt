@@ -1,0 +1,84 @@
+-- What a program means, as derivations: words and calls, without units or time.
+use Rattle.std.specs.Prelude.{ℕ, suc, ◌+◌, List, [], ◌∷◌, ◌++◌, if◌then◌else◌, ◌==◌}
+use Rattle.safl_term.specs.Program.{Program}
+use Rattle.safl_term.specs.Terms.{Term, Const, Var, If, Let, Op, Call, Loop, Terms, Nil, Cons}
+use Rattle.safl_word.specs.declared.primitive.Primitive.{Primitive}
+use Rattle.safl_word.specs.Primitives.{apply_prim}
+use Rattle.safl_word.specs.Words.{choose, Word, slot}
+
+mutual
+  -- Where the slots hold the words of env, the term evaluates to the word: a constant to its word and a variable to its
+  -- slot's, an operator to its primitive's result, an if to what the selected branch gives, a let to what its body
+  -- gives where the words of the bindings follow env, and a call or loop to what the body of the function gives
+  pub data Gives (C : Program) : List Word → Term → Word → Type 0 where
+    gives_const : {env : List Word} {w : Word} → Gives C env (Const w) w
+    gives_var : {env : List Word} {i : ℕ} → Gives C env (Var i) (slot env i)
+    gives_op : {env : List Word} {o : Primitive} {ts : Terms} {vs : List Word} → GivesAll C env ts vs → Gives C env (Op o ts) (apply_prim o vs)
+    gives_if : {env : List Word} {c a b : Term} {u v : Word} → Gives C env c u → Gives C env (choose u a b) v → Gives C env (If c a b) v
+    gives_let : {env : List Word} {ts : Terms} {b : Term} {us : List Word} {v : Word} → GivesAll C env ts us → Gives C (env ++ us) b v → Gives C env (Let ts b) v
+    gives_call : {env : List Word} {f k : ℕ} {ts : Terms} {us : List Word} {v : Word} → GivesAll C env ts us → Gives C us (C.body f) v → Gives C env (Call f k ts) v
+    gives_loop : {env : List Word} {h : ℕ} {ts : Terms} {us : List Word} {v : Word} → GivesAll C env ts us → Gives C us (C.body h) v → Gives C env (Loop h ts) v
+
+  -- each term to its word
+  pub data GivesAll (C : Program) : List Word → Terms → List Word → Type 0 where
+    gives_nil : {env : List Word} → GivesAll C env Nil []
+    gives_cons : {env : List Word} {t : Term} {ts : Terms} {v : Word} {vs : List Word} → Gives C env t v → GivesAll C env ts vs → GivesAll C env (Cons t ts) (v ∷ vs)
+
+-- how many applications of functions an evaluation makes: one for each call and each loop
+abbrev mutual
+  pub cost : (C : Program) {env : List Word} {t : Term} {v : Word} → Gives C env t v → ℕ
+  cost C gives_const = 0
+  cost C gives_var = 0
+  cost C (gives_op ds) = costs C ds
+  cost C (gives_if c d) = cost C c + cost C d
+  cost C (gives_let ds d) = costs C ds + cost C d
+  cost C (gives_call ds d) = costs C ds + suc (cost C d)
+  cost C (gives_loop ds d) = costs C ds + suc (cost C d)
+
+  pub costs : (C : Program) {env : List Word} {ts : Terms} {vs : List Word} → GivesAll C env ts vs → ℕ
+  costs C gives_nil = 0
+  costs C (gives_cons d ds) = cost C d + costs C ds
+
+-- how many of them are by a Loop
+abbrev mutual
+  pub loops : (C : Program) {env : List Word} {t : Term} {v : Word} → Gives C env t v → ℕ
+  loops C gives_const = 0
+  loops C gives_var = 0
+  loops C (gives_op ds) = loops_all C ds
+  loops C (gives_if c d) = loops C c + loops C d
+  loops C (gives_let ds d) = loops_all C ds + loops C d
+  loops C (gives_call ds d) = loops_all C ds + loops C d
+  loops C (gives_loop ds d) = loops_all C ds + suc (loops C d)
+
+  pub loops_all : (C : Program) {env : List Word} {ts : Terms} {vs : List Word} → GivesAll C env ts vs → ℕ
+  loops_all C gives_nil = 0
+  loops_all C (gives_cons d ds) = loops C d + loops_all C ds
+
+-- the argument list, where g is f
+abbrev pub at_function : ℕ → ℕ → List Word → List (List Word)
+at_function f g us = if g == f then us ∷ [] else []
+
+-- the argument lists with which an evaluation applies f
+abbrev mutual
+  pub calls : (C : Program) (f : ℕ) {env : List Word} {t : Term} {v : Word} → Gives C env t v → List (List Word)
+  calls C f gives_const = []
+  calls C f gives_var = []
+  calls C f (gives_op ds) = calls_all C f ds
+  calls C f (gives_if c d) = calls C f c ++ calls C f d
+  calls C f (gives_let ds d) = calls_all C f ds ++ calls C f d
+  calls C f (gives_call {f = g} {us = us} ds d) = calls_all C f ds ++ (at_function f g us ++ calls C f d)
+  calls C f (gives_loop {h = h} {us = us} ds d) = calls_all C f ds ++ (at_function f h us ++ calls C f d)
+
+  pub calls_all : (C : Program) (f : ℕ) {env : List Word} {ts : Terms} {vs : List Word} → GivesAll C env ts vs → List (List Word)
+  calls_all C f gives_nil = []
+  calls_all C f (gives_cons d ds) = calls C f d ++ calls_all C f ds
+
+-- main on args evaluates to v, in n applications
+abbrev pub Main : Program → List Word → Word → Type 0
+Main C args v = Gives C args (C.body (C.callee 0)) v
+
+abbrev pub main_cost : (C : Program) (args : List Word) {v : Word} → Main C args v → ℕ
+main_cost C args d = suc (cost C d)
+
+abbrev pub main_calls : (C : Program) (args : List Word) {v : Word} → Main C args v → ℕ → List (List Word)
+main_calls C args d f = at_function f (C.callee 0) args ++ calls C f d

@@ -1,0 +1,102 @@
+-- Readiness: what a running body comes to, and which calls it wants, while some of its sites have returned.
+use Rattle.std.specs.Prelude.{ℕ, List, [], ◌∷◌, ◌++◌, Option, Some, None, cond, ◌==◌}
+use Rattle.safl_word.specs.Words.{Word, choose, slot}
+use Rattle.safl_word.specs.declared.primitive.Primitive.{Primitive}
+use Rattle.safl_word.specs.Primitives.{apply_prim}
+use Rattle.safl_term.specs.Terms.{Term, Const, Var, Op, If, Let, Call, Loop, Terms, Nil, Cons}
+
+-- a site of a running body: its call has not started, or it runs, or it has returned this word
+pub data Stage : Type 0 where
+  Unsent : Stage
+  Sent : Stage
+  Returned : (word : Word) → Stage
+
+-- the word that has come back
+abbrev pub back_word : Stage → Option Word
+back_word Unsent = None
+back_word Sent = None
+back_word (Returned v) = Some v
+
+-- what a body comes to: a word, a tail call of a member with these words, or nothing yet
+pub data Answer : Type 0 where
+  Ready : (word : Word) → Answer
+  LoopTo : (member : ℕ) (args : List Word) → Answer
+  NotYet : Answer
+
+-- the word of an answer
+abbrev pub word_of : Answer → Option Word
+word_of (Ready v) = Some v
+word_of (LoopTo h vs) = None
+word_of NotYet = None
+
+-- the words of one part and of the rest
+abbrev pub both : Answer → Option (List Word) → Option (List Word)
+both (Ready v) None = None
+both (Ready v) (Some vs) = Some (v ∷ vs)
+both (LoopTo h ws) o = None
+both NotYet o = None
+
+-- a site's word, where it has returned
+abbrev pub ready_from : Option Word → Answer
+ready_from None = NotYet
+ready_from (Some v) = Ready v
+
+-- a primitive's result, and a tail call, where all words are there
+abbrev pub apply_to : Primitive → Option (List Word) → Answer
+apply_to p None = NotYet
+apply_to p (Some vs) = Ready (apply_prim p vs)
+
+abbrev pub loop_to : ℕ → Option (List Word) → Answer
+loop_to h None = NotYet
+loop_to h (Some vs) = LoopTo h vs
+
+-- what the branch gives that a condition selects, where the condition is ready
+abbrev pub select : {A : Type 0} → Answer → A → A → A → A
+select (Ready u) none a b = choose u a b
+select (LoopTo h vs) none a b = none
+select NotYet none a b = none
+
+-- where all words are there
+abbrev pub with_all : {A : Type 0} → Option (List Word) → A → (List Word → A) → A
+with_all None none go = none
+with_all (Some vs) none go = go vs
+
+-- the first of two, where it is there
+abbrev pub or_else : {A : Type 0} → Option A → Option A → Option A
+or_else None o = o
+or_else (Some x) o = Some x
+
+unfoldable mutual
+  -- What a term comes to, where `back` has the words of the sites that have returned. A constant and a variable are ready
+  -- always; an operator where all operands are; an if where its condition is and the branch that it selects is; a let
+  -- where all bindings and its body are; a call where its site has returned. A loop is never ready: it loops where all
+  -- arguments are ready
+  pub answer : (ℕ → Option Word) → List Word → Term → Answer
+  answer back env (Const w) = Ready w
+  answer back env (Var i) = Ready (slot env i)
+  answer back env (Op p ts) = apply_to p (answers back env ts)
+  answer back env (If c a b) = select (answer back env c) NotYet (answer back env a) (answer back env b)
+  answer back env (Let bs b) = with_all (answers back env bs) NotYet (λ vs. answer back (env ++ vs) b)
+  answer back env (Call f k ts) = ready_from (back k)
+  answer back env (Loop h ts) = loop_to h (answers back env ts)
+
+  pub answers : (ℕ → Option Word) → List Word → Terms → Option (List Word)
+  answers back env Nil = Some []
+  answers back env (Cons t ts) = both (answer back env t) (answers back env ts)
+
+unfoldable mutual
+  -- The words with which site k is wanted: its call has its path, and its arguments are ready. Parts have their term's
+  -- path, but for a branch of an if, which has it where the condition is ready and selects it, and the body of a let,
+  -- which has it where all bindings are ready
+  pub wanted : (ℕ → Option Word) → List Word → Term → ℕ → Option (List Word)
+  wanted back env (Const w) k = None
+  wanted back env (Var i) k = None
+  wanted back env (Op p ts) k = wanted_in back env ts k
+  wanted back env (If c a b) k = or_else (wanted back env c k) (select (answer back env c) None (wanted back env a k) (wanted back env b k))
+  wanted back env (Let bs b) k = or_else (wanted_in back env bs k) (with_all (answers back env bs) None (λ vs. wanted back (env ++ vs) b k))
+  wanted back env (Call f j ts) k = cond (j == k) (answers back env ts) (wanted_in back env ts k)
+  wanted back env (Loop h ts) k = wanted_in back env ts k
+
+  pub wanted_in : (ℕ → Option Word) → List Word → Terms → ℕ → Option (List Word)
+  wanted_in back env Nil k = None
+  wanted_in back env (Cons t ts) k = or_else (wanted back env t k) (wanted_in back env ts k)

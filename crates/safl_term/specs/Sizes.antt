@@ -1,0 +1,55 @@
+-- How many nodes a term has, how deep it is, and how many bindings its lets have.
+use Rattle.std.specs.Prelude.{ℕ, suc, ◌+◌, ◌≤◌, max}
+use Rattle.safl_term.specs.Slots.{count}
+use Rattle.safl_term.specs.Terms.{Term, Terms, Const, Var, Op, If, Let, Call, Loop, Nil, Cons}
+
+abbrev mutual
+  pub nodes : Term → ℕ
+  nodes (Const w) = 1
+  nodes (Var i) = 1
+  nodes (Op o ts) = suc (nodes_in ts)
+  nodes (If c a b) = suc (nodes c + (nodes a + nodes b))
+  nodes (Let ts b) = suc (nodes_in ts + nodes b)
+  nodes (Call f k ts) = suc (nodes_in ts)
+  nodes (Loop h ts) = suc (nodes_in ts)
+
+  pub nodes_in : Terms → ℕ
+  nodes_in Nil = 0
+  nodes_in (Cons t ts) = nodes t + nodes_in ts
+
+-- how deep a checked body is at most, and how many bindings a let has at most
+abbrev pub max_depth : ℕ
+max_depth = 2000
+
+abbrev pub max_bindings : ℕ
+max_bindings = 16
+
+-- a constant, a variable, and a call or loop without arguments have depth 1, any other term one more than its deepest part
+abbrev mutual
+  pub depth : Term → ℕ
+  depth (Const w) = 1
+  depth (Var i) = 1
+  depth (Op o ts) = suc (deepest ts)
+  depth (If c a b) = suc (max (depth c) (max (depth a) (depth b)))
+  depth (Let ts b) = suc (max (deepest ts) (depth b))
+  depth (Call f k ts) = suc (deepest ts)
+  depth (Loop h ts) = suc (deepest ts)
+
+  pub deepest : Terms → ℕ
+  deepest Nil = 0
+  deepest (Cons t ts) = max (depth t) (deepest ts)
+
+-- each let has one binding at least, and few enough
+abbrev mutual
+  pub HasShortLets : Term → Type 0
+  HasShortLets (Const w) = Unit {0}
+  HasShortLets (Var i) = Unit {0}
+  HasShortLets (Op o ts) = HaveShortLets ts
+  HasShortLets (If c a b) = HasShortLets c × HasShortLets a × HasShortLets b
+  HasShortLets (Let ts b) = (1 ≤ count ts) × (count ts ≤ max_bindings) × HaveShortLets ts × HasShortLets b
+  HasShortLets (Call f k ts) = HaveShortLets ts
+  HasShortLets (Loop h ts) = HaveShortLets ts
+
+  pub HaveShortLets : Terms → Type 0
+  HaveShortLets Nil = Unit {0}
+  HaveShortLets (Cons t ts) = HasShortLets t × HaveShortLets ts

@@ -1,0 +1,72 @@
+-- Well-formed programs: sites numbered in order, calls of earlier groups alone, tail calls inside a group, and widths.
+use Rattle.std.specs.Prelude.{◌≡◌, ℕ, suc, ◌<◌, ◌≤◌, List, [], ◌∷◌, ◌++◌, Some, Bool, true, false, slice_get}
+use Rattle.safl_word.specs.Words.{Word, IsWord}
+use Rattle.safl_word.specs.Primitives.{result_width}
+use Rattle.safl_term.specs.Program.{Program}
+use Rattle.safl_term.specs.Terms.{Term, Const, Var, If, Let, Op, Call, Loop, Terms, Nil, Cons}
+
+-- In the body of g the term's sites are those from lo up to hi, hi apart, in text order: a call stands before its
+-- arguments. A call is of a function of an earlier group, and its site is noted with both. A loop stands in tail
+-- position alone, and is of a member of g's own group. The branches of an if and the body of a let are in tail position
+-- where it is; no other part is
+abbrev mutual
+  pub Spans : Program → ℕ → Bool → ℕ → ℕ → Term → Type 0
+  Spans C g tail lo hi (Const w) = lo ≡ hi
+  Spans C g tail lo hi (Var i) = lo ≡ hi
+  Spans C g tail lo hi (If c a b) = (m : ℕ) × (n : ℕ) × Spans C g false lo m c × Spans C g tail m n a × Spans C g tail n hi b
+  Spans C g tail lo hi (Let ts b) = (m : ℕ) × SpansAll C g lo m ts × Spans C g tail m hi b
+  Spans C g tail lo hi (Op o ts) = SpansAll C g lo hi ts
+  Spans C g tail lo hi (Call f k ts) = (k ≡ lo) × (C.callee k ≡ f) × (C.caller k ≡ g) × (C.unit f < C.unit g) × SpansAll C g (suc lo) hi ts
+  Spans C g tail lo hi (Loop h ts) = (tail ≡ true) × (C.unit h ≡ C.unit g) × SpansAll C g lo hi ts
+
+  pub SpansAll : Program → ℕ → ℕ → ℕ → Terms → Type 0
+  SpansAll C g lo hi Nil = lo ≡ hi
+  SpansAll C g lo hi (Cons t ts) = (m : ℕ) × Spans C g false lo m t × SpansAll C g m hi ts
+
+-- Where the slots have these widths the term has width n: a constant is a word of n bits, an operator has the width of
+-- the table, a condition has 1 and both branches n, and the arguments of a call have the widths of the parameters
+abbrev mutual
+  pub HasWidth : Program → List ℕ → Term → ℕ → Type 0
+  HasWidth C slots (Const w) n = IsWord w × (w.width ≡ n)
+  HasWidth C slots (Var i) n = slice_get slots i ≡ Some n
+  HasWidth C slots (Op o ts) n = (ws : List ℕ) × HaveWidths C slots ts ws × (result_width o ws ≡ Some n)
+  HasWidth C slots (If c a b) n = HasWidth C slots c 1 × HasWidth C slots a n × HasWidth C slots b n
+  HasWidth C slots (Let ts b) n = (ws : List ℕ) × HaveWidths C slots ts ws × HasWidth C (slots ++ ws) b n
+  HasWidth C slots (Call f k ts) n = HaveWidths C slots ts (C.params f) × (C.result f ≡ n) × (f < C.functions)
+  HasWidth C slots (Loop h ts) n = HaveWidths C slots ts (C.params h) × (C.result h ≡ n) × (h < C.functions)
+
+  pub HaveWidths : Program → List ℕ → Terms → List ℕ → Type 0
+  HaveWidths C slots Nil [] = Unit {0}
+  HaveWidths C slots Nil (w ∷ ws) = ⊥
+  HaveWidths C slots (Cons t ts) [] = ⊥
+  HaveWidths C slots (Cons t ts) (w ∷ ws) = HasWidth C slots t w × HaveWidths C slots ts ws
+
+-- words of these widths
+abbrev pub AreWordsOf : List Word → List ℕ → Type 0
+AreWordsOf [] [] = Unit {0}
+AreWordsOf [] (w ∷ ws) = ⊥
+AreWordsOf (v ∷ vs) [] = ⊥
+AreWordsOf (v ∷ vs) (w ∷ ws) = IsWord v × (v.width ≡ w) × AreWordsOf vs ws
+
+-- Each body has an interval of sites from 1 on, units are below a bound, and no unit is above main's.
+-- A function that is not there stands for a constant, in unit 0
+pub record IsNumbered (C : Program) (units : ℕ) : Type 0 where
+  pub bodies : (f : ℕ) → (lo : ℕ) × (hi : ℕ) × (1 ≤ lo) × Spans C f true lo hi (C.body f)
+  pub below : (f : ℕ) → C.unit f < units
+  -- main is in the last unit
+  pub top : (f : ℕ) → C.unit f ≤ C.unit (C.callee 0)
+
+-- every function of the program keeps the rules on sites, groups and widths
+pub record IsWellFormed (C : Program) : Type 0 where
+  pub numbered : IsNumbered C C.functions
+  -- site 0 calls main, which is there
+  pub main : C.callee 0 ≡ C.main
+  pub main_in : C.main < C.functions
+  -- a unit has the number of its first member, and its members have one result width
+  pub first : (f : ℕ) → f < C.functions → (C.unit f ≤ f) × (C.unit (C.unit f) ≡ C.unit f) × (C.result (C.unit f) ≡ C.result f)
+  -- the sites of a body are among those of the program
+  pub sites : (f : ℕ) → f < C.functions → (numbered.bodies f).1 ≤ suc C.sites
+  -- each site has a caller and a callee, of an earlier group
+  pub calls : (k : ℕ) → 0 < k → k ≤ C.sites → (C.caller k < C.functions) × (C.callee k < C.functions) × (C.unit (C.callee k) < C.unit (C.caller k))
+  -- each body has its function's width
+  pub widths : (f : ℕ) → f < C.functions → HasWidth C (C.params f) (C.body f) (C.result f)

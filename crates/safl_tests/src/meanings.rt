@@ -1,0 +1,55 @@
+//! What main comes to by the meaning of programs, and how many calls that takes.
+
+ghost use Rattle.std.specs.Prelude.{◌≡◌, IfOk};
+ghost use Rattle.safl_term.specs.Checked.{program_of};
+ghost use Rattle.safl_interpreter.specs.Interpreting.{widths};
+
+use safl_interpreter::{Answer, interpret};
+use safl_source::accept;
+use safl_term::Checked;
+use safl_word::{Raw, Word};
+use std::alloc::{AllocError, Global};
+use std::test::Fail;
+
+// Multiplication by shifts and sums.
+const PRODUCT: &[u8] = b"fun mul(x:8, y:8, acc:8):8 =
+  if (x==0)|(y==0) then acc
+  else mul(x<<1, y>>1, if bits(y,0,0)==1 then acc+x else acc)
+fun main(a:8, b:8):8 = mul(a, b, 0)";
+
+// Main's arguments: these numbers, in the widths of its parameters.
+fn words_of(alloc: Global, c: &Checked, numbers: &[Raw]) -> Result<Vec<Word>, AllocError>
+    ensures { IfOk result (λ words. widths words.items ≡ (program_of c.now).params (program_of c.now).main) }
+{
+    let main = c.functions() - 1;
+    let mut words = Vec::new(alloc);
+    'params: for i in 0..c.params(main) {
+        let number = numbers.get(i as usize).copied().unwrap_or(0);
+        words.push(Word::from_low_bits(c.param_width(main, i), number))?;
+    }
+    Ok(words)
+}
+
+// What main comes to with so many calls.
+fn meaning(
+    alloc: Global,
+    source: &[u8],
+    numbers: &[Raw],
+    budget: u32,
+) -> Result<Option<Answer>, Fail> {
+    if source.len() > 1000 {
+        return Err("a long source".into());
+    }
+    let checked = accept(alloc, source).ok().ok_or("refused")?;
+    let words = words_of(alloc, &checked, numbers)?;
+    Ok(interpret(alloc, &checked, &words, budget)?)
+}
+
+#[test]
+fn a_product_takes_four_calls(rt: HostRuntime) -> Result<(), Fail> {
+    let answer = meaning(rt.alloc(), PRODUCT, &[5, 3], 10)?.ok_or("no word")?;
+    assert_eq!(rt; answer.word.bits(), 15);
+    assert_eq!(rt; answer.left, 6);
+    assert!(rt; meaning(rt.alloc(), PRODUCT, &[5, 3], 3)?.is_none());
+    Ok(())
+}

@@ -1,0 +1,138 @@
+-- How a command ends, by what its parts answer.
+use Rattle.std.proofs.Common.{◌≡◌, ◌≢◌, ℕ, ◌<◌, ◌≤◌, List, [], ◌∷◌, ◌++◌, length, take, bytes_eq, if◌then◌else◌, Bool, true, false, Option, Some, None, refl, sym, ap, ◌∙◌, subst, inl, inr, arith}
+use Rattle.std.specs.Prelude.{◌⊎◌, IfSome, IsSomeAnd}
+use Rattle.std.specs.Option.{option_or}
+use Rattle.std.proofs.lemmas.List.{take_all}
+use Rattle.std.proofs.lemmas.Slice.Eq.{bytes_eq-Decides}
+use Rattle.safl_io.specs.Reading.{HasFile}
+use Rattle.safl_io.specs.Shelf.{Files, file_of, Leaves, LeavesOldOrPart}
+use Rattle.safl_io.specs.Told.{TellsOn}
+use Rattle.safl_io.specs.Sink.{SinkState, Sends, SendsPart}
+use Rattle.safl_tool.specs.Lines.{memory_line, read_line, long_line}
+use Rattle.safl_tool.specs.Tasks.{Input, Given, Task, end_of, files_of, AreContents}
+use Rattle.safl_tool.specs.Endings.{Outside, Untouched, LeavesAll, LeavesParts, Began, Left, Reaches, Stops, refused, unread, long, unwritten, unprinted, starved, Ended, Ends, gave, told, cut, may_give}
+use Rattle.safl_tool.specs.Refusals.{StopsBy, RefusesBy, RefusesReading, Prints, PrintFails, SendsLine, sent, SendsRefusal, made, unmade, status_of, line_of}
+use Rattle.safl_tool.specs.Refusals as refusals
+use Rattle.safl_tool.specs.declared.status.Status.{Status}
+use Rattle.safl_tool.specs.declared.status.Status.TheVariants as status
+use Rattle.safl_tool.specs.declared.refusal.Refusal.{Refusal}
+use Rattle.safl_tool.specs.declared.refusal.Refusal.TheVariants as refusal
+
+-- ---- files and sinks
+
+-- a whole text is a prefix of itself
+pub whole_part : (text : List ℕ) (old new : Option (List ℕ)) → TellsOn (Sends text) old new → TellsOn (SendsPart text) old new
+whole_part text None new t = tt
+whole_part text (Some a) None t = t
+whole_part text (Some a) (Some b) t = (length text, t ∙ ap (λ (l : List ℕ). a ++ l) (sym (take_all (length text) text (omega arith))))
+
+pub all_parts : (texts : Files) (old new : Option Files) → TellsOn (LeavesAll texts) old new → TellsOn (LeavesParts texts) old new
+all_parts texts None new t = tt
+all_parts texts (Some a) None t = t
+all_parts texts (Some a) (Some b) t = λ name. go (file_of texts name) (file_of a name) (file_of b name) (t name)
+  where
+    go : (text had has : Option (List ℕ)) → has ≡ option_or text had → (has ≡ had) ⊎ IsSomeAnd text (λ x. (count : ℕ) × (has ≡ Some (take count x)))
+    go None had has e = inl e
+    go (Some x) had has e = inr (length x, e ∙ ap Some (sym (take_all (length x) x (omega arith))))
+
+-- where no file has changed
+pub same_all : (old new : Option Files) → new ≡ old → TellsOn (LeavesAll []) old new
+same_all None new e = tt
+same_all (Some a) None e = absurd (cc)
+same_all (Some a) (Some b) e = let f : b ≡ a = cc in λ name. ap (λ (x : Files). file_of x name) f
+
+pub same_parts : (texts : Files) (old new : Option Files) → new ≡ old → TellsOn (LeavesParts texts) old new
+same_parts texts None new e = tt
+same_parts texts (Some a) None e = absurd (cc)
+same_parts texts (Some a) (Some b) e = let f : b ≡ a = cc in λ name. inl (ap (λ (x : Files). file_of x name) f)
+
+-- where one file was written
+pub leaves_all : (name text : List ℕ) (old new : Option Files) → TellsOn (Leaves name text) old new → TellsOn (LeavesAll ((name, text) ∷ [])) old new
+leaves_all name text None new t = tt
+leaves_all name text (Some a) None t = t
+leaves_all name text (Some a) (Some b) t = λ other. go other (bytes_eq name other) refl
+  where
+    go : (other : List ℕ) (e : Bool) → bytes_eq name other ≡ e → file_of b other ≡ option_or (if e then Some text else None) (file_of a other)
+    go other true h = subst (λ (x : List ℕ). file_of b x ≡ Some text) ((bytes_eq-Decides name other).0 h) t.file
+    go other false h = t.others other (λ same. let hit : bytes_eq name other ≡ true = (bytes_eq-Decides name other).1 (sym same) in cc)
+
+pub leaves_parts : (name text : List ℕ) (old new : Option Files) → TellsOn (LeavesOldOrPart name text) old new → TellsOn (LeavesParts ((name, text) ∷ [])) old new
+leaves_parts name text None new t = tt
+leaves_parts name text (Some a) None t = t
+leaves_parts name text (Some a) (Some b) t = λ other. go other (bytes_eq name other) refl
+  where
+    go : (other : List ℕ) (e : Bool) → bytes_eq name other ≡ e → (file_of b other ≡ file_of a other) ⊎ IsSomeAnd (if e then Some text else None) (λ x. (count : ℕ) × (file_of b other ≡ Some (take count x)))
+    go other true h =
+        let same = (bytes_eq-Decides name other).0 h in
+        subst (λ (x : List ℕ). (file_of b x ≡ file_of a x) ⊎ ((count : ℕ) × (file_of b x ≡ Some (take count text)))) same t.file
+    go other false h = inl (t.others other (λ same. let hit : bytes_eq name other ≡ true = (bytes_eq-Decides name other).1 (sym same) in cc))
+
+-- ---- why a command stops
+
+pub first_reached : (t : Task) (holds : Option Files) (i : Input) (after : List Input) → t.inputs ≡ i ∷ after → Reaches t holds i
+first_reached t holds i after is = record { before = []; after = after; is = is; held = ([], tt, tt) }
+
+-- the content of the only file, as it was read
+pub only_content : (holds : Option Files) (i : Input) (read content : List ℕ) → content ≡ read → IfSome holds (HasFile i.name read) → length read ≤ i.limit → AreContents holds (i ∷ []) (content ∷ [])
+only_content holds i read content same has small = subst (λ (x : List ℕ). AreContents holds (i ∷ []) (x ∷ [])) (sym same) (small, has, tt)
+
+-- what refuses for one reason refuses for another that follows
+pub refuses_more : (P Q : Status → List ℕ → Type 0) → ((s : Status) (line : List ℕ) → P s line → Q s line) → (r : Refusal) → RefusesBy P r → RefusesBy Q r
+refuses_more P Q f r h = elim h [ inl e ↦ inl e | inr p ↦ inr (f (status_of r) (line_of r) p) ]
+
+module _ (t : Task) (old new : Outside) where
+  -- an input was not read
+  pub reading_stops : (i : Input) → Reaches t old.shelf.holds i → Untouched old new → (r : Refusal) → RefusesReading i.limit old.shelf new.shelf i.name r → StopsBy t old new r
+  reading_stops i reached kept (refusal.Read name) h = subst (λ (x : List ℕ). Stops t old new status.ReadFault (read_line x)) (sym h.0) (unread i reached h.1 kept)
+  reading_stops i reached kept (refusal.TooLong name n) h =
+      subst (λ (x : List ℕ). Stops t old new status.TooLong (long_line x n)) (sym h.0)
+      (subst (λ (k : ℕ). Stops t old new status.TooLong (long_line i.name k)) (sym h.1) (long i reached h.2 kept))
+  reading_stops i reached kept refusal.NoMemory h = starved (inl kept)
+  reading_stops i reached kept _ never = absurd never
+
+  -- what was read is refused
+  pub content_stops : (contents : List (List ℕ)) → AreContents old.shelf.holds t.inputs contents → ((s : Status) (line : List ℕ) → t.Refuses contents s line → may_give s ≡ false) → Untouched old new
+      → (r : Refusal) → RefusesBy (t.Refuses contents) r → StopsBy t old new r
+  content_stops contents are quiet kept r h = elim h [
+    | inl e ↦ subst (λ (x : Refusal). StopsBy t old new x) (sym e) (starved (inl kept))
+    | inr f ↦ refused (status_of r) (line_of r) (quiet (status_of r) (line_of r) f) (contents, are, f) kept
+  ]
+
+  -- what is left where a command stops
+  pub stop_left : (s : Status) (line : List ℕ) → Stops t old new s line → Left t old new
+  stop_left _ _ (refused s line r h kept) = inl kept
+  stop_left _ _ (unread i reached rose kept) = inl kept
+  stop_left _ _ (long i reached h kept) = inl kept
+  stop_left _ _ (unwritten name is rose began) = inr began
+  stop_left _ _ (unprinted rose began) = inr began
+  stop_left _ _ (starved left) = left
+
+  -- the line was sent so
+  line_ends : (before after : SinkState) (s : Status) (line : List ℕ) (end : Status) → Stops t old new s line → SendsLine s line before after end → Ends t old new before after end
+  line_ends before after s line _ stops (sent g) = told s line stops g
+  line_ends before after s line _ stops (refusals.cut p) = cut s line stops p
+
+  pub refusal_ends : (before after : SinkState) (r : Refusal) (s : Status) → StopsBy t old new r → SendsRefusal r before after s → Ends t old new before after s
+  refusal_ends before after r s stops (made h) = line_ends before after (status_of r) (line_of r) s stops h
+  refusal_ends before after r s stops (unmade h) = line_ends before after status.NoMemory memory_line s (starved (stop_left (status_of r) (line_of r) stops)) h
+
+  pub ended_ends : (before after : SinkState) (s : Status) → Ended t old new s → after ≡ before → Ends t old new before after s
+  ended_ends before after s (g, h, is) same = subst (λ (x : Status). Ends t old new before after x) is (gave g h same)
+
+-- ---- a command that reads one file, and prints
+
+abbrev pub printing : Task → Input → Task
+printing t i = record t { inputs = i ∷ []; outputs = [] }
+
+module _ (t : Task) (i : Input) (old new : Outside) (bytes : List ℕ) (are : AreContents old.shelf.holds (i ∷ []) (bytes ∷ [])) (same : new.shelf.holds ≡ old.shelf.holds) (g : Given) (gives : t.Gives (bytes ∷ []) g) where
+  pub printed_ended : (s : Status) → s ≡ end_of g → Prints g.printed old.out new.out → Ended (printing t i) old new s
+  printed_ended s e p = (g, record { given = (bytes ∷ [], are, gives); files = same_all old.shelf.holds new.shelf.holds same; printed = p }, sym e)
+
+  began : TellsOn (SendsPart g.printed) old.out.sent new.out.sent → Began (printing t i) old new
+  began p = record { whole = g; given = (bytes ∷ [], are, gives); files = same_parts [] old.shelf.holds new.shelf.holds same; printed = p }
+
+  -- the sink failed, or memory ran out, after a part
+  pub print_stops : (r : Refusal) → PrintFails g.printed old.out new.out r → StopsBy (printing t i) old new r
+  print_stops refusal.Output h = unprinted h.0 (began h.1)
+  print_stops refusal.NoMemory h = starved (inr (began h))
+  print_stops _ never = absurd never

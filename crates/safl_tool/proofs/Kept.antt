@@ -1,0 +1,207 @@
+-- What is promised is kept, command by command.
+use Rattle.std.proofs.Common.{◌≡◌, ℕ, zero, suc, ◌<◌, List, [], ◌∷◌, length, Option, Some, None, true, slice_get, refl, sym, ap, subst, ◌∙◌, arith, inl, inr}
+use Rattle.safl_word.specs.Words.{Word}
+use Rattle.safl_io.specs.Sink.{SinkState}
+use Rattle.safl_term.specs.Program.{Program}
+use Rattle.safl_term.specs.Fuel.{GivesInCalls}
+use Rattle.safl_term.specs.Laws.{OneAnswer}
+use Rattle.safl_net.specs.Netlist.{Netlist}
+use Rattle.safl_net.specs.Valuations.{IsAcyclic}
+use Rattle.safl_sim.specs.Arguments.{argument_widths}
+use Rattle.safl_sim.specs.Outcomes.{IsDone}
+use Rattle.safl_source.specs.Laws.{OneProgram, NotBoth}
+use Rattle.safl_verilog.specs.Laws as verilog
+use Rattle.safl_core.specs.declared.walking.Walked.{Walked}
+use Rattle.safl_tool.specs.Commands.{Command, Check, Build, Sim, Walk, Run}
+use Rattle.safl_tool.specs.Sources.{IsAccepted}
+use Rattle.safl_tool.specs.Arguments.{IsRead, AreRead, HaveFault}
+use Rattle.safl_tool.specs.Simulating.{Simulates, IsMisgiven, Evaluates}
+use Rattle.safl_tool.specs.Walking.{MainGives, Walks}
+use Rattle.safl_tool.specs.Running.{RunsText, IsMisrun, IsUnrunnable, faulty, looped, Finishes}
+use Rattle.safl_tool.specs.Tasks.{Given, Only}
+use Rattle.safl_tool.specs.CommandTasks.{usage_task, check_task, build_task, sim_task, walk_task, run_task, task_of, RefusesSourceOf, RefusesGiven, RefusesText, GivesNumbers, GivesCircuit, GivesOutcome, GivesWalk, GivesRun, end_of_walk}
+use Rattle.safl_tool.specs.Endings.{Outside, Ends, Completes}
+use Rattle.safl_tool.specs.declared.status.Status.{Status}
+use Rattle.safl_tool.proofs.Following.{IsKept, end_completes}
+use Rattle.safl_tool.proofs.Simulated.{read_words}
+use Rattle.safl_tool.proofs.Ran.{done_not_done}
+
+-- arguments are read in one way, and without a fault
+same_words : (widths : List ℕ) (args : List (List ℕ)) (vs us : List Word) → AreRead widths args vs → AreRead widths args us → vs ≡ us
+same_words [] [] [] [] r q = refl
+same_words [] [] [] (u ∷ us) r q = absurd q
+same_words [] [] (v ∷ vs) us r q = absurd r
+same_words [] (t ∷ ts) vs us r q = absurd r
+same_words (w ∷ ws) [] vs us r q = absurd r
+same_words (w ∷ ws) (t ∷ ts) [] us r q = absurd r
+same_words (w ∷ ws) (t ∷ ts) (v ∷ vs) [] r q = absurd q
+same_words (w ∷ ws) (t ∷ ts) (v ∷ vs) (u ∷ us) r q = ap (λ x. x ∷ vs) (r.0.is ∙ sym q.0.is) ∙ ap (λ l. u ∷ l) (same_words ws ts vs us r.1 q.1)
+
+read_long : (widths : List ℕ) (args : List (List ℕ)) (vs : List Word) → AreRead widths args vs → length args ≡ length widths
+read_long [] [] [] r = refl
+read_long [] [] (v ∷ vs) r = absurd r
+read_long [] (t ∷ ts) vs r = absurd r
+read_long (w ∷ ws) [] vs r = absurd r
+read_long (w ∷ ws) (t ∷ ts) [] r = absurd r
+read_long (w ∷ ws) (t ∷ ts) (v ∷ vs) r = ap suc (read_long ws ts vs r.1)
+
+read_at : (widths : List ℕ) (args : List (List ℕ)) (vs : List Word) (i w : ℕ) (t : List ℕ) → AreRead widths args vs → slice_get widths i ≡ Some w → slice_get args i ≡ Some t → (v : Word) × IsRead w t v
+read_at [] [] [] i w t r e f = absurd (cc)
+read_at [] [] (v ∷ vs) i w t r e f = absurd r
+read_at [] (x ∷ ts) vs i w t r e f = absurd r
+read_at (y ∷ ws) [] vs i w t r e f = absurd r
+read_at (y ∷ ws) (x ∷ ts) [] i w t r e f = absurd r
+read_at (y ∷ ws) (x ∷ ts) (v ∷ vs) zero w t r e f =
+    let a : y ≡ w = cc in
+    let b : x ≡ t = cc in
+    (v, subst (λ k. IsRead k t v) a (subst (λ k. IsRead y k v) b r.0))
+read_at (y ∷ ws) (x ∷ ts) (v ∷ vs) (suc i) w t r e f = read_at ws ts vs i w t r.1 e f
+
+no_fault : (widths : List ℕ) (args : List (List ℕ)) (vs : List Word) (line : List ℕ) → AreRead widths args vs → HaveFault widths args line → ⊥
+no_fault widths args vs line r f = elim f [
+  | inl m ↦ m.0 (read_long widths args vs r)
+  | inr u ↦ let v = read_at widths args vs u.index u.width u.text r u.at_width u.at_text in u.bad v.0 v.1
+]
+
+-- main gives a value in time, so done comes
+comes_in_time : OneProgram → (source : List ℕ) (args : List (List ℕ)) (limit : ℕ) → Simulates source args limit None → Evaluates source args limit → ⊥
+comes_in_time once source args limit s e =
+    let C : s.program ≡ e.program = (once source s.program e.program s.names e.names s.source_of e.source_of).0 in
+    let read : AreRead (s.program.params s.program.main) args e.words = subst (λ (x : Program). AreRead (x.params x.main) args e.words) (sym C) e.read in
+    let gives : GivesInCalls s.program e.words e.value e.calls = subst (λ (x : Program). GivesInCalls x e.words e.value e.calls) (sym C) e.gives in
+    let same : e.words ≡ s.words = same_words (s.program.params s.program.main) args e.words s.words read s.read in
+    let here : GivesInCalls s.program s.words e.value e.calls = subst (λ l. GivesInCalls s.program l e.value e.calls) same gives in
+    let o = s.outcome in
+    let d = s.circuit.circuit.correct.behaves.comes s.words (read_words (s.program.params s.program.main) args s.words s.read) o.run o.only.is.run e.value e.calls here (let a = o.only.long in let b = e.enough in omega (arith, a, b)) in
+    let off = o.never d.cycle d.words (let a = d.in_time in let b = e.enough in omega (arith, a, b)) d.there in
+    let on = d.done in
+    absurd (cc)
+
+misgiven_not : OneProgram → (source : List ℕ) (args : List (List ℕ)) (limit : ℕ) → ((line : List ℕ) × IsMisgiven source args line) → Evaluates source args limit → ⊥
+misgiven_not once source args limit m e =
+    let C : m.1.program ≡ e.program = (once source m.1.program e.program m.1.names e.names m.1.source_of e.source_of).0 in
+    no_fault (m.1.program.params m.1.program.main) args e.words m.0 (subst (λ (x : Program). AreRead (x.params x.main) args e.words) (sym C) e.read) m.1.fault
+
+-- main gives a value in time, so it returns
+returns_in_time : OneProgram → ((C : Program) → OneAnswer C) → (source : List ℕ) (args : List (List ℕ)) (seed steps : ℕ) (w : Walked) → Walks source args seed steps w → w.result ≡ None → Evaluates source args steps → ⊥
+returns_in_time once meaning source args seed steps w s none e =
+    let C : s.program ≡ e.program = (once source s.program e.program s.names e.names s.source_of e.source_of).0 in
+    let read : AreRead (s.program.params s.program.main) args e.words = subst (λ (x : Program). AreRead (x.params x.main) args e.words) (sym C) e.read in
+    let gives : GivesInCalls s.program e.words e.value e.calls = subst (λ (x : Program). GivesInCalls x e.words e.value e.calls) (sym C) e.gives in
+    let same : e.words ≡ s.words = same_words (s.program.params s.program.main) args e.words s.words read s.read in
+    let here : GivesInCalls s.program s.words e.value e.calls = subst (λ l. GivesInCalls s.program l e.value e.calls) same gives in
+    let d = (meaning s.program s.words e.value e.calls).0 here in
+    let short : MainGives s.program s.words steps w.events None = subst (λ (r : Option Word). MainGives s.program s.words steps w.events r) none s.walk.gives in
+    let a = short.1 e.value d.0 in
+    let b = d.1 in
+    let f = e.enough in
+    omega (arith, a, b, f)
+
+-- of a file whose netlist finishes no other thing is said
+never_finishes : verilog.OneNetlist → (text : List ℕ) (args : List (List ℕ)) (limit : ℕ) → RunsText text args limit None → Finishes text args limit → ⊥
+never_finishes one text args limit r f =
+    let n : f.net ≡ r.0 = one text f.net r.0 f.runnable.reads r.1.reads in
+    let read : AreRead (argument_widths r.0.signals) args f.words = subst (λ (x : Netlist). AreRead (argument_widths x.signals) args f.words) n f.read in
+    let same : f.words ≡ r.2.words = same_words (argument_widths r.0.signals) args f.words r.2.words read r.2.read in
+    let done : IsDone r.0 r.2.words limit f.done = subst (λ l. IsDone r.0 l limit f.done) same (subst (λ (x : Netlist). IsDone x f.words limit f.done) n f.outcome) in
+    done_not_done r.0 r.2.words limit f.done done r.2.outcome
+
+misrun_not : verilog.OneNetlist → (text : List ℕ) (args : List (List ℕ)) (limit : ℕ) → ((line : List ℕ) × IsMisrun text args line) → Finishes text args limit → ⊥
+misrun_not one text args limit m f =
+    let n : f.net ≡ m.1.0 = one text f.net m.1.0 f.runnable.reads m.1.1.reads in
+    no_fault (argument_widths m.1.0.signals) args f.words m.0 (subst (λ (x : Netlist). AreRead (argument_widths x.signals) args f.words) n f.read) m.1.2
+
+unrunnable_not : verilog.OneNetlist → verilog.NotBoth → (name text line : List ℕ) (args : List (List ℕ)) (limit : ℕ) → IsUnrunnable name text line → Finishes text args limit → ⊥
+unrunnable_not one apart name text line args limit (faulty f h is) e = apart text e.net f e.runnable.reads h
+unrunnable_not one apart name text line args limit (looped n ws h l cyclic is) e =
+    cyclic (subst (λ (x : Netlist). IsAcyclic x) (one text e.net n e.runnable.reads h) e.runnable.acyclic)
+
+-- ---- the commands
+
+usage_kept : IsKept usage_task
+usage_kept = record { refuses = λ contents s line p r. absurd p; gives = λ contents g p h. absurd p }
+
+-- what is said of the only content
+only : (P Q : List ℕ → Type 0) (R : Type 0) → ((content : List ℕ) → P content → Q content → R) → (contents : List (List ℕ)) → Only P contents → Only Q contents → R
+only P Q R f [] p q = absurd p
+only P Q R f (c ∷ []) p q = f c p q
+only P Q R f (c ∷ (d ∷ cs)) p q = absurd p
+
+accepted_not_refused : NotBoth → (name source : List ℕ) (s : Status) (line : List ℕ) → IsAccepted source → RefusesSourceOf name source s line → ⊥
+accepted_not_refused apart name source s line a r = apart source a.0 a.1 r.1.0 a.2 r.1.1
+
+check_kept : NotBoth → (input : List ℕ) → IsKept (check_task input)
+check_kept apart input = record {
+  refuses = λ contents s line. only IsAccepted (λ source. RefusesSourceOf input source s line) ⊥ (λ source. accepted_not_refused apart input source s line) contents;
+  gives = λ contents g. only IsAccepted (λ source. GivesNumbers source g) (g.comes ≡ true) (λ source a h. ap (λ (x : Given). x.comes) h.3) contents;
+}
+
+build_kept : NotBoth → (input output : List ℕ) → IsKept (build_task input output)
+build_kept apart input output = record {
+  refuses = λ contents s line. only IsAccepted (λ source. RefusesSourceOf input source s line) ⊥ (λ source. accepted_not_refused apart input source s line) contents;
+  gives = λ contents g. only IsAccepted (λ source. GivesCircuit source g) (g.comes ≡ true) (λ source a h. ap (λ (x : Given). x.comes) h.is) contents;
+}
+
+given_not_refused : OneProgram → NotBoth → (name : List ℕ) (args : List (List ℕ)) (limit : ℕ) (s : Status) (line source : List ℕ) → Evaluates source args limit → RefusesGiven name args source s line → ⊥
+given_not_refused once apart name args limit s line source e r = elim r [
+  | inl f ↦ apart source e.program e.names f.1.0 e.source_of f.1.1
+  | inr m ↦ misgiven_not once source args limit (line, m.1) e
+]
+
+outcome_comes : OneProgram → (args : List (List ℕ)) (limit : ℕ) (g : Given) (source : List ℕ) → Evaluates source args limit → GivesOutcome args limit source g → g.comes ≡ true
+outcome_comes once args limit g source e (None, s, is) = absurd (comes_in_time once source args limit s e)
+outcome_comes once args limit g source e (Some d, s, is) = ap (λ (x : Given). x.comes) is
+
+sim_kept : OneProgram → NotBoth → (input : List ℕ) (limit : ℕ) (args : List (List ℕ)) → IsKept (sim_task input limit args)
+sim_kept once apart input limit args = record {
+  refuses = λ contents s line. only (λ source. Evaluates source args limit) (λ source. RefusesGiven input args source s line) ⊥ (given_not_refused once apart input args limit s line) contents;
+  gives = λ contents g. only (λ source. Evaluates source args limit) (λ source. GivesOutcome args limit source g) (g.comes ≡ true) (outcome_comes once args limit g) contents;
+}
+
+walk_comes : OneProgram → ((C : Program) → OneAnswer C) → (args : List (List ℕ)) (seed steps : ℕ) (g : Given) (source : List ℕ) → Evaluates source args steps → GivesWalk args seed steps source g → g.comes ≡ true
+walk_comes once meaning args seed steps g source e (w, walks, is) = by w.result refl is
+  where
+    by : (r : Option Word) → w.result ≡ r → g ≡ end_of_walk steps w r → g.comes ≡ true
+    by None none is = absurd (returns_in_time once meaning source args seed steps w walks none e)
+    by (Some v) some is = ap (λ (x : Given). x.comes) is
+
+walk_kept : OneProgram → NotBoth → ((C : Program) → OneAnswer C) → (input : List ℕ) (seed steps : ℕ) (args : List (List ℕ)) → IsKept (walk_task input seed steps args)
+walk_kept once apart meaning input seed steps args = record {
+  refuses = λ contents s line. only (λ source. Evaluates source args steps) (λ source. RefusesGiven input args source s line) ⊥ (given_not_refused once apart input args steps s line) contents;
+  gives = λ contents g. only (λ source. Evaluates source args steps) (λ source. GivesWalk args seed steps source g) (g.comes ≡ true) (walk_comes once meaning args seed steps g) contents;
+}
+
+text_not_refused : verilog.OneNetlist → verilog.NotBoth → (name : List ℕ) (args : List (List ℕ)) (limit : ℕ) (s : Status) (line text : List ℕ) → Finishes text args limit → RefusesText name args text s line → ⊥
+text_not_refused one apart name args limit s line text f r = elim r [
+  | inl u ↦ unrunnable_not one apart name text line args limit u.1 f
+  | inr m ↦ misrun_not one text args limit (line, m.1) f
+]
+
+run_comes : verilog.OneNetlist → (args : List (List ℕ)) (limit : ℕ) (g : Given) (text : List ℕ) → Finishes text args limit → GivesRun args limit text g → g.comes ≡ true
+run_comes one args limit g text f (None, r, is) = absurd (never_finishes one text args limit r f)
+run_comes one args limit g text f (Some d, r, is) = ap (λ (x : Given). x.comes) is
+
+run_kept : verilog.OneNetlist → verilog.NotBoth → (input : List ℕ) (limit : ℕ) (args : List (List ℕ)) → IsKept (run_task input limit args)
+run_kept one apart input limit args = record {
+  refuses = λ contents s line. only (λ text. Finishes text args limit) (λ text. RefusesText input args text s line) ⊥ (text_not_refused one apart input args limit s line) contents;
+  gives = λ contents g. only (λ text. Finishes text args limit) (λ text. GivesRun args limit text g) (g.comes ≡ true) (run_comes one args limit g) contents;
+}
+
+-- what is true of sources and of Verilog texts
+pub record Laws : Type 1 where
+  pub once : OneProgram
+  pub apart : NotBoth
+  pub meaning : (C : Program) → OneAnswer C
+  pub one : verilog.OneNetlist
+  pub free : verilog.NotBoth
+
+kept : Laws → (command : Option Command) → IsKept (task_of command)
+kept l None = usage_kept
+kept l (Some (Check input)) = check_kept l.apart input
+kept l (Some (Build input output)) = build_kept l.apart input output
+kept l (Some (Sim input limit args)) = sim_kept l.once l.apart input limit args
+kept l (Some (Walk input seed steps args)) = walk_kept l.once l.apart l.meaning input seed steps args
+kept l (Some (Run input limit args)) = run_kept l.one l.free input limit args
+
+pub completes : Laws → (command : Option Command) (old new : Outside) (before after : SinkState) (s : Status) → Ends (task_of command) old new before after s → Completes (task_of command) old new s
+completes l command old new before after s ends = end_completes (task_of command) (kept l command) old new before after s ends

@@ -1,0 +1,159 @@
+-- What each command reads, refuses and gives.
+use Rattle.std.specs.Prelude.{◌≡◌, ℕ, ◌⊎◌, List, [], ◌∷◌, take, Option, Some, None, true, false}
+use Rattle.safl_word.specs.Words.{Word}
+use Rattle.safl_net.specs.Netlist.{Netlist}
+use Rattle.safl_net.specs.Written.{written}
+use Rattle.safl_net.specs.Rules.{IsNetlist}
+use Rattle.safl_net.specs.Whole.{IsWhole}
+use Rattle.safl_net.specs.Arranged.{IsInOrder}
+use Rattle.safl_verilog.specs.Reads.{Reads}
+use Rattle.safl_vwrite.specs.Torn.{IsTornOrWhole}
+use Rattle.safl_term.specs.Program.{Program}
+use Rattle.safl_sim.specs.declared.done.Done.{Done}
+use Rattle.safl_core.specs.declared.walking.Walked.{Walked}
+use Rattle.safl_circuit.specs.Names.{Names}
+use Rattle.safl_source.specs.Sources.{IsSourceOf}
+use Rattle.safl_source.specs.Circuits.{IsCircuitOf}
+use Rattle.safl_tool.specs.Sources.{IsFaultLine, IsAccepted}
+use Rattle.safl_tool.specs.Commands.{Command, Check, Build, Sim, Walk, Run}
+use Rattle.safl_tool.specs.Limits.{source_max, verilog_max}
+use Rattle.safl_tool.specs.Lines.{usage_line, program_lines, done_lines, late_line, walk_lines, short_line}
+use Rattle.safl_tool.specs.Running.{RunsText, IsMisrun, IsUnrunnable, Finishes}
+use Rattle.safl_tool.specs.Simulating.{Simulates, IsMisgiven, Evaluates}
+use Rattle.safl_tool.specs.Walking.{Walks}
+use Rattle.safl_tool.specs.Tasks.{Input, Given, Task, Only}
+use Rattle.safl_tool.specs.declared.status.Status.{Status}
+use Rattle.safl_tool.specs.declared.status.Status.TheVariants as status
+
+-- a file that holds a source, and one that holds a Verilog text
+abbrev pub source_file : List ℕ → Input
+source_file name = record { name = name; limit = source_max }
+
+abbrev pub verilog_file : List ℕ → Input
+verilog_file name = record { name = name; limit = verilog_max }
+
+-- a text that is printed with a result, and one that tells that none came
+abbrev pub result : List ℕ → Given
+result text = record { comes = true; printed = text; texts = [] }
+
+abbrev pub no_result : List ℕ → Given
+no_result text = record { comes = false; printed = text; texts = [] }
+
+-- the source in the file of this name has a first fault, which the line tells
+abbrev pub RefusesSourceOf : List ℕ → List ℕ → Status → List ℕ → Type 0
+RefusesSourceOf name source s line = (s ≡ status.SourceRefused) × IsFaultLine name line source
+
+-- or it has none, and the arguments have one
+abbrev pub RefusesGiven : List ℕ → List (List ℕ) → List ℕ → Status → List ℕ → Type 0
+RefusesGiven name args source s line = RefusesSourceOf name source s line ⊎ ((s ≡ status.BadArgs) × IsMisgiven source args line)
+
+-- the text in the file of this name is none of a netlist without a loop
+abbrev pub RefusesNet : List ℕ → List ℕ → Status → List ℕ → Type 0
+RefusesNet name text s line = (s ≡ status.VerilogRefused) × IsUnrunnable name text line
+
+-- or it is, and the arguments have a fault for it
+abbrev pub RefusesText : List ℕ → List (List ℕ) → List ℕ → Status → List ℕ → Type 0
+RefusesText name args text s line = RefusesNet name text s line ⊎ ((s ≡ status.BadArgs) × IsMisrun text args line)
+
+-- words that are no command
+abbrev pub usage_task : Task
+usage_task = record {
+  inputs = [];
+  outputs = [];
+  Refuses = λ files s line. (s ≡ status.Usage) × (line ≡ usage_line);
+  Gives = λ files g. ⊥;
+  Promises = λ files. ⊥;
+}
+
+-- what `check` gives of a source: the numbers of its program
+abbrev pub GivesNumbers : List ℕ → Given → Type 0
+GivesNumbers source g = (C : Program) × (D : Names) × IsSourceOf source C D × (g ≡ result (program_lines C.functions C.sites))
+
+abbrev pub check_task : List ℕ → Task
+check_task input = record {
+  inputs = source_file input ∷ [];
+  outputs = [];
+  Refuses = λ files s line. Only (λ source. RefusesSourceOf input source s line) files;
+  Gives = λ files g. Only (λ source. GivesNumbers source g) files;
+  Promises = Only IsAccepted;
+}
+
+-- What `build` gives of a source: the text of a netlist that is its program's circuit. It is a netlist, whole and in order, and
+-- the text reads as it; no prefix of the text reads as a netlist, but for one without the last line feed alone.
+pub record GivesCircuit (source : List ℕ) (g : Given) : Type 0 where
+  pub program : Program
+  pub names : Names
+  pub net : Netlist
+  pub source_of : IsSourceOf source program names
+  pub circuit : IsCircuitOf program names net
+  pub made : IsNetlist net
+  pub whole : IsWhole net
+  pub in_order : IsInOrder net
+  pub reads : Reads (written net) net
+  pub torn : (count : ℕ) → IsTornOrWhole net (take count (written net))
+  pub is : g ≡ record { comes = true; printed = []; texts = written net ∷ [] }
+
+abbrev pub build_task : List ℕ → List ℕ → Task
+build_task input output = record {
+  inputs = source_file input ∷ [];
+  outputs = output ∷ [];
+  Refuses = λ files s line. Only (λ source. RefusesSourceOf input source s line) files;
+  Gives = λ files g. Only (λ source. GivesCircuit source g) files;
+  Promises = Only IsAccepted;
+}
+
+abbrev pub outcome : ℕ → Option Done → Given
+outcome limit (Some d) = result (done_lines d.result.bits d.cycle)
+outcome limit None = no_result (late_line limit)
+
+-- what a run of the circuit of a source gives
+abbrev pub GivesOutcome : List (List ℕ) → ℕ → List ℕ → Given → Type 0
+GivesOutcome args limit source g = (answer : Option Done) × Simulates source args limit answer × (g ≡ outcome limit answer)
+
+abbrev pub sim_task : List ℕ → ℕ → List (List ℕ) → Task
+sim_task input limit args = record {
+  inputs = source_file input ∷ [];
+  outputs = [];
+  Refuses = λ files s line. Only (λ source. RefusesGiven input args source s line) files;
+  Gives = λ files g. Only (λ source. GivesOutcome args limit source g) files;
+  Promises = Only (λ source. Evaluates source args limit);
+}
+
+abbrev pub end_of_walk : ℕ → Walked → Option Word → Given
+end_of_walk steps w (Some v) = result (walk_lines v.bits w.events w.units)
+end_of_walk steps w None = no_result (short_line steps)
+
+-- what a walk of the call machine of a source gives
+abbrev pub GivesWalk : List (List ℕ) → ℕ → ℕ → List ℕ → Given → Type 0
+GivesWalk args seed steps source g = (w : Walked) × Walks source args seed steps w × (g ≡ end_of_walk steps w w.result)
+
+abbrev pub walk_task : List ℕ → ℕ → ℕ → List (List ℕ) → Task
+walk_task input seed steps args = record {
+  inputs = source_file input ∷ [];
+  outputs = [];
+  Refuses = λ files s line. Only (λ source. RefusesGiven input args source s line) files;
+  Gives = λ files g. Only (λ source. GivesWalk args seed steps source g) files;
+  Promises = Only (λ source. Evaluates source args steps);
+}
+
+-- what a run of the netlist of a text gives
+abbrev pub GivesRun : List (List ℕ) → ℕ → List ℕ → Given → Type 0
+GivesRun args limit text g = (answer : Option Done) × RunsText text args limit answer × (g ≡ outcome limit answer)
+
+abbrev pub run_task : List ℕ → ℕ → List (List ℕ) → Task
+run_task input limit args = record {
+  inputs = verilog_file input ∷ [];
+  outputs = [];
+  Refuses = λ files s line. Only (λ text. RefusesText input args text s line) files;
+  Gives = λ files g. Only (λ text. GivesRun args limit text g) files;
+  Promises = Only (λ text. Finishes text args limit);
+}
+
+-- the task of a command; words that are none are one too
+abbrev pub task_of : Option Command → Task
+task_of None = usage_task
+task_of (Some (Check input)) = check_task input
+task_of (Some (Build input output)) = build_task input output
+task_of (Some (Sim input limit args)) = sim_task input limit args
+task_of (Some (Walk input seed steps args)) = walk_task input seed steps args
+task_of (Some (Run input limit args)) = run_task input limit args

@@ -1,0 +1,44 @@
+-- How many expressions stand in one, itself counted.
+use Rattle.std.specs.Prelude.{ℕ, ◌+◌, ◌*◌}
+use Rattle.safl_tree.specs.declared.dismantle.At.{At}
+use Rattle.safl_tree.specs.declared.tree.Bind.{Bind}
+use Rattle.safl_tree.specs.declared.tree.Arm.{Arm}
+use Rattle.safl_tree.specs.Shown.{shows}
+use Rattle.safl_tree.specs.Tree.{Tree, Number, Sized, Variable, Choice, Binding, Cases, Applied, Called, Trees, no_tree, a_tree, Binds, no_bind, a_bind, Arms, default_arm, an_arm}
+
+-- an operator and a call count for two, so that they are no leaves without parts, and a label counts twice
+abbrev mutual
+  pub size : Tree → ℕ
+  size (Number p n) = 1
+  size (Sized p w n) = 1
+  size (Variable p x) = 1
+  size (Choice p c a b) = 1 + (size c + (size a + size b))
+  size (Binding p bs t) = 1 + (size_of_binds bs + size t)
+  size (Cases p e arms) = 1 + (size e + size_of_arms arms)
+  size (Applied p o ts) = 2 + size_of_trees ts
+  size (Called p f ts) = 2 + size_of_trees ts
+
+  pub size_of_trees : Trees → ℕ
+  size_of_trees no_tree = 0
+  size_of_trees (a_tree t ts) = size t + size_of_trees ts
+
+  pub size_of_binds : Binds → ℕ
+  size_of_binds no_bind = 0
+  size_of_binds (a_bind p x w t bs) = size t + size_of_binds bs
+
+  pub size_of_arms : Arms → ℕ
+  size_of_arms (default_arm t) = size t
+  size_of_arms (an_arm l t arms) = 2 * size l + size t + size_of_arms arms
+
+abbrev pub bind_size : Bind → ℕ
+bind_size b = size (shows b.value)
+
+abbrev pub arm_size : Arm → ℕ
+arm_size a = 2 * size (shows a.label) + size (shows a.value)
+
+-- what is left to do, where so much is below and so much above: a step down leaves their sum, and a step up makes it less
+abbrev pub work : ℕ → ℕ → ℕ
+work below above = (below + above) * (below + above) + below
+
+abbrev pub work_at : At → ℕ
+work_at a = work (size (shows a.here)) (size (shows a.above))

@@ -1,0 +1,85 @@
+//! How deep bodies are.
+
+ghost use Rattle.std.specs.Prelude.{◌≤◌, ◌↔◌, IsTrue, max};
+ghost use Rattle.safl_tree.specs.Tree.{trees_of, binds_of, arms_of, depth, deepest, deepest_bind, deepest_arm};
+ghost use Rattle.safl_tree.specs.Shown.{shows, shows_all, shows_bounds, shows_labelled};
+
+use crate::tree::{Arm, Bind, Expr, Node};
+
+/// Whether an expression is at most so deep. A `case` is as deep as the let and the ifs that it stands for. Nothing
+/// deeper is looked at.
+#[cycle(within)]
+pub fn is_within(e: &Expr, levels: u32) -> bool
+    ensures { IsTrue result ↔ depth (shows e.now) ≤ levels }
+{
+    if levels == 0 {
+        return false;
+    }
+    let below = levels - 1;
+    match &e.node {
+        Node::Num(_) | Node::Sized(_, _) | Node::Var(_) => true,
+        Node::If(condition, first, second) => is_choice_within(condition, first, second, below),
+        Node::Let(binds, body) => is_let_within(binds, body, below),
+        Node::Case(value, arms, other) => is_case_within(value, arms, other, below),
+        Node::Op(_, operands) => are_within(operands, below),
+        Node::Call(_, arguments) => are_within(arguments, below),
+    }
+}
+
+#[cycle(within)]
+fn is_choice_within(condition: &Expr, first: &Expr, second: &Expr, levels: u32) -> bool
+    ensures { IsTrue result ↔ max (depth (shows condition.now)) (max (depth (shows first.now)) (depth (shows second.now))) ≤ levels }
+{
+    is_within(condition, levels) && is_within(first, levels) && is_within(second, levels)
+}
+
+// The bindings of a let and its body.
+#[cycle(within)]
+fn is_let_within(binds: &[Bind], body: &Expr, levels: u32) -> bool
+    ensures { IsTrue result ↔ max (deepest_bind (binds_of (shows_bounds binds.now))) (depth (shows body.now)) ≤ levels }
+{
+    for bind in binds {
+        if !is_within(&bind.value, levels) {
+            return false;
+        }
+    }
+    is_within(body, levels)
+}
+
+#[cycle(within)]
+fn is_case_within(value: &Expr, arms: &[Arm], other: &Expr, levels: u32) -> bool
+    ensures { IsTrue result ↔ max (depth (shows value.now)) (deepest_arm (arms_of (shows_labelled arms.now) (shows other.now))) ≤ levels }
+{
+    is_within(value, levels) && are_arms_within(arms, other, levels)
+}
+
+// Each arm stands for an if, whose test is two deep.
+#[cycle(within)]
+fn are_arms_within(arms: &[Arm], other: &Expr, levels: u32) -> bool
+    ensures { IsTrue result ↔ deepest_arm (arms_of (shows_labelled arms.now) (shows other.now)) ≤ levels }
+{
+    let mut left = levels;
+    for arm in arms {
+        if left <= 2 {
+            return false;
+        }
+        left -= 1;
+        if !is_within(&arm.value, left) {
+            return false;
+        }
+    }
+    is_within(other, left)
+}
+
+// Operands or arguments.
+#[cycle(within)]
+fn are_within(es: &[Expr], levels: u32) -> bool
+    ensures { IsTrue result ↔ deepest (trees_of (shows_all es.now)) ≤ levels }
+{
+    for e in es {
+        if !is_within(e, levels) {
+            return false;
+        }
+    }
+    true
+}

@@ -1,0 +1,149 @@
+//! Whether a program's text with least parentheses keeps the levels.
+
+ghost use Rattle.std.specs.Prelude.{◌≡◌, ◌↔◌, true, IsTrue};
+ghost use Rattle.safl_tree.specs.Tree.{trees_of, binds_of, arms_of};
+ghost use Rattle.safl_tree.specs.Shown.{shows, shows_all, shows_bounds, shows_labelled, shows_program};
+ghost use Rattle.safl_tree.specs.Printable.{is_binary, AllKeepLevels};
+ghost use Rattle.safl_tree.specs.Keeps.{Keeps, PartKeeps, PartsKeep, OperandsKeep, BindingsKeep, ArmsKeep};
+
+use crate::places::{is_binary, left_place, own, right_place};
+use crate::{Arm, Bind, Expr, Node, Program};
+use safl_word::Primitive;
+
+// The levels of a text, and a depth that no expression passes whose text keeps them: it bounds the descent.
+const LEVELS: u16 = 100;
+
+const DEPTH: u16 = 1100;
+
+// The depth that a left operand may have.
+const LEFT_DEPTH: u16 = 99;
+
+/// Whether each body's text with least parentheses takes at most 100 levels, and all left operands have a depth of at
+/// most 99.
+#[tactic(auto, using(crate::proofs::Depths::keeps_levels))]
+pub fn levels_ok(p: &Program) -> bool
+    ensures { IsTrue result ↔ AllKeepLevels (shows_program p.now) }
+{
+    for def in &p.defs {
+        if !keeps(&def.body, LEVELS, DEPTH) {
+            return false;
+        }
+    }
+    true
+}
+
+// Within so many levels, its own counted, and of at most this depth.
+#[cycle(keeps)]
+fn keeps(e: &Expr, levels: u16, depth: u16) -> bool
+    ensures { IsTrue result ↔ Keeps levels depth (shows e.now) }
+{
+    if depth == 0 {
+        return false;
+    }
+    let depth = depth - 1;
+    match &e.node {
+        Node::Num(_) | Node::Sized(..) | Node::Var(_) => levels > 0,
+        Node::If(c, a, b) => levels > 0 && choice_keeps(c, a, b, levels - 1, depth),
+        Node::Let(bs, body) => levels > 0 && bindings_keep(bs, body, levels - 1, depth),
+        Node::Case(s, arms, other) => levels > 0 && cases_keep(s, arms, other, levels - 1, depth),
+        Node::Op(p, es) => operands_keep(*p, es, levels, depth),
+        Node::Call(_, es) => levels > 0 && parts_keep(es, 8, levels - 1, depth),
+    }
+}
+
+#[cycle(keeps)]
+fn choice_keeps(c: &Expr, a: &Expr, b: &Expr, levels: u16, depth: u16) -> bool
+    ensures { IsTrue result ↔ (Keeps levels depth (shows c.now) × Keeps levels depth (shows a.now) × Keeps levels depth (shows b.now)) }
+{
+    keeps(c, levels, depth) && keeps(a, levels, depth) && keeps(b, levels, depth)
+}
+
+// The bindings of a let and its body.
+#[cycle(keeps)]
+fn bindings_keep(bs: &[Bind], body: &Expr, levels: u16, depth: u16) -> bool
+    ensures { IsTrue result ↔ (BindingsKeep levels depth (binds_of (shows_bounds bs.now)) × Keeps levels depth (shows body.now)) }
+{
+    for b in bs {
+        if !keeps(&b.value, levels, depth) {
+            return false;
+        }
+    }
+    keeps(body, levels, depth)
+}
+
+#[cycle(keeps)]
+fn cases_keep(s: &Expr, arms: &[Arm], other: &Expr, levels: u16, depth: u16) -> bool
+    ensures { IsTrue result ↔ (Keeps levels depth (shows s.now) × ArmsKeep levels depth (arms_of (shows_labelled arms.now) (shows other.now))) }
+{
+    keeps(s, levels, depth) && arms_keep(arms, other, levels, depth)
+}
+
+// Each arm is one level below the one before it, and stands for an if, whose test has depth 2.
+#[cycle(keeps)]
+fn arms_keep(arms: &[Arm], other: &Expr, levels: u16, depth: u16) -> bool
+    ensures { IsTrue result ↔ ArmsKeep levels depth (arms_of (shows_labelled arms.now) (shows other.now)) }
+{
+    let mut left = levels;
+    let mut under = depth;
+    for arm in arms {
+        if left == 0 || under <= 2 {
+            return false;
+        }
+        left -= 1;
+        under -= 1;
+        if !keeps(&arm.value, left, under) {
+            return false;
+        }
+    }
+    left > 0 && keeps(other, left - 1, under)
+}
+
+// The operands of an operator: those of one between them are at its level.
+#[cycle(keeps)]
+fn operands_keep(p: Primitive, es: &[Expr], levels: u16, depth: u16) -> bool
+    ensures { IsTrue result ↔ OperandsKeep p levels depth (trees_of (shows_all es.now)) }
+{
+    if is_binary(p) {
+        binary_keeps(p, es, levels, depth)
+    } else {
+        levels > 0 && parts_keep(es, right_place(p), levels - 1, depth)
+    }
+}
+
+#[cycle(keeps)]
+fn binary_keeps(p: Primitive, es: &[Expr], levels: u16, depth: u16) -> bool
+    requires { is_binary p ≡ true }
+    ensures { IsTrue result ↔ OperandsKeep p levels depth (trees_of (shows_all es.now)) }
+{
+    match es {
+        [] => true,
+        [first, rest @ ..] => {
+            part_keeps(first, left_place(p), levels, depth.min(LEFT_DEPTH))
+                && parts_keep(rest, right_place(p), levels, depth)
+        }
+    }
+}
+
+#[cycle(keeps)]
+fn parts_keep(es: &[Expr], place: u8, levels: u16, depth: u16) -> bool
+    ensures { IsTrue result ↔ PartsKeep place levels depth (trees_of (shows_all es.now)) }
+{
+    for e in es {
+        if !part_keeps(e, place, levels, depth) {
+            return false;
+        }
+    }
+    true
+}
+
+// One level is for its parentheses, where the place has too few layers.
+#[cycle(keeps)]
+fn part_keeps(e: &Expr, place: u8, levels: u16, depth: u16) -> bool
+    ensures { IsTrue result ↔ PartKeeps place levels depth (shows e.now) }
+{
+    if own(e) <= place {
+        keeps(e, levels, depth)
+    } else {
+        levels > 0 && keeps(e, levels - 1, depth)
+    }
+}

@@ -1,0 +1,69 @@
+//! Places of expressions. A place has as many layers of operators as may stand there without parentheses; 8 layers
+//! are any expression.
+
+ghost use Rattle.std.specs.Prelude.{◌≡◌};
+ghost use Rattle.safl_tree.specs.Printable.{is_binary, right_place, left_place, own};
+ghost use Rattle.safl_tree.specs.Shown.{shows};
+
+use crate::{Expr, Node};
+use safl_word::Primitive;
+
+/// Whether the operator stands between its operands.
+pub(crate) fn is_binary(p: Primitive) -> bool
+    ensures { result ≡ is_binary p }
+{
+    !matches!(
+        p,
+        Primitive::Not | Primitive::Cat | Primitive::Bits(..) | Primitive::Ext(_)
+    )
+}
+
+/// The layers of the place right of an operator: those below its own.
+pub(crate) fn right_place(p: Primitive) -> u8
+    ensures { result ≡ right_place p }
+{
+    match p {
+        Primitive::Not | Primitive::Mul => 0,
+        Primitive::Add | Primitive::Sub => 1,
+        Primitive::Shl | Primitive::Shr => 2,
+        Primitive::Eq
+        | Primitive::Ne
+        | Primitive::Lt
+        | Primitive::Le
+        | Primitive::Gt
+        | Primitive::Ge => 3,
+        Primitive::And => 4,
+        Primitive::Xor => 5,
+        Primitive::Or => 6,
+        Primitive::Cat | Primitive::Bits(..) | Primitive::Ext(_) => 8,
+    }
+}
+
+/// The layers of the place left of an operator: its own too where it chains, and a comparison does not.
+pub(crate) fn left_place(p: Primitive) -> u8
+    ensures { result ≡ left_place p }
+{
+    match p {
+        Primitive::Mul
+        | Primitive::Add
+        | Primitive::Sub
+        | Primitive::Shl
+        | Primitive::Shr
+        | Primitive::And
+        | Primitive::Xor
+        | Primitive::Or => right_place(p) + 1,
+        _ => right_place(p),
+    }
+}
+
+/// The layers that an expression takes without parentheses.
+pub(crate) fn own(e: &Expr) -> u8
+    ensures { result ≡ own (shows e.now) }
+{
+    match &e.node {
+        Node::Num(_) | Node::Sized(..) | Node::Var(_) | Node::Call(..) => 0,
+        Node::If(..) | Node::Let(..) | Node::Case(..) => 8,
+        Node::Op(p, _) if is_binary(*p) => right_place(*p) + 1,
+        Node::Op(..) => 0,
+    }
+}

@@ -1,0 +1,225 @@
+-- Tables of bits and loads, by one entry more.
+use Rattle.std.proofs.Common.{◌≡◌, ℕ, zero, suc, ◌+◌, ◌<◌, ◌≤◌, List, [], ◌∷◌, ◌++◌, length, length-append, map, take, Option, Some, None, Bool, true, false, ◌&&◌, ◌||◌, ◌==◌, slice_get, slice_index_or, is_some, refl, sym, ap, subst, ◌∙◌, add-one, arith}
+use Rattle.std.proofs.lemmas.Option.{slice_get_read}
+use Rattle.safl_word.specs.Words.{Word}
+use Rattle.safl_term.specs.Program.{Program, arity}
+use Rattle.std.specs.Option.{option_or}
+use Rattle.safl_term.specs.Readiness.{or_else}
+use Rattle.safl_calls.specs.Picks.{first}
+use Rattle.safl_net.specs.declared.cell.Sig.{Sig}
+use Rattle.safl_net.specs.Netlist.{Netlist}
+use Rattle.safl_net.specs.Growth.{Val, Wired, words}
+use Rattle.safl_net.proofs.Growth.{wired_before}
+use Rattle.safl_net.specs.Bits.{on, gate}
+use Rattle.safl_gates.specs.declared.loads.Load.{Load}
+use Rattle.safl_gates.specs.Sources.{IsSource, AreSources, Builds}
+use Rattle.safl_gates.specs.Tables.{EachAt, load_in, sig_in, taken, taken_in, taken_at, taken_from, on_in, on_from, FitsIn, SomeFit, IsBitIn, BitsFit}
+use Rattle.safl_gates.proofs.Cells.{sources_length}
+use Rattle.safl_gates.proofs.Joining.{or_false}
+use Rattle.safl_gates.proofs.Building.{sources_kept}
+use Rattle.safl_unit.specs.declared.parts.Outcomes.{Outcomes}
+use Rattle.safl_unit.specs.Stages.{OutcomesFit}
+use Rattle.safl_unit.specs.Edges.{one_below, bit_of, operands_in, IsBare, ShowsBits, ShowsLoads}
+use Rattle.safl_unit.proofs.Tables.{each_none, each_push}
+use Rattle.safl_unit.proofs.Options.{first_is}
+
+-- ---- nothing is there
+
+pub bare_none : {A : Type 0} (xs : List (Option A)) → xs ≡ [] → IsBare xs 0
+bare_none {A} xs e = record { entries = ap (λ (l : List (Option A)). length l) e; none = subst (λ (l : List (Option A)). EachAt l (λ i o. o ≡ None)) (sym e) (each_none (λ i o. o ≡ None)) }
+
+pub bare_more : {A : Type 0} (xs ys : List (Option A)) (m : ℕ) → ys ≡ xs ++ None ∷ [] → IsBare xs m → IsBare ys (m + 1)
+bare_more {A} xs ys m e h = record {
+  entries = let f = ap (λ (l : List (Option A)). length l) e in let g = length-append xs (None ∷ []) in let k = h.entries in omega (arith, f, g, k);
+  none = subst (λ (l : List (Option A)). EachAt l (λ i o. o ≡ None)) (sym e) (each_push xs None (λ i o. o ≡ None) h.none refl);
+}
+
+no_sig : (xs : List (Option Sig)) → EachAt xs (λ i o. o ≡ None) → (i : ℕ) → sig_in (slice_get xs i) ≡ None
+no_sig xs h i = by (slice_get xs i) refl
+  where
+    by : (o : Option (Option Sig)) → slice_get xs i ≡ o → sig_in o ≡ None
+    by None e = refl
+    by (Some o) e = h i o e
+
+no_load : (xs : List (Option Load)) → EachAt xs (λ i o. o ≡ None) → (i : ℕ) → load_in (slice_get xs i) ≡ None
+no_load xs h i = by (slice_get xs i) refl
+  where
+    by : (o : Option (Option Load)) → slice_get xs i ≡ o → load_in o ≡ None
+    by None e = refl
+    by (Some o) e = h i o e
+
+pub bare_bits : (n : Netlist) (xs : List (Option Sig)) (count : ℕ) → IsBare xs count → ShowsBits n xs count (λ v i. false)
+bare_bits n xs count h = record {
+  entries = h.entries;
+  fits = λ i. subst (λ (o : Option Sig). IsBitIn n o) (sym (no_sig xs h.none i)) tt;
+  shows = λ v w i. ap (on_in v) (no_sig xs h.none i);
+}
+
+pub bare_loads : (n : Netlist) (xs : List (Option Load)) (count : ℕ) (ws : ℕ → List ℕ) → IsBare xs count → ShowsLoads n xs count ws (λ v i. None)
+bare_loads n xs count ws h = record {
+  entries = h.entries;
+  fits = λ i. subst (λ (o : Option Load). FitsIn n o (ws i)) (sym (no_load xs h.none i)) tt;
+  shows = λ v w i. ap (taken_in v) (no_load xs h.none i);
+}
+
+-- ---- one more
+
+or_both : (a b c : Bool) → ((a || b) || c) ≡ (a || (b || c))
+or_both true b c = refl
+or_both false b c = refl
+
+below_none : (t : ℕ → Bool) → one_below t 0 ≡ false
+unfolding one_below
+below_none t = refl
+
+below_more : (t : ℕ → Bool) (n : ℕ) → one_below t (n + 1) ≡ (one_below t n || t n)
+unfolding one_below
+below_more t n = ap (one_below t) (add-one n)
+
+first_zero : {A : Type 0} (g : ℕ → Option A) → first g 0 ≡ None
+unfolding first
+first_zero g = refl
+
+first_next : {A : Type 0} (g : ℕ → Option A) (n : ℕ) → first g (n + 1) ≡ or_else (first g n) (g n)
+unfolding first
+first_next g n = ap (first g) (add-one n)
+
+pub start_bits : (n : Netlist) (xs : List (Option Sig)) (count : ℕ) (base : Val → ℕ → Bool) (t : Val → ℕ → ℕ → Bool) → ShowsBits n xs count base → ShowsBits n xs count (λ v i. base v i || one_below (t v i) 0)
+start_bits n xs count base t h = record {
+  entries = h.entries;
+  fits = h.fits;
+  shows = λ v w i. h.shows v w i ∙ or_false (base v i) ∙ ap (λ (b : Bool). base v i || b) (sym (below_none (t v i)));
+}
+
+pub more_bits : (a b : Netlist) (xs ys : List (Option Sig)) (count place k m : ℕ) (new : Val → Bool) (base : Val → ℕ → Bool) (t : Val → ℕ → ℕ → Bool) → Builds a b k
+    → ShowsBits a xs count (λ v i. base v i || one_below (t v i) m) → length ys ≡ length xs → BitsFit b ys
+    → ((v : Val) → Wired b v → (i : ℕ) → on_from v ys i ≡ (on_from v xs i || ((i == place) && new v)))
+    → ((v : Val) (i : ℕ) → Wired b v → ((i == place) && new v) ≡ t v i m) → ShowsBits b ys count (λ v i. base v i || one_below (t v i) (m + 1))
+more_bits a b xs ys count place k m new base t built h e f g q = record {
+  entries = e ∙ h.entries;
+  fits = f;
+  shows = λ v w i.
+      g v w i ∙ ap (λ (x : Bool). x || ((i == place) && new v)) (h.shows v (wired_before built.grows w) i) ∙ or_both (base v i) (one_below (t v i) m) ((i == place) && new v)
+      ∙ ap (λ (x : Bool). base v i || (one_below (t v i) m || x)) (q v i w) ∙ ap (λ (x : Bool). base v i || x) (sym (below_more (t v i) m));
+}
+
+pub start_loads : (n : Netlist) (xs : List (Option Load)) (count : ℕ) (ws : ℕ → List ℕ) (t : Val → ℕ → ℕ → Option (List Word)) → ShowsLoads n xs count ws (λ v i. None) → ShowsLoads n xs count ws (λ v i. first (t v i) 0)
+start_loads n xs count ws t h = record { entries = h.entries; fits = h.fits; shows = λ v w i. h.shows v w i ∙ sym (first_zero (t v i)) }
+
+pub more_loads : (a b : Netlist) (xs ys : List (Option Load)) (count place k m : ℕ) (bit : Sig) (ops : List Sig) (ws : ℕ → List ℕ) (t : Val → ℕ → ℕ → Option (List Word)) → Builds a b k
+    → ShowsLoads a xs count ws (λ v i. first (t v i) m) → length ys ≡ length xs → SomeFit b ys ws
+    → ((v : Val) → Wired b v → (i : ℕ) → taken_from v ys i ≡ option_or (taken_from v xs i) (gate ((i == place) && on v bit) (Some (words v ops))))
+    → ((v : Val) (i : ℕ) → gate ((i == place) && on v bit) (Some (words v ops)) ≡ t v i m) → ShowsLoads b ys count ws (λ v i. first (t v i) (m + 1))
+more_loads a b xs ys count place k m bit ops ws t built h e f g q = record {
+  entries = e ∙ h.entries;
+  fits = f;
+  shows = λ v w i.
+      g v w i ∙ first_is (taken_from v xs i) (gate ((i == place) && on v bit) (Some (words v ops))) ∙ ap (λ (x : Option (List Word)). or_else x (gate ((i == place) && on v bit) (Some (words v ops)))) (h.shows v (wired_before built.grows w) i)
+      ∙ ap (λ (x : Option (List Word)). or_else (first (t v i) m) x) (q v i) ∙ sym (first_next (t v i) m);
+}
+
+-- ---- the outcomes
+
+pub operands_fit : (a b : Netlist) (k : ℕ) (xs ys : List Sig) (ws us : List ℕ) → Builds a b k → AreSources a xs ws → ys ≡ xs → us ≡ ws → AreSources b ys us
+operands_fit a b k xs ys ws us built h e f = subst (λ (l : List ℕ). AreSources b ys l) (sym f) (subst (λ (l : List Sig). AreSources b l ws) (sym e) (sources_kept built h))
+
+pub record EndThere (C : Program) (n : Netlist) (o : Outcomes) (f : ℕ) (l : Load) : Type 0 where
+  pub get : slice_get o.ends.items f ≡ Some l
+  pub bit : IsSource n l.bit 1
+  pub words : AreSources n l.words.items (C.result f ∷ [])
+  pub count : length l.words.items ≡ 1
+
+pub end_there : (C : Program) (n : Netlist) (o : Outcomes) (f : ℕ) (l : Load) → OutcomesFit C n o → f < C.functions → l ≡ slice_index_or o.ends.items f l → EndThere C n o f l
+end_there C n o f l h m e =
+    let a = h.ends_length in
+    let k : f < length o.ends.items = omega (arith, a, m) in
+    let g = slice_get_read o.ends.items (length o.ends.items) f l refl k e in
+    let q = h.ends f l g in
+    record { get = g; bit = q.bit; words = q.words; count = sources_length n l.words.items (C.result f ∷ []) q.words }
+
+pub record WantThere (C : Program) (n : Netlist) (o : Outcomes) (k : ℕ) (l : Load) : Type 0 where
+  pub get : slice_get o.wants.items k ≡ Some l
+  pub words : AreSources n l.words.items (C.params (C.callee k))
+  pub count : length l.words.items ≡ arity C (C.callee k)
+
+pub want_there : (C : Program) (n : Netlist) (o : Outcomes) (k : ℕ) (l : Load) → OutcomesFit C n o → k ≤ C.sites → l ≡ slice_index_or o.wants.items k l → WantThere C n o k l
+want_there C n o k l h m e =
+    let a = h.wants_length in
+    let j : k < length o.wants.items = omega (arith, a, m) in
+    let g = slice_get_read o.wants.items (length o.wants.items) k l refl j e in
+    let q = h.wants k l g in
+    record { get = g; words = q.words; count = sources_length n l.words.items (C.params (C.callee k)) q.words }
+
+pub loop_there : (C : Program) (n : Netlist) (o : Outcomes) (f : ℕ) (l : Option Load) → OutcomesFit C n o → f < C.functions → l ≡ slice_index_or o.loops.items f l → slice_get o.loops.items f ≡ Some l
+loop_there C n o f l h m e =
+    let a = h.loops_length in
+    let k : f < length o.loops.items = omega (arith, a, m) in
+    slice_get_read o.loops.items (length o.loops.items) f l refl k e
+
+pub gates_both : {A : Type 0} (a b : Bool) (o : Option A) → gate (a && b) o ≡ gate a (gate b o)
+gates_both true b o = refl
+gates_both false b o = refl
+
+-- what an end adds, and what a want
+pub end_shown : (C : Program) (v : Val) (n : Netlist) (o : Outcomes) (f i place : ℕ) (l : Load) (ops : List Sig) → EndThere C n o f l → ops ≡ l.words.items → place ≡ C.unit f
+    → gate ((i == place) && on v l.bit) (Some (words v ops)) ≡ gate (i == C.unit f) (taken_at v o.ends.items f)
+end_shown C v n o f i place l ops h d p =
+    ap (λ (xs : List Sig). gate ((i == place) && on v l.bit) (Some (words v xs))) d ∙ gates_both (i == place) (on v l.bit) (Some (words v l.words.items))
+    ∙ ap (λ (x : ℕ). gate (i == x) (taken v l)) p ∙ ap (λ (x : Option Load). gate (i == C.unit f) (taken_in v x)) (sym h.get)
+
+pub want_shown : (C : Program) (v : Val) (n : Netlist) (o : Outcomes) (k i place : ℕ) (l : Load) (ops : List Sig) (bit : Sig) → WantThere C n o k l → ops ≡ l.words.items → place ≡ C.callee k
+    → gate ((i == place) && on v bit) (Some (words v ops)) ≡ gate ((i == C.callee k) && on v bit) (operands_in v (slice_get o.wants.items k))
+want_shown C v n o k i place l ops bit h d p =
+    ap (λ (xs : List Sig). gate ((i == place) && on v bit) (Some (words v xs))) d
+    ∙ ap (λ (x : ℕ). gate ((i == x) && on v bit) (Some (words v l.words.items))) p ∙ ap (λ (x : Option Load). gate ((i == C.callee k) && on v bit) (operands_in v x)) (sym h.get)
+
+-- ---- the bits of loads
+
+bit_fits : (n : Netlist) (o : Option Load) (ws : List ℕ) → FitsIn n o ws → IsBitIn n (bit_of o)
+bit_fits n None ws h = tt
+bit_fits n (Some l) ws h = h.bit
+
+gate_some : {A : Type 0} (b : Bool) (x : A) → b ≡ is_some (gate b (Some x))
+gate_some true x = refl
+gate_some false x = refl
+
+bit_shows : (v : Val) (o : Option Load) → on_in v (bit_of o) ≡ is_some (taken_in v o)
+bit_shows v None = refl
+bit_shows v (Some l) = gate_some (on v l.bit) (words v l.words.items)
+
+pub load_bit_fits : (n : Netlist) (o : Option Load) (b : Option Sig) (ws : List ℕ) → b ≡ bit_of o → FitsIn n o ws → IsBitIn n b
+load_bit_fits n o b ws e h = subst (λ (x : Option Sig). IsBitIn n x) (sym e) (bit_fits n o ws h)
+
+pub load_bit_shows : (v : Val) (o : Option Load) (b : Option Sig) → b ≡ bit_of o → on_in v b ≡ is_some (taken_in v o)
+load_bit_shows v o b e = ap (on_in v) e ∙ bit_shows v o
+
+bit_there : (xs : List (Option Load)) (i : ℕ) → sig_in (slice_get (map bit_of xs) i) ≡ bit_of (load_in (slice_get xs i))
+bit_there [] i = refl
+bit_there (x ∷ xs) zero = refl
+bit_there (x ∷ xs) (suc i) = bit_there xs i
+
+bits_there : (xs : List (Option Load)) → length (map bit_of xs) ≡ length xs
+bits_there [] = refl
+bits_there (x ∷ xs) = let h = bits_there xs in omega (arith, h)
+
+pub bits_of_loads : (n : Netlist) (xs : List (Option Load)) (bits : List (Option Sig)) (count : ℕ) (ws : ℕ → List ℕ) → length xs ≡ count → SomeFit n xs ws → bits ≡ map bit_of xs → ShowsBits n bits count (λ v i. is_some (taken_from v xs i))
+bits_of_loads n xs bits count ws e h q = subst (λ (l : List (Option Sig)). ShowsBits n l count (λ v i. is_some (taken_from v xs i))) (sym q) record {
+  entries = bits_there xs ∙ e;
+  fits = λ i. subst (λ (o : Option Sig). IsBitIn n o) (sym (bit_there xs i)) (bit_fits n (load_in (slice_get xs i)) (ws i) (h i));
+  shows = λ v w i. ap (on_in v) (bit_there xs i) ∙ bit_shows v (load_in (slice_get xs i));
+}
+
+pub bits_next : (xs : List (Option Load)) (i : ℕ) (x : Option Load) → slice_get xs i ≡ Some x → map bit_of (take (suc i) xs) ≡ map bit_of (take i xs) ++ bit_of x ∷ []
+bits_next [] i x e = absurd (cc)
+bits_next (y ∷ xs) zero x e = let q : y ≡ x = cc in ap (λ (z : Option Load). bit_of z ∷ []) q
+bits_next (y ∷ xs) (suc i) x e = ap (λ (l : List (Option Sig)). bit_of y ∷ l) (bits_next xs i x e)
+
+pub loop_fits : (C : Program) (n : Netlist) (o : Outcomes) (h : ℕ) (l : Option Load) (bit : Option Sig) → OutcomesFit C n o → slice_get o.loops.items h ≡ Some l → bit ≡ bit_of l → IsBitIn n bit
+loop_fits C n o h l bit f e q =
+    subst (λ (b : Option Sig). IsBitIn n b) (sym q) (bit_fits n l (C.params h) (subst (λ (x : Option (Option Load)). FitsIn n (load_in x) (C.params h)) e (f.loops h)))
+
+pub loop_shown : (v : Val) (o : Outcomes) (h i place to : ℕ) (l : Option Load) (bit : Option Sig) → slice_get o.loops.items h ≡ Some l → bit ≡ bit_of l → place ≡ to
+    → ((i == place) && on_in v bit) ≡ ((i == to) && is_some (taken_from v o.loops.items h))
+loop_shown v o h i place to l bit e q p =
+    ap (λ (b : Option Sig). (i == place) && on_in v b) q ∙ ap (λ (b : Bool). (i == place) && b) (bit_shows v l)
+    ∙ ap (λ (x : ℕ). (i == x) && is_some (taken_in v l)) p ∙ ap (λ (x : Option (Option Load)). (i == to) && is_some (taken_in v (load_in x))) (sym e)

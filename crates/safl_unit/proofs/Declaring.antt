@@ -1,0 +1,143 @@
+-- Signals that are declared line by line.
+use Rattle.std.proofs.Common.{◌≡◌, ℕ, zero, suc, ◌+◌, ◌≤◌, List, [], ◌∷◌, ◌++◌, map, length, length-append, take, Some, None, slice_get, refl, sym, ap, subst, ◌∙◌, arith, append_assoc}
+use Rattle.std.specs.Str.{IsUtf8}
+use Rattle.std.specs.String.{string_bytes}
+use Rattle.std.specs.Option.{option_map_or}
+use Rattle.std.proofs.lemmas.Str.{IsUtf8-nil, IsUtf8-string_bytes}
+use Rattle.std.proofs.lemmas.List.{append-nil}
+use Rattle.safl_term.specs.Checked.{CheckedProgram, program_of, name_of, param_names}
+use Rattle.safl_term.specs.declared.checked.Function.{Function}
+use Rattle.safl_term.specs.declared.checked.Parameter.{Parameter}
+use Rattle.safl_net.specs.declared.cell.Sig.{Sig}
+use Rattle.safl_net.specs.Netlist.{Netlist, Signal}
+use Rattle.safl_circuit.specs.Layout.{Line, named}
+use Rattle.safl_unit.specs.Ties.{numbered}
+use Rattle.safl_unit.specs.Declaring.{with_signals}
+
+-- ---- names are texts
+
+no_text : (o : _) → IsUtf8 (option_map_or (λ (f : Function). string_bytes f.name) o [])
+no_text None = IsUtf8-nil
+no_text (Some f) = IsUtf8-string_bytes f.name
+
+pub name_text : (c : CheckedProgram) (f : ℕ) (x : List ℕ) → x ≡ name_of c f → IsUtf8 x
+unfolding name_of
+name_text c f x e = subst IsUtf8 (sym e) (no_text (slice_get c.functions f))
+
+param_in : (ps : List Parameter) (i : ℕ) (x : List ℕ) → slice_get (map (λ (p : Parameter). string_bytes p.name) ps) i ≡ Some x → IsUtf8 x
+param_in [] i x e = absurd (cc)
+param_in (p ∷ ps) zero x e = let q : string_bytes p.name ≡ x = cc in subst IsUtf8 q (IsUtf8-string_bytes p.name)
+param_in (p ∷ ps) (suc i) x e = param_in ps i x e
+
+params_in : (o : _) (i : ℕ) (x : List ℕ) → slice_get (option_map_or (λ (f : Function). map (λ (p : Parameter). string_bytes p.name) f.params.items) o []) i ≡ Some x → IsUtf8 x
+params_in None i x e = absurd (cc)
+params_in (Some f) i x e = param_in f.params.items i x e
+
+pub param_text : (c : CheckedProgram) (f i : ℕ) (x : List ℕ) → slice_get (param_names c f) i ≡ Some x → IsUtf8 x
+unfolding param_names
+param_text c f i x e = params_in (slice_get c.functions f) i x e
+
+-- ---- more signals
+
+pub map_more : {A B : Type 0} (g : A → B) (xs ys : List A) → map g (xs ++ ys) ≡ map g xs ++ map g ys
+map_more g [] ys = refl
+map_more g (x ∷ xs) ys = ap (λ l. g x ∷ l) (map_more g xs ys)
+
+pub map_long : {A B : Type 0} (g : A → B) (xs : List A) → length (map g xs) ≡ length xs
+map_long g [] = refl
+map_long g (x ∷ xs) = ap suc (map_long g xs)
+
+-- a net with these lines, and then with those
+pub lines_on : (n m k : Netlist) (g : Line → Signal) (xs ys : List Line) → m ≡ with_signals n (map g xs) → k ≡ with_signals m (map g ys) → k ≡ with_signals n (map g (xs ++ ys))
+lines_on n m k g xs ys e f =
+    f ∙ ap (λ (a : Netlist). with_signals a (map g ys)) e
+    ∙ ap (λ l. record { signals = l; outputs = n.outputs }) (append_assoc n.signals (map g xs) (map g ys) ∙ ap (λ l. n.signals ++ l) (sym (map_more g xs ys)))
+
+pub lines_none : (n : Netlist) (g : Line → Signal) → n ≡ with_signals n (map g [])
+lines_none n g = ap (λ l. record { signals = l; outputs = n.outputs }) (sym (append-nil n.signals))
+
+pub lines_count : (n m : Netlist) (g : Line → Signal) (xs : List Line) → m ≡ with_signals n (map g xs) → length m.signals ≡ length n.signals + length xs
+lines_count n m g xs e = ap (λ (a : Netlist). length a.signals) e ∙ length-append n.signals (map g xs) ∙ ap (λ a. length n.signals + a) (map_long g xs)
+
+pub take_next : {A : Type 0} (xs : List A) (i : ℕ) (x : A) → slice_get xs i ≡ Some x → take (suc i) xs ≡ take i xs ++ x ∷ []
+take_next [] i x e = absurd (cc)
+take_next (a ∷ xs) zero x e = let q : a ≡ x = cc in ap (λ z. z ∷ []) q
+take_next (a ∷ xs) (suc i) x e = ap (λ l. a ∷ l) (take_next xs i x e)
+
+pub take_long : {A : Type 0} (xs : List A) (i : ℕ) → i ≤ length xs → length (take i xs) ≡ i
+take_long xs zero l = refl
+take_long [] (suc i) l = absurd (omega (arith, l))
+take_long (x ∷ xs) (suc i) l = ap suc (take_long xs i (omega (arith, l)))
+
+pub take_whole : {A : Type 0} (xs : List A) (i : ℕ) → length xs ≤ i → take i xs ≡ xs
+take_whole [] zero l = refl
+take_whole [] (suc i) l = refl
+take_whole (x ∷ xs) zero l = absurd (omega (arith, l))
+take_whole (x ∷ xs) (suc i) l = ap (λ a. x ∷ a) (take_whole xs i (omega (arith, l)))
+
+-- ---- numbers in a row
+
+pub numbered_more : (s a b : ℕ) → numbered s (a + b) ≡ numbered s a ++ numbered (s + a) b
+numbered_more s zero b = ap (λ x. numbered s x) (let e : 0 + b ≡ b = omega arith in e) ∙ ap (λ x. numbered x b) (let e : s ≡ s + 0 = omega arith in e)
+numbered_more s (suc a) b =
+    ap (λ x. numbered s x) (let e : suc a + b ≡ suc (a + b) = omega arith in e)
+    ∙ ap (λ l. record { 0 = s } ∷ l) (numbered_more (suc s) a b ∙ ap (λ x. numbered (suc s) a ++ numbered x b) (let e : suc s + a ≡ s + suc a = omega arith in e))
+
+pub numbered_next : (s i : ℕ) (xs : List Sig) (x : Sig) → xs ≡ numbered s i → x.0 ≡ s + i → xs ++ x ∷ [] ≡ numbered s (i + 1)
+numbered_next s i xs x e f = ap (λ l. l ++ x ∷ []) e ∙ ap (λ (a : ℕ). numbered s i ++ record { 0 = a } ∷ []) f ∙ sym (numbered_more s i 1)
+
+-- ---- the lines of parameters
+
+pub named_get : (xs : List (List ℕ)) (ws : List ℕ) (i : ℕ) (x : List ℕ) (w : ℕ) → slice_get xs i ≡ Some x → slice_get ws i ≡ Some w → slice_get (named xs ws) i ≡ Some (x, w)
+named_get [] ws i x w e f = absurd (cc)
+named_get (a ∷ xs) [] i x w e f = absurd (cc)
+named_get (a ∷ xs) (b ∷ ws) zero x w e f = let p : a ≡ x = cc in let q : b ≡ w = cc in ap (λ z. Some (z, b)) p ∙ ap (λ z. Some (x, z)) q
+named_get (a ∷ xs) (b ∷ ws) (suc i) x w e f = named_get xs ws i x w e f
+
+pub map_get : {A B : Type 0} (g : A → B) (xs : List A) (i : ℕ) (x : A) → slice_get xs i ≡ Some x → slice_get (map g xs) i ≡ Some (g x)
+map_get g [] i x e = absurd (cc)
+map_get g (a ∷ xs) zero x e = let p : a ≡ x = cc in ap (λ z. Some (g z)) p
+map_get g (a ∷ xs) (suc i) x e = map_get g xs i x e
+
+pub named_long : (xs : List (List ℕ)) (ws : List ℕ) → length xs ≡ length ws → length (named xs ws) ≡ length ws
+named_long [] [] e = refl
+named_long [] (w ∷ ws) e = absurd (omega (arith, e))
+named_long (x ∷ xs) [] e = absurd (omega (arith, e))
+named_long (x ∷ xs) (w ∷ ws) e = ap suc (named_long xs ws (omega (arith, e)))
+
+as_many : (ps : List Parameter) → length (map (λ (p : Parameter). string_bytes p.name) ps) ≡ length (map (λ (p : Parameter). p.width) ps)
+as_many [] = refl
+as_many (p ∷ ps) = ap suc (as_many ps)
+
+as_many_in : (o : _) → length (option_map_or (λ (f : Function). map (λ (p : Parameter). string_bytes p.name) f.params.items) o []) ≡ length (option_map_or (λ (f : Function). map (λ (p : Parameter). p.width) f.params.items) o [])
+as_many_in None = refl
+as_many_in (Some f) = as_many f.params.items
+
+-- each parameter has a name
+pub params_long : (c : CheckedProgram) (f : ℕ) → length (param_names c f) ≡ length ((program_of c).params f)
+unfolding param_names program_of
+params_long c f = as_many_in (slice_get c.functions f)
+
+-- the lines of a function's parameters, with these names
+pub param_lines_long : (c : CheckedProgram) (f : ℕ) (g : List ℕ → List ℕ) → length (named (map g (param_names c f)) ((program_of c).params f)) ≡ length ((program_of c).params f)
+param_lines_long c f g = named_long (map g (param_names c f)) ((program_of c).params f) (map_long g (param_names c f) ∙ params_long c f)
+
+-- one more of them
+pub param_step : (c : CheckedProgram) (f i w s : ℕ) (x : List ℕ) (g : List ℕ → List ℕ) (h : Line → Signal) (n m k : Netlist)
+    → slice_get (param_names c f) i ≡ Some x → slice_get ((program_of c).params f) i ≡ Some w
+    → m ≡ with_signals n (map h (take i (named (map g (param_names c f)) ((program_of c).params f)))) → k ≡ with_signals m (h (g x, w) ∷ [])
+    → k ≡ with_signals n (map h (take (i + 1) (named (map g (param_names c f)) ((program_of c).params f))))
+param_step c f i w s x g h n m k a b e q =
+    let ls = named (map g (param_names c f)) ((program_of c).params f) in
+    let here = named_get (map g (param_names c f)) ((program_of c).params f) i (g x) w (map_get g (param_names c f) i x a) b in
+    lines_on n m k h (take i ls) ((g x, w) ∷ []) e q
+    ∙ ap (λ l. with_signals n (map h l)) (sym (take_next ls i (g x, w) here))
+    ∙ ap (λ j. with_signals n (map h (take j ls))) (let r : suc i ≡ i + 1 = omega arith in r)
+
+-- how many there are so far
+pub param_count : (c : CheckedProgram) (f i : ℕ) (g : List ℕ → List ℕ) (h : Line → Signal) (n m : Netlist) → i ≤ length ((program_of c).params f)
+    → m ≡ with_signals n (map h (take i (named (map g (param_names c f)) ((program_of c).params f)))) → length m.signals ≡ length n.signals + i
+param_count c f i g h n m l e =
+    let ls = named (map g (param_names c f)) ((program_of c).params f) in
+    let long = param_lines_long c f g in
+    lines_count n m h (take i ls) e ∙ ap (λ a. length n.signals + a) (take_long ls i (omega (arith, l, long)))

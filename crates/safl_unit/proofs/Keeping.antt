@@ -1,0 +1,126 @@
+-- What is known of a net is known of what is built on it.
+use Rattle.std.proofs.Common.{ℕ, List, Option, Bool, slice_get}
+use Rattle.safl_term.specs.Program.{Program}
+use Rattle.safl_net.specs.declared.cell.Sig.{Sig}
+use Rattle.safl_net.specs.Netlist.{Netlist}
+use Rattle.safl_net.specs.Growth.{Val}
+use Rattle.safl_net.proofs.Growth.{wired_before}
+use Rattle.safl_lower.specs.declared.parts.SitePorts.{SitePorts}
+use Rattle.safl_circuit.specs.Equations.{Registers, Inputs, Choice}
+use Rattle.safl_gates.specs.declared.loads.Load.{Load}
+use Rattle.safl_gates.specs.Sources.{Builds}
+use Rattle.safl_gates.specs.Tables.{load_in}
+use Rattle.safl_gates.proofs.Building.{source_kept, sources_kept}
+use Rattle.safl_gates.proofs.Kept.{load_kept, maybe_load_kept, some_kept, bits_kept}
+use Rattle.safl_unit.specs.declared.parts.UnitPins.{UnitPins}
+use Rattle.safl_unit.specs.declared.parts.MemberPins.{MemberPins}
+use Rattle.safl_unit.specs.declared.parts.SitePins.{SitePins}
+use Rattle.safl_unit.specs.declared.parts.Bank.{Bank}
+use Rattle.safl_unit.specs.declared.parts.Pins.{Pins}
+use Rattle.safl_unit.specs.declared.parts.Returns.{Returns}
+use Rattle.safl_unit.specs.declared.parts.Outcomes.{Outcomes}
+use Rattle.safl_unit.specs.declared.parts.Controls.{Controls}
+use Rattle.safl_unit.specs.Cycles.{UnitFits, MemberFits, SiteFits, BankFits, PinsFit, Cycle, InEachCycle}
+use Rattle.safl_unit.specs.Stages.{PortFits, HasReturns, HasOutcomes, HasGoes, HasEnds, HasLoads, HasBits, HasNext}
+use Rattle.safl_unit.specs.Finished.{ControlsFit, HasControls}
+
+module _ {a b : Netlist} {most : ℕ} (h : Builds a b most) where
+  -- ---- widths and sources
+
+  pub port_kept : {p : SitePorts} {w : ℕ} → PortFits a p w → PortFits b p w
+  port_kept q = record { sent = source_kept h q.sent; returned = source_kept h q.returned; value = source_kept h q.value }
+
+  pub unit_kept : {u : UnitPins} {w : ℕ} → UnitFits a u w → UnitFits b u w
+  unit_kept q = record { run = source_kept h q.run; fin = source_kept h q.fin; res = source_kept h q.res }
+
+  pub member_kept : {m : MemberPins} {ws : List ℕ} → MemberFits a m ws → MemberFits b m ws
+  member_kept q = record { at = source_kept h q.at; args = sources_kept h q.args }
+
+  pub site_kept : {s : SitePins} {w : ℕ} → SiteFits a s w → SiteFits b s w
+  site_kept q = record { sent = source_kept h q.sent; got = source_kept h q.got; keep = source_kept h q.keep }
+
+  pub bank_kept : {C : Program} {r : Bank} → BankFits C a r → BankFits C b r
+  bank_kept q = record {
+    units_length = q.units_length;
+    members_length = q.members_length;
+    sites_length = q.sites_length;
+    units = λ f u e. unit_kept (q.units f u e);
+    members = λ f m e. member_kept (q.members f m e);
+    sites = λ k s e l. site_kept (q.sites k s e l);
+  }
+
+  pub pins_kept : {C : Program} {p : Pins} → PinsFit C a p → PinsFit C b p
+  pins_kept q = record { start = source_kept h q.start; words = sources_kept h q.words; bank = bank_kept q.bank }
+
+  -- ---- cycles
+
+  pub cycle_before : {C : Program} {P : Choice} {p : Pins} {v : Val} {r : Registers} {i : Inputs} → Cycle C P b p v r i → Cycle C P a p v r i
+  cycle_before c = record { wired = wired_before h.grows c.wired; start = c.start; words = c.words; bank = c.bank }
+
+  pub cycles_kept : (C : Program) (P : Choice) (p : Pins) (Q : Val → Registers → Inputs → Type 0) → InEachCycle C P a p Q → InEachCycle C P b p Q
+  cycles_kept C P p Q q = λ v r i c. q v r i (cycle_before c)
+
+  -- ---- the parts
+
+  pub returns_kept : {C : Program} {P : Choice} {p : Pins} {s : Returns} → HasReturns C P a p s → HasReturns C P b p s
+  returns_kept q = record {
+    fits = record {
+      ret_length = q.fits.ret_length;
+      ports_length = q.fits.ports_length;
+      ret = λ k l m. source_kept h (q.fits.ret k l m);
+      port = λ k x l m e. port_kept (q.fits.port k x l m e);
+    };
+    shows = λ v r i c. q.shows v r i (cycle_before c);
+  }
+
+  pub outcomes_kept : {C : Program} {P : Choice} {p : Pins} {o : Outcomes} → HasOutcomes C P a p o → HasOutcomes C P b p o
+  outcomes_kept {C} {P} {p} {o} q = record {
+    fits = record {
+      ends_length = q.fits.ends_length;
+      loops_length = q.fits.loops_length;
+      wants_length = q.fits.wants_length;
+      ends = λ f l e. load_kept h (q.fits.ends f l e);
+      loops = some_kept h o.loops.items C.params q.fits.loops;
+      wants = λ k l e. load_kept h (q.fits.wants k l e);
+    };
+    shows = λ v r i c. q.shows v r i (cycle_before c);
+  }
+
+  pub goes_kept : {C : Program} {P : Choice} {p : Pins} {goes : List Sig} → HasGoes C P a p goes → HasGoes C P b p goes
+  goes_kept q = record { count = q.count; fits = λ k l. source_kept h (q.fits k l); shows = λ v r i c. q.shows v r i (cycle_before c) }
+
+  pub ends_kept : {C : Program} {P : Choice} {p : Pins} {all : List (Option Load)} → HasEnds C P a p all → HasEnds C P b p all
+  ends_kept {C} {P} {p} {all} q = record { count = q.count; fits = λ u. maybe_load_kept h (load_in (slice_get all u)) _ (q.fits u); shows = λ v r i c. q.shows v r i (cycle_before c) }
+
+  pub all_loads_kept : {C : Program} {P : Choice} {p : Pins} {all : List (Option Load)} → HasLoads C P a p all → HasLoads C P b p all
+  all_loads_kept {C} {P} {p} {all} q = record { count = q.count; fits = some_kept h all C.params q.fits; shows = λ v r i c. q.shows v r i (cycle_before c) }
+
+  pub tests_kept : (C : Program) (P : Choice) (p : Pins) (bits : List (Option Sig)) (test : Registers → Inputs → ℕ → Bool) → HasBits C P a p bits test → HasBits C P b p bits test
+  tests_kept C P p bits test q = record { count = q.count; fits = bits_kept h bits q.fits; shows = λ v r i c. q.shows v r i (cycle_before c) }
+
+  pub next_kept : {C : Program} {P : Choice} {p : Pins} {r : Bank} → HasNext C P a p r → HasNext C P b p r
+  next_kept q = record { fits = bank_kept q.fits; shows = λ v r i c. q.shows v r i (cycle_before c) }
+
+  pub controls_fit_kept : {C : Program} {T : Controls} → ControlsFit C a T → ControlsFit C b T
+  controls_fit_kept q = record {
+    ends_length = q.ends_length;
+    loops_length = q.loops_length;
+    wants_length = q.wants_length;
+    rets_length = q.rets_length;
+    goes_length = q.goes_length;
+    ends = λ f l. source_kept h (q.ends f l);
+    loops = λ f l. source_kept h (q.loops f l);
+    wants = λ k l m. source_kept h (q.wants k l m);
+    rets = λ k l m. source_kept h (q.rets k l m);
+    goes = λ k l. source_kept h (q.goes k l);
+  }
+
+  pub controls_kept : {C : Program} {P : Choice} {p : Pins} {T : Controls} → HasControls C P a p T → HasControls C P b p T
+  controls_kept q = record {
+    fits = controls_fit_kept q.fits;
+    ends = λ v r i c. q.ends v r i (cycle_before c);
+    loops = λ v r i c. q.loops v r i (cycle_before c);
+    wants = λ v r i c. q.wants v r i (cycle_before c);
+    rets = λ v r i c. q.rets v r i (cycle_before c);
+    goes = λ v r i c. q.goes v r i (cycle_before c);
+  }

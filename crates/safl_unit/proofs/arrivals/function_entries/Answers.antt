@@ -1,0 +1,86 @@
+use Rattle.std.proofs.Common.{◌≡◌, ℕ, ◌==◌, ◌&&◌, ◌||◌, is_some, refl, subst, arith}
+use Rattle.safl_term.specs.Checked.{program_of}
+use Rattle.safl_net.specs.Growth.{Val}
+use Rattle.safl_gates.specs.Tables.{taken_from, on_in}
+use Rattle.safl_gates.proofs.Building.{builds_same, builds_on, builds_within}
+use Rattle.safl_gates.proofs.Kept.{maybe_bit_kept}
+use Rattle.safl_unit.specs.Edges.{one_below, ShowsBits}
+use Rattle.safl_unit.proofs.Chains.{bits_of_loads, start_bits, more_bits, loop_there, loop_fits, loop_shown}
+use Rattle.safl_unit.proofs.arrivals.function_entries.Goals as goal
+
+pub loop-h-init : goal.loop-h-init
+loop-h-init c =
+    let C = program_of c.args.p.now.program in
+    let n = c.args.net.now in
+    let xs = c.args.loads.now.items in
+    record {
+      tidy = c.requires.tidy;
+      built = builds_same n n refl 0;
+      table = start_bits n c.in_ok-all.all.items C.functions (λ (v : Val) (i : ℕ). is_some (taken_from v xs i)) (λ (v : Val) (i h : ℕ). (i == h) && is_some (taken_from v c.args.outcomes.now.loops.items h))
+          (bits_of_loads n xs c.in_ok-all.all.items C.functions c.requires.loads.0 c.requires.count c.requires.loads.1 c.in_ok-all.ensures.bits);
+    }
+
+pub add_some-requires-clause-tidy : goal.add_some-requires-clause-tidy
+add_some-requires-clause-tidy c = c.loop-h.invariant.tidy
+
+pub add_some-requires-clause-place : goal.add_some-requires-clause-place
+add_some-requires-clause-place c =
+    let e = c.loop-h.invariant.table.entries in
+    let l = c.loop-h-test.true in
+    let k = c.function_count-functions.ensures.count in
+    omega (arith, e, l, k)
+
+pub add_some-requires-clause-fits : goal.add_some-requires-clause-fits
+add_some-requires-clause-fits c = c.loop-h.invariant.table.fits
+
+pub add_some-requires-clause-bit : goal.add_some-requires-clause-bit
+add_some-requires-clause-bit c =
+    let C = program_of c.args.p.now.program in
+    let l = c.loop-h-test.true in
+    let k = c.function_count-functions.ensures.count in
+    let g = loop_there C c.args.net.now c.args.outcomes.now c.loop-h.h c.index.result.now c.requires.outcomes (omega (arith, l, k)) c.index.ensures in
+    maybe_bit_kept c.loop-h.invariant.built c.load_bit-bit.result (loop_fits C c.args.net.now c.args.outcomes.now c.loop-h.h c.index.result.now c.load_bit-bit.result c.requires.outcomes g c.load_bit-bit.ensures)
+
+pub add_some-requires-clause-room : goal.add_some-requires-clause-room
+add_some-requires-clause-room c =
+    let l = c.loop-h-test.true in
+    let k = c.function_count-functions.ensures.count in
+    let b = c.loop-h.invariant.built.count in
+    let r = c.requires.room in
+    omega (arith, b, r, l, k)
+
+pub loop-h-preserved : goal.loop-h-preserved
+loop-h-preserved c =
+    let C = program_of c.args.p.now.program in
+    let h = c.loop-h.h in
+    let l = c.loop-h-test.true in
+    let k = c.function_count-functions.ensures.count in
+    let o = c.args.outcomes.now in
+    let g = loop_there C c.args.net.now o h c.index.result.now c.requires.outcomes (omega (arith, l, k)) c.index.ensures in
+    record {
+      tidy = c.add_some.ensures.tidy;
+      built = builds_on c.loop-h.invariant.built c.add_some.ensures.built;
+      table = more_bits c.loop-h.net c.add_some.new.net c.loop-h.all.items c.add_some.new.bits.items C.functions h 1 h (λ (v : Val). on_in v c.load_bit-bit.result) (λ (v : Val) (i : ℕ). is_some (taken_from v c.args.loads.now.items i))
+          (λ (v : Val) (i j : ℕ). (i == j) && is_some (taken_from v o.loops.items j))
+          c.add_some.ensures.built c.loop-h.invariant.table c.add_some.ensures.count c.in_ok-add_some.ensures.fits c.in_ok-add_some.ensures.shows
+          (λ v i w. loop_shown v o h i h h c.index.result.now c.load_bit-bit.result g c.load_bit-bit.ensures refl);
+    }
+
+pub returns-clause-tidy : goal.returns-clause-tidy
+returns-clause-tidy c = c.loop-h.invariant.tidy
+
+pub returns-clause-built : goal.returns-clause-built
+returns-clause-built c =
+    let b = c.loop-h.auto.h-end in
+    let k = c.function_count-functions.ensures.count in
+    builds_within (program_of c.args.p.now.program).functions c.loop-h.invariant.built (omega (arith, b, k))
+
+pub returns-clause-done : goal.returns-clause-done
+returns-clause-done c =
+    let C = program_of c.args.p.now.program in
+    let l = c.loop-h-test.false in
+    let b = c.loop-h.auto.h-end in
+    let k = c.function_count-functions.ensures.count in
+    let e : c.loop-h.h ≡ C.functions = omega (arith, l, b, k) in
+    subst (λ (m : ℕ). ShowsBits c.loop-h.net c.loop-h.all.items C.functions (λ (v : Val) (i : ℕ). is_some (taken_from v c.args.loads.now.items i) || one_below (λ (h : ℕ). (i == h) && is_some (taken_from v c.args.outcomes.now.loops.items h)) m)) e
+    c.loop-h.invariant.table

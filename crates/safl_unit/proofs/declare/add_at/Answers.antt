@@ -1,0 +1,20 @@
+use Rattle.std.proofs.Common.{◌≡◌, ◌++◌, [], ◌∷◌, List, ℕ, true, ap, ◌∙◌}
+use Rattle.std.specs.Prelude.{codes}
+use Rattle.safl_term.specs.Checked.{program_of}
+use Rattle.safl_circuit.specs.Equations.{many}
+use Rattle.safl_circuit.specs.Names.{names_of, of_function}
+use Rattle.safl_circuit.specs.Layout.{Line}
+use Rattle.safl_unit.specs.Finished.{open_register}
+use Rattle.safl_unit.proofs.Declaring.{name_text}
+use Rattle.safl_unit.proofs.Adding.{named_so, may_now, lines_if}
+use Rattle.safl_unit.proofs.declare.add_at.Goals as goal
+
+pub headed-requires : goal.headed-requires
+headed-requires c = name_text c.args.c.now c.args.f _ c.name.ensures
+
+pub add_register-requires-clause-free : goal.add_register-requires-clause-free
+add_register-requires-clause-free c =
+    let peers : many (program_of c.args.c.now) c.args.f ≡ true = cc in
+    let line : Line = (of_function (names_of c.args.c.now) (codes "at$") c.args.f, 1) in
+    named_so c.args.net.now c.as_str.result.now (of_function (names_of c.args.c.now) (codes "at$") c.args.f) (c.as_str.ensures.value ∙ c.in_ok-name.ensures ∙ ap (λ (z : List ℕ). codes "at$" ++ z) c.name.ensures)
+    (may_now c.args.net.now (open_register line) [] (lines_if open_register c.args.net.now (many (program_of c.args.c.now) c.args.f) (line ∷ []) peers c.requires.free))

@@ -1,0 +1,137 @@
+use Rattle.std.proofs.Common.{◌+◌, ◌*◌, List, sym, subst, arith}
+use Rattle.safl_term.specs.Checked.{program_of}
+use Rattle.safl_net.specs.declared.cell.Sig.{Sig}
+use Rattle.safl_gates.proofs.Building.{builds_on, builds_within}
+use Rattle.safl_gates.proofs.Kept.{bits_kept}
+use Rattle.safl_unit.specs.Cycles.{choice_of}
+use Rattle.safl_unit.specs.Stages.{HasGoes}
+use Rattle.safl_unit.proofs.Keeping.{pins_kept, returns_kept, outcomes_kept, goes_kept}
+use Rattle.safl_unit.proofs.Whole.{events_kept, events_fit, units_next_kept, members_next_kept, has_next}
+use Rattle.safl_unit.proofs.edge.edge.Goals as goal
+
+pub edge_events-requires-clause-outcomes : goal.edge_events-requires-clause-outcomes
+edge_events-requires-clause-outcomes c = c.requires.outcomes.fits
+
+pub edge_events-requires-clause-count : goal.edge_events-requires-clause-count
+edge_events-requires-clause-count c =
+    let C = program_of c.args.p.now.program in
+    let P = choice_of c.args.p.now in
+    let g = subst (λ (xs : List Sig). HasGoes C P c.args.net.now c.args.pins.now xs) (sym c.deref.ensures.value) c.requires.goes in
+    g.count
+
+pub edge_events-requires-clause-goes : goal.edge_events-requires-clause-goes
+edge_events-requires-clause-goes c =
+    let C = program_of c.args.p.now.program in
+    let P = choice_of c.args.p.now in
+    let g = subst (λ (xs : List Sig). HasGoes C P c.args.net.now c.args.pins.now xs) (sym c.deref.ensures.value) c.requires.goes in
+    g.fits
+
+pub edge_events-requires-clause-room : goal.edge_events-requires-clause-room
+edge_events-requires-clause-room c = let r = c.requires.room in omega (arith, r)
+
+pub next_units-requires-clause-pins : goal.next_units-requires-clause-pins
+next_units-requires-clause-pins c = pins_kept c.in_ok-events.ensures.built c.requires.pins
+
+pub next_units-requires-clause-ends_count : goal.next_units-requires-clause-ends_count
+next_units-requires-clause-ends_count c =
+    let C = program_of c.args.p.now.program in
+    let P = choice_of c.args.p.now in
+    let g = subst (λ (xs : List Sig). HasGoes C P c.args.net.now c.args.pins.now xs) (sym c.deref.ensures.value) c.requires.goes in
+    (c.in_ok-events.ensures.done c.args.pins.now c.requires.outcomes g).ends.count
+
+pub next_units-requires-clause-ends : goal.next_units-requires-clause-ends
+next_units-requires-clause-ends c =
+    let C = program_of c.args.p.now.program in
+    let P = choice_of c.args.p.now in
+    let g = subst (λ (xs : List Sig). HasGoes C P c.args.net.now c.args.pins.now xs) (sym c.deref.ensures.value) c.requires.goes in
+    (c.in_ok-events.ensures.done c.args.pins.now c.requires.outcomes g).ends.fits
+
+pub next_units-requires-clause-starts_count : goal.next_units-requires-clause-starts_count
+next_units-requires-clause-starts_count c =
+    let C = program_of c.args.p.now.program in
+    let P = choice_of c.args.p.now in
+    let g = subst (λ (xs : List Sig). HasGoes C P c.args.net.now c.args.pins.now xs) (sym c.deref.ensures.value) c.requires.goes in
+    (c.in_ok-events.ensures.done c.args.pins.now c.requires.outcomes g).starts.count
+
+pub next_units-requires-clause-starts : goal.next_units-requires-clause-starts
+next_units-requires-clause-starts c =
+    let C = program_of c.args.p.now.program in
+    let P = choice_of c.args.p.now in
+    let g = subst (λ (xs : List Sig). HasGoes C P c.args.net.now c.args.pins.now xs) (sym c.deref.ensures.value) c.requires.goes in
+    (c.in_ok-events.ensures.done c.args.pins.now c.requires.outcomes g).starts.fits
+
+pub next_units-requires-clause-room : goal.next_units-requires-clause-room
+next_units-requires-clause-room c =
+    let r = c.requires.room in
+    let b = c.in_ok-events.ensures.built.count in
+    omega (arith, r, b)
+
+pub next_members-requires-clause-pins : goal.next_members-requires-clause-pins
+next_members-requires-clause-pins c = pins_kept (builds_on c.in_ok-events.ensures.built c.in_ok-units.ensures.built) c.requires.pins
+
+pub next_members-requires-clause-events : goal.next_members-requires-clause-events
+next_members-requires-clause-events c =
+    let C = program_of c.args.p.now.program in
+    let P = choice_of c.args.p.now in
+    let g = subst (λ (xs : List Sig). HasGoes C P c.args.net.now c.args.pins.now xs) (sym c.deref.ensures.value) c.requires.goes in
+    events_fit C P c.next_units.new.net c.args.pins.now c.in_ok-events.events (events_kept c.in_ok-units.ensures.built C P c.args.pins.now c.in_ok-events.events (c.in_ok-events.ensures.done c.args.pins.now c.requires.outcomes g))
+
+pub next_members-requires-clause-outcomes : goal.next_members-requires-clause-outcomes
+next_members-requires-clause-outcomes c = (outcomes_kept (builds_on c.in_ok-events.ensures.built c.in_ok-units.ensures.built) c.requires.outcomes).fits
+
+pub next_members-requires-clause-room : goal.next_members-requires-clause-room
+next_members-requires-clause-room c =
+    let r = c.requires.room in
+    let b = (builds_on c.in_ok-events.ensures.built c.in_ok-units.ensures.built).count in
+    omega (arith, r, b)
+
+pub next_sites-requires-clause-pins : goal.next_sites-requires-clause-pins
+next_sites-requires-clause-pins c = pins_kept (builds_on (builds_on c.in_ok-events.ensures.built c.in_ok-units.ensures.built) c.in_ok-members.ensures.built) c.requires.pins
+
+pub next_sites-requires-clause-returns : goal.next_sites-requires-clause-returns
+next_sites-requires-clause-returns c = (returns_kept (builds_on (builds_on c.in_ok-events.ensures.built c.in_ok-units.ensures.built) c.in_ok-members.ensures.built) c.requires.returns).fits
+
+pub next_sites-requires-clause-goes_count : goal.next_sites-requires-clause-goes_count
+next_sites-requires-clause-goes_count c = c.requires.goes.count
+
+pub next_sites-requires-clause-goes : goal.next_sites-requires-clause-goes
+next_sites-requires-clause-goes c = (goes_kept (builds_on (builds_on c.in_ok-events.ensures.built c.in_ok-units.ensures.built) c.in_ok-members.ensures.built) c.requires.goes).fits
+
+pub next_sites-requires-clause-clears_count : goal.next_sites-requires-clause-clears_count
+next_sites-requires-clause-clears_count c =
+    let C = program_of c.args.p.now.program in
+    let P = choice_of c.args.p.now in
+    let g = subst (λ (xs : List Sig). HasGoes C P c.args.net.now c.args.pins.now xs) (sym c.deref.ensures.value) c.requires.goes in
+    (c.in_ok-events.ensures.done c.args.pins.now c.requires.outcomes g).clears.count
+
+pub next_sites-requires-clause-clears : goal.next_sites-requires-clause-clears
+next_sites-requires-clause-clears c =
+    let C = program_of c.args.p.now.program in
+    let P = choice_of c.args.p.now in
+    let g = subst (λ (xs : List Sig). HasGoes C P c.args.net.now c.args.pins.now xs) (sym c.deref.ensures.value) c.requires.goes in
+    bits_kept (builds_on c.in_ok-units.ensures.built c.in_ok-members.ensures.built) c.in_ok-events.events.clears.items (c.in_ok-events.ensures.done c.args.pins.now c.requires.outcomes g).clears.fits
+
+pub next_sites-requires-clause-room : goal.next_sites-requires-clause-room
+next_sites-requires-clause-room c =
+    let r = c.requires.room in
+    let b = (builds_on (builds_on c.in_ok-events.ensures.built c.in_ok-units.ensures.built) c.in_ok-members.ensures.built).count in
+    omega (arith, r, b)
+
+pub returns-clause-built : goal.returns-clause-built
+returns-clause-built c =
+    let C = program_of c.args.p.now.program in
+    builds_within (64 * C.functions + 32 * C.sites + 32) (builds_on (builds_on (builds_on c.in_ok-events.ensures.built c.in_ok-units.ensures.built) c.in_ok-members.ensures.built) c.in_ok-sites.ensures.built) (omega arith)
+
+pub returns-clause-done : goal.returns-clause-done
+returns-clause-done c =
+    let C = program_of c.args.p.now.program in
+    let P = choice_of c.args.p.now in
+    let g = subst (λ (xs : List Sig). HasGoes C P c.args.net.now c.args.pins.now xs) (sym c.deref.ensures.value) c.requires.goes in
+    let p = c.args.pins.now in
+    let back = builds_on (builds_on c.in_ok-units.ensures.built c.in_ok-members.ensures.built) c.in_ok-sites.ensures.built in
+    let all = builds_on c.in_ok-events.ensures.built back in
+    let events = c.in_ok-events.events in
+    has_next C P c.next_sites.new.net p c.args.returns.now c.args.outcomes.now c.args.goes.now.items events (record { units = c.in_ok-units.units; members = c.in_ok-members.members; sites = c.in_ok-sites.sites })
+    c.function_count-functions.ensures.checked.formed (pins_kept all c.requires.pins) (returns_kept all c.requires.returns) (outcomes_kept all c.requires.outcomes) (goes_kept all c.requires.goes)
+    (events_kept back C P p events (c.in_ok-events.ensures.done p c.requires.outcomes g))
+    (units_next_kept (builds_on c.in_ok-members.ensures.built c.in_ok-sites.ensures.built) c.in_ok-units.ensures.done) (members_next_kept c.in_ok-sites.ensures.built c.in_ok-members.ensures.done) c.in_ok-sites.ensures.done

@@ -1,0 +1,158 @@
+use Rattle.std.proofs.Common.{◌≡◌, ℕ, ◌+◌, ◌*◌, ◌<◌, length, Option, Bool, Some, slice_get, slice_index_or, refl, ap, subst, ◌∙◌, arith}
+use Rattle.std.proofs.lemmas.Option.{slice_get_read}
+use Rattle.safl_term.specs.Checked.{CheckedProgram, program_of}
+use Rattle.safl_term.specs.Program.{Program, arity}
+use Rattle.safl_net.specs.declared.cell.Sig.{Sig}
+use Rattle.safl_net.specs.Netlist.{Netlist}
+use Rattle.safl_circuit.specs.Equations.{many}
+use Rattle.safl_gates.specs.declared.loads.Load.{Load}
+use Rattle.safl_gates.specs.Sources.{Builds}
+use Rattle.safl_gates.specs.Tables.{load_in, sig_in, taken_in, on_in, FitsIn, IsBitIn}
+use Rattle.safl_gates.proofs.Building.{builds_same, builds_on, builds_within}
+use Rattle.safl_gates.proofs.Kept.{maybe_load_kept, maybe_bit_kept}
+use Rattle.safl_gates.proofs.Cells.{sources_length}
+use Rattle.safl_unit.specs.declared.parts.MemberPins.{MemberPins}
+use Rattle.safl_unit.specs.declared.parts.Pins.{Pins}
+use Rattle.safl_unit.specs.declared.parts.Outcomes.{Outcomes}
+use Rattle.safl_unit.specs.declared.events.Events.{Events}
+use Rattle.safl_unit.specs.Cycles.{PinsFit, MemberFits}
+use Rattle.safl_unit.specs.Stages.{OutcomesFit}
+use Rattle.safl_unit.specs.Coming.{EventsFit}
+use Rattle.safl_unit.specs.Steps.{MemberStep, MembersNext}
+use Rattle.safl_unit.proofs.Keeping.{member_kept}
+use Rattle.safl_unit.proofs.Stepping.{no_members, more_members}
+use Rattle.safl_unit.proofs.edge.next_members.Goals as goal
+
+-- the entries of a number
+record Entries (C : Program) (a b : Netlist) (p : Pins) (e : Events) (o : Outcomes) (f : ℕ) (entry rival : Option Sig) (load looped : Option Load) (x : MemberPins) : Type 0 where
+  at_entry : slice_get e.entries.items f ≡ Some entry
+  at_rival : slice_get e.rivals.items f ≡ Some rival
+  at_load : slice_get e.loads.items f ≡ Some load
+  at_loop : slice_get o.loops.items f ≡ Some looped
+  at : slice_get p.bank.members.items f ≡ Some x
+  entry_fits : IsBitIn b entry
+  rival_fits : IsBitIn b rival
+  load_fits : FitsIn b load (C.params f)
+  loop_fits : FitsIn b looped (C.params f)
+  fits : MemberFits b x (C.params f)
+  count : length x.args.items ≡ arity C f
+
+entries_at : (C : Program) (a b : Netlist) (k : ℕ) (p : Pins) (e : Events) (o : Outcomes) (f : ℕ) (entry rival : Option Sig) (load looped : Option Load) (x : MemberPins) → Builds a b k → f < C.functions → PinsFit C a p → EventsFit C a e → OutcomesFit C a o
+    → entry ≡ slice_index_or e.entries.items f entry → rival ≡ slice_index_or e.rivals.items f rival → load ≡ slice_index_or e.loads.items f load → looped ≡ slice_index_or o.loops.items f looped → x ≡ slice_index_or p.bank.members.items f x
+    → Entries C a b p e o f entry rival load looped x
+entries_at C a b k p e o f entry rival load looped x built l pf ef of q1 q2 q3 q4 q5 =
+    let n1 = ef.entries_length in
+    let n2 = ef.rivals_length in
+    let n3 = ef.loads_length in
+    let n4 = of.loops_length in
+    let n5 = pf.bank.members_length in
+    let g1 = slice_get_read e.entries.items (length e.entries.items) f entry refl (omega (arith, l, n1)) q1 in
+    let g2 = slice_get_read e.rivals.items (length e.rivals.items) f rival refl (omega (arith, l, n2)) q2 in
+    let g3 = slice_get_read e.loads.items (length e.loads.items) f load refl (omega (arith, l, n3)) q3 in
+    let g4 = slice_get_read o.loops.items (length o.loops.items) f looped refl (omega (arith, l, n4)) q4 in
+    let g5 = slice_get_read p.bank.members.items (length p.bank.members.items) f x refl (omega (arith, l, n5)) q5 in
+    record {
+      at_entry = g1;
+      at_rival = g2;
+      at_load = g3;
+      at_loop = g4;
+      at = g5;
+      entry_fits = maybe_bit_kept built entry (subst (λ (t : Option (Option Sig)). IsBitIn a (sig_in t)) g1 (ef.entries f));
+      rival_fits = maybe_bit_kept built rival (subst (λ (t : Option (Option Sig)). IsBitIn a (sig_in t)) g2 (ef.rivals f));
+      load_fits = maybe_load_kept built load (C.params f) (subst (λ (t : Option (Option Load)). FitsIn a (load_in t) (C.params f)) g3 (ef.loads f));
+      loop_fits = maybe_load_kept built looped (C.params f) (subst (λ (t : Option (Option Load)). FitsIn a (load_in t) (C.params f)) g4 (of.loops f));
+      fits = member_kept built (pf.bank.members f x g5);
+      count = sources_length a x.args.items (C.params f) (pf.bank.members f x g5).args;
+    }
+
+pub loop-f-init : goal.loop-f-init
+loop-f-init c =
+    let n = c.args.net.now in
+    let e = c.args.events.now in
+    record {
+      tidy = c.requires.tidy;
+      built = builds_same n n refl 0;
+      table = no_members (program_of c.args.p.now.program) n c.args.pins.now.bank.members.items e.entries.items e.rivals.items e.loads.items c.args.outcomes.now.loops.items c.new-all.result.items c.new-all.ensures.items;
+    }
+
+pub next_member-requires-clause-tidy : goal.next_member-requires-clause-tidy
+next_member-requires-clause-tidy c = c.loop-f.invariant.tidy
+
+pub next_member-requires-clause-entry : goal.next_member-requires-clause-entry
+next_member-requires-clause-entry c =
+    let l = c.loop-f-test.true in
+    let k = c.function_count-functions.ensures.count in
+    (entries_at (program_of c.args.p.now.program) c.args.net.now c.loop-f.net (35 * c.loop-f.f) c.args.pins.now c.args.events.now c.args.outcomes.now c.loop-f.f c.index-entry.result.now c.index-rival.result.now c.index-load.result.now c.index-looped.result.now
+    c.index-now.result.now c.loop-f.invariant.built (omega (arith, l, k)) c.requires.pins c.requires.events c.requires.outcomes c.index-entry.ensures c.index-rival.ensures c.index-load.ensures c.index-looped.ensures c.index-now.ensures).entry_fits
+
+pub next_member-requires-clause-rival : goal.next_member-requires-clause-rival
+next_member-requires-clause-rival c =
+    let l = c.loop-f-test.true in
+    let k = c.function_count-functions.ensures.count in
+    (entries_at (program_of c.args.p.now.program) c.args.net.now c.loop-f.net (35 * c.loop-f.f) c.args.pins.now c.args.events.now c.args.outcomes.now c.loop-f.f c.index-entry.result.now c.index-rival.result.now c.index-load.result.now c.index-looped.result.now
+    c.index-now.result.now c.loop-f.invariant.built (omega (arith, l, k)) c.requires.pins c.requires.events c.requires.outcomes c.index-entry.ensures c.index-rival.ensures c.index-load.ensures c.index-looped.ensures c.index-now.ensures).rival_fits
+
+pub next_member-requires-clause-fits : goal.next_member-requires-clause-fits
+next_member-requires-clause-fits c =
+    let C = program_of c.args.p.now.program in
+    let l = c.loop-f-test.true in
+    let k = c.function_count-functions.ensures.count in
+    let h = entries_at C c.args.net.now c.loop-f.net (35 * c.loop-f.f) c.args.pins.now c.args.events.now c.args.outcomes.now c.loop-f.f c.index-entry.result.now c.index-rival.result.now c.index-load.result.now c.index-looped.result.now
+    c.index-now.result.now c.loop-f.invariant.built (omega (arith, l, k)) c.requires.pins c.requires.events c.requires.outcomes c.index-entry.ensures c.index-rival.ensures c.index-load.ensures c.index-looped.ensures c.index-now.ensures in
+    (C.params c.loop-f.f, h.load_fits, h.loop_fits, h.fits)
+
+pub next_member-requires-clause-room : goal.next_member-requires-clause-room
+next_member-requires-clause-room c =
+    let C = program_of c.args.p.now.program in
+    let l = c.loop-f-test.true in
+    let k = c.function_count-functions.ensures.count in
+    let h = (entries_at C c.args.net.now c.loop-f.net (35 * c.loop-f.f) c.args.pins.now c.args.events.now c.args.outcomes.now c.loop-f.f c.index-entry.result.now c.index-rival.result.now c.index-load.result.now c.index-looped.result.now
+    c.index-now.result.now c.loop-f.invariant.built (omega (arith, l, k)) c.requires.pins c.requires.events c.requires.outcomes c.index-entry.ensures c.index-rival.ensures c.index-load.ensures c.index-looped.ensures c.index-now.ensures).count in
+    let a = c.function_count-functions.ensures.checked.limits.params c.loop-f.f in
+    let b = c.loop-f.invariant.built.count in
+    let r = c.requires.room in
+    omega (arith, l, k, h, a, b, r)
+
+pub loop-f-preserved : goal.loop-f-preserved
+loop-f-preserved c =
+    let C = program_of c.args.p.now.program in
+    let f = c.loop-f.f in
+    let l = c.loop-f-test.true in
+    let k = c.function_count-functions.ensures.count in
+    let e = c.args.events.now in
+    let o = c.args.outcomes.now in
+    let h = entries_at C c.args.net.now c.loop-f.net (35 * f) c.args.pins.now e o f c.index-entry.result.now c.index-rival.result.now c.index-load.result.now c.index-looped.result.now
+    c.index-now.result.now c.loop-f.invariant.built (omega (arith, l, k)) c.requires.pins c.requires.events c.requires.outcomes c.index-entry.ensures c.index-rival.ensures c.index-load.ensures c.index-looped.ensures c.index-now.ensures in
+    let n = h.count in
+    let a = c.function_count-functions.ensures.checked.limits.params f in
+    let x = c.index-now.result.now in
+    let y = c.in_ok-next.next in
+    let built = c.in_ok-next.ensures.built in
+    let peers : c.has_peers-many.result ≡ many C f = c.has_peers-many.ensures ∙ ap (λ (q : CheckedProgram). many (program_of q) f) c.checked.ensures.same in
+    record {
+      tidy = c.next_member.ensures.tidy;
+      built = builds_within (35 * (f + 1)) (builds_on c.loop-f.invariant.built built) (omega (arith, n, a));
+      table = more_members C c.loop-f.net c.next_member.new.net (3 + 2 * length x.args.items) c.args.pins.now.bank.members.items e.entries.items e.rivals.items e.loads.items o.loops.items c.loop-f.all.items c.push.new.self.items f
+          c.index-entry.result.now c.index-rival.result.now c.index-load.result.now c.index-looped.result.now x y
+          c.loop-f.invariant.table built h.at_entry h.at_rival h.at_load h.at_loop h.at (c.in_ok-next.ensures.fits (C.params f) h.load_fits h.loop_fits h.fits)
+          (λ v w. subst (λ (m : Bool). MemberStep v m (on_in v c.index-entry.result.now) (on_in v c.index-rival.result.now) (taken_in v c.index-load.result.now) (taken_in v c.index-looped.result.now) x y) peers (c.in_ok-next.ensures.shows v w))
+          c.in_ok-push.ensures.items;
+    }
+
+pub returns-clause-tidy : goal.returns-clause-tidy
+returns-clause-tidy c = c.loop-f.invariant.tidy
+
+pub returns-clause-built : goal.returns-clause-built
+returns-clause-built c =
+    let b = c.loop-f.auto.f-end in
+    let k = c.function_count-functions.ensures.count in
+    builds_within (35 * (program_of c.args.p.now.program).functions) c.loop-f.invariant.built (omega (arith, b, k))
+
+pub returns-clause-done : goal.returns-clause-done
+returns-clause-done c =
+    let C = program_of c.args.p.now.program in
+    let l = c.loop-f-test.false in
+    let b = c.loop-f.auto.f-end in
+    let k = c.function_count-functions.ensures.count in
+    let e : c.loop-f.f ≡ C.functions = omega (arith, l, b, k) in
+    subst (λ (m : ℕ). MembersNext C c.loop-f.net c.args.pins.now.bank.members.items c.args.events.now.entries.items c.args.events.now.rivals.items c.args.events.now.loads.items c.args.outcomes.now.loops.items c.loop-f.all.items m) e c.loop-f.invariant.table

@@ -1,0 +1,32 @@
+-- All that comes at the edge.
+use Rattle.std.specs.Prelude.{◌≡◌, [], ◌∷◌, length}
+use Rattle.safl_term.specs.Program.{Program}
+use Rattle.safl_net.specs.Netlist.{Netlist}
+use Rattle.safl_circuit.specs.Equations.{Choice}
+use Rattle.safl_gates.specs.Tables.{SomeFit, BitsFit}
+use Rattle.safl_unit.specs.declared.parts.Pins.{Pins}
+use Rattle.safl_unit.specs.declared.events.Events.{Events}
+use Rattle.safl_unit.specs.Stages.{HasEnds, HasLoads, HasStarts, HasClears, HasEntries, HasRivals}
+
+pub record HasEvents (C : Program) (P : Choice) (n : Netlist) (p : Pins) (e : Events) : Type 0 where
+  pub ends : HasEnds C P n p e.ends.items
+  pub starts : HasStarts C P n p e.starts.items
+  pub clears : HasClears C P n p e.clears.items
+  pub loads : HasLoads C P n p e.loads.items
+  pub entries : HasEntries C P n p e.entries.items
+  pub rivals : HasRivals C P n p e.rivals.items
+
+-- the tables have their widths
+pub record EventsFit (C : Program) (n : Netlist) (e : Events) : Type 0 where
+  pub ends_length : length e.ends.items ≡ C.functions
+  pub starts_length : length e.starts.items ≡ C.functions
+  pub clears_length : length e.clears.items ≡ C.functions
+  pub loads_length : length e.loads.items ≡ C.functions
+  pub entries_length : length e.entries.items ≡ C.functions
+  pub rivals_length : length e.rivals.items ≡ C.functions
+  pub ends : SomeFit n e.ends.items (λ u. C.result u ∷ [])
+  pub loads : SomeFit n e.loads.items C.params
+  pub starts : BitsFit n e.starts.items
+  pub clears : BitsFit n e.clears.items
+  pub entries : BitsFit n e.entries.items
+  pub rivals : BitsFit n e.rivals.items

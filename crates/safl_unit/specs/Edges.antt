@@ -1,0 +1,61 @@
+-- What the tables of an edge show under a valuation.
+use Rattle.std.specs.Prelude.{◌≡◌, ℕ, zero, suc, ◌-◌, ◌<◌, ◌==◌, List, length, Option, Some, None, Bool, false, cond, not, ◌&&◌, ◌||◌}
+use Rattle.safl_word.specs.Words.{Word}
+use Rattle.safl_term.specs.Program.{Program}
+use Rattle.safl_net.specs.declared.cell.Sig.{Sig}
+use Rattle.safl_net.specs.Netlist.{Netlist}
+use Rattle.safl_net.specs.Growth.{Val, Wired, words}
+use Rattle.safl_gates.specs.declared.loads.Load.{Load}
+use Rattle.safl_gates.specs.Tables.{EachAt, taken_from, on_from, SomeFit, BitsFit}
+
+-- it holds of a number below n
+unfoldable pub one_below : (ℕ → Bool) → ℕ → Bool
+one_below t zero = false
+one_below t (suc n) = one_below t n || t n
+
+-- the bit of a load, where there is one
+abbrev pub bit_of : Option Load → Option Sig
+bit_of None = None
+bit_of (Some l) = Some l.bit
+
+-- the words of a load, taken or not
+abbrev pub operands_in : Val → Option Load → Option (List Word)
+operands_in v None = None
+operands_in v (Some l) = Some (words v l.words.items)
+
+-- so many entries, none of which is there
+pub record IsBare {A : Type 0} (xs : List (Option A)) (count : ℕ) : Type 0 where
+  pub entries : length xs ≡ count
+  pub none : EachAt xs (λ i o. o ≡ None)
+
+-- a table of optional bits, or of optional loads, has so many entries and shows this
+pub record ShowsBits (n : Netlist) (bits : List (Option Sig)) (count : ℕ) (says : Val → ℕ → Bool) : Type 0 where
+  pub entries : length bits ≡ count
+  pub fits : BitsFit n bits
+  pub shows : (v : Val) → Wired n v → (i : ℕ) → on_from v bits i ≡ says v i
+
+pub record ShowsLoads (n : Netlist) (all : List (Option Load)) (count : ℕ) (widths : ℕ → List ℕ) (says : Val → ℕ → Option (List Word)) : Type 0 where
+  pub entries : length all ≡ count
+  pub fits : SomeFit n all widths
+  pub shows : (v : Val) → Wired n v → (i : ℕ) → taken_from v all i ≡ says v i
+
+-- the same of the numbers below the count alone
+pub record ShowsBelow (n : Netlist) (bits : List (Option Sig)) (count : ℕ) (says : Val → ℕ → Bool) : Type 0 where
+  pub entries : length bits ≡ count
+  pub fits : BitsFit n bits
+  pub shows : (v : Val) → Wired n v → (i : ℕ) → i < count → on_from v bits i ≡ says v i
+
+-- the number of a step, by rising or by falling number
+abbrev pub turn : ℕ → Bool → ℕ → ℕ
+turn n falling d = cond falling (n - 1 - d) d
+
+-- a member of the unit of a step's function came before it, with its bit
+abbrev pub came : Program → (ℕ → Bool) → Bool → ℕ → Bool
+came C e falling d = one_below (λ j. (C.unit (turn C.functions falling d) == C.unit (turn C.functions falling j)) && e (turn C.functions falling j)) d
+
+abbrev pub earlier : Program → (ℕ → Bool) → Bool → ℕ → ℕ → Bool
+earlier C e falling i d = (i == turn C.functions falling d) && came C e falling d
+
+-- it is another member of the unit, with its bit
+abbrev pub rival : Program → (ℕ → Bool) → ℕ → ℕ → Bool
+rival C e f g = (C.unit g == C.unit f) && (not (g == f) && e g)

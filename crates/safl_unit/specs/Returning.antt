@@ -1,0 +1,15 @@
+-- What one site shows.
+use Rattle.std.specs.Prelude.{◌≡◌, Bool, ◌&&◌, ◌||◌, not, cond}
+use Rattle.safl_net.specs.Growth.{Val}
+use Rattle.safl_net.specs.Bits.{on}
+use Rattle.safl_unit.specs.declared.parts.UnitPins.{UnitPins}
+use Rattle.safl_unit.specs.declared.parts.SitePins.{SitePins}
+use Rattle.safl_unit.specs.declared.returns.SiteReturn.{SiteReturn}
+
+-- it is delivered to where its unit has finished, and it was sent and has not got its word; it has returned where it has
+-- got its word or is delivered to; and its word is its unit's, or the kept one where it is kept and not delivered to
+pub record SiteShown (v : Val) (kept : Bool) (u : UnitPins) (s : SitePins) (r : SiteReturn) : Type 0 where
+  pub ret : on v r.ret ≡ (on v u.fin && (on v s.sent && not (on v s.got)))
+  pub sent : on v r.ports.sent ≡ on v s.sent
+  pub returned : on v r.ports.returned ≡ (on v s.got || on v r.ret)
+  pub value : v r.ports.value.0 ≡ cond (kept && not (on v r.ret)) (v s.keep.0) (v u.res.0)

@@ -1,0 +1,87 @@
+//! The signals that the named wires copy.
+
+ghost use Rattle.std.specs.Prelude.{◌≡◌, map, IfOk, OnOk};
+ghost use Rattle.safl_term.specs.Checked.{program_of};
+ghost use Rattle.safl_net.specs.Names.{IsTidy};
+ghost use Rattle.safl_gates.specs.Sources.{Builds, HasRoom};
+ghost use Rattle.safl_gates.specs.Tables.{load_bit, bit_or};
+ghost use Rattle.safl_unit.specs.Cycles.{choice_of, PinsFit};
+ghost use Rattle.safl_unit.specs.Stages.{HasReturns, HasOutcomes, HasGoes};
+ghost use Rattle.safl_unit.specs.Finished.{HasControls};
+
+use crate::parts::{Controls, Outcomes, Pins, Returns};
+use safl_gates::gates::zero;
+use safl_gates::loads::Load;
+use safl_net::{Net, Sig};
+use safl_sites::Planned;
+use safl_word::NoMemory;
+use std::alloc::{AllocError, Global};
+
+/// The bits of the functions and sites: that a body ends, that a tail call starts a function, that a site is wanted, is
+/// delivered to, and starts.
+pub fn controls(
+    alloc: Global,
+    net: &mut Net,
+    p: &Planned,
+    pins: &Pins,
+    returns: &Returns,
+    outcomes: &Outcomes,
+    goes: &[Sig],
+) -> Result<Controls, NoMemory>
+    requires tidy { IsTidy net.old }
+    requires pins { PinsFit (program_of p.now.program) net.old pins.now }
+    requires returns { HasReturns (program_of p.now.program) (choice_of p.now) net.old pins.now returns.now }
+    requires outcomes { HasOutcomes (program_of p.now.program) (choice_of p.now) net.old pins.now outcomes.now }
+    requires goes { HasGoes (program_of p.now.program) (choice_of p.now) net.old pins.now goes.now }
+    requires room { HasRoom net.old 1 }
+    ensures tidy { IsTidy net.new }
+    ensures built { OnOk result (Builds net.old net.new 1) }
+    ensures done { IfOk result (λ t. HasControls (program_of p.now.program) (choice_of p.now) net.new pins.now t) }
+{
+    let _ = &p;
+    let _ = &pins;
+    let never = zero(net)?;
+    let ends = bits_of(alloc, &outcomes.ends)?;
+    let loops = bits_or(alloc, &outcomes.loops, never)?;
+    let wants = bits_of(alloc, &outcomes.wants)?;
+    let rets = Vec::from_slice(alloc, &returns.ret)?;
+    let goes = Vec::from_slice(alloc, goes)?;
+    Ok(Controls {
+        ends,
+        loops,
+        wants,
+        rets,
+        goes,
+    })
+}
+
+// The bits of loads.
+fn bits_of(alloc: Global, loads: &[Load]) -> Result<Vec<Sig>, AllocError>
+    ensures { IfOk result (λ bits. bits.items ≡ map load_bit loads.now) }
+{
+    let mut bits = Vec::new(alloc);
+    for load in loads {
+        bits.push(load.bit)?;
+    }
+    Ok(bits)
+}
+
+// The bits of loads, or another where there is none.
+fn bits_or(alloc: Global, loads: &[Option<Load>], other: Sig) -> Result<Vec<Sig>, AllocError>
+    ensures { IfOk result (λ bits. bits.items ≡ map (bit_or other) loads.now) }
+{
+    let mut bits = Vec::new(alloc);
+    for load in loads {
+        bits.push(bit_of(load, other))?;
+    }
+    Ok(bits)
+}
+
+fn bit_of(load: &Option<Load>, other: Sig) -> Sig
+    ensures { result ≡ bit_or other load.now }
+{
+    match load {
+        Some(load) => load.bit,
+        None => other,
+    }
+}

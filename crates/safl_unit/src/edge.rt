@@ -1,0 +1,194 @@
+//! The next words of all registers, which they take at the edge.
+
+ghost use Rattle.std.specs.Prelude.{◌≡◌, ℕ, suc, ◌+◌, ◌*◌, ◌≤◌, ◌⊎◌, [], ◌∷◌, length, Some, slice_get, IfOk, OnOk};
+ghost use Rattle.safl_term.specs.Checked.{program_of};
+ghost use Rattle.safl_net.specs.Names.{IsTidy};
+ghost use Rattle.safl_net.specs.Growth.{Val, Wired};
+ghost use Rattle.safl_gates.specs.Sources.{IsSource, Builds, HasRoom};
+ghost use Rattle.safl_gates.specs.Tables.{pin, taken_in, on_in, FitsIn, SomeFit, IsBitIn, BitsFit};
+ghost use Rattle.safl_unit.specs.Cycles.{UnitFits, PinsFit, choice_of};
+ghost use Rattle.safl_unit.specs.Stages.{ReturnsFit, OutcomesFit, HasReturns, HasOutcomes, HasGoes, HasNext};
+ghost use Rattle.safl_unit.specs.Coming.{EventsFit};
+ghost use Rattle.safl_unit.specs.Steps.{UnitStep, UnitsNext, MembersNext, SitesNext};
+
+use crate::arrivals::{callee_of, caller_of, function_count, site_count, unit_of};
+use crate::events::{Events, edge_events};
+use crate::names::has_peers;
+use crate::next::{next_member, next_site, next_unit};
+use crate::parts::{Bank, MemberPins, Outcomes, Pins, Returns, SitePins, UnitPins};
+use safl_gates::loads::Load;
+use safl_net::{Net, Sig};
+use safl_sites::Planned;
+use safl_word::NoMemory;
+use std::alloc::{AllocError, Global};
+
+/// The signals of the registers' next words.
+pub fn edge(
+    alloc: Global,
+    net: &mut Net,
+    p: &Planned,
+    pins: &Pins,
+    returns: &Returns,
+    outcomes: &Outcomes,
+    goes: &Vec<Sig>,
+) -> Result<Bank, NoMemory>
+    requires tidy { IsTidy net.old }
+    requires pins { PinsFit (program_of p.now.program) net.old pins.now }
+    requires returns { HasReturns (program_of p.now.program) (choice_of p.now) net.old pins.now returns.now }
+    requires outcomes { HasOutcomes (program_of p.now.program) (choice_of p.now) net.old pins.now outcomes.now }
+    requires goes { HasGoes (program_of p.now.program) (choice_of p.now) net.old pins.now goes.now.items }
+    requires room { HasRoom net.old (64 * (program_of p.now.program).functions + 32 * (program_of p.now.program).sites + 32) }
+    ensures tidy { IsTidy net.new }
+    ensures built { OnOk result (Builds net.old net.new (64 * (program_of p.now.program).functions + 32 * (program_of p.now.program).sites + 32)) }
+    ensures done { IfOk result (λ b. HasNext (program_of p.now.program) (choice_of p.now) net.new pins.now b) }
+{
+    let _functions = function_count(p);
+    let events = edge_events(alloc, net, p, outcomes, goes)?;
+    let units = next_units(alloc, net, p, pins, &events.ends, &events.starts)?;
+    let members = next_members(alloc, net, p, pins, &events, outcomes)?;
+    let sites = next_sites(alloc, net, p, pins, returns, goes, &events.clears)?;
+    Ok(Bank {
+        units,
+        members,
+        sites,
+    })
+}
+
+/// By function, the next words of its unit.
+pub fn next_units(
+    alloc: Global,
+    net: &mut Net,
+    p: &Planned,
+    pins: &Pins,
+    ends: &Vec<Option<Load>>,
+    starts: &Vec<Option<Sig>>,
+) -> Result<Vec<UnitPins>, NoMemory>
+    requires tidy { IsTidy net.old }
+    requires pins { PinsFit (program_of p.now.program) net.old pins.now }
+    requires ends_count { length ends.now.items ≡ (program_of p.now.program).functions }
+    requires ends { SomeFit net.old ends.now.items (λ u. (program_of p.now.program).result u ∷ []) }
+    requires starts_count { length starts.now.items ≡ (program_of p.now.program).functions }
+    requires starts { BitsFit net.old starts.now.items }
+    requires room { HasRoom net.old (5 * (program_of p.now.program).functions) }
+    ensures tidy { IsTidy net.new }
+    ensures built { OnOk result (Builds net.old net.new (5 * (program_of p.now.program).functions)) }
+    ensures done { IfOk result (λ all. UnitsNext (program_of p.now.program) net.new pins.now.bank.units.items ends.now.items starts.now.items all.items (program_of p.now.program).functions) }
+{
+    let functions = function_count(p);
+    let mut all = Vec::new(alloc);
+    for f in 0..functions {
+        let unit = unit_of(p, f);
+        let end = &ends[unit as usize];
+        let start = starts[unit as usize];
+        let now = pins.bank.units[unit as usize];
+        let next = unit_after(net, &all, unit as usize, end, start, now)?;
+        all.push(next)?;
+    }
+    Ok(all)
+}
+
+// The next words of a function's unit: those that its first member has, where that came before.
+fn unit_after(
+    net: &mut Net,
+    all: &Vec<UnitPins>,
+    unit: usize,
+    end: &Option<Load>,
+    start: Option<Sig>,
+    now: UnitPins,
+) -> Result<UnitPins, NoMemory>
+    requires tidy { IsTidy net.old }
+    requires fits { (w : ℕ) × FitsIn net.old end.now (w ∷ []) × UnitFits net.old now w }
+    requires start { IsBitIn net.old start }
+    requires room { HasRoom net.old 5 }
+    ensures tidy { IsTidy net.new }
+    ensures built { OnOk result (Builds net.old net.new 5) }
+    ensures done { (w : ℕ) → FitsIn net.old end.now (w ∷ []) → UnitFits net.old now w → IfOk result (λ y. (slice_get all.now.items unit ≡ Some y) ⊎ (UnitFits net.new y w × ((v : Val) → Wired net.new v → UnitStep v (taken_in v end.now) (on_in v start) now y))) }
+{
+    if unit < all.len() {
+        return Ok(all[unit]);
+    }
+    let next = next_unit(net, end, start, now)?;
+    Ok(next)
+}
+
+/// By function, its own next words.
+pub fn next_members(
+    alloc: Global,
+    net: &mut Net,
+    p: &Planned,
+    pins: &Pins,
+    events: &Events,
+    outcomes: &Outcomes,
+) -> Result<Vec<MemberPins>, NoMemory>
+    requires tidy { IsTidy net.old }
+    requires pins { PinsFit (program_of p.now.program) net.old pins.now }
+    requires events { EventsFit (program_of p.now.program) net.old events.now }
+    requires outcomes { OutcomesFit (program_of p.now.program) net.old outcomes.now }
+    requires room { HasRoom net.old (35 * (program_of p.now.program).functions) }
+    ensures tidy { IsTidy net.new }
+    ensures built { OnOk result (Builds net.old net.new (35 * (program_of p.now.program).functions)) }
+    ensures done { IfOk result (λ all. MembersNext (program_of p.now.program) net.new pins.now.bank.members.items events.now.entries.items events.now.rivals.items events.now.loads.items outcomes.now.loops.items all.items (program_of p.now.program).functions) }
+{
+    let functions = function_count(p);
+    let mut all = Vec::new(alloc);
+    for f in 0..functions {
+        let many = has_peers(p.checked(), f);
+        let entry = events.entries[f as usize];
+        let rival = events.rivals[f as usize];
+        let load = &events.loads[f as usize];
+        let looped = &outcomes.loops[f as usize];
+        let now = &pins.bank.members[f as usize];
+        let next = next_member(alloc, net, many, entry, rival, load, looped, now)?;
+        all.push(next)?;
+    }
+    Ok(all)
+}
+
+/// By site, its next words; the first entry counts for nothing.
+pub fn next_sites(
+    alloc: Global,
+    net: &mut Net,
+    p: &Planned,
+    pins: &Pins,
+    returns: &Returns,
+    goes: &Vec<Sig>,
+    clears: &Vec<Option<Sig>>,
+) -> Result<Vec<SitePins>, NoMemory>
+    requires tidy { IsTidy net.old }
+    requires pins { PinsFit (program_of p.now.program) net.old pins.now }
+    requires returns { ReturnsFit (program_of p.now.program) net.old returns.now }
+    requires goes_count { length goes.now.items ≡ suc (program_of p.now.program).sites }
+    requires goes { (k : ℕ) → k ≤ (program_of p.now.program).sites → IsSource net.old (pin goes.now.items k) 1 }
+    requires clears_count { length clears.now.items ≡ (program_of p.now.program).functions }
+    requires clears { BitsFit net.old clears.now.items }
+    requires room { HasRoom net.old (7 * (program_of p.now.program).sites) }
+    ensures tidy { IsTidy net.new }
+    ensures built { OnOk result (Builds net.old net.new (7 * (program_of p.now.program).sites)) }
+    ensures done { IfOk result (λ all. SitesNext (program_of p.now.program) (choice_of p.now) net.new pins.now.bank.units.items pins.now.bank.sites.items returns.now.ret.items goes.now.items clears.now.items all.items (program_of p.now.program).sites) }
+{
+    let first = pins.bank.sites[0];
+    let mut all = one_site(alloc, first)?;
+    let sites = site_count(p);
+    for done in 0..sites {
+        let k = done + 1;
+        let callee = callee_of(p, k);
+        let caller = caller_of(p, k);
+        let owner = unit_of(p, caller);
+        let clear = clears[owner as usize];
+        let unit = pins.bank.units[callee as usize];
+        let now = pins.bank.sites[k as usize];
+        let ret = returns.ret[k as usize];
+        let go = goes[k as usize];
+        let next = next_site(net, p.kept(k), ret, go, clear, unit.res, now)?;
+        all.push(next)?;
+    }
+    Ok(all)
+}
+
+// The first entry, which counts for nothing.
+fn one_site(alloc: Global, filler: SitePins) -> Result<Vec<SitePins>, AllocError>
+    ensures count { IfOk result (λ all. length all.items ≡ 1) }
+{
+    let all = vec![in alloc; filler]?;
+    Ok(all)
+}

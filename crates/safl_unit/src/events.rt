@@ -1,0 +1,68 @@
+//! All that comes at the edge.
+
+ghost use Rattle.std.specs.Prelude.{◌≡◌, ℕ, suc, ◌+◌, ◌*◌, ◌≤◌, length, IfOk, OnOk};
+ghost use Rattle.safl_term.specs.Checked.{program_of};
+ghost use Rattle.safl_net.specs.Names.{IsTidy};
+ghost use Rattle.safl_gates.specs.Sources.{IsSource, Builds, HasRoom};
+ghost use Rattle.safl_gates.specs.Tables.{pin};
+ghost use Rattle.safl_unit.specs.declared.parts.Pins.{Pins};
+ghost use Rattle.safl_unit.specs.Cycles.{choice_of};
+ghost use Rattle.safl_unit.specs.Stages.{OutcomesFit, HasOutcomes, HasGoes};
+ghost use Rattle.safl_unit.specs.Coming.{HasEvents};
+
+use crate::arrivals::{function_entries, function_loads, unit_clears, unit_ends, unit_starts};
+use crate::parts::Outcomes;
+use crate::rivals::function_rivals;
+use safl_gates::loads::Load;
+use safl_net::{Net, Sig};
+use safl_sites::Planned;
+use safl_word::NoMemory;
+use std::alloc::Global;
+
+/// What comes at the edge.
+///
+/// By unit: `ends`, that a member ends, with its word, `starts`, that a site starts it, and `clears`, that the sites
+/// of its members are cleared. By function: `loads`, that a site loads its arguments, `entries`, that a site or a tail
+/// call starts it, and `rivals`, that another member of its unit starts.
+#[derive(Drop)]
+pub struct Events {
+    pub ends: Vec<Option<Load>>,
+    pub starts: Vec<Option<Sig>>,
+    pub clears: Vec<Option<Sig>>,
+    pub loads: Vec<Option<Load>>,
+    pub entries: Vec<Option<Sig>>,
+    pub rivals: Vec<Option<Sig>>,
+}
+
+/// All that comes at the edge.
+pub fn edge_events(
+    alloc: Global,
+    net: &mut Net,
+    p: &Planned,
+    outcomes: &Outcomes,
+    goes: &[Sig],
+) -> Result<Events, NoMemory>
+    requires tidy { IsTidy net.old }
+    requires outcomes { OutcomesFit (program_of p.now.program) net.old outcomes.now }
+    requires count { length goes.now ≡ suc (program_of p.now.program).sites }
+    requires goes { (k : ℕ) → k ≤ (program_of p.now.program).sites → IsSource net.old (pin goes.now k) 1 }
+    requires room { HasRoom net.old (8 * (program_of p.now.program).functions + 18 * (program_of p.now.program).sites + 18) }
+    ensures tidy { IsTidy net.new }
+    ensures built { OnOk result (Builds net.old net.new (8 * (program_of p.now.program).functions + 18 * (program_of p.now.program).sites + 18)) }
+    ensures done { (pins : Pins) → HasOutcomes (program_of p.now.program) (choice_of p.now) net.old pins outcomes.now → HasGoes (program_of p.now.program) (choice_of p.now) net.old pins goes.now → IfOk result (λ e. HasEvents (program_of p.now.program) (choice_of p.now) net.new pins e) }
+{
+    let ends = unit_ends(alloc, net, p, outcomes)?;
+    let loads = function_loads(alloc, net, p, outcomes, goes)?;
+    let starts = unit_starts(alloc, net, p, goes)?;
+    let clears = unit_clears(alloc, net, p, outcomes, &ends)?;
+    let entries = function_entries(alloc, net, p, outcomes, &loads)?;
+    let rivals = function_rivals(alloc, net, p, &entries)?;
+    Ok(Events {
+        ends,
+        starts,
+        clears,
+        loads,
+        entries,
+        rivals,
+    })
+}

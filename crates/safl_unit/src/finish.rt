@@ -1,0 +1,299 @@
+//! The next signals of the registers, the cells of the named wires, and the outputs.
+
+ghost use Rattle.std.specs.Prelude.{◌≡◌, ℕ, suc, ◌+◌, ◌*◌, ◌<◌, ◌≤◌, ◌++◌, [], ◌∷◌, map, length, Some, None, false, codes, IfOk, OnOk, OnErr};
+ghost use Rattle.safl_term.specs.Program.{arity};
+ghost use Rattle.safl_term.specs.Checked.{program_of};
+ghost use Rattle.safl_net.specs.Netlist.{Reg, Wire};
+ghost use Rattle.safl_net.specs.Making.{with_kind, with_output, refusal};
+ghost use Rattle.safl_net.specs.Names.{is_temp, IsTidy};
+ghost use Rattle.safl_net.specs.Settled.{IsSettled};
+ghost use Rattle.safl_net.specs.Growth.{Grows};
+ghost use Rattle.safl_circuit.specs.Names.{names_of};
+ghost use Rattle.safl_circuit.specs.Layout.{layout_wires};
+ghost use Rattle.safl_gates.specs.Tables.{EachAt};
+ghost use Rattle.safl_unit.specs.Cycles.{choice_of, BankFits, PinsFit};
+ghost use Rattle.safl_unit.specs.Ties.{sig_of, unit_ties, function_ties, site_ties, register_ties, ties, want_wire, body_ties, call_ties, wire_ties};
+ghost use Rattle.safl_unit.specs.Finished.{declared_net, ArePins, ControlsFit, Finishes};
+ghost use Rattle.safl_unit.specs.Setting.{with_kinds, next_kind, copy_kind, Takes, at_ties, IsSet, own_ties};
+
+use crate::names::{has_peers, main_function};
+use crate::parts::{Bank, Controls, Pins, UnitPins};
+use safl_net::{Net, NetErr, Op, Sig};
+use safl_sites::Planned;
+use safl_term::Checked;
+use safl_word::NoMemory;
+use std::alloc::{AllocError, Global};
+
+// A register gets its next signal.
+fn set_next(net: &mut Net, register: Sig, next: Sig)
+    requires { Takes net.old register.0 (Reg 0 None) next }
+    ensures { net.new ≡ with_kind net.old register.0 (next_kind next) }
+{
+    match net.set_next(register, next) {
+        Ok(()) => {}
+        Err(_) => unreachable!(),
+    }
+}
+
+// A wire gets a copy of the signal.
+fn set_copy(net: &mut Net, wire: Sig, source: Sig)
+    requires { Takes net.old wire.0 (Wire None) source }
+    ensures { net.new ≡ with_kind net.old wire.0 (copy_kind source) }
+{
+    match net.set_cell(wire, Op::Copy, &[source]) {
+        Ok(()) => {}
+        Err(_) => unreachable!(),
+    }
+}
+
+// The registers from the first on get their next signals.
+fn set_nexts(net: &mut Net, first: u32, all: &[Sig])
+    requires open { EachAt all.now (λ i s. Takes net.old (first + i) (Reg 0 None) s) }
+    requires room { first + length all.now < 4294967296 }
+    ensures { net.new ≡ with_kinds net.old first (map next_kind all.now) }
+{
+    for i in 0..all.len() {
+        set_next(net, Sig(first + i as u32), all[i]);
+    }
+}
+
+// The wires from the first on get copies of these signals.
+fn set_copies(net: &mut Net, first: u32, all: &[Sig])
+    requires open { EachAt all.now (λ i s. Takes net.old (first + i) (Wire None) s) }
+    requires room { first + length all.now < 4294967296 }
+    ensures { net.new ≡ with_kinds net.old first (map copy_kind all.now) }
+{
+    for i in 0..all.len() {
+        set_copy(net, Sig(first + i as u32), all[i]);
+    }
+}
+
+// The next signals of a unit's registers, at its first member.
+fn add_unit(all: &mut Vec<Sig>, c: &Checked, f: u32, unit: UnitPins) -> Result<(), AllocError>
+    requires { f < (program_of c.now).functions }
+    ensures { OnOk result (all.new.items ≡ all.old.items ++ map sig_of (unit_ties (program_of c.now) (names_of c.now) f (Some unit))) }
+{
+    if c.unit(f) != f {
+        return Ok(());
+    }
+    all.extend_from_slice(&[unit.run, unit.fin, unit.res])?;
+    Ok(())
+}
+
+// The next signal of the register that says that a function runs, where its unit has other members.
+fn add_at(all: &mut Vec<Sig>, c: &Checked, f: u32, at: Sig) -> Result<(), AllocError>
+    requires { f < (program_of c.now).functions }
+    ensures { OnOk result (all.new.items ≡ all.old.items ++ map sig_of (at_ties (program_of c.now) (names_of c.now) f at)) }
+{
+    if !has_peers(c, f) {
+        return Ok(());
+    }
+    all.push(at)?;
+    Ok(())
+}
+
+// The next signals of a function's registers, after those of its unit where it is the first member.
+fn add_function(all: &mut Vec<Sig>, c: &Checked, next: &Bank, f: u32) -> Result<(), AllocError>
+    requires function { f < (program_of c.now).functions }
+    requires units { length next.now.units.items ≡ (program_of c.now).functions }
+    requires members { length next.now.members.items ≡ (program_of c.now).functions }
+    requires args { EachAt next.now.members.items (λ g m. length m.args.items ≡ arity (program_of c.now) g) }
+    ensures { OnOk result (all.new.items ≡ all.old.items ++ map sig_of (function_ties (program_of c.now) (names_of c.now) next.now.units.items next.now.members.items f)) }
+{
+    let unit = next.units[f as usize];
+    let member = &next.members[f as usize];
+    add_unit(all, c, f, unit)?;
+    add_at(all, c, f, member.at)?;
+    all.extend_from_slice(member.args.as_slice())?;
+    Ok(())
+}
+
+// Those of all functions.
+fn add_functions(all: &mut Vec<Sig>, c: &Checked, next: &Bank) -> Result<(), AllocError>
+    requires units { length next.now.units.items ≡ (program_of c.now).functions }
+    requires members { length next.now.members.items ≡ (program_of c.now).functions }
+    requires args { EachAt next.now.members.items (λ g m. length m.args.items ≡ arity (program_of c.now) g) }
+    ensures { OnOk result (all.new.items ≡ all.old.items ++ map sig_of (own_ties (program_of c.now) (names_of c.now) next.now)) }
+{
+    for f in 0..c.functions() {
+        add_function(all, c, next, f)?;
+    }
+    Ok(())
+}
+
+// The next signals of a site's registers.
+fn add_site(all: &mut Vec<Sig>, p: &Planned, next: &Bank, k: u32) -> Result<(), AllocError>
+    requires least { 1 ≤ k }
+    requires most { k ≤ (program_of p.now.program).sites }
+    requires sites { length next.now.sites.items ≡ suc (program_of p.now.program).sites }
+    ensures { OnOk result (all.new.items ≡ all.old.items ++ map sig_of (site_ties (program_of p.now.program) (choice_of p.now) next.now.sites.items k)) }
+{
+    let site = next.sites[k as usize];
+    if !p.kept(k) {
+        all.extend_from_slice(&[site.sent, site.got])?;
+        return Ok(());
+    }
+    all.extend_from_slice(&[site.sent, site.got, site.keep])?;
+    Ok(())
+}
+
+// The next signals of all registers, in their order.
+fn register_sources(alloc: Global, p: &Planned, next: &Bank) -> Result<Vec<Sig>, AllocError>
+    requires units { length next.now.units.items ≡ (program_of p.now.program).functions }
+    requires members { length next.now.members.items ≡ (program_of p.now.program).functions }
+    requires args { EachAt next.now.members.items (λ g m. length m.args.items ≡ arity (program_of p.now.program) g) }
+    requires sites { length next.now.sites.items ≡ suc (program_of p.now.program).sites }
+    ensures { IfOk result (λ v. v.items ≡ map sig_of (register_ties (program_of p.now.program) (names_of p.now.program) (choice_of p.now) next.now)) }
+{
+    let c = p.checked();
+    let _functions = c.functions();
+    let mut all = Vec::new(alloc);
+    add_functions(&mut all, c, next)?;
+    for k in 1..c.sites() + 1 {
+        add_site(&mut all, p, next, k)?;
+    }
+    Ok(all)
+}
+
+// What the named wires of the bodies copy.
+fn add_bodies(all: &mut Vec<Sig>, c: &Checked, controls: &Controls) -> Result<(), AllocError>
+    requires ends { length controls.now.ends.items ≡ (program_of c.now).functions }
+    requires loops { length controls.now.loops.items ≡ (program_of c.now).functions }
+    ensures { OnOk result (all.new.items ≡ all.old.items ++ map sig_of (ties (body_ties (names_of c.now) controls.now) (program_of c.now).functions)) }
+{
+    for f in 0..c.functions() {
+        all.push(controls.ends[f as usize])?;
+        all.push(controls.loops[f as usize])?;
+    }
+    Ok(())
+}
+
+// What the named wires of a site copy, where its first one has this number.
+fn add_call(
+    all: &mut Vec<Sig>,
+    p: &Planned,
+    controls: &Controls,
+    k: u32,
+    first: u32,
+    place: Sig,
+) -> Result<(), AllocError>
+    requires least { 1 ≤ k }
+    requires most { k ≤ (program_of p.now.program).sites }
+    requires wants { length controls.now.wants.items ≡ suc (program_of p.now.program).sites }
+    requires rets { length controls.now.rets.items ≡ suc (program_of p.now.program).sites }
+    requires goes { length controls.now.goes.items ≡ suc (program_of p.now.program).sites }
+    requires place { place.0 ≡ want_wire (program_of p.now.program) (choice_of p.now) first k }
+    ensures { OnOk result (all.new.items ≡ all.old.items ++ map sig_of (call_ties (program_of p.now.program) (choice_of p.now) first controls.now k)) }
+{
+    let c = p.checked();
+    let _functions = c.functions();
+    let want = controls.wants[k as usize];
+    let ret = controls.rets[k as usize];
+    let go = controls.goes[k as usize];
+    if !p.arbiter(c.callee(k)) {
+        all.extend_from_slice(&[want, ret, place])?;
+        return Ok(());
+    }
+    all.extend_from_slice(&[want, ret, go, go])?;
+    Ok(())
+}
+
+// What the named wires copy, in their order, where the first one has this number.
+fn wire_sources(
+    alloc: Global,
+    p: &Planned,
+    controls: &Controls,
+    first: u32,
+) -> Result<Vec<Sig>, AllocError>
+    requires ends { length controls.now.ends.items ≡ (program_of p.now.program).functions }
+    requires loops { length controls.now.loops.items ≡ (program_of p.now.program).functions }
+    requires wants { length controls.now.wants.items ≡ suc (program_of p.now.program).sites }
+    requires rets { length controls.now.rets.items ≡ suc (program_of p.now.program).sites }
+    requires goes { length controls.now.goes.items ≡ suc (program_of p.now.program).sites }
+    requires room { first + length (layout_wires (program_of p.now.program) (names_of p.now.program) (choice_of p.now)) < 4294967296 }
+    ensures { IfOk result (λ v. v.items ≡ map sig_of (wire_ties (program_of p.now.program) (names_of p.now.program) (choice_of p.now) first controls.now)) }
+{
+    let c = p.checked();
+    let _functions = c.functions();
+    let mut all = Vec::new(alloc);
+    add_bodies(&mut all, c, controls)?;
+    for k in 1..c.sites() + 1 {
+        let place = Sig(first + all.len() as u32);
+        add_call(&mut all, p, controls, k, first, place)?;
+    }
+    all.push(controls.goes[0])?;
+    Ok(all)
+}
+
+// The registers and the named wires are all set.
+fn set_all(
+    alloc: Global,
+    net: &mut Net,
+    p: &Planned,
+    pins: &Pins,
+    next: &Bank,
+    controls: &Controls,
+) -> Result<(), AllocError>
+    requires tidy { IsTidy net.old }
+    requires grown { Grows (declared_net (program_of p.now.program) (names_of p.now.program) (choice_of p.now)) net.old }
+    requires pins { ArePins (program_of p.now.program) (names_of p.now.program) (choice_of p.now) pins.now }
+    requires next { BankFits (program_of p.now.program) net.old next.now }
+    requires controls { ControlsFit (program_of p.now.program) net.old controls.now }
+    ensures tidy { IsTidy net.new }
+    ensures set { OnOk result (IsSet (program_of p.now.program) (names_of p.now.program) (choice_of p.now) pins.now next.now controls.now net.old net.new) }
+{
+    let c = p.checked();
+    let _functions = c.functions();
+    let _signals = net.signals();
+    let nexts = register_sources(alloc, p, next)?;
+    let copies = wire_sources(alloc, p, controls, pins.first_wire)?;
+    set_nexts(net, pins.first_register, nexts.as_slice());
+    set_copies(net, pins.first_wire, copies.as_slice());
+    Ok(())
+}
+
+// One more output.
+fn add_output(net: &mut Net, name: &str, s: Sig) -> Result<(), NoMemory>
+    requires tidy { IsTidy net.old }
+    requires lasting { is_temp name.now ≡ false }
+    requires known { s.0 < length net.old.signals }
+    requires room { length net.old.outputs < 4294967295 }
+    requires free { refusal net.old name.now ≡ None }
+    ensures tidy { IsTidy net.new }
+    ensures added { OnOk result (net.new ≡ with_output net.old name.now s.0) }
+{
+    match net.output(name, s) {
+        Ok(()) => Ok(()),
+        Err(NetErr::NoMemory) => Err(NoMemory),
+        Err(NetErr::BadName | NetErr::NameTaken) => unreachable!(),
+    }
+}
+
+/// Sets the next signals of all registers, makes each named wire a copy, and adds the outputs.
+pub fn finish(
+    alloc: Global,
+    net: &mut Net,
+    p: &Planned,
+    pins: &Pins,
+    next: &Bank,
+    controls: &Controls,
+) -> Result<(), NoMemory>
+    requires tidy { IsTidy net.old }
+    requires grown { Grows (declared_net (program_of p.now.program) (names_of p.now.program) (choice_of p.now)) net.old }
+    requires settled { IsSettled net.old }
+    requires pins { ArePins (program_of p.now.program) (names_of p.now.program) (choice_of p.now) pins.now }
+    requires fits { PinsFit (program_of p.now.program) net.old pins.now }
+    requires next { BankFits (program_of p.now.program) net.old next.now }
+    requires controls { ControlsFit (program_of p.now.program) net.old controls.now }
+    ensures tidy { IsTidy net.new }
+    ensures done { OnOk result (Finishes (program_of p.now.program) (names_of p.now.program) (choice_of p.now) pins.now next.now controls.now net.old net.new) }
+{
+    let c = p.checked();
+    let _functions = c.functions();
+    let main = main_function(c);
+    let unit = pins.bank.units[main as usize];
+    set_all(alloc, net, p, pins, next, controls)?;
+    add_output(net, "done", unit.fin)?;
+    add_output(net, "result", unit.res)?;
+    Ok(())
+}

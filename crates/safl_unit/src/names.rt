@@ -1,0 +1,61 @@
+//! Names of signals.
+
+ghost use Rattle.std.specs.Prelude.{◌≡◌, ◌<◌, ◌++◌, IfOk, string_bytes, codes, decimal};
+ghost use Rattle.std.specs.Str.{IsUtf8};
+ghost use Rattle.safl_term.specs.Checked.{program_of};
+ghost use Rattle.safl_circuit.specs.Equations.{many};
+
+use safl_term::Checked;
+use std::alloc::{AllocError, Global};
+
+/// The head and then the name.
+pub fn headed(alloc: Global, head: &str, name: &[u8]) -> Result<String, AllocError>
+    requires { IsUtf8 name.now }
+    ensures { IfOk result (λ s. string_bytes s ≡ head.now ++ name.now) }
+{
+    let mut text = String::from_str(alloc, head)?;
+    match std::str::from_utf8(name) {
+        Ok(rest) => text.push_str(rest)?,
+        Err(_) => unreachable!(),
+    }
+    Ok(text)
+}
+
+/// The head and then the number in decimal.
+pub fn numbered(alloc: Global, head: &str, number: u32) -> Result<String, AllocError>
+    ensures { IfOk result (λ s. string_bytes s ≡ head.now ++ decimal number) }
+{
+    format!(in alloc; "{head}{number}")
+}
+
+/// The name of the register of a function's parameter.
+pub fn argument_name(alloc: Global, function: &[u8], param: &[u8]) -> Result<String, AllocError>
+    requires function { IsUtf8 function.now }
+    requires param { IsUtf8 param.now }
+    ensures { IfOk result (λ s. string_bytes s ≡ codes "arg$" ++ (function.now ++ (codes "$" ++ param.now))) }
+{
+    let mut text = headed(alloc, "arg$", function)?;
+    let rest = headed(alloc, "$", param)?;
+    text.push_str(rest.as_str())?;
+    Ok(text)
+}
+
+/// Whether a function's unit has another member.
+pub fn has_peers(c: &Checked, f: u32) -> bool
+    requires { f < (program_of c.now).functions }
+    ensures { result ≡ many (program_of c.now) f }
+{
+    let functions = c.functions();
+    if c.unit(f) != f {
+        return true;
+    }
+    f + 1 < functions && c.unit(f + 1) == f
+}
+
+/// The number of main.
+pub fn main_function(c: &Checked) -> u32
+    ensures number { result ≡ (program_of c.now).main }
+    ensures within { result < (program_of c.now).functions }
+{
+    c.functions() - 1
+}

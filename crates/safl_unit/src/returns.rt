@@ -1,0 +1,112 @@
+//! What the call sites show: their values are delivered, they have returned, and their words.
+
+ghost use Rattle.std.specs.Prelude.{◌≡◌, ℕ, suc, ◌+◌, ◌*◌, ◌≤◌, ◌&&◌, ◌||◌, not, cond, length, Some, IfOk, OnOk};
+ghost use Rattle.safl_term.specs.Checked.{program_of};
+ghost use Rattle.safl_net.specs.Names.{IsTidy};
+ghost use Rattle.safl_net.specs.Growth.{Val, Wired};
+ghost use Rattle.safl_net.specs.Bits.{on};
+ghost use Rattle.safl_gates.specs.Sources.{IsSource, Builds, HasRoom};
+ghost use Rattle.safl_unit.specs.Cycles.{choice_of, UnitFits, SiteFits, PinsFit};
+ghost use Rattle.safl_unit.specs.Stages.{PortFits, HasReturns};
+ghost use Rattle.safl_unit.specs.Returning.{SiteShown};
+
+use crate::parts::{Pins, Returns, SitePins, UnitPins};
+use safl_gates::gates::{both, either, inverse, mux};
+use safl_lower::SitePorts;
+use safl_net::{Net, Sig};
+use safl_sites::Planned;
+use safl_word::NoMemory;
+use std::alloc::{AllocError, Global};
+
+/// A site's bit that its value is delivered, and its ports.
+#[derive(Clone, Copy)]
+pub struct SiteReturn {
+    pub ret: Sig,
+    pub ports: SitePorts,
+}
+
+/// What each site shows.
+pub fn returns(alloc: Global, net: &mut Net, p: &Planned, pins: &Pins) -> Result<Returns, NoMemory>
+    requires tidy { IsTidy net.old }
+    requires pins { PinsFit (program_of p.now.program) net.old pins.now }
+    requires room { HasRoom net.old (5 * (program_of p.now.program).sites) }
+    ensures tidy { IsTidy net.new }
+    ensures built { OnOk result (Builds net.old net.new (5 * (program_of p.now.program).sites)) }
+    ensures done { IfOk result (λ s. HasReturns (program_of p.now.program) (choice_of p.now) net.new pins.now s) }
+{
+    let c = p.checked();
+    let _functions = c.functions();
+    let mut all = no_returns(alloc, pins.start)?;
+    let sites = c.sites();
+    for done in 0..sites {
+        let k = done + 1;
+        let unit = pins.bank.units[c.callee(k) as usize];
+        let site = pins.bank.sites[k as usize];
+        let next = site_return(net, p.kept(k), unit, site)?;
+        all.ret.push(next.ret)?;
+        all.ports.push(next.ports)?;
+    }
+    Ok(all)
+}
+
+// The entries of main's call from outside, which count for nothing.
+fn no_returns(alloc: Global, start: Sig) -> Result<Returns, AllocError>
+    ensures ret { IfOk result (λ s. length s.ret.items ≡ 1) }
+    ensures ports { IfOk result (λ s. length s.ports.items ≡ 1) }
+{
+    let filler = SitePorts {
+        sent: start,
+        returned: start,
+        value: start,
+    };
+    let ret = vec![in alloc; start]?;
+    let ports = vec![in alloc; filler]?;
+    Ok(Returns { ret, ports })
+}
+
+// What one site shows, whose callee has this unit.
+fn site_return(
+    net: &mut Net,
+    kept: bool,
+    unit: UnitPins,
+    site: SitePins,
+) -> Result<SiteReturn, NoMemory>
+    requires tidy { IsTidy net.old }
+    requires fits { (w : ℕ) × UnitFits net.old unit w × SiteFits net.old site w }
+    requires room { HasRoom net.old 5 }
+    ensures tidy { IsTidy net.new }
+    ensures built { OnOk result (Builds net.old net.new 5) }
+    ensures fits { (w : ℕ) → UnitFits net.old unit w → SiteFits net.old site w → IfOk result (λ s. IsSource net.new s.ret 1 × PortFits net.new s.ports w) }
+    ensures shows { IfOk result (λ s. (v : Val) → Wired net.new v → SiteShown v kept unit site s) }
+{
+    let open = inverse(net, site.got)?;
+    let awaited = both(net, site.sent, open)?;
+    let ret = both(net, unit.fin, awaited)?;
+    let returned = either(net, site.got, ret)?;
+    let value = site_word(net, kept, ret, unit.res, site.keep)?;
+    Ok(SiteReturn {
+        ret,
+        ports: SitePorts {
+            sent: site.sent,
+            returned,
+            value,
+        },
+    })
+}
+
+/// The word of a site's unit, or the kept one if the site keeps its word and is not delivered to.
+pub fn site_word(net: &mut Net, kept: bool, ret: Sig, res: Sig, keep: Sig) -> Result<Sig, NoMemory>
+    requires tidy { IsTidy net.old }
+    requires ret { IsSource net.old ret 1 }
+    requires words { (w : ℕ) × IsSource net.old res w × IsSource net.old keep w }
+    requires room { HasRoom net.old 1 }
+    ensures tidy { IsTidy net.new }
+    ensures built { Builds net.old net.new 1 }
+    ensures fits { (w : ℕ) → IsSource net.old res w → IsSource net.old keep w → IfOk result (λ s. IsSource net.new s w) }
+    ensures value { IfOk result (λ s. (v : Val) → Wired net.new v → v s.0 ≡ cond (kept && not (on v ret)) (v keep.0) (v res.0)) }
+{
+    if !kept {
+        return Ok(res);
+    }
+    mux(net, ret, res, keep)
+}

@@ -1,0 +1,6 @@
+pub mod Fronts
+pub mod Cuts
+pub mod KindCodes
+pub mod Loops
+pub mod Parsed
+pub mod NumberLemmas

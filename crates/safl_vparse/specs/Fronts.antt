@@ -1,0 +1,32 @@
+-- What stands at the front of a text.
+use Rattle.std.specs.Prelude.{◌≡◌, ℕ, ◌+◌, List, ◌++◌, length, drop, Option, Some, None}
+use Rattle.safl_verilog.specs.declared.token.Token.{Token}
+use Rattle.safl_verilog.specs.declared.fault.VRule.TheVariants as rules
+use Rattle.safl_verilog.specs.Tokens.{Piece, Blank, Line, Block, Lexeme, text_of_all, StandAll, tokens_from, HasLexicalFault}
+use Rattle.safl_verilog.specs.Faults.{at}
+use Rattle.safl_vparse.specs.declared.error.VErr.{VErr}
+use Rattle.safl_vparse.specs.declared.error.VErr.TheVariants as errors
+use Rattle.safl_vparse.specs.declared.front.Front.{Front}
+use Rattle.safl_vparse.specs.declared.front.Front.TheVariants as fronts
+use Rattle.safl_vparse.specs.Shown.{shown_all}
+
+-- a piece by its length, or no piece
+abbrev pub measured : Option Piece → Front
+measured None = fronts.Stuck
+measured (Some (Blank c)) = fronts.Gap 1
+measured (Some (Line w)) = fronts.Gap (2 + length w)
+measured (Some (Block w)) = fronts.Gap (length w + 4)
+measured (Some (Lexeme k w)) = fronts.Found k (length w)
+
+-- the bytes up to a place are cut, and these are their tokens
+pub record IsCutUpTo (text : List ℕ) (p : ℕ) (ts : List Token) : Type 0 where
+  pub pieces : List Piece
+  pub joined : text ≡ text_of_all pieces ++ drop p text
+  pub stand : StandAll pieces (drop p text)
+  pub place : p ≡ length (text_of_all pieces)
+  pub tokens : shown_all text ts ≡ tokens_from 0 pieces
+
+-- V01 at the first place where no piece begins; lack of memory says nothing of the text
+abbrev pub RefusesBytes : List ℕ → VErr → Type 0
+RefusesBytes text (errors.Refused f) = HasLexicalFault text f.place × (f ≡ at rules.V01 f.place)
+RefusesBytes text errors.NoMemory = Unit {0}

@@ -1,0 +1,5 @@
+pub mod Fronts
+pub mod Shown
+pub mod Gives
+pub mod Parsed
+pub mod Numbers

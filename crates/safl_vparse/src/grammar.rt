@@ -1,0 +1,354 @@
+//! Expressions, declarations, statements and files.
+
+ghost use Rattle.std.specs.Prelude.{◌≡◌, [], ◌∷◌, IfOk};
+ghost use Rattle.safl_verilog.specs.Reader.{read_constant, read_inverted, read_binary, read_choice, read_joined, read_slice, read_named, read_cell, read_written_range, read_range, read_decl, read_assign, read_otherwise, read_at_reset, read_always, read_stmt, read_another_id, read_ids, read_another_decl, read_decls, read_another_stmt, read_stmts, read_body, read_file, read_text};
+ghost use Rattle.safl_vparse.specs.Shown.{shown_all, spot_at, spots_at, expression_at, range_at, declaration_at, declarations_at, statement_at, statements_at, file_at};
+ghost use Rattle.safl_vparse.specs.Gives.{Gives};
+
+use crate::file::{Declaration, Expression, File, Range, Span, Statement, Update};
+use crate::parser::{Parser, Read, ReadError};
+use safl_verilog::{Keyword, Symbol, Token, TokenKind};
+use std::alloc::{AllocError, Global};
+
+impl<'s> Parser<'s> {
+    #[tactic(auto, unfolding(safl_verilog::specs::Reader::read_constant))]
+    fn constant<'a>(&self, tokens: &'a [Token]) -> Read<'a, Expression>
+        ensures { Gives self.now.text.now (λ x. (expression_at self.now.text.now x.0, x.1.now)) result (read_constant (shown_all self.now.text.now tokens.now)) }
+    {
+        let (l, rest) = self.literal(tokens)?;
+        Ok((Expression::Literal(l), rest))
+    }
+
+    #[tactic(auto, unfolding(safl_verilog::specs::Reader::read_inverted))]
+    fn inverted<'a>(&self, tokens: &'a [Token]) -> Read<'a, Expression>
+        ensures { Gives self.now.text.now (λ x. (expression_at self.now.text.now x.0, x.1.now)) result (read_inverted (shown_all self.now.text.now tokens.now)) }
+    {
+        let (_, rest) = self.symbol(tokens, Symbol::Tilde)?;
+        let (a, rest) = self.identifier(rest)?;
+        Ok((Expression::Inverted(a), rest))
+    }
+
+    #[tactic(auto, unfolding(safl_verilog::specs::Reader::read_binary))]
+    fn binary<'a>(&self, a: Span, tokens: &'a [Token]) -> Read<'a, Expression>
+        ensures { Gives self.now.text.now (λ x. (expression_at self.now.text.now x.0, x.1.now)) result (read_binary (spot_at self.now.text.now a) (shown_all self.now.text.now tokens.now)) }
+    {
+        let (operator, rest) = self.operator(tokens)?;
+        let (b, rest) = self.identifier(rest)?;
+        Ok((Expression::Binary(operator, a, b), rest))
+    }
+
+    #[tactic(auto, unfolding(safl_verilog::specs::Reader::read_choice))]
+    fn choice<'a>(&self, a: Span, tokens: &'a [Token]) -> Read<'a, Expression>
+        ensures { Gives self.now.text.now (λ x. (expression_at self.now.text.now x.0, x.1.now)) result (read_choice (spot_at self.now.text.now a) (shown_all self.now.text.now tokens.now)) }
+    {
+        let (_, rest) = self.symbol(tokens, Symbol::Question)?;
+        let (b, rest) = self.identifier(rest)?;
+        let (_, rest) = self.symbol(rest, Symbol::Colon)?;
+        let (c, rest) = self.identifier(rest)?;
+        Ok((Expression::Choice(a, b, c), rest))
+    }
+
+    #[tactic(auto, unfolding(safl_verilog::specs::Reader::read_joined))]
+    fn joined<'a>(&self, tokens: &'a [Token]) -> Read<'a, Expression>
+        ensures { Gives self.now.text.now (λ x. (expression_at self.now.text.now x.0, x.1.now)) result (read_joined (shown_all self.now.text.now tokens.now)) }
+    {
+        let (_, rest) = self.symbol(tokens, Symbol::OpenBrace)?;
+        let (a, rest) = self.identifier(rest)?;
+        let (_, rest) = self.symbol(rest, Symbol::Comma)?;
+        let (b, rest) = self.identifier(rest)?;
+        let (_, rest) = self.symbol(rest, Symbol::CloseBrace)?;
+        Ok((Expression::Joined(a, b), rest))
+    }
+
+    #[tactic(auto, unfolding(safl_verilog::specs::Reader::read_slice))]
+    fn slice<'a>(&self, a: Span, tokens: &'a [Token]) -> Read<'a, Expression>
+        ensures { Gives self.now.text.now (λ x. (expression_at self.now.text.now x.0, x.1.now)) result (read_slice (spot_at self.now.text.now a) (shown_all self.now.text.now tokens.now)) }
+    {
+        let (_, rest) = self.symbol(tokens, Symbol::OpenBracket)?;
+        let (high, rest) = self.number(rest)?;
+        let (_, rest) = self.symbol(rest, Symbol::Colon)?;
+        let (low, rest) = self.number(rest)?;
+        let (_, rest) = self.symbol(rest, Symbol::CloseBracket)?;
+        Ok((Expression::Slice(a, high, low), rest))
+    }
+
+    // What begins with a name.
+    #[tactic(auto, unfolding(safl_verilog::specs::Reader::read_named))]
+    fn named<'a>(&self, tokens: &'a [Token]) -> Read<'a, Expression>
+        ensures { Gives self.now.text.now (λ x. (expression_at self.now.text.now x.0, x.1.now)) result (read_named (shown_all self.now.text.now tokens.now)) }
+    {
+        let (a, rest) = self.identifier(tokens)?;
+        if self.comes_operator(rest) {
+            self.binary(a, rest)
+        } else if self.comes(rest, TokenKind::Symbol(Symbol::Question)) {
+            self.choice(a, rest)
+        } else if self.comes(rest, TokenKind::Symbol(Symbol::OpenBracket)) {
+            self.slice(a, rest)
+        } else {
+            Ok((Expression::Plain(a), rest))
+        }
+    }
+
+    #[tactic(auto, unfolding(safl_verilog::specs::Reader::read_cell))]
+    fn expression<'a>(&self, tokens: &'a [Token]) -> Read<'a, Expression>
+        ensures { Gives self.now.text.now (λ x. (expression_at self.now.text.now x.0, x.1.now)) result (read_cell (shown_all self.now.text.now tokens.now)) }
+    {
+        if self.comes(tokens, TokenKind::Sized) {
+            self.constant(tokens)
+        } else if self.comes(tokens, TokenKind::Identifier) {
+            self.named(tokens)
+        } else if self.comes(tokens, TokenKind::Symbol(Symbol::Tilde)) {
+            self.inverted(tokens)
+        } else {
+            self.joined(tokens)
+        }
+    }
+
+    #[tactic(auto, unfolding(safl_verilog::specs::Reader::read_written_range))]
+    fn written_range<'a>(&self, tokens: &'a [Token]) -> Read<'a, Option<Range>>
+        ensures { Gives self.now.text.now (λ x. (range_at self.now.text.now x.0, x.1.now)) result (read_written_range (shown_all self.now.text.now tokens.now)) }
+    {
+        let (_, rest) = self.symbol(tokens, Symbol::OpenBracket)?;
+        let (high, rest) = self.number(rest)?;
+        let (_, rest) = self.symbol(rest, Symbol::Colon)?;
+        let (low, rest) = self.number(rest)?;
+        let (_, rest) = self.symbol(rest, Symbol::CloseBracket)?;
+        Ok((Some(Range { high, low }), rest))
+    }
+
+    #[tactic(auto, unfolding(safl_verilog::specs::Reader::read_range))]
+    fn range<'a>(&self, tokens: &'a [Token]) -> Read<'a, Option<Range>>
+        ensures { Gives self.now.text.now (λ x. (range_at self.now.text.now x.0, x.1.now)) result (read_range (shown_all self.now.text.now tokens.now)) }
+    {
+        if self.comes(tokens, TokenKind::Symbol(Symbol::OpenBracket)) {
+            self.written_range(tokens)
+        } else {
+            Ok((None, tokens))
+        }
+    }
+
+    #[tactic(auto, unfolding(safl_verilog::specs::Reader::read_decl))]
+    fn declaration<'a>(&self, tokens: &'a [Token]) -> Read<'a, Declaration>
+        ensures { Gives self.now.text.now (λ x. (declaration_at self.now.text.now x.0, x.1.now)) result (read_decl (shown_all self.now.text.now tokens.now)) }
+    {
+        let (sort, rest) = self.sort(tokens)?;
+        let (range, rest) = self.range(rest)?;
+        let (name, rest) = self.identifier(rest)?;
+        let (_, rest) = self.symbol(rest, Symbol::Semicolon)?;
+        Ok((Declaration { sort, range, name }, rest))
+    }
+
+    #[tactic(auto, unfolding(safl_verilog::specs::Reader::read_assign))]
+    fn assign<'a>(&self, tokens: &'a [Token]) -> Read<'a, Statement>
+        ensures { Gives self.now.text.now (λ x. (statement_at self.now.text.now x.0, x.1.now)) result (read_assign (shown_all self.now.text.now tokens.now)) }
+    {
+        let (_, rest) = self.word(tokens, Keyword::Assign)?;
+        let (target, rest) = self.identifier(rest)?;
+        let (_, rest) = self.symbol(rest, Symbol::Becomes)?;
+        let (expression, rest) = self.expression(rest)?;
+        let (_, rest) = self.symbol(rest, Symbol::Semicolon)?;
+        Ok((Statement::Assign(target, expression), rest))
+    }
+
+    // What follows the update at reset.
+    #[tactic(auto, unfolding(safl_verilog::specs::Reader::read_otherwise))]
+    fn otherwise<'a>(
+        &self,
+        clock: Span,
+        reset: Span,
+        target: Span,
+        initial: Span,
+        tokens: &'a [Token],
+    ) -> Read<'a, Statement>
+        ensures { Gives self.now.text.now (λ x. (statement_at self.now.text.now x.0, x.1.now)) result (read_otherwise (spot_at self.now.text.now clock) (spot_at self.now.text.now reset) (spot_at self.now.text.now target) (spot_at self.now.text.now initial) (shown_all self.now.text.now tokens.now)) }
+    {
+        let (_, rest) = self.word(tokens, Keyword::Else)?;
+        let (second, rest) = self.identifier(rest)?;
+        let (_, rest) = self.symbol(rest, Symbol::LessEqual)?;
+        let (source, rest) = self.identifier(rest)?;
+        let (_, rest) = self.symbol(rest, Symbol::Semicolon)?;
+        Ok((
+            Statement::Always(Update {
+                clock,
+                reset,
+                target,
+                initial,
+                second,
+                source,
+            }),
+            rest,
+        ))
+    }
+
+    // What follows the clock.
+    #[tactic(auto, unfolding(safl_verilog::specs::Reader::read_at_reset))]
+    fn at_reset<'a>(&self, clock: Span, tokens: &'a [Token]) -> Read<'a, Statement>
+        ensures { Gives self.now.text.now (λ x. (statement_at self.now.text.now x.0, x.1.now)) result (read_at_reset (spot_at self.now.text.now clock) (shown_all self.now.text.now tokens.now)) }
+    {
+        let (_, rest) = self.word(tokens, Keyword::If)?;
+        let (_, rest) = self.symbol(rest, Symbol::OpenParen)?;
+        let (reset, rest) = self.identifier(rest)?;
+        let (_, rest) = self.symbol(rest, Symbol::CloseParen)?;
+        let (target, rest) = self.identifier(rest)?;
+        let (_, rest) = self.symbol(rest, Symbol::LessEqual)?;
+        let (initial, rest) = self.literal(rest)?;
+        let (_, rest) = self.symbol(rest, Symbol::Semicolon)?;
+        self.otherwise(clock, reset, target, initial, rest)
+    }
+
+    #[tactic(auto, unfolding(safl_verilog::specs::Reader::read_always))]
+    fn always<'a>(&self, tokens: &'a [Token]) -> Read<'a, Statement>
+        ensures { Gives self.now.text.now (λ x. (statement_at self.now.text.now x.0, x.1.now)) result (read_always (shown_all self.now.text.now tokens.now)) }
+    {
+        let (_, rest) = self.word(tokens, Keyword::Always)?;
+        let (_, rest) = self.symbol(rest, Symbol::At)?;
+        let (_, rest) = self.symbol(rest, Symbol::OpenParen)?;
+        let (_, rest) = self.word(rest, Keyword::Posedge)?;
+        let (clock, rest) = self.identifier(rest)?;
+        let (_, rest) = self.symbol(rest, Symbol::CloseParen)?;
+        self.at_reset(clock, rest)
+    }
+
+    #[tactic(auto, unfolding(safl_verilog::specs::Reader::read_stmt))]
+    fn statement<'a>(&self, tokens: &'a [Token]) -> Read<'a, Statement>
+        ensures { Gives self.now.text.now (λ x. (statement_at self.now.text.now x.0, x.1.now)) result (read_stmt (shown_all self.now.text.now tokens.now)) }
+    {
+        if self.comes(tokens, TokenKind::Keyword(Keyword::Assign)) {
+            self.assign(tokens)
+        } else {
+            self.always(tokens)
+        }
+    }
+
+    #[tactic(auto, unfolding(safl_verilog::specs::Reader::read_another_id))]
+    fn another_name<'a>(&self, mut names: Vec<Span>, tokens: &'a [Token]) -> Read<'a, Vec<Span>>
+        ensures { Gives self.now.text.now (λ x. (spots_at self.now.text.now x.0.items, x.1.now)) result (read_another_id (spots_at self.now.text.now names.items) (shown_all self.now.text.now tokens.now)) }
+    {
+        let (_, rest) = self.symbol(tokens, Symbol::Comma)?;
+        let (name, rest) = self.identifier(rest)?;
+        names.push(name)?;
+        Ok((names, rest))
+    }
+
+    // The names of the header.
+    #[tactic(auto, unfolding(safl_verilog::specs::Reader::read_ids))]
+    fn names<'a>(&self, tokens: &'a [Token]) -> Read<'a, Vec<Span>>
+        ensures { Gives self.now.text.now (λ x. (spots_at self.now.text.now x.0.items, x.1.now)) result (read_ids (shown_all self.now.text.now tokens.now)) }
+    {
+        let (first, rest) = self.identifier(tokens)?;
+        let mut names = single(self.alloc, first)?;
+        let mut rest = rest;
+        'list: while self.comes(rest, TokenKind::Symbol(Symbol::Comma)) {
+            let (next, after) = self.another_name(names, rest)?;
+            names = next;
+            rest = after;
+        }
+        Ok((names, rest))
+    }
+
+    #[tactic(auto, unfolding(safl_verilog::specs::Reader::read_another_decl))]
+    fn another_declaration<'a>(
+        &self,
+        mut declarations: Vec<Declaration>,
+        tokens: &'a [Token],
+    ) -> Read<'a, Vec<Declaration>>
+        ensures { Gives self.now.text.now (λ x. (declarations_at self.now.text.now x.0.items, x.1.now)) result (read_another_decl (declarations_at self.now.text.now declarations.items) (shown_all self.now.text.now tokens.now)) }
+    {
+        let (declaration, rest) = self.declaration(tokens)?;
+        declarations.push(declaration)?;
+        Ok((declarations, rest))
+    }
+
+    #[tactic(auto, unfolding(safl_verilog::specs::Reader::read_decls))]
+    fn declarations<'a>(&self, tokens: &'a [Token]) -> Read<'a, Vec<Declaration>>
+        ensures { Gives self.now.text.now (λ x. (declarations_at self.now.text.now x.0.items, x.1.now)) result (read_decls (shown_all self.now.text.now tokens.now)) }
+    {
+        let mut declarations = Vec::new(self.alloc);
+        let mut rest = tokens;
+        'list: while self.comes_declaration(rest) {
+            let (next, after) = self.another_declaration(declarations, rest)?;
+            declarations = next;
+            rest = after;
+        }
+        Ok((declarations, rest))
+    }
+
+    #[tactic(auto, unfolding(safl_verilog::specs::Reader::read_another_stmt))]
+    fn another_statement<'a>(
+        &self,
+        mut statements: Vec<Statement>,
+        tokens: &'a [Token],
+    ) -> Read<'a, Vec<Statement>>
+        ensures { Gives self.now.text.now (λ x. (statements_at self.now.text.now x.0.items, x.1.now)) result (read_another_stmt (statements_at self.now.text.now statements.items) (shown_all self.now.text.now tokens.now)) }
+    {
+        let (statement, rest) = self.statement(tokens)?;
+        statements.push(statement)?;
+        Ok((statements, rest))
+    }
+
+    #[tactic(auto, unfolding(safl_verilog::specs::Reader::read_stmts))]
+    fn statements<'a>(&self, tokens: &'a [Token]) -> Read<'a, Vec<Statement>>
+        ensures { Gives self.now.text.now (λ x. (statements_at self.now.text.now x.0.items, x.1.now)) result (read_stmts (shown_all self.now.text.now tokens.now)) }
+    {
+        let mut statements = Vec::new(self.alloc);
+        let mut rest = tokens;
+        'list: while self.comes_statement(rest) {
+            let (next, after) = self.another_statement(statements, rest)?;
+            statements = next;
+            rest = after;
+        }
+        Ok((statements, rest))
+    }
+
+    // What follows the header.
+    #[tactic(auto, unfolding(safl_verilog::specs::Reader::read_body))]
+    fn body<'a>(&self, header: Vec<Span>, tokens: &'a [Token]) -> Read<'a, File>
+        ensures { Gives self.now.text.now (λ x. (file_at self.now.text.now x.0, x.1.now)) result (read_body (spots_at self.now.text.now header.items) (shown_all self.now.text.now tokens.now)) }
+    {
+        let (declarations, rest) = self.declarations(tokens)?;
+        let (statements, rest) = self.statements(rest)?;
+        let (_, rest) = self.word(rest, Keyword::Endmodule)?;
+        Ok((
+            File {
+                header,
+                declarations,
+                statements,
+            },
+            rest,
+        ))
+    }
+
+    #[tactic(auto, unfolding(safl_verilog::specs::Reader::read_file))]
+    fn file<'a>(&self, tokens: &'a [Token]) -> Read<'a, File>
+        ensures { Gives self.now.text.now (λ x. (file_at self.now.text.now x.0, x.1.now)) result (read_file (shown_all self.now.text.now tokens.now)) }
+    {
+        let (_, rest) = self.word(tokens, Keyword::Module)?;
+        let (_, rest) = self.identifier(rest)?;
+        let (_, rest) = self.symbol(rest, Symbol::OpenParen)?;
+        let (header, rest) = self.names(rest)?;
+        let (_, rest) = self.symbol(rest, Symbol::CloseParen)?;
+        let (_, rest) = self.symbol(rest, Symbol::Semicolon)?;
+        self.body(header, rest)
+    }
+
+    /// The file that all tokens are.
+    #[tactic(auto, unfolding(safl_verilog::specs::Reader::read_text))]
+    pub fn whole<'a>(&self, tokens: &'a [Token]) -> Read<'a, File>
+        ensures { Gives self.now.text.now (λ x. (file_at self.now.text.now x.0, x.1.now)) result (read_text (shown_all self.now.text.now tokens.now)) }
+    {
+        let (file, rest) = self.file(tokens)?;
+        match rest {
+            [] => Ok((file, rest)),
+            [_, ..] => Err(ReadError::Unexpected(rest)),
+        }
+    }
+}
+
+// A list of one name.
+fn single(alloc: Global, name: Span) -> Result<Vec<Span>, AllocError>
+    ensures { IfOk result (λ v. v.items ≡ name ∷ []) }
+{
+    let mut names = Vec::new(alloc);
+    names.push(name)?;
+    Ok(names)
+}

@@ -1,0 +1,230 @@
+//! Single tokens.
+
+ghost use Rattle.std.specs.Prelude.{◌≡◌, [], ◌∷◌, Some, None, if◌then◌else◌};
+ghost use Rattle.safl_grammar.specs.Sets.{Only, within};
+ghost use Rattle.safl_grammar.specs.Reading.{head_of};
+ghost use Rattle.safl_verilog.specs.Grammar.{keyword_code, symbol_code, code_of, operators, primitive_of, primitive_in, sort_of, sort_in, sort_codes};
+ghost use Rattle.safl_verilog.specs.Reader.{comes, read_code, read_word, read_symbol, read_operator, read_sort};
+ghost use Rattle.safl_vparse.specs.Shown.{shown_all, spot_at};
+ghost use Rattle.safl_vparse.specs.Gives.{Gives};
+ghost use Rattle.safl_vparse.specs.declared.parser.ReadError.TheVariants as errors;
+
+use crate::file::Span;
+use safl_verilog::{Keyword, Sort, Symbol, Token, TokenKind};
+use safl_word::Primitive;
+use std::alloc::{AllocError, AllocFailed, Global};
+
+/// A text that is parsed, and where memory comes from.
+#[derive(Clone, Copy, Debug)]
+pub struct Parser<'s> {
+    pub alloc: Global,
+    pub text: &'s [u8],
+}
+
+/// Memory ran out, or the first of these tokens is unexpected, or the end where none is left.
+#[derive(Debug, Drop)]
+pub enum ReadError<'a> {
+    NoMemory,
+    Unexpected(&'a [Token]),
+}
+
+/// The value that tokens begin with and the tokens behind it, or why it is not read.
+pub type Read<'a, T> = Result<(T, &'a [Token]), ReadError<'a>>;
+
+impl<'a> From<AllocError> for ReadError<'a> {
+    ghost from_gives = { λ _ e. e ≡ errors.NoMemory };
+
+    fn from(_e: AllocError) -> ReadError<'a> {
+        ReadError::NoMemory
+    }
+}
+
+impl<'a, T: Drop> From<AllocFailed<T>> for ReadError<'a> {
+    ghost from_gives = { λ _ e. e ≡ errors.NoMemory };
+
+    fn from(_e: AllocFailed<T>) -> ReadError<'a> {
+        ReadError::NoMemory
+    }
+}
+
+// What an operator does with two words.
+fn operator_of(symbol: Symbol) -> Option<Primitive>
+    ensures { result ≡ (if within (Only operators) (symbol_code symbol) then Some (primitive_of symbol) else None) }
+{
+    match symbol {
+        Symbol::Plus => Some(Primitive::Add),
+        Symbol::Minus => Some(Primitive::Sub),
+        Symbol::Star => Some(Primitive::Mul),
+        Symbol::Ampersand => Some(Primitive::And),
+        Symbol::Bar => Some(Primitive::Or),
+        Symbol::Caret => Some(Primitive::Xor),
+        Symbol::Equal => Some(Primitive::Eq),
+        Symbol::NotEqual => Some(Primitive::Ne),
+        Symbol::Less => Some(Primitive::Lt),
+        Symbol::LessEqual => Some(Primitive::Le),
+        Symbol::Greater => Some(Primitive::Gt),
+        Symbol::GreaterEqual => Some(Primitive::Ge),
+        Symbol::ShiftLeft => Some(Primitive::Shl),
+        Symbol::ShiftRight => Some(Primitive::Shr),
+        _ => None,
+    }
+}
+
+fn operator_in(kind: TokenKind) -> Option<Primitive>
+    ensures { result ≡ (if within (Only operators) (code_of kind) then Some (primitive_in kind) else None) }
+{
+    match kind {
+        TokenKind::Symbol(symbol) => operator_of(symbol),
+        _ => None,
+    }
+}
+
+// What a declaration's word declares.
+fn sort_of(keyword: Keyword) -> Option<Sort>
+    ensures { result ≡ (if within (Only sort_codes) (keyword_code keyword) then Some (sort_of keyword) else None) }
+{
+    match keyword {
+        Keyword::Input => Some(Sort::Input),
+        Keyword::Output => Some(Sort::Output),
+        Keyword::Reg => Some(Sort::Reg),
+        Keyword::Wire => Some(Sort::Wire),
+        _ => None,
+    }
+}
+
+fn sort_in(kind: TokenKind) -> Option<Sort>
+    ensures { result ≡ (if within (Only sort_codes) (code_of kind) then Some (sort_in kind) else None) }
+{
+    match kind {
+        TokenKind::Keyword(keyword) => sort_of(keyword),
+        _ => None,
+    }
+}
+
+fn span(token: &Token) -> Span
+    ensures { result ≡ record { start = token.now.start; stop = token.now.stop } }
+{
+    Span {
+        start: token.start,
+        stop: token.stop,
+    }
+}
+
+// Whether a token is of this kind.
+#[tactic(auto, using(crate::proofs::KindCodes::class_of))]
+fn is_of(token: &Token, kind: TokenKind) -> bool
+    ensures { result ≡ within (Only (code_of kind ∷ [])) (code_of token.now.kind) }
+{
+    token.kind == kind
+}
+
+impl<'s> Parser<'s> {
+    /// Whether a token of this kind comes next.
+    pub fn comes(&self, tokens: &[Token], kind: TokenKind) -> bool
+        ensures { result ≡ comes (code_of kind ∷ []) (head_of (shown_all self.now.text.now tokens.now)) }
+    {
+        match tokens {
+            [] => false,
+            [first, ..] => is_of(first, kind),
+        }
+    }
+
+    /// Whether an operator comes next.
+    pub fn comes_operator(&self, tokens: &[Token]) -> bool
+        ensures { result ≡ comes operators (head_of (shown_all self.now.text.now tokens.now)) }
+    {
+        match tokens {
+            [] => false,
+            [first, ..] => operator_in(first.kind).is_some(),
+        }
+    }
+
+    /// Whether a declaration comes next.
+    pub fn comes_declaration(&self, tokens: &[Token]) -> bool
+        ensures { result ≡ comes sort_codes (head_of (shown_all self.now.text.now tokens.now)) }
+    {
+        match tokens {
+            [] => false,
+            [first, ..] => sort_in(first.kind).is_some(),
+        }
+    }
+
+    /// Whether a statement comes next.
+    pub fn comes_statement(&self, tokens: &[Token]) -> bool
+        ensures { result ≡ comes (10 ∷ 11 ∷ []) (head_of (shown_all self.now.text.now tokens.now)) }
+    {
+        self.comes(tokens, TokenKind::Keyword(Keyword::Assign))
+            || self.comes(tokens, TokenKind::Keyword(Keyword::Always))
+    }
+
+    // A token of this kind.
+    fn of_kind<'a>(&self, tokens: &'a [Token], kind: TokenKind) -> Read<'a, Span>
+        ensures { Gives self.now.text.now (λ x. (spot_at self.now.text.now x.0, x.1.now)) result (read_code (code_of kind) (shown_all self.now.text.now tokens.now)) }
+    {
+        match tokens {
+            [first, rest @ ..] if is_of(first, kind) => Ok((span(first), rest)),
+            _ => Err(ReadError::Unexpected(tokens)),
+        }
+    }
+
+    /// A keyword.
+    pub fn word<'a>(&self, tokens: &'a [Token], keyword: Keyword) -> Read<'a, Span>
+        ensures { Gives self.now.text.now (λ x. (spot_at self.now.text.now x.0, x.1.now)) result (read_word keyword (shown_all self.now.text.now tokens.now)) }
+    {
+        self.of_kind(tokens, TokenKind::Keyword(keyword))
+    }
+
+    /// A symbol.
+    pub fn symbol<'a>(&self, tokens: &'a [Token], symbol: Symbol) -> Read<'a, Span>
+        ensures { Gives self.now.text.now (λ x. (spot_at self.now.text.now x.0, x.1.now)) result (read_symbol symbol (shown_all self.now.text.now tokens.now)) }
+    {
+        self.of_kind(tokens, TokenKind::Symbol(symbol))
+    }
+
+    /// An identifier.
+    pub fn identifier<'a>(&self, tokens: &'a [Token]) -> Read<'a, Span>
+        ensures { Gives self.now.text.now (λ x. (spot_at self.now.text.now x.0, x.1.now)) result (read_code 1 (shown_all self.now.text.now tokens.now)) }
+    {
+        self.of_kind(tokens, TokenKind::Identifier)
+    }
+
+    /// A number.
+    pub fn number<'a>(&self, tokens: &'a [Token]) -> Read<'a, Span>
+        ensures { Gives self.now.text.now (λ x. (spot_at self.now.text.now x.0, x.1.now)) result (read_code 2 (shown_all self.now.text.now tokens.now)) }
+    {
+        self.of_kind(tokens, TokenKind::Number)
+    }
+
+    /// A sized number.
+    pub fn literal<'a>(&self, tokens: &'a [Token]) -> Read<'a, Span>
+        ensures { Gives self.now.text.now (λ x. (spot_at self.now.text.now x.0, x.1.now)) result (read_code 3 (shown_all self.now.text.now tokens.now)) }
+    {
+        self.of_kind(tokens, TokenKind::Sized)
+    }
+
+    /// An operator.
+    pub fn operator<'a>(&self, tokens: &'a [Token]) -> Read<'a, Primitive>
+        ensures { Gives self.now.text.now (λ x. (x.0, x.1.now)) result (read_operator (shown_all self.now.text.now tokens.now)) }
+    {
+        match tokens {
+            [first, rest @ ..] => match operator_in(first.kind) {
+                Some(operator) => Ok((operator, rest)),
+                None => Err(ReadError::Unexpected(tokens)),
+            },
+            [] => Err(ReadError::Unexpected(tokens)),
+        }
+    }
+
+    /// The word that begins a declaration.
+    pub fn sort<'a>(&self, tokens: &'a [Token]) -> Read<'a, Sort>
+        ensures { Gives self.now.text.now (λ x. (x.0, x.1.now)) result (read_sort (shown_all self.now.text.now tokens.now)) }
+    {
+        match tokens {
+            [first, rest @ ..] => match sort_in(first.kind) {
+                Some(sort) => Ok((sort, rest)),
+                None => Err(ReadError::Unexpected(tokens)),
+            },
+            [] => Err(ReadError::Unexpected(tokens)),
+        }
+    }
+}

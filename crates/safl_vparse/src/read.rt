@@ -1,0 +1,53 @@
+//! From bytes to a file.
+
+ghost use Rattle.std.specs.Prelude.{◌≡◌, ◌<◌, ◌^◌, length, IfOk, IfErr};
+ghost use Rattle.safl_verilog.specs.Tokens.{HasTokens};
+ghost use Rattle.safl_verilog.specs.Reads.{place_in};
+ghost use Rattle.safl_vparse.specs.Shown.{shown_all, file_at};
+ghost use Rattle.safl_vparse.specs.Parsed.{IsFileText, TokensAnswer, RefusesText, RefusesUnparsed};
+
+use crate::error::VErr;
+use crate::file::File;
+use crate::lexer::lex;
+use crate::parser::{Parser, ReadError};
+use safl_verilog::{Token, VFault, VRule};
+use std::alloc::Global;
+
+/// The file of the grammar that a text of fewer than 2^32 bytes is, or its first fault of the rules V01 and V02. It
+/// answers no other rule, so it refuses no file of the grammar unless memory runs out.
+pub fn parse(alloc: Global, text: &[u8]) -> Result<File, VErr>
+    requires { length text.now < 2 ^ 32 }
+    ensures parsed { IfOk result (λ f. IsFileText text.now (file_at text.now f)) }
+    ensures refused { IfErr result (λ e. RefusesText text.now e) }
+    ensures unparsed { IfErr result (λ e. RefusesUnparsed text.now e) }
+{
+    let tokens = lex(alloc, text)?;
+    parse_tokens(alloc, text, &tokens)
+}
+
+// The file that the tokens of a text are.
+fn parse_tokens(alloc: Global, text: &[u8], tokens: &[Token]) -> Result<File, VErr>
+    requires { length text.now < 2 ^ 32 }
+    ensures { TokensAnswer text.now (shown_all text.now tokens.now) result }
+{
+    let parser = Parser { alloc, text };
+    match parser.whole(tokens) {
+        Ok((file, _)) => Ok(file),
+        Err(ReadError::NoMemory) => Err(VErr::NoMemory),
+        Err(ReadError::Unexpected(rest)) => Err(VErr::Refused(VFault::new(
+            VRule::V02,
+            place_of(text, rest),
+        ))),
+    }
+}
+
+// Where the first of the tokens stands, or where the text ends.
+fn place_of(text: &[u8], rest: &[Token]) -> u32
+    requires { length text.now < 2 ^ 32 }
+    ensures { result ≡ place_in text.now (shown_all text.now rest.now) }
+{
+    match rest {
+        [] => text.len() as u32,
+        [first, ..] => first.start,
+    }
+}

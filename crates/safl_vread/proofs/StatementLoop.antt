@@ -1,0 +1,76 @@
+-- Statements one after the other.
+use Rattle.std.proofs.Common.{◌≡◌, ℕ, suc, ◌+◌, ◌<◌, ◌≤◌, List, [], ◌∷◌, ◌++◌, zero, length, get_or, set, map, take, drop, Some, Ok, Err, refl, sym, ap, subst, ◌∙◌, arith, slice_get, drop-cons, add-one}
+use Rattle.std.specs.List.{flat_map}
+use Rattle.std.proofs.lemmas.List.{map-append, drop_all}
+use Rattle.safl_verilog.specs.declared.fault.VFault.{VFault}
+use Rattle.safl_verilog.specs.Files.{Declaration, Statement}
+use Rattle.safl_verilog.specs.Faults.{repeat_faults, declared_names, statement_faults, all_statement_faults, stated_number_faults}
+use Rattle.safl_vread.specs.declared.driver.Driver.{Driver}
+use Rattle.safl_vread.specs.declared.driver.Driver.TheVariants as driver
+use Rattle.safl_vread.specs.Firsts.{first}
+use Rattle.safl_vread.specs.Drivers.{Drives, HasDrivers, Steps}
+use Rattle.safl_vread.proofs.FirstLemmas.{first_some}
+use Rattle.safl_vread.proofs.NameLemmas.{take_next, take_all}
+use Rattle.safl_vread.proofs.StatementLemmas.{next_drivers}
+
+-- what holds after some of the statements
+pub record IsSoFar {X : Type 0} (ds : List Declaration) (g : X → Statement) (xs : List X) (i : ℕ) (vs : List Driver) : Type 0 where
+  pub faults : all_statement_faults ds [] (map g xs) ≡ all_statement_faults ds (map g (take i xs)) (map g (drop i xs))
+  pub numbers : flat_map stated_number_faults (map g (drop i xs)) ≡ []
+  pub drivers : HasDrivers ds (map g (take i xs)) vs
+
+front_empty : {A : Type 0} (a b : List A) → a ++ b ≡ [] → (a ≡ []) × (b ≡ [])
+front_empty [] b h = (refl, h)
+front_empty (x ∷ a) b h = absurd cc
+
+module _ {X : Type 0} (ds : List Declaration) (g : X → Statement) (xs : List X) (i : ℕ) (x : X) (vs : List Driver) (l : i < length xs) (h : IsSoFar ds g xs i vs) where
+  dropped : drop i xs ≡ get_or xs i x ∷ drop (i + 1) xs
+  dropped = drop-cons xs i x l ∙ ap (λ k. get_or xs i x ∷ drop k xs) (sym (add-one i))
+
+  taken : map g (take (i + 1) xs) ≡ map g (take i xs) ++ g (get_or xs i x) ∷ []
+  taken = ap (λ k. map g (take k xs)) (add-one i) ∙ ap (map g) (take_next xs (drop (i + 1) xs) i (get_or xs i x) dropped) ∙ map-append g (take i xs) (get_or xs i x ∷ [])
+
+  numbers_here : (stated_number_faults (g (get_or xs i x)) ≡ []) × (flat_map stated_number_faults (map g (drop (i + 1) xs)) ≡ [])
+  numbers_here = front_empty (stated_number_faults (g (get_or xs i x))) (flat_map stated_number_faults (map g (drop (i + 1) xs))) (sym (ap (λ (k : List X). flat_map stated_number_faults (map g k)) dropped) ∙ h.numbers)
+
+  pub number_kept : stated_number_faults (g (get_or xs i x)) ≡ []
+  number_kept = numbers_here.0
+
+  faults_here : all_statement_faults ds [] (map g xs) ≡ statement_faults ds (map g (take i xs)) (g (get_or xs i x)) ++ all_statement_faults ds (map g (take i xs) ++ g (get_or xs i x) ∷ []) (map g (drop (i + 1) xs))
+  faults_here = h.faults ∙ ap (λ (k : List X). all_statement_faults ds (map g (take i xs)) (map g k)) dropped
+
+  pub stops_at : (f : VFault) → Steps ds (map g (take i xs)) (g (get_or xs i x)) (Err f) → Some f ≡ first (all_statement_faults ds [] (map g xs))
+  stops_at f k = first_some (statement_faults ds (map g (take i xs)) (g (get_or xs i x))) _ f k ∙ sym (ap first faults_here)
+
+  pub goes_past : repeat_faults [] (declared_names ds) ≡ [] → (r : ℕ × Driver) → Steps ds (map g (take i xs)) (g (get_or xs i x)) (Ok r) → IsSoFar ds g xs (i + 1) (set vs r.0 r.1)
+  goes_past apart r k = record {
+    faults = faults_here ∙ ap (λ (a : List VFault). a ++ all_statement_faults ds (map g (take i xs) ++ g (get_or xs i x) ∷ []) (map g (drop (i + 1) xs))) k.kept ∙ ap (λ (b : List Statement). all_statement_faults ds b (map g (drop (i + 1) xs))) (sym taken);
+    numbers = numbers_here.1;
+    drivers = subst (λ (b : List Statement). HasDrivers ds b (set vs r.0 r.1)) (sym taken) (next_drivers ds (map g (take i xs)) (g (get_or xs i x)) r.0 r.1 vs apart h.drivers k);
+  }
+
+pub ends_all : {X : Type 0} (ds : List Declaration) (g : X → Statement) (xs : List X) (i : ℕ) (vs : List Driver) → length xs ≤ i → IsSoFar ds g xs i vs → (all_statement_faults ds [] (map g xs) ≡ []) × HasDrivers ds (map g xs) vs
+ends_all ds g xs i vs l h = (
+  h.faults ∙ ap (λ (k : List Statement). all_statement_faults ds (map g (take i xs)) k) (ap (map g) (drop_all i xs l)),
+  subst (λ (b : List Statement). HasDrivers ds b vs) (ap (map g) (take_all i xs l)) h.drivers,
+)
+
+all_open : (vs : List Driver) → ((i : ℕ) → (d : Driver) → i < length vs → get_or vs i d ≡ driver.Open) → (i : ℕ) (v : Driver) → slice_get vs i ≡ Some v → v ≡ driver.Open
+all_open vs h i v e = sym (there vs i v e) ∙ h i v (within vs i v e)
+  where
+    there : (vs : List Driver) (i : ℕ) (v : Driver) → slice_get vs i ≡ Some v → get_or vs i v ≡ v
+    there [] i v e = absurd cc
+    there (u ∷ vs) zero v e = cc
+    there (u ∷ vs) (suc i) v e = there vs i v e
+
+    within : (vs : List Driver) (i : ℕ) (v : Driver) → slice_get vs i ≡ Some v → i < length vs
+    within [] i v e = absurd cc
+    within (u ∷ vs) zero v e = omega arith
+    within (u ∷ vs) (suc i) v e = omega (arith, within vs i v e)
+
+pub begins_all : {X : Type 0} (ds : List Declaration) (g : X → Statement) (xs : List X) (vs : List Driver) → flat_map stated_number_faults (map g xs) ≡ [] → length vs ≡ length ds → ((i : ℕ) → (d : Driver) → i < length vs → get_or vs i d ≡ driver.Open) → IsSoFar ds g xs 0 vs
+begins_all ds g xs vs numbers full opened = record {
+  faults = refl;
+  numbers = numbers;
+  drivers = record { full = full; each = λ (i : ℕ) (d : Declaration) (v : Driver) a b. subst (Drives ds [] d) (sym (all_open vs opened i v b)) (refl, refl) };
+}

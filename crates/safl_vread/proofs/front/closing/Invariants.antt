@@ -1,7 +1,0 @@
-use Rattle.std.proofs.Common.{◌≡◌, ◌-◌, drop}
-use Rattle.safl_verilog.specs.Pieces.{closing}
-use Rattle.safl_vread.proofs.Fronts.{shifted}
-use Rattle.safl_vread.proofs.front.closing.Given as goal
-
-abbrev pub invariant-loop-i : goal.invariant-loop-i
-invariant-loop-i l = closing l.text ≡ shifted (l.i - 1) (closing (drop (l.i - 1) l.text))

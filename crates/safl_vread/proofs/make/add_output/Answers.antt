@@ -1,0 +1,7 @@
+use Rattle.std.proofs.Common.{rules}
+use Rattle.std.specs.Str.{IsUtf8}
+use Rattle.safl_vread.proofs.GoodNames.{good_text}
+use Rattle.safl_vread.proofs.make.add_output.Goals as goal
+
+pub unreachable-requires : goal.unreachable-requires
+unreachable-requires c = let text : IsUtf8 c.args.name.now = good_text c.args.name.now c.requires.good in search (rules, text)

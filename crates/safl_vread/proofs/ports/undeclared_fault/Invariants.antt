@@ -1,0 +1,13 @@
+use Rattle.std.proofs.Common.{◌≡◌}
+use Rattle.std.specs.List.{flat_map}
+use Rattle.safl_verilog.specs.Faults.{header_faults}
+use Rattle.safl_vparse.specs.Shown.{spot_at, spots_at, declarations_at}
+use Rattle.safl_vread.specs.Firsts.{first}
+use Rattle.safl_vread.specs.Scopes.{without_statements}
+use Rattle.safl_vread.proofs.FirstLemmas.{first_from}
+use Rattle.safl_vread.proofs.ports.undeclared_fault.Given as goal
+
+abbrev pub invariant-loop-x : goal.invariant-loop-x
+invariant-loop-x l =
+    first_from (spot_at l.scope.text.now) (header_faults (without_statements (spots_at l.scope.text.now l.header) (declarations_at l.scope.text.now l.scope.declarations.now))) l.header l.x-index
+    ≡ first (flat_map (header_faults (without_statements (spots_at l.scope.text.now l.header) (declarations_at l.scope.text.now l.scope.declarations.now))) (spots_at l.scope.text.now l.header))

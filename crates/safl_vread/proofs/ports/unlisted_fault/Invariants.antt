@@ -1,0 +1,13 @@
+use Rattle.std.proofs.Common.{◌≡◌}
+use Rattle.std.specs.List.{flat_map}
+use Rattle.safl_verilog.specs.Faults.{port_faults}
+use Rattle.safl_vparse.specs.Shown.{spots_at, declaration_at, declarations_at}
+use Rattle.safl_vread.specs.Firsts.{first}
+use Rattle.safl_vread.specs.Scopes.{without_statements}
+use Rattle.safl_vread.proofs.FirstLemmas.{first_from}
+use Rattle.safl_vread.proofs.ports.unlisted_fault.Given as goal
+
+abbrev pub invariant-loop-d : goal.invariant-loop-d
+invariant-loop-d l =
+    first_from (declaration_at l.scope.text.now) (port_faults (without_statements (spots_at l.scope.text.now l.header) (declarations_at l.scope.text.now l.scope.declarations.now))) l.scope.declarations.now l.d-index
+    ≡ first (flat_map (port_faults (without_statements (spots_at l.scope.text.now l.header) (declarations_at l.scope.text.now l.scope.declarations.now))) (declarations_at l.scope.text.now l.scope.declarations.now))

@@ -1,0 +1,19 @@
+-- The first fault of a list.
+use Rattle.std.specs.Prelude.{◌≡◌, List, [], ◌∷◌, Option, None, Some, Result, Ok, Err}
+use Rattle.safl_verilog.specs.declared.fault.VFault.{VFault}
+use Rattle.safl_vparse.specs.declared.error.VErr.{VErr}
+use Rattle.safl_vparse.specs.declared.error.VErr.TheVariants as errors
+
+abbrev pub first : List VFault → Option VFault
+first [] = None
+first (f ∷ fs) = Some f
+
+-- a refusal names the first fault; lack of memory says nothing of them
+abbrev pub Refuses : List VFault → VErr → Type 0
+Refuses faults (errors.Refused f) = Some f ≡ first faults
+Refuses faults errors.NoMemory = Unit {0}
+
+-- there is no fault, or the first one is refused
+abbrev pub Answers : {A : Type 0} → List VFault → Result A VErr → Type 0
+Answers faults (Ok x) = faults ≡ []
+Answers faults (Err e) = Refuses faults e

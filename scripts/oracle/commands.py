@@ -1,0 +1,145 @@
+"""The commands: words, the order of refusals, and what is printed. Written from README.md and the documents that it names."""
+import language
+import machine
+import verilog
+from circuit import Circuit, meaning
+from language import Fault
+
+USAGE = (
+    "usage: safl check IN | build IN OUT | sim IN --cycles L [ARG..] | run FILE --cycles L [ARG..] | walk IN --order SEED --steps N [ARG..]"
+    " | report IN | gen SEED COUNT | bench SEED COUNT --cycles L"
+)
+TRACES = ("--vcd", "--starts", "--toggles")
+
+
+class Refusal(Exception):
+    def __init__(self, status, line):
+        super().__init__()
+        self.status, self.line = status, line
+
+
+def is_digits(word, most):
+    return 1 <= len(word) <= most and all(c in "0123456789" for c in word)
+
+
+def decimal(word, low, high):
+    if is_digits(word, 20) and int(word) < 1 << 64 and low <= int(word) <= high:
+        return int(word)
+    raise Refusal(2, USAGE)
+
+
+def arguments(words, widths):
+    if len(words) != len(widths):
+        raise Refusal(8, f"main takes {len(widths)} arguments, {len(words)} given")
+    for i, (word, width) in enumerate(zip(words, widths), 1):
+        if not is_digits(word, 39) or int(word) >= 1 << width:
+            raise Refusal(8, f"argument {i} is no number of {width} bits")
+    return [int(word) for word in words]
+
+
+def read(files, name, most):
+    if name not in files:
+        raise Refusal(3, f"cannot read {name}")
+    if len(files[name]) > most:
+        raise Refusal(10, f"{name} is longer than {most} bytes")
+    return files[name]
+
+
+def accept(files, name):
+    source = read(files, name, language.SOURCE_MAX)
+    try:
+        return language.accept(source)
+    except Fault as fault:
+        raise Refusal(1, language.fault_line(name, source, fault)) from None
+
+
+def widths_of(program):
+    return [width for _, _, width in program.main.params]
+
+
+def timed(found, limit, unit):
+    if found is None:
+        return 6, [f"no result in {limit} {unit}"]
+    return 0, [f"result {found[0]}", f"cycle {found[1]}"]
+
+
+def check(words, files):
+    program = accept(files, words[1])
+    return 0, [f"functions {len(program.functions)}", f"sites {len(program.sites) - 1}"]
+
+
+def sim(words, files):
+    limit = decimal(words[3], 1, 1_000_000_000)
+    program = accept(files, words[1])
+    return timed(Circuit(program).run(arguments(words[4:], widths_of(program)), limit), limit, "cycles")
+
+
+def run_file(words, files):
+    limit = decimal(words[3], 1, 1_000_000_000)
+    name = words[1]
+    if isinstance(files.get(name), Circuit):
+        circuit = files[name]
+        return timed(circuit.run(arguments(words[4:], widths_of(circuit.program)), limit), limit, "cycles")
+    text = read(files, name, verilog.FILE_MAX)
+    try:
+        net = verilog.Netlist(text)
+    except Fault as fault:
+        raise Refusal(7, verilog.fault_line(name, text, fault)) from None
+    except verilog.Loop as loop:
+        raise Refusal(7, f"{name}: V09 combinational loop: {' '.join(loop.names)}") from None
+    return timed(net.run(arguments(words[4:], net.arguments()), limit), limit, "cycles")
+
+
+def walk(words, files):
+    seed, steps = decimal(words[3], 0, (1 << 64) - 1), decimal(words[5], 1, 1_000_000_000)
+    program = accept(files, words[1])
+    result, events, units = machine.walk(program, arguments(words[6:], widths_of(program)), seed, steps)
+    if result is None:
+        return 6, [f"no result in {steps} events"]
+    return 0, [f"result {result}", f"events {events}", f"units {units}"]
+
+
+def built(words, files):
+    """The circuit of IN's program: what of OUT's text is fixed comes from it."""
+    return Circuit(accept(files, words[1]))
+
+
+def call(words, files):
+    """The status of a call, and the lines that are printed, or the line that is told."""
+    try:
+        verb = words[0] if words else ""
+        if any(word in TRACES for word in words[6 if verb == "walk" else 4:]):
+            raise Refusal(2, USAGE)
+        if "" in words[1:2] or verb == "build" and "" in words[2:3]:
+            raise Refusal(2, USAGE)
+        if verb == "check" and len(words) == 2:
+            return check(words, files)
+        if verb == "build" and len(words) == 3:
+            files[words[2]] = built(words, files)
+            return 0, []
+        if verb == "sim" and len(words) >= 4 and words[2] == "--cycles":
+            return sim(words, files)
+        if verb == "run" and len(words) >= 4 and words[2] == "--cycles":
+            return run_file(words, files)
+        if verb == "walk" and len(words) >= 6 and words[2] == "--order" and words[4] == "--steps":
+            return walk(words, files)
+        raise Refusal(2, USAGE)
+    except Refusal as refusal:
+        return refusal.status, [refusal.line]
+
+
+def plan_text(source):
+    """The row of a table of plans."""
+    circuit = Circuit(language.accept(source))
+    plan = circuit.plan
+    arbiters = [k for k in circuit.sites if plan.unit(k) in plan.arbiters]
+    registers = circuit.registers()
+    listed = ["".join(f" {k}" for k in sites) for sites in (arbiters, sorted(plan.kept))]
+    return f"arb{listed[0]}, keep{listed[1]}, {len(registers)} registers of {sum(width for _, width in registers)} bits"
+
+
+def meant(source, words):
+    """The line of main's value by the meaning, or nothing where it isn't there in a million calls."""
+    program = language.accept(source)
+    found = meaning(program, [int(word) for word in words], 1_000_000)
+    return f"result {found[0]}" if found else None

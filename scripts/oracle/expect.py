@@ -1,0 +1,242 @@
+#!/usr/bin/env python3
+"""Works out what the cases want, from the rules alone, and says what differs from the files: expect.py FOLDER [--write] [FILE..]
+
+With --write the files get what was worked out. docs/CASES.md says how case files are written. What rests on texts that the
+documents leave open, as how many temporaries a circuit has, is left as it is, and counted.
+"""
+import difflib
+import os
+import re
+import sys
+import threading
+
+import commands
+from circuit import Circuit
+from verilog import written_lines
+
+PRINTING = (0, 6)
+
+
+class Open(Exception):
+    """What the documents leave open."""
+
+
+def bytes_of(piece, number=0):
+    if len(piece) >= 2 and piece[0] == piece[-1] == '"':
+        piece = piece[1:-1]
+
+    def escaped(match):
+        c = match[1]
+        if c[0] == "x":
+            return chr(int(c[1:], 16))
+        return {"n": "\n", "t": "\t", "r": "\r", "#": str(number)}[c]
+
+    return re.sub(r"\\(n|t|r|#|x[0-9a-fA-F]{2})", escaped, piece.encode().decode("latin-1")).encode("latin-1")
+
+
+def joined(lines, is_ended=True):
+    return ("\n".join(lines) + ("\n" if is_ended else "")).encode()
+
+
+def repeated(rows):
+    found = []
+    for row in rows:
+        count, piece = row.split(" ", 1)
+        found += [bytes_of(piece, i) for i in range(int(count))] if "\\#" in piece else [bytes_of(piece) * int(count)]
+    return b"".join(found)
+
+
+def words_of(text):
+    return ["" if word == '""' else word for word in text.split()]
+
+
+def row_text(status, lines):
+    return " ".join([str(status)] + ([", ".join(lines)] if lines else []))
+
+
+def kept_start(wanted, found):
+    """The wanted text where it ends with ` ..` and the found one begins as it does, else the found one."""
+    return wanted if wanted.endswith(" ..") and found.startswith(wanted[:-3]) else found
+
+
+class CaseFile:
+    """The lines of a case file, and what is worked out for them."""
+
+    def __init__(self, lines):
+        self.lines, self.found = lines, []
+        self.files, self.failing = {}, {}
+        self.counts = {"worked out": 0, "left open": 0}
+
+    def entries(self):
+        at = 0
+        while at < len(self.lines):
+            head = self.lines[at]
+            end = at + 1
+            if head and not head.startswith(("    ", "//")):
+                while end < len(self.lines) and self.lines[end].startswith("    "):
+                    end += 1
+            yield head, [line[4:] for line in self.lines[at + 1:end]]
+            at = end
+
+    def all(self):
+        for head, body in self.entries():
+            try:
+                head, body = self.entry(head, body)
+            except Open:
+                self.counts["left open"] += 1
+            self.found += [head] + ["    " + line for line in body]
+        return self.found
+
+    def entry(self, head, body):
+        word, _, rest = head.partition(" ")
+        if not head or head.startswith("//"):
+            return head, body
+        if word == "#":
+            self.files, self.failing = {}, {}
+        elif word == "file":
+            name = rest.removesuffix(" open")
+            self.files[name] = joined(body, name == rest)
+        elif word == "pieces":
+            self.files[rest] = repeated(body)
+        elif word in ("spread", "cut"):
+            self.make(word, rest)
+        elif word == "fail":
+            what, number = rest.split()
+            self.failing[what] = int(number)
+        elif word == "safl":
+            return self.call(rest, body)
+        elif word in ("begins", "ends", "holds"):
+            return head, self.stands(word, rest, body)
+        elif word == "failing":
+            return head, self.failing_rows(rest, body)
+        elif word in ("none", "part", "is", "folder", "shown"):
+            raise Open
+        else:
+            return head, [self.row(word, rest, row) for row in body]
+        return head, body
+
+    def make(self, word, rest):
+        name, _, rest = rest.partition(" as ")
+        to, _, piece = rest.partition(" after ")
+        text = self.files[name]
+        if isinstance(text, Circuit):
+            self.files[to] = text if word == "spread" else None
+        elif word == "spread":
+            self.files[to] = re.sub(rb"[ \n]+(?=[^ \n])", b"\n\n/* x */", text).rstrip(b" \n")
+        else:
+            piece = bytes_of(piece)
+            self.files[to] = text[:text.index(piece)] + piece
+
+    def called(self, words, files):
+        if any(files.get(word) is None and word in files for word in words):
+            raise Open
+        self.counts["worked out"] += 1
+        return commands.call(words, files)
+
+    def call(self, rest, body):
+        words, _, _ = rest.rpartition(" -> ")
+        if self.failing:
+            self.failing = {}
+            raise Open
+        status, lines = self.called(words_of(words), self.files)
+        if len(body) == 1 and len(lines) == 1:
+            lines = [kept_start(body[0], lines[0])]
+        return f"safl {words} -> {status}", lines
+
+    def stands(self, word, name, body):
+        circuit = self.files.get(name)
+        if not isinstance(circuit, Circuit):
+            raise Open
+        self.counts["worked out"] += 1
+        head, outputs = written_lines(circuit)
+        if word == "begins":
+            return head
+        if word == "ends":
+            return ["endmodule"]
+        return [line for line in body if line in head + outputs]
+
+    def failing_rows(self, rest, body):
+        """Which call of a shelf reads and which one writes is left open; what each failure tells is not."""
+        what, _, words = rest.partition(": ")
+        names = words_of(words)
+        whole = self.called(names, dict(self.files))
+        told = {"3": f"cannot read {names[1]}", "4": "cannot write output" if what == "out" else f"cannot write {names[-1]}"}
+        found = []
+        for row in body:
+            which, _, wanted = row.partition(" -> ")
+            wanted, semicolon, state = wanted.partition("; ")
+            if which == "end" or what == "err":
+                text = row_text(*whole)
+            else:
+                text = f"{wanted[0]} {told[wanted[0]]}"
+            found.append(f"{which} -> {kept_start(wanted, text)}{semicolon}{state}")
+        return found
+
+    def row(self, word, rest, row):
+        left, _, wanted = row.rpartition(" -> ")
+        source, _, args = left.partition(" with ") if word in ("sources", "circuits:") else (left, "", "")
+        if word == "plans:":
+            self.counts["worked out"] += 1
+            return f"{left} -> {commands.plan_text(bytes_of(left))}"
+        if word == "circuits:":
+            status, lines = self.called(words_of(f"sim p {rest} {args}"), {"p": bytes_of(source)})
+            meant = commands.meant(bytes_of(source), words_of(args))
+            assert status == 6 or meant == lines[0], f"the circuit gives {lines[0]}, the meaning {meant}"
+        elif word == "sources":
+            name, _, words = rest.partition(": ")
+            status, lines = self.called(words_of(f"{words} {args}"), {name: bytes_of(source)})
+        elif word == "changes":
+            name, _, words = rest.partition(": ")
+            status, lines = self.called(words_of(words), {name: changed(self.files[name], left)})
+        elif word == "words:":
+            status, lines = self.called(words_of(f"{rest} {left}"), dict(self.files))
+        else:
+            raise SystemExit(f"no such entry: {word}")
+        text = row_text(status, lines)
+        return f"{left} -> {kept_start(wanted, text)}"
+
+
+def changed(text, changes):
+    for change in changes.split(" ;; "):
+        old, _, new = change.partition(" => ")
+        old, new = bytes_of(old), bytes_of(new)
+        assert old in text, change
+        text = text.replace(old, new, 1)
+    return text
+
+
+def main():
+    folder, writes, names = sys.argv[1], "--write" in sys.argv, [word for word in sys.argv[2:] if word != "--write"]
+    differing = 0
+    totals = {"worked out": 0, "left open": 0}
+    for name in names or sorted(os.listdir(folder)):
+        if not name.endswith(".case"):
+            continue
+        with open(f"{folder}/{name}", encoding="utf-8") as file:
+            lines = file.read().splitlines()
+        cases = CaseFile(lines)
+        found = cases.all()
+        for key in totals:
+            totals[key] += cases.counts[key]
+        diff = list(difflib.unified_diff(lines, found, name, "worked out", lineterm="", n=0))
+        differing += sum(line.startswith("+") and not line.startswith("+++") for line in diff)
+        print("\n".join(diff), end="\n" if diff else "")
+        if writes and diff:
+            with open(f"{folder}/{name}", "w", encoding="utf-8") as file:
+                file.write("\n".join(found) + "\n")
+    print(f"{totals['worked out']} calls worked out, {totals['left open']} entries left open, {differing} lines differ")
+    STATUS.append(1 if differing else 0)
+
+
+STATUS = []
+
+
+if __name__ == "__main__":
+    # sources nest deeply, and numbers may have thousands of digits
+    sys.setrecursionlimit(1_000_000)
+    sys.set_int_max_str_digits(0)
+    threading.stack_size(512 * 1024 * 1024)
+    thread = threading.Thread(target=main)
+    thread.start()
+    thread.join()
+    sys.exit(STATUS[0] if STATUS else 2)
