@@ -1,0 +1,174 @@
+#!/usr/bin/env python3
+"""Draws waveforms: waves.py TRACE.vcd [--signals NAME,NAME,..] [--cycles FIRST-LAST] [--period P] [--at O] >OUT.svg
+
+A trace is a value change dump. Signals of one bit are drawn as lines, others as boxes with their values, in decimal up to
+16 bits and else in hexadecimal. All signals are drawn where none are named, and all cycles where no range is given. Cycle c
+shows the values at time c * P + O; P is 1 and O is 0 where they aren't given, as in the traces of `safl`.
+"""
+import argparse
+import bisect
+import html
+import re
+import sys
+
+ROW, HIGH, LEFT_CHARACTER, CHARACTER, TOP = 26, 16, 7.3, 6.7, 24
+INK, LIGHT, UNKNOWN, FILL = "#222", "#ddd", "#e8c9c9", "#eef3fa"
+
+
+class Trace:
+    """The signals of a dump in order, with their widths, and for each the times and the values of its changes."""
+
+    def __init__(self, text):
+        self.widths, self.changes, self.end = {}, {}, 0
+        names, scopes, now = {}, [], 0
+        words = iter(text.split())
+        for word in words:
+            if word == "$scope":
+                scopes.append([next(words) for _ in range(3)][1])
+            elif word == "$upscope":
+                scopes.pop()
+                next(words)
+            elif word == "$var":
+                self.declare(words, scopes, names)
+            elif word in ("$dumpvars", "$end", "$dumpall"):
+                continue
+            elif word[0] == "$":
+                while next(words) != "$end":
+                    pass
+            elif word[0] == "#":
+                now = int(word[1:])
+                self.end = max(self.end, now)
+            elif word[0] in "bBrR":
+                self.change(names, next(words), now, word[1:])
+            else:
+                self.change(names, word[1:], now, word[0])
+
+    def declare(self, words, scopes, names):
+        _, width, code, name = (next(words) for _ in range(4))
+        while next(words) != "$end":
+            pass
+        name = name.removeprefix("\\")
+        if name in names.get(code, []):
+            return
+        if name in self.widths:
+            name = ".".join(scopes + [name])
+        self.widths[name] = int(width)
+        names.setdefault(code, []).append(name)
+        self.changes[name] = ([], [])
+
+    def change(self, names, code, now, value):
+        for name in names.get(code, []):
+            times, values = self.changes[name]
+            times.append(now)
+            values.append(value.lower())
+
+    def value(self, name, time):
+        """The word at this time, or nothing where it isn't known."""
+        times, values = self.changes[name]
+        at = bisect.bisect_right(times, time) - 1
+        if at < 0 or not re.fullmatch("[01]+", values[at]):
+            return None
+        return int(values[at], 2)
+
+
+def shown(value, width):
+    if value is None:
+        return "?"
+    return str(value) if width <= 16 else f"{value:x}"
+
+
+def runs(values):
+    """The values with the cycles at which they begin and end, equal neighbours together."""
+    first = 0
+    for i in range(1, len(values) + 1):
+        if i == len(values) or values[i] != values[first]:
+            yield first, i, values[first]
+            first = i
+
+
+def line(points, colour=INK, width=1.2):
+    text = " ".join(f"{x:g},{y:g}" for x, y in points)
+    return f'<polyline points="{text}" fill="none" stroke="{colour}" stroke-width="{width}"/>'
+
+
+def bit_row(values, left, step, y):
+    """A signal of one bit: a line that is high or low, and a patch where it isn't known."""
+    points, patches = [], []
+    for first, last, value in runs(values):
+        level = y + (0 if value else HIGH)
+        if value is None:
+            patches.append(f'<rect x="{left + first * step:g}" y="{y:g}" width="{(last - first) * step:g}" height="{HIGH}" fill="{UNKNOWN}"/>')
+        points += [(left + first * step, level), (left + last * step, level)]
+    return patches + [line(points)]
+
+
+def bus_row(values, width, left, step, y):
+    """A signal of several bits: a box for each value, with the value in it where it fits."""
+    found = []
+    for first, last, value in runs(values):
+        a, b, slope = left + first * step, left + last * step, min(3, step / 4)
+        corners = [(a, y + HIGH / 2), (a + slope, y), (b - slope, y), (b, y + HIGH / 2), (b - slope, y + HIGH), (a + slope, y + HIGH)]
+        text = " ".join(f"{x:g},{z:g}" for x, z in corners)
+        fill = UNKNOWN if value is None else "none" if value == 0 else FILL
+        found.append(f'<polygon points="{text}" fill="{fill}" stroke="{INK}" stroke-width="1"/>')
+        label, room = shown(value, width), int((b - a - 2 * slope) / CHARACTER)
+        if len(label) > room:
+            label = label[:room - 1] + "\u2026" if room > 2 else ""
+        found.append(f'<text x="{(a + b) / 2:g}" y="{y + HIGH - 4:g}" text-anchor="middle">{label}</text>')
+    return found
+
+
+def step_of(trace, names, cycles):
+    """How wide a cycle is: so wide that most values fit."""
+    longest = 2
+    for name in names:
+        if trace.widths[name] > 1:
+            labels = [len(shown(trace.value(name, time), trace.widths[name])) for time in cycles]
+            longest = max([longest] + labels)
+    return min(max(26, CHARACTER * longest + 10), 96)
+
+
+def drawing(trace, names, numbers, times):
+    left = LEFT_CHARACTER * max(len(name) for name in names) + 14
+    step = step_of(trace, names, times)
+    width, height = left + step * len(times) + 8, TOP + ROW * len(names) + 6
+    found = [
+        f'<svg xmlns="http://www.w3.org/2000/svg" width="{width:g}" height="{height:g}" viewBox="0 0 {width:g} {height:g}"'
+        ' font-family="monospace" font-size="11">',
+        f'<rect width="{width:g}" height="{height:g}" fill="white"/>',
+    ]
+    for i, number in enumerate(numbers):
+        found.append(line([(left + i * step, TOP - 6), (left + i * step, height - 4)], LIGHT, 0.8))
+        found.append(f'<text x="{left + (i + 0.5) * step:g}" y="13" text-anchor="middle" fill="#777">{number}</text>')
+    for row, name in enumerate(names):
+        y = TOP + row * ROW + (ROW - HIGH) / 2
+        values = [trace.value(name, time) for time in times]
+        found.append(f'<text x="6" y="{y + HIGH - 4:g}">{html.escape(name)}</text>')
+        found += bit_row(values, left, step, y) if trace.widths[name] == 1 else bus_row(values, trace.widths[name], left, step, y)
+    return "\n".join(found + ["</svg>"]) + "\n"
+
+
+def main():
+    parser = argparse.ArgumentParser(description="Draws waveforms of a value change dump as SVG.")
+    parser.add_argument("trace", metavar="TRACE.vcd")
+    parser.add_argument("--signals", metavar="NAME,NAME,..", help="the signals to draw, in this order")
+    parser.add_argument("--cycles", metavar="FIRST-LAST", help="the cycles to draw, both counted in")
+    parser.add_argument("--period", type=int, default=1, metavar="P", help="units of time in a cycle")
+    parser.add_argument("--at", type=int, default=0, metavar="O", help="the time in a cycle at which its values are taken")
+    words = parser.parse_args()
+    with open(words.trace, encoding="utf-8") as file:
+        trace = Trace(file.read())
+    names = words.signals.split(",") if words.signals else list(trace.widths)
+    for name in names:
+        if name not in trace.widths:
+            sys.exit(f"waves: there is no signal {name}")
+    last = max(0, (trace.end - 1 - words.at) // words.period)
+    first, last = (int(word) for word in words.cycles.split("-")) if words.cycles else (0, last)
+    if last < first:
+        sys.exit("waves: no cycle to draw")
+    numbers = range(first, last + 1)
+    sys.stdout.write(drawing(trace, names, numbers, [c * words.period + words.at for c in numbers]))
+
+
+if __name__ == "__main__":
+    main()
