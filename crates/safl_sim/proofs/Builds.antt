@@ -1,5 +1,5 @@
 -- The parts of a simulator are what it keeps.
-use Rattle.std.proofs.Common.{◌≡◌, inl, inr, ℕ, zero, suc, ◌+◌, ◌<◌, ◌≤◌, ◌^◌, List, [], ◌∷◌, ◌++◌, map, length, take, drop, get_or, Option, Some, None, slice_get, slice_index, refl, sym, ap, subst, ◌∙◌, arith, append_assoc}
+use Rattle.std.proofs.Common.{◌≡◌, inl, inr, ℕ, zero, suc, ◌+◌, ◌/◌, ◌<◌, ◌≤◌, ◌^◌, List, [], ◌∷◌, ◌++◌, map, length, take, drop, get_or, Option, Some, None, slice_get, slice_index, refl, sym, ap, subst, ◌∙◌, arith, append_assoc}
 use Rattle.std.proofs.lemmas.Nat.{pow_pos}
 use Rattle.std.proofs.lemmas.List.{append-nil}
 use Rattle.safl_net.specs.declared.cell.Sig.{Sig}
@@ -8,10 +8,12 @@ use Rattle.safl_net.specs.Valuations.{kind_reset}
 use Rattle.safl_net.specs.Making.{numbers, kind_at, kind_in, cell_in}
 use Rattle.safl_net.specs.Rules.{IsNetlist, KindFits, CellFits}
 use Rattle.safl_net.specs.Laws.{FitWidths}
-use Rattle.safl_net.proofs.Naming.{pushed}
+use Rattle.safl_net.proofs.Naming.{pushed, within}
 use Rattle.safl_order.specs.Order.{Order, IsOrder}
 use Rattle.safl_sim.specs.declared.step.Step.{Step}
 use Rattle.safl_sim.specs.declared.step.Register.{Register}
+use Rattle.safl_sim.specs.Marks.{marked}
+use Rattle.safl_sim.specs.Readers.{Lists, AreReaders, Inside}
 use Rattle.safl_sim.specs.Places.{with_input, inputs_from, inputs_of, resets}
 use Rattle.safl_sim.specs.Steps.{IsReg, IsStep, AreSteps, AreRegisters, Keeps}
 use Rattle.safl_sim.proofs.Written.{lower_or_same}
@@ -166,18 +168,26 @@ not_reg_reset (Wire cell) h = refl
 pub resets_fit : (n : Netlist) → IsNetlist n → FitWidths n (slice_index (resets n))
 resets_fit n made s g e = subst (λ x. x < 2 ^ g.width) (sym (reset_at n.signals s ∙ ap kind_reset (ap kind_in e))) (kind_reset_fits n g.width g.kind (made.signals s g e).kind)
 
-pub keeps_new : (o : Order) (steps : List Step) (places : List Sig) (regs : List Register) (state values : List ℕ) → IsNetlist o.net → IsOrder o.net o.wires → AreSteps o.net o.wires steps → numbers places ≡ inputs_of o.net
-    → AreRegisters o.net (length o.net.signals) regs → state ≡ resets o.net → values ≡ resets o.net → Keeps o steps places regs state values
-keeps_new o steps places regs state values made order all inputs registers e f =
-    subst (λ x. Keeps o steps places regs x values) (sym e) (subst (λ x. Keeps o steps places regs (resets o.net) x) (sym f) (record {
+pub keeps_new : (o : Order) (steps : List Step) (places : List Sig) (regs : List Register) (starts readers marks state values : List ℕ) → IsNetlist o.net → IsOrder o.net o.wires → AreSteps o.net o.wires steps → numbers places ≡ inputs_of o.net
+    → AreRegisters o.net (length o.net.signals) regs → Lists starts readers (length o.net.signals) ((length o.wires + 63) / 64) → AreReaders o.net o.wires starts readers
+    → length marks ≡ (length o.wires + 63) / 64 → length o.wires < 2 ^ 32 → Inside (length o.wires) marks → ((k : ℕ) → k < length o.wires → marked marks k ≡ 1)
+    → state ≡ resets o.net → values ≡ resets o.net → Keeps o steps places regs starts readers marks state values
+keeps_new o steps places regs starts readers marks state values made order all inputs registers lists read long few inside marked_all e f =
+    subst (λ x. Keeps o steps places regs starts readers marks x values) (sym e) (subst (λ x. Keeps o steps places regs starts readers marks (resets o.net) x) (sym f) (record {
       made = made;
       order = order;
       steps = all;
       inputs = inputs;
       registers = registers;
+      lists = subst (λ x. Lists starts readers (length o.net.signals) x) (sym long) lists;
+      read = read;
+      room = (let a = all.long in omega (arith, a, long));
+      few = omega (arith, few, long);
       long = resets_long o.net.signals;
       values = resets_fit o.net made;
       state_long = resets_long o.net.signals;
       state = resets_fit o.net made;
       rest = λ s away. reset_at o.net.signals s ∙ not_reg_reset (kind_at o.net s) away;
+      stays = λ k s c at kind none. absurd (let a = marked_all k (within o.wires k s at) in omega (arith, a, none));
+      inside = inside;
     }))

@@ -1,5 +1,5 @@
 -- A cycle of a simulator.
-use Rattle.std.proofs.Common.{◌≡◌, ℕ, zero, suc, ◌+◌, ◌<◌, ◌^◌, List, [], ◌∷◌, length, Option, Some, None, slice_get, slice_index, refl, sym, ap, subst, ◌∙◌, arith}
+use Rattle.std.proofs.Common.{◌≡◌, ℕ, zero, suc, ◌*◌, ◌<◌, ◌^◌, List, [], ◌∷◌, length, Option, Some, None, slice_get, slice_index, refl, sym, ap, subst, ◌∙◌, arith}
 use Rattle.safl_word.specs.Words.{Word}
 use Rattle.safl_net.specs.declared.cell.Sig.{Sig}
 use Rattle.safl_net.specs.declared.cell.SigKind.TheVariants as SigKind
@@ -16,11 +16,13 @@ use Rattle.safl_sim.specs.declared.step.Step.{Step}
 use Rattle.safl_sim.specs.declared.step.Register.{Register}
 use Rattle.safl_sim.specs.Places.{inputs_of, AreInputs, HasWords}
 use Rattle.safl_sim.specs.Simulation.{Simulation, Ticks}
-use Rattle.safl_sim.specs.Steps.{IsReg, Keeps}
-use Rattle.safl_sim.specs.Cycles.{Cycles}
-use Rattle.safl_sim.specs.Writes.{HasPut, HasShown, HasKept, after_steps}
+use Rattle.safl_sim.specs.Readers.{Lists, Goes}
+use Rattle.safl_sim.specs.Steps.{IsReg, Keeps, Runs}
+use Rattle.safl_sim.specs.declared.parts.Plan.{Plan}
+use Rattle.safl_sim.specs.Cycles.{KeepsPlan, Cycles}
+use Rattle.safl_sim.specs.Writes.{HasPut, HasShown, HasKept}
 use Rattle.safl_sim.proofs.InputLemmas.{inputs_are, inputs_long, map_get, get_map, maps_agree, length_map}
-use Rattle.safl_sim.proofs.Scenes.{Scene, Ran, all_steps}
+use Rattle.safl_sim.proofs.Updates.{lists_same}
 
 small : (a b v w : ℕ) → a ≡ b → v ≡ w → b < 2 ^ v → a < 2 ^ w
 small a b v w e f h = subst (λ x. a < 2 ^ x) f (subst (λ x. x < 2 ^ v) (sym e) h)
@@ -57,7 +59,7 @@ next_at n r init k e = by (slice_get n.signals r.signal.0) refl e
     by None q h = absurd (cc)
     by (Some g) q h = (g, q, h)
 
-module _ (o : Order) (steps : List Step) (places : List Sig) (regs : List Register) (now v0 : List ℕ) (k : Keeps o steps places regs now v0) (given : List Word) (are : AreInputs o.net given) where
+module _ (o : Order) (steps : List Step) (places : List Sig) (regs : List Register) (starts readers marks now v0 : List ℕ) (k : Keeps o steps places regs starts readers marks now v0) (given : List Word) (are : AreInputs o.net given) where
   -- what the calls of a cycle ask
   pub put_within : (i : ℕ) (s : Sig) → slice_get places i ≡ Some s → s.0 < length v0
   put_within i s e = let a = ((inputs_are o.net places k.inputs).at i s e).0 in let b = k.long in omega (arith, a, b)
@@ -118,14 +120,37 @@ module _ (o : Order) (steps : List Step) (places : List Sig) (regs : List Regist
   long_shown : (v1 v2 : List ℕ) → HasPut places given (length places) v0 v1 → HasShown regs now (length regs) v1 v2 → length v2 ≡ length o.net.signals
   long_shown v1 v2 p q = q.long ∙ p.long ∙ k.long
 
-  pub steps_ran : (v1 v2 : List ℕ) → HasPut places given (length places) v0 v1 → HasShown regs now (length regs) v1 v2 → Ran o.net o.wires v2 v2 steps (0 + length steps)
-  steps_ran v1 v2 p q = all_steps o.net o.wires steps v2 k.made k.order k.steps (long_shown v1 v2 p q) (fits_shown v1 v2 p q)
+  -- inputs and registers are no wires
+  pub inputs_away : (i : ℕ) (s : Sig) → slice_get places i ≡ Some s → (j : ℕ) → ¬ (slice_get o.wires j ≡ Some s.0)
+  inputs_away i s e j f = input_not_wire (kind_at o.net s.0) ((inputs_are o.net places k.inputs).at i s e).1 (k.order.wires j s.0 f)
+
+  pub registers_away : (i : ℕ) (r : Register) → slice_get regs i ≡ Some r → (j : ℕ) → ¬ (slice_get o.wires j ≡ Some r.signal.0)
+  registers_away i r e j f = reg_not_wire (kind_at o.net r.signal.0) (subst IsReg (sym (k.registers.each i r e).1) tt) (k.order.wires j r.signal.0 f)
+
+  pub put_lists : Lists starts readers (length v0) (length marks)
+  put_lists = lists_same starts readers _ _ _ _ k.long refl k.lists
+
+  pub begins : (v1 v2 m1 m2 : List ℕ) → HasPut places given (length places) v0 v1 → HasShown regs now (length regs) v1 v2 → length m1 ≡ length marks → length m2 ≡ length m1
+      → Goes o.net o.wires starts readers v0 v1 marks m1 → Goes o.net o.wires starts readers v1 v2 m1 m2 → Runs o steps starts readers v2 0 v2 m2
+  begins v1 v2 m1 m2 p q l1 l2 g1 g2 =
+      let a = g1 k.read k.stays k.inside in
+      let b = g2 k.read a.0 a.1 in
+      record {
+        made = k.made;
+        order = k.order;
+        steps = k.steps;
+        lists = lists_same starts readers _ _ _ _ refl (l2 ∙ l1) k.lists;
+        read = k.read;
+        long = long_shown v1 v2 p q;
+        fits = fits_shown v1 v2 p q;
+        others = λ s away. refl;
+        below = λ j h. absurd (omega (arith, h));
+        stays = b.0;
+        inside = b.1;
+      }
 
   -- what holds once the steps have run and the registers are kept
-  module _ (v1 v2 v3 after : List ℕ) (p : HasPut places given (length places) v0 v1) (q : HasShown regs now (length regs) v1 v2) (e3 : v3 ≡ after_steps steps v2) (r : HasKept regs v3 (length regs) now after) where
-    scene : Scene o.net o.wires (0 + length steps) v2 v3
-    scene = subst (λ x. Scene o.net o.wires (0 + length steps) v2 x) (sym e3) (steps_ran v1 v2 p q).scene
-
+  module _ (v1 v2 v3 m3 after : List ℕ) (p : HasPut places given (length places) v0 v1) (q : HasShown regs now (length regs) v1 v2) (l3 : length m3 ≡ length marks) (scene : Runs o steps starts readers v2 (length m3 * 64) v3 m3) (r : HasKept regs v3 (length regs) now after) where
     not_wire_same : (s : ℕ) → ¬ (IsWire o.net s) → slice_index v3 s ≡ slice_index v2 s
     not_wire_same s away = scene.others s away
 
@@ -138,7 +163,7 @@ module _ (o : Order) (steps : List Step) (places : List Sig) (regs : List Regist
     holds s g (Wire (Some c)) e f =
         let kind : kind_at o.net s ≡ Wire (Some c) = kind_is o.net s g e ∙ f in
         let a = k.order.all s (ap sort_of kind) in
-        scene.done a.0 s c (let b = within o.wires a.0 s a.1 in let d = k.steps.long in omega (arith, b, d)) a.1 kind
+        scene.stays a.0 s c a.1 kind (scene.below a.0 (let b = within o.wires a.0 s a.1 in let d = k.steps.long in let e = k.room in omega (arith, b, d, e, l3)))
 
     fits : Fits o.net (slice_index now) v3
     fits = record { full = scene.long; each = λ s g e. (scene.fits s g e, holds s g g.kind e refl) }
@@ -200,18 +225,24 @@ module _ (o : Order) (steps : List Step) (places : List Sig) (regs : List Regist
             small (slice_index after s) (slice_index v3 m) there.0.width g.width (kept_at s g init m e f) (ap width_in (sym there.1) ∙ h.2) (scene.fits m there.0 there.1)
         by (Wire cell) f h = small (slice_index after s) (slice_index now s) g.width g.width (r.others s (λ i t x z. absurd (subst IsReg (sym (k.registers.each i t x).1 ∙ ap (kind_at o.net) z ∙ kind_is o.net s g e ∙ f) tt))) refl (k.state s g e)
 
-    pub keeps_after : Keeps o steps places regs after v3
+    pub keeps_after : Keeps o steps places regs starts readers m3 after v3
     keeps_after = record {
       made = k.made;
       order = k.order;
       steps = k.steps;
       inputs = k.inputs;
       registers = k.registers;
+      lists = scene.lists;
+      read = k.read;
+      room = (let a = k.room in omega (arith, a, l3));
+      few = (let a = k.few in omega (arith, a, l3));
       long = scene.long;
       values = scene.fits;
       state_long = r.long ∙ k.state_long;
       state = state_fits;
       rest = not_kept;
+      stays = scene.stays;
+      inside = scene.inside;
     }
 
     pub ticks : Ticks (record { net = o.net; state = now; values = v0 }) (record { net = o.net; state = after; values = v3 }) given
@@ -223,27 +254,29 @@ module _ (o : Order) (steps : List Step) (places : List Sig) (regs : List Regist
       state = state_next;
     }
 
--- the same of what is read through references
-pub cycle_through : (o : Order) (steps steps' : List Step) (places places' : List Sig) (regs regs' : List Register) (given : List Word) (now now' v v' next after : List ℕ)
-    → steps' ≡ steps → places' ≡ places → regs' ≡ regs → now' ≡ now → v' ≡ v
-    → ((o : Order) → Keeps o steps' places' regs' now' v' → AreInputs o.net given → Cycles o steps' places' regs' given now' v' next after)
-    → Keeps o steps places regs now v → AreInputs o.net given → Cycles o steps places regs given now v next after
-cycle_through o steps steps' places places' regs regs' given now now' v v' next after a b c d e f k are =
-    subst (λ x. Cycles o x places regs given now v next after) a
-    (subst (λ x. Cycles o steps' x regs given now v next after) b
-    (subst (λ x. Cycles o steps' places' x given now v next after) c
-    (subst (λ x. Cycles o steps' places' regs' given x v next after) d
-    (subst (λ x. Cycles o steps' places' regs' given now' x next after) e
-    (f o
-    (subst (λ x. Keeps o x places' regs' now' v') (sym a)
-    (subst (λ x. Keeps o steps x regs' now' v') (sym b)
-    (subst (λ x. Keeps o steps places x now' v') (sym c)
-    (subst (λ x. Keeps o steps places regs x v') (sym d)
-    (subst (λ x. Keeps o steps places regs now x) (sym e) k)))))
-    are)))))
+-- the same of what is read through references: the lists of a plan
+pub plan_through : (o : Order) (steps steps' : List Step) (places places' : List Sig) (regs regs' : List Register) (starts starts' readers readers' marks now v : List ℕ)
+    → steps' ≡ steps → places' ≡ places → regs' ≡ regs → starts' ≡ starts → readers' ≡ readers → Keeps o steps places regs starts readers marks now v → Keeps o steps' places' regs' starts' readers' marks now v
+plan_through o steps steps' places places' regs regs' starts starts' readers readers' marks now v a b c s r k =
+    subst (λ x. Keeps o x places' regs' starts' readers' marks now v) (sym a)
+    (subst (λ x. Keeps o steps x regs' starts' readers' marks now v) (sym b)
+    (subst (λ x. Keeps o steps places x starts' readers' marks now v) (sym c)
+    (subst (λ x. Keeps o steps places regs x readers' marks now v) (sym s)
+    (subst (λ x. Keeps o steps places regs starts x marks now v) (sym r) k))))
 
-pub keeps_same : (o : Order) (steps : List Step) (places : List Sig) (regs : List Register) (now now' v v' : List ℕ) → now' ≡ now → v' ≡ v → Keeps o steps places regs now v → Keeps o steps places regs now' v'
-keeps_same o steps places regs now now' v v' a b k = subst (λ x. Keeps o steps places regs x v') (sym a) (subst (λ x. Keeps o steps places regs now x) (sym b) k)
+pub keeps_same : (o : Order) (steps : List Step) (places : List Sig) (regs : List Register) (starts readers marks marks' now now' v v' : List ℕ) → marks' ≡ marks → now' ≡ now → v' ≡ v → Keeps o steps places regs starts readers marks now v → Keeps o steps places regs starts readers marks' now' v'
+keeps_same o steps places regs starts readers marks marks' now now' v v' m a b k =
+    subst (λ x. Keeps o steps places regs starts readers x now' v') (sym m)
+    (subst (λ x. Keeps o steps places regs starts readers marks x v') (sym a) (subst (λ x. Keeps o steps places regs starts readers marks now x) (sym b) k))
+
+-- and the marks, the state and the values
+pub cycle_through : (o : Order) (p : Plan) (marks marks' : List ℕ) (given : List Word) (now now' v v' mark next after : List ℕ) → marks' ≡ marks → now' ≡ now → v' ≡ v
+    → ((o : Order) → KeepsPlan o p marks' now' v' → AreInputs o.net given → Cycles o p given now' v' mark next after)
+    → KeepsPlan o p marks now v → AreInputs o.net given → Cycles o p given now v mark next after
+cycle_through o p marks marks' given now now' v v' mark next after m d e f k are =
+    subst (λ x. Cycles o p given x v mark next after) d
+    (subst (λ x. Cycles o p given now' x mark next after) e
+    (f o (keeps_same o p.steps.items p.inputs.items p.registers.items p.starts.items p.readers.items marks marks' now now' v v' m d e k) are))
 
 pub ticks_same : (n : Netlist) (old : Simulation) (now v next next' after after' : List ℕ) (given : List Word) → record { net = n; state = now; values = v } ≡ old → next' ≡ next → after' ≡ after
     → Ticks (record { net = n; state = now; values = v }) (record { net = n; state = next; values = after }) given → Ticks old (record { net = n; state = next'; values = after' }) given

@@ -2,17 +2,15 @@
 use Rattle.std.proofs.Common.{◌≡◌, ℕ, zero, suc, ◌+◌, ◌<◌, ◌^◌, List, [], ◌∷◌, ◌++◌, map, length, Option, Some, None, Bool, true, false, slice_get, slice_index, refl, sym, ap, subst, ◌∙◌, arith}
 use Rattle.std.proofs.lemmas.Nat.{pow_pos}
 use Rattle.safl_word.specs.Words.{Word, IsWord, AreWords}
-use Rattle.safl_net.specs.Laws.{FitWidths, HasInputs, OneFits}
+use Rattle.safl_net.specs.Laws.{FitWidths}
 use Rattle.safl_net.specs.Netlist.{Netlist, Signal, Kind, Input, Reg, Wire, width_in, width_of}
 use Rattle.safl_net.specs.Rules.{IsNetlist, KindFits}
-use Rattle.safl_net.specs.Runs.{RunFrom}
-use Rattle.safl_net.specs.Valuations.{Valuation, Fits, IsAcyclic, reset_state, next_state, next_number, kind_next}
+use Rattle.safl_net.specs.Valuations.{Valuation, Fits, IsAcyclic, next_state, next_number, kind_next}
 use Rattle.safl_net.specs.Whole.{IsWhole}
 use Rattle.safl_net.proofs.Existence.{exactly_one}
 use Rattle.safl_sim.specs.Arguments.{AreArguments}
 use Rattle.safl_sim.specs.Existence.{RunsExist, ResetFits, OneRunExists}
-use Rattle.safl_sim.specs.Outcomes.{IsOnlyRun}
-use Rattle.safl_sim.specs.Places.{inputs_of, AreInputs, HasWords, resets}
+use Rattle.safl_sim.specs.Places.{AreInputs, resets}
 use Rattle.safl_sim.specs.Ticks.{IsOnly, Ticked}
 use Rattle.safl_sim.specs.Words.{own_word, others, is_start, input_words, zero_of, bit_word}
 use Rattle.safl_sim.proofs.Builds.{resets_fit}

@@ -1,8 +1,13 @@
+pub mod MarkLemmas
 pub mod Actions
 pub mod Written
 pub mod InputLemmas
+pub mod Updates
 pub mod Scenes
+pub mod MarkedSteps
 pub mod Cycle
+pub mod Tables
+pub mod Few
 pub mod Builds
 pub mod Names
 pub mod Pushing

@@ -9,12 +9,12 @@ use Rattle.safl_net.specs.Rules.{IsNetlist, KindFits, CellFits}
 use Rattle.safl_net.specs.Laws.{FitWidths}
 use Rattle.safl_net.proofs.Naming.{within}
 use Rattle.safl_net.proofs.CellWords.{cell_width, cell_is_word, shown_widths}
-use Rattle.safl_net.proofs.OneValuation.{map_same}
 use Rattle.safl_order.specs.Order.{IsOrder, IsWire, operands_of, operands_in}
 use Rattle.safl_sim.specs.declared.step.Step.{Step}
-use Rattle.safl_sim.specs.Steps.{word_of, action_number, IsStep, AreSteps}
+use Rattle.safl_sim.specs.Steps.{action_number, IsStep, AreSteps}
 use Rattle.safl_sim.specs.Writes.{after_steps, AllReady}
 use Rattle.safl_sim.proofs.Actions.{signal_word as a_word}
+use Rattle.safl_sim.proofs.Updates.{operands_same}
 use Rattle.safl_sim.proofs.Written.{same_or_not, lower_or_same, index_here, index_other, set_length}
 
 -- after the first steps
@@ -28,12 +28,12 @@ are_words : (f : ℕ → Word) (ts : List ℕ) → ((i t : ℕ) → slice_get ts
 are_words f [] h = tt
 are_words f (t ∷ ts) h = (h 0 t refl, are_words f ts (λ i x e. h (suc i) x e))
 
-index_get : (ts : List ℕ) (i t : ℕ) → slice_get ts i ≡ Some t → slice_index_or ts i 0 ≡ t
+pub index_get : (ts : List ℕ) (i t : ℕ) → slice_get ts i ≡ Some t → slice_index_or ts i 0 ≡ t
 index_get [] i t e = absurd (cc)
 index_get (x ∷ ts) zero t e = cc
 index_get (x ∷ ts) (suc i) t e = index_get ts i t e
 
-wire_at : (n : Netlist) (s : ℕ) (c : Cell) → kind_at n s ≡ Wire (Some c) → (g : Signal) × (slice_get n.signals s ≡ Some g) × (g.kind ≡ Wire (Some c))
+pub wire_at : (n : Netlist) (s : ℕ) (c : Cell) → kind_at n s ≡ Wire (Some c) → (g : Signal) × (slice_get n.signals s ≡ Some g) × (g.kind ≡ Wire (Some c))
 wire_at n s c e = by (slice_get n.signals s) refl e
   where
     by : (o : Option Signal) → slice_get n.signals s ≡ o → kind_in o ≡ Wire (Some c) → (g : Signal) × (slice_get n.signals s ≡ Some g) × (g.kind ≡ Wire (Some c))
@@ -41,7 +41,7 @@ wire_at n s c e = by (slice_get n.signals s) refl e
     by (Some g) q h = (g, q, h)
 
 -- the word of a cell fits its wire
-cell_number_fits : (n : Netlist) (values : List ℕ) (s : ℕ) (c : Cell) (g : Signal) → IsNetlist n → FitWidths n (slice_index values) → slice_get n.signals s ≡ Some g → g.kind ≡ Wire (Some c)
+pub cell_number_fits : (n : Netlist) (values : List ℕ) (s : ℕ) (c : Cell) (g : Signal) → IsNetlist n → FitWidths n (slice_index values) → slice_get n.signals s ≡ Some g → g.kind ≡ Wire (Some c)
     → (cell_word c.op (map (signal_word n values) c.operands)).bits < 2 ^ g.width
 cell_number_fits n values s c g made fits e is =
     let f : CellFits n g.width c = subst (λ k. KindFits n g.width k) is (made.signals s g e).kind in
@@ -52,7 +52,7 @@ cell_number_fits n values s c g made fits e is =
     subst (λ x. (cell_word c.op (map (signal_word n values) c.operands)).bits < 2 ^ x) wide w.fits
 
 -- the operands of a wire at a place are not written at or after that place
-apart : (n : Netlist) (ws : List ℕ) (k j s t i u : ℕ) (c : Cell) → IsOrder n ws → slice_get ws j ≡ Some s → slice_get ws k ≡ Some t → k ≤ j → kind_at n t ≡ Wire (Some c) → slice_get c.operands i ≡ Some u → ¬ (u ≡ s)
+pub apart : (n : Netlist) (ws : List ℕ) (k j s t i u : ℕ) (c : Cell) → IsOrder n ws → slice_get ws j ≡ Some s → slice_get ws k ≡ Some t → k ≤ j → kind_at n t ≡ Wire (Some c) → slice_get c.operands i ≡ Some u → ¬ (u ≡ s)
 apart n ws k j s t i u c o at_s at_t le kind e same =
     let read : slice_get (operands_of n t) i ≡ Some u = ap (λ x. slice_get (operands_in (cell_in x)) i) kind ∙ e in
     let wire : IsWire n u = subst (λ x. IsWire n x) (sym same) (o.wires j s at_s) in
@@ -61,10 +61,7 @@ apart n ws k j s t i u c o at_s at_t le kind e same =
     let r = b.1 in
     absurd (omega (arith, q, r, le))
 
-operands_same : (n : Netlist) (values : List ℕ) (s x : ℕ) (ts : List ℕ) → ((i u : ℕ) → slice_get ts i ≡ Some u → ¬ (u ≡ s)) → map (signal_word n (set values s x)) ts ≡ map (signal_word n values) ts
-operands_same n values s x ts h = map_same (signal_word n (set values s x)) (signal_word n values) ts (λ i u e. ap (λ b. word_of (width_of n u) b) (index_other values s x u (h i u e)))
-
-small : (a b v w : ℕ) → a ≡ b → v ≡ w → b < 2 ^ v → a < 2 ^ w
+pub small : (a b v w : ℕ) → a ≡ b → v ≡ w → b < 2 ^ v → a < 2 ^ w
 small a b v w e f h = subst (λ x. a < 2 ^ x) f (subst (λ x. x < 2 ^ v) (sym e) h)
 
 write_step : (n : Netlist) (ws : List ℕ) (j s x : ℕ) (c : Cell) (start values : List ℕ) → IsNetlist n → IsOrder n ws → Scene n ws j start values → slice_get ws j ≡ Some s → kind_at n s ≡ Wire (Some c)

@@ -1,5 +1,5 @@
 -- Numbers at places that are written.
-use Rattle.std.proofs.Common.{◌≡◌, ◌⊎◌, inl, inr, ℕ, zero, suc, ◌+◌, ◌<◌, List, [], ◌∷◌, length, set, get_or, Some, slice_get, slice_index, refl, sym, ap, subst, ◌∙◌, arith}
+use Rattle.std.proofs.Common.{◌≡◌, ◌⊎◌, inl, inr, ℕ, zero, suc, ◌+◌, ◌<◌, ◌≤◌, List, [], ◌∷◌, length, set, get_or, Some, slice_get, slice_index, refl, sym, ap, subst, ◌∙◌, arith}
 use Rattle.safl_sim.specs.declared.step.Register.{Register}
 use Rattle.safl_word.specs.Words.{Word, IsWord}
 use Rattle.safl_net.specs.declared.cell.Sig.{Sig}
@@ -10,6 +10,11 @@ same_or_not zero zero = inl refl
 same_or_not zero (suc b) = inr (λ e. absurd (omega (arith, e)))
 same_or_not (suc a) zero = inr (λ e. absurd (omega (arith, e)))
 same_or_not (suc a) (suc b) = elim (same_or_not a b) [ inl e ↦ inl (ap suc e) | inr n ↦ inr (λ e. n (omega (arith, e))) ]
+
+pub lower_or_not : (a b : ℕ) → (a < b) ⊎ (b ≤ a)
+lower_or_not a zero = inr (omega arith)
+lower_or_not zero (suc b) = inl (omega arith)
+lower_or_not (suc a) (suc b) = elim (lower_or_not a b) [ inl h ↦ inl (omega (arith, h)) | inr h ↦ inr (omega (arith, h)) ]
 
 pub lower_or_same : (i k : ℕ) → i < k + 1 → (i < k) ⊎ (i ≡ k)
 lower_or_same zero zero h = inr refl
@@ -28,6 +33,11 @@ index_other (y ∷ xs) zero x zero n = absurd (n refl)
 index_other (y ∷ xs) zero x (suc s) n = refl
 index_other (y ∷ xs) (suc t) x zero n = refl
 index_other (y ∷ xs) (suc t) x (suc s) n = index_other xs t x s (λ e. n (ap suc e))
+
+pub index_past : (xs : List ℕ) (i : ℕ) → length xs ≤ i → slice_index xs i ≡ 0
+index_past [] i h = refl
+index_past (x ∷ xs) zero h = absurd (omega (arith, h))
+index_past (x ∷ xs) (suc i) h = index_past xs i (omega (arith, h))
 
 pub set_length : (xs : List ℕ) (t x : ℕ) → length (set xs t x) ≡ length xs
 set_length [] t x = refl

@@ -1,5 +1,7 @@
 pub mod Places
 pub mod Simulation
+pub mod Marks
+pub mod Readers
 pub mod Steps
 pub mod Writes
 pub mod Cycles

@@ -1,5 +1,5 @@
 -- Steps that are prepared for evaluation.
-use Rattle.std.specs.Prelude.{◌≡◌, ℕ, ◌<◌, List, [], ◌∷◌, map, length, Some, IsSome, slice_get, slice_index}
+use Rattle.std.specs.Prelude.{◌≡◌, ℕ, ◌*◌, ◌<◌, ◌≤◌, ◌^◌, List, [], ◌∷◌, map, length, Some, IsSome, slice_get, slice_index}
 use Rattle.safl_word.specs.Words.{Word, IsWord, pick}
 use Rattle.safl_word.specs.Primitives.{result_width, apply_prim}
 use Rattle.safl_net.specs.declared.cell.Sig.{Sig}
@@ -8,12 +8,14 @@ use Rattle.safl_net.specs.Valuations.{cell_word}
 use Rattle.safl_net.specs.Rules.{IsNetlist}
 use Rattle.safl_net.specs.Laws.{FitWidths}
 use Rattle.safl_net.specs.Making.{kind_at, numbers}
-use Rattle.safl_order.specs.Order.{Order, IsOrder}
+use Rattle.safl_order.specs.Order.{Order, IsOrder, IsWire}
 use Rattle.safl_sim.specs.declared.step.Action.{Action}
 use Rattle.safl_sim.specs.declared.step.Action.TheVariants.{Const, Copy, Mux, One, Two}
 use Rattle.safl_sim.specs.declared.step.Step.{Step}
 use Rattle.safl_sim.specs.declared.step.Register.{Register}
 use Rattle.safl_sim.specs.Places.{inputs_of}
+use Rattle.safl_sim.specs.Marks.{marked}
+use Rattle.safl_sim.specs.Readers.{Lists, AreReaders, Stays, Inside}
 
 abbrev pub word_of : ℕ → ℕ → Word
 word_of width bits = record { width = width; bits = bits }
@@ -61,14 +63,34 @@ pub record AreRegisters (n : Netlist) (count : ℕ) (registers : List Register) 
   pub all : (s : ℕ) → s < count → IsReg (kind_at n s) → (k : ℕ) × (r : Register) × (slice_get registers k ≡ Some r) × (r.signal.0 ≡ s)
 
 -- what a simulator keeps
-pub record Keeps (o : Order) (all : List Step) (places : List Sig) (regs : List Register) (now shown : List ℕ) : Type 0 where
+pub record Keeps (o : Order) (all : List Step) (places : List Sig) (regs : List Register) (starts readers marks now shown : List ℕ) : Type 0 where
   pub made : IsNetlist o.net
   pub order : IsOrder o.net o.wires
   pub steps : AreSteps o.net o.wires all
   pub inputs : numbers places ≡ inputs_of o.net
   pub registers : AreRegisters o.net (length o.net.signals) regs
+  pub lists : Lists starts readers (length o.net.signals) (length marks)
+  pub read : AreReaders o.net o.wires starts readers
+  pub room : length all ≤ length marks * 64
+  pub few : length marks ≤ 2 ^ 26
   pub long : length shown ≡ length o.net.signals
   pub values : FitWidths o.net (slice_index shown)
   pub state_long : length now ≡ length o.net.signals
   pub state : FitWidths o.net (slice_index now)
   pub rest : (s : ℕ) → ¬ (IsReg (kind_at o.net s)) → slice_index now s ≡ 0
+  pub stays : Stays o.net o.wires shown marks
+  pub inside : Inside (length o.wires) marks
+
+-- while the marked steps run, and none before a place is marked any longer
+pub record Runs (o : Order) (all : List Step) (starts readers start : List ℕ) (place : ℕ) (values marks : List ℕ) : Type 0 where
+  pub made : IsNetlist o.net
+  pub order : IsOrder o.net o.wires
+  pub steps : AreSteps o.net o.wires all
+  pub lists : Lists starts readers (length o.net.signals) (length marks)
+  pub read : AreReaders o.net o.wires starts readers
+  pub long : length values ≡ length o.net.signals
+  pub fits : FitWidths o.net (slice_index values)
+  pub others : (s : ℕ) → ¬ (IsWire o.net s) → slice_index values s ≡ slice_index start s
+  pub below : (k : ℕ) → k < place → marked marks k ≡ 0
+  pub stays : Stays o.net o.wires values marks
+  pub inside : Inside (length o.wires) marks

@@ -5,6 +5,7 @@ pub mod arguments;
 pub mod done;
 mod inputs;
 pub mod laws;
+mod marks;
 mod parts;
 mod phases;
 pub mod sim;

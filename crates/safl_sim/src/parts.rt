@@ -1,26 +1,40 @@
 //! The parts of a simulator, prepared from a net in an order.
 
-ghost use Rattle.std.specs.Prelude.{◌≡◌, ℕ, ◌+◌, ◌<◌, [], ◌++◌, length, OnOk, slice_get, Some, IfOk, IfSome, IfNone};
-ghost use Rattle.safl_net.specs.Netlist.{AllSet, Reg};
+ghost use Rattle.std.specs.Prelude.{◌≡◌, ℕ, ◌+◌, ◌*◌, ◌/◌, ◌^◌, ◌<◌, ◌≤◌, [], ◌++◌, List, length, OnOk, slice_get, slice_index, Some, IfOk, IfSome, IfNone};
+ghost use Rattle.safl_net.specs.Netlist.{Netlist, AllSet, Reg};
 ghost use Rattle.safl_net.specs.Valuations.{kind_reset};
 ghost use Rattle.safl_net.specs.Rules.{IsNetlist};
 ghost use Rattle.safl_net.specs.Making.{numbers, kind_at};
-ghost use Rattle.safl_order.specs.Order.{IsWire};
+ghost use Rattle.safl_order.specs.Order.{IsWire, IsOrder, operands_of};
+ghost use Rattle.safl_sim.specs.Marks.{marked};
+ghost use Rattle.safl_sim.specs.Readers.{Lists, AreReaders, Inside, AreLists, AreFlat};
 ghost use Rattle.safl_sim.specs.Places.{with_input, inputs_of, resets};
-ghost use Rattle.safl_sim.specs.Steps.{IsStep, IsReg, AreSteps, AreRegisters, Keeps};
+ghost use Rattle.safl_sim.specs.Steps.{IsStep, IsReg, AreSteps, AreRegisters};
+ghost use Rattle.safl_sim.specs.Cycles.{KeepsPlan};
 
+use crate::marks::mark;
 use crate::step::{Register, Step, action_of};
 use safl_net::{Net, Sig, SigKind};
 use safl_order::Ordered;
 use safl_word::Raw;
 use std::alloc::{AllocError, Global};
 
-/// The parts of a simulator.
+/// What stays as it is: the steps in an order of evaluation, the inputs, the registers, and the steps that read each
+/// place: those of place `p` are `readers[starts[p]..starts[p + 1]]`, by their index.
 #[derive(Drop)]
-pub struct Parts {
+pub struct Plan {
     pub steps: Vec<Step>,
     pub inputs: Vec<Sig>,
     pub registers: Vec<Register>,
+    pub starts: Vec<usize>,
+    pub readers: Vec<u32>,
+}
+
+/// The parts of a simulator: its plan, the marks of steps, the registers' state, and the number of each signal.
+#[derive(Drop)]
+pub struct Parts {
+    pub plan: Plan,
+    pub marks: Vec<u64>,
     pub state: Vec<Raw>,
     pub values: Vec<Raw>,
 }
@@ -28,21 +42,134 @@ pub struct Parts {
 impl Parts {
     /// The parts at reset.
     pub fn new(alloc: Global, ordered: &Ordered) -> Result<Parts, AllocError>
-        ensures keeps { IfOk result (λ p. Keeps ordered.now p.steps.items p.inputs.items p.registers.items p.state.items p.values.items) }
+        ensures keeps { IfOk result (λ p. KeepsPlan ordered.now p.plan p.marks.items p.state.items p.values.items) }
         ensures state { IfOk result (λ p. p.state.items ≡ resets ordered.now.net) }
         ensures values { IfOk result (λ p. p.values.items ≡ resets ordered.now.net) }
     {
         let net = ordered.net();
         let _count = net.signals();
         let steps = steps_of(alloc, net, ordered.wires())?;
-        Ok(Parts {
+        let marks = all_marked(alloc, ordered.wires().len())?;
+        let table = table_of(alloc, net, ordered.wires())?;
+        let plan = Plan {
             steps,
             inputs: inputs_of(alloc, net)?,
             registers: registers_of(alloc, net)?,
+            starts: table.starts,
+            readers: table.readers,
+        };
+        Ok(Parts {
+            plan,
+            marks,
             state: resets(alloc, net)?,
             values: resets(alloc, net)?,
         })
     }
+}
+
+// Marks of the first steps, all of them.
+fn all_marked(alloc: Global, count: usize) -> Result<Vec<u64>, AllocError>
+    requires { count < 2 ^ 32 }
+    ensures long { IfOk result (λ v. length v.items ≡ (count + 63) / 64) }
+    ensures inside { IfOk result (λ v. Inside count v.items) }
+    ensures all { IfOk result (λ v. (k : ℕ) → k < count → marked v.items k ≡ 1) }
+{
+    let mut marks = Vec::with_capacity(alloc, (count + 63) / 64)?;
+    'words: for _w in 0..(count + 63) / 64 {
+        marks.push(0)?;
+    }
+    mark_all(&mut marks, count);
+    Ok(marks)
+}
+
+fn mark_all(marks: &mut [u64], count: usize)
+    requires room { count ≤ length marks.old * 64 }
+    requires none { (k : ℕ) → slice_index marks.old k ≡ 0 }
+    ensures long { length marks.new ≡ length marks.old }
+    ensures inside { Inside count marks.new }
+    ensures all { (k : ℕ) → k < count → marked marks.new k ≡ 1 }
+{
+    'steps: for i in 0..count {
+        mark(marks, i);
+    }
+}
+
+// The steps that read each place, place by place.
+#[derive(Drop)]
+struct Table {
+    starts: Vec<usize>,
+    readers: Vec<u32>,
+}
+
+fn table_of(alloc: Global, net: &Net, wires: &[Sig]) -> Result<Table, AllocError>
+    requires few { length wires.now < 2 ^ 32 }
+    requires netlist { IsNetlist net.now }
+    requires order { IsOrder net.now (numbers wires.now) }
+    ensures lists { IfOk result (λ t. Lists t.starts.items t.readers.items (length net.now.signals) ((length wires.now + 63) / 64)) }
+    ensures readers { IfOk result (λ t. AreReaders net.now (numbers wires.now) t.starts.items t.readers.items) }
+{
+    let lists = lists_of(alloc, net, wires)?;
+    let table = flatten(alloc, &lists)?;
+    Ok(table)
+}
+
+// The steps that have a place as an operand, for each place.
+fn lists_of(alloc: Global, net: &Net, wires: &[Sig]) -> Result<Vec<Vec<u32>>, AllocError>
+    requires few { length wires.now < 2 ^ 32 }
+    requires netlist { IsNetlist net.now }
+    requires order { IsOrder net.now (numbers wires.now) }
+    ensures long { IfOk result (λ v. length v.items ≡ length net.now.signals) }
+    ensures lists { IfOk result (λ v. AreLists net.now (numbers wires.now) (length wires.now) 0 v.items) }
+{
+    let count = net.signals();
+    let mut lists = Vec::with_capacity(alloc, count as usize)?;
+    'places: for _p in 0..count {
+        lists.push(Vec::new(alloc))?;
+    }
+    'wires: for k in 0..wires.len() {
+        push_step(&mut lists, net, wires[k], k as u32)?;
+    }
+    Ok(lists)
+}
+
+fn push_step(lists: &mut [Vec<u32>], net: &Net, wire: Sig, k: u32) -> Result<(), AllocError>
+    requires netlist { IsNetlist net.now }
+    requires set { AllSet net.now }
+    requires wire { IsWire net.now wire.0 }
+    requires long { length lists.old ≡ length net.now.signals }
+    ensures long { length lists.new ≡ length lists.old }
+    ensures more { (ws : List ℕ) → slice_get ws k ≡ Some wire.0 → AreLists net.now ws k 0 lists.old → OnOk result (AreLists net.now ws (k + 1) 0 lists.new) }
+{
+    match net.cell(wire) {
+        Some(cell) => push_operands(lists, cell.operands.as_slice(), k),
+        None => unreachable!(),
+    }
+}
+
+fn push_operands(lists: &mut [Vec<u32>], operands: &[Sig], k: u32) -> Result<(), AllocError>
+    requires within { (i : ℕ) (t : Sig) → slice_get operands.now i ≡ Some t → t.0 < length lists.old }
+    ensures long { length lists.new ≡ length lists.old }
+    ensures more { (n : Netlist) (ws : List ℕ) (s : ℕ) → slice_get ws k ≡ Some s → operands_of n s ≡ numbers operands.now → AreLists n ws k 0 lists.old
+        → OnOk result (AreLists n ws (k + 1) 0 lists.new) }
+{
+    'operands: for i in 0..operands.len() {
+        lists[operands[i].0 as usize].push(k)?;
+    }
+    Ok(())
+}
+
+// The lists laid out one after another.
+fn flatten(alloc: Global, lists: &[Vec<u32>]) -> Result<Table, AllocError>
+    ensures { IfOk result (λ t. AreFlat lists.now t.starts.items t.readers.items (length lists.now)) }
+{
+    let mut starts = Vec::with_capacity(alloc, lists.len() + 1)?;
+    let mut readers = Vec::new(alloc);
+    starts.push(0)?;
+    'places: for p in 0..lists.len() {
+        readers.extend_from_slice(&lists[p])?;
+        starts.push(readers.len())?;
+    }
+    Ok(Table { starts, readers })
 }
 
 // The steps of wires, in their order.

@@ -1,21 +1,23 @@
 //! A simulator.
 
-use crate::parts::Parts;
+use crate::parts::{Parts, Plan};
 use crate::phases::cycle;
-use crate::step::{Register, Step};
 use safl_net::{Net, Sig};
 use safl_order::Ordered;
 use safl_word::{Raw, Word};
 use std::alloc::Global;
 use std::marker::Model;
 
+// So many ticks evaluate all steps, after one in which more than three quarters were marked.
+const DENSE_TICKS: u8 = 15;
+
 /// A simulator of a net: steps in an order of evaluation, and the number of each signal.
 #[derive(Drop)]
 pub struct Sim {
     ordered: Ordered,
-    steps: Vec<Step>,
-    inputs: Vec<Sig>,
-    registers: Vec<Register>,
+    plan: Plan,
+    marks: Vec<u64>,
+    dense_ticks: u8,
     state: Vec<Raw>,
     values: Vec<Raw>,
 }
@@ -25,11 +27,11 @@ impl Model for Sim {
 
     ghost Value = { Simulation };
 
-    ghost use Rattle.safl_sim.specs.Steps.{Keeps};
+    ghost use Rattle.safl_sim.specs.Cycles.{KeepsPlan};
 
     ghost view = { λ s. record { net = s.ordered.net; state = s.state.items; values = s.values.items } };
 
-    ghost invariant = { λ s. Keeps s.ordered s.steps.items s.inputs.items s.registers.items s.state.items s.values.items };
+    ghost invariant = { λ s. KeepsPlan s.ordered s.plan s.marks.items s.state.items s.values.items };
 }
 
 impl Sim {
@@ -46,9 +48,9 @@ impl Sim {
         match Parts::new(alloc, &ordered) {
             Ok(parts) => Ok(Sim {
                 ordered,
-                steps: parts.steps,
-                inputs: parts.inputs,
-                registers: parts.registers,
+                plan: parts.plan,
+                marks: parts.marks,
+                dense_ticks: 0,
                 state: parts.state,
                 values: parts.values,
             }),
@@ -77,13 +79,27 @@ impl Sim {
         requires { AreInputs self.old.net inputs.now }
         ensures { Ticks self.old self.new inputs.now }
     {
-        cycle(
+        let dense = self.dense_ticks > 0;
+        let count = cycle(
             &mut self.values,
             &mut self.state,
-            &self.steps,
-            &self.inputs,
-            &self.registers,
+            &mut self.marks,
+            &self.plan,
             inputs,
+            dense,
         );
+        self.dense_ticks = next_dense_ticks(self.dense_ticks, count, self.plan.steps.len());
+    }
+}
+
+// How many of the next ticks evaluate all steps, marked or not. Where most steps are marked, looking for marks takes
+// longer than it saves, so after such a tick a few evaluate all. It is a matter of speed alone.
+fn next_dense_ticks(dense_ticks: u8, marked: usize, steps: usize) -> u8 {
+    if dense_ticks > 0 {
+        dense_ticks - 1
+    } else if marked > steps / 4 * 3 {
+        DENSE_TICKS
+    } else {
+        0
     }
 }

@@ -38,6 +38,8 @@ pub struct Register {
 }
 
 /// The number that an action gives.
+// Both loops over the steps call it: without this it is inlined in neither.
+#[inline(always)]
 pub fn act(action: &Action, values: &[Raw]) -> Raw
     requires { Ready values.now action.now }
     ensures { result ≡ action_number (slice_index values.now) action.now }

@@ -9,20 +9,21 @@ pub invariant_of-self : goal.invariant_of-self
 invariant_of-self c =
     let s = c.self.inside in
     let are : AreInputs s.ordered.net c.args.inputs.now = subst (λ (x : Simulation). AreInputs x.net c.args.inputs.now) (sym c.self.view_is) c.requires in
-    let t = cycle_through s.ordered s.steps.items _ s.inputs.items _ s.registers.items _ c.args.inputs.now s.state.items _ s.values.items _ c.cycle.new.state c.cycle.new.values
-    c.deref.ensures.value c.deref-2.ensures.value c.deref-3.ensures.value c.deref_mut-2.ensures.value c.deref_mut.ensures.value c.cycle.ensures c.self.invariant are in
-    keeps_same s.ordered s.steps.items s.inputs.items s.registers.items c.cycle.new.state _ c.cycle.new.values _
-    (with_items_is s.state c.cycle.new.state (let a = t.keeps.state_long in let b = c.self.invariant.state_long in let d = s.state.ok.0 in omega (arith, a, b, d)))
-    (with_items_is s.values c.cycle.new.values (let a = t.keeps.long in let b = c.self.invariant.long in let d = s.values.ok.0 in omega (arith, a, b, d)))
+    let t = cycle_through s.ordered s.plan s.marks.items _ c.args.inputs.now s.state.items _ s.values.items _ c.cycle-count.new.marks c.cycle-count.new.state c.cycle-count.new.values
+    c.deref_mut-3.ensures.value c.deref_mut-2.ensures.value c.deref_mut.ensures.value c.cycle-count.ensures c.self.invariant are in
+    keeps_same s.ordered s.plan.steps.items s.plan.inputs.items s.plan.registers.items s.plan.starts.items s.plan.readers.items c.cycle-count.new.marks _ c.cycle-count.new.state _ c.cycle-count.new.values _
+    (with_items_is s.marks c.cycle-count.new.marks (let a = c.cycle-count.auto.marks in let b = c.deref_mut-3.ensures.len in let d = s.marks.ok.0 in omega (arith, a, b, d)))
+    (with_items_is s.state c.cycle-count.new.state (let a = t.keeps.state_long in let b = c.self.invariant.state_long in let d = s.state.ok.0 in omega (arith, a, b, d)))
+    (with_items_is s.values c.cycle-count.new.values (let a = t.keeps.long in let b = c.self.invariant.long in let d = s.values.ok.0 in omega (arith, a, b, d)))
     t.keeps
 
 pub returns : goal.returns
 returns c =
     let s = c.self.inside in
     let are : AreInputs s.ordered.net c.args.inputs.now = subst (λ (x : Simulation). AreInputs x.net c.args.inputs.now) (sym c.self.view_is) c.requires in
-    let t = cycle_through s.ordered s.steps.items _ s.inputs.items _ s.registers.items _ c.args.inputs.now s.state.items _ s.values.items _ c.cycle.new.state c.cycle.new.values
-    c.deref.ensures.value c.deref-2.ensures.value c.deref-3.ensures.value c.deref_mut-2.ensures.value c.deref_mut.ensures.value c.cycle.ensures c.self.invariant are in
-    ticks_same s.ordered.net c.args.self.now s.state.items s.values.items c.cycle.new.state _ c.cycle.new.values _ c.args.inputs.now c.self.view_is
-    (with_items_is s.state c.cycle.new.state (let a = t.keeps.state_long in let b = c.self.invariant.state_long in let d = s.state.ok.0 in omega (arith, a, b, d)))
-    (with_items_is s.values c.cycle.new.values (let a = t.keeps.long in let b = c.self.invariant.long in let d = s.values.ok.0 in omega (arith, a, b, d)))
+    let t = cycle_through s.ordered s.plan s.marks.items _ c.args.inputs.now s.state.items _ s.values.items _ c.cycle-count.new.marks c.cycle-count.new.state c.cycle-count.new.values
+    c.deref_mut-3.ensures.value c.deref_mut-2.ensures.value c.deref_mut.ensures.value c.cycle-count.ensures c.self.invariant are in
+    ticks_same s.ordered.net c.args.self.now s.state.items s.values.items c.cycle-count.new.state _ c.cycle-count.new.values _ c.args.inputs.now c.self.view_is
+    (with_items_is s.state c.cycle-count.new.state (let a = t.keeps.state_long in let b = c.self.invariant.state_long in let d = s.state.ok.0 in omega (arith, a, b, d)))
+    (with_items_is s.values c.cycle-count.new.values (let a = t.keeps.long in let b = c.self.invariant.long in let d = s.values.ok.0 in omega (arith, a, b, d)))
     t.ticks

@@ -1,6 +1,6 @@
 use Rattle.std.proofs.Common.{◌≡◌, drop}
 use Rattle.safl_sim.specs.Writes.{after_steps, AllReady}
-use Rattle.safl_sim.proofs.phases.run_steps.Given as goal
+use Rattle.safl_sim.proofs.phases.run_all.Given as goal
 
 abbrev pub invariant-steps : goal.invariant-steps
 invariant-steps l = record {

@@ -1,0 +1,76 @@
+-- One mark more, or one less.
+use Rattle.std.proofs.Common.{◌≡◌, inl, inr, ℕ, ◌+◌, ◌*◌, ◌/◌, ◌%◌, ◌^◌, ◌<◌, ◌≤◌, List, length, set, Some, slice_get, slice_index, refl, sym, ap, ◌∙◌, arith}
+use Rattle.std.specs.Int.{w64, bit_at, bit_not, trailing_zeros}
+use Rattle.std.specs.Int.RustNames.{bit_or}
+use lib.Bits.{bit_and}
+use Rattle.std.proofs.lemmas.Nat.Bits.{bit_at-zero, bit_at-trailing_zeros, bit_at_set_same, bit_at_set_other, bit_at_clear_same, bit_at_clear_other}
+use Rattle.safl_sim.specs.Marks.{marked, HasMark, HasNone, HasTaken}
+use Rattle.safl_sim.proofs.Written.{same_or_not, lower_or_same, index_here, index_other, set_length}
+use Rattle.safl_sim.specs.Readers.{HasMarked}
+
+-- the mark of a step in a word that is written
+written_same : (old : List ℕ) (w x k : ℕ) → w < length old → k / 64 ≡ w → marked (set old w x) k ≡ bit_at x (k % 64)
+written_same old w x k h e = ap (λ y. bit_at (slice_index (set old w x) y) (k % 64)) e ∙ ap (λ y. bit_at y (k % 64)) (index_here old w x h)
+
+written_other : (old : List ℕ) (w x k : ℕ) → ¬ (k / 64 ≡ w) → marked (set old w x) k ≡ marked old k
+written_other old w x k n = ap (λ y. bit_at y (k % 64)) (index_other old w x (k / 64) n)
+
+pub mark_has : (old : List ℕ) (i : ℕ) → i / 64 < length old → HasMark old (set old (i / 64) (bit_or (slice_index old (i / 64)) (1 * 2 ^ (i % 64) % 2 ^ 64))) i
+mark_has old i h =
+    let x = bit_or (slice_index old (i / 64)) (1 * 2 ^ (i % 64) % 2 ^ 64) in
+    let low : i % 64 < 64 = omega arith in
+    record {
+      long = set_length old (i / 64) x;
+      here = written_same old (i / 64) x i h refl ∙ bit_at_set_same w64 (slice_index old (i / 64)) (i % 64) low;
+      others = λ k n. elim (same_or_not (k / 64) (i / 64)) [
+        | inl q ↦ written_same old (i / 64) x k h q ∙ bit_at_set_other w64 (slice_index old (i / 64)) (i % 64) low (k % 64) (λ e. n (omega (arith, e, q))) ∙ ap (λ y. bit_at (slice_index old y) (k % 64)) (sym q)
+        | inr q ↦ written_other old (i / 64) x k q
+      ];
+    }
+
+pub none_in : (old : List ℕ) (w : ℕ) → slice_index old w ≡ 0 → HasNone old w
+none_in old w e k q = ap (λ y. bit_at (slice_index old y) (k % 64)) q ∙ ap (λ y. bit_at y (k % 64)) e ∙ bit_at-zero (k % 64)
+
+pub take_has : (old : List ℕ) (w left : ℕ) → w < length old → slice_index old w ≡ left → 0 < left → left < 2 ^ 64
+    → HasTaken old (set old w (bit_and left (bit_not w64 (1 * 2 ^ trailing_zeros w64 left % 2 ^ 64)))) w (w * 64 + trailing_zeros w64 left)
+take_has old w left h is some fits =
+    let b = trailing_zeros w64 left in
+    let x = bit_and left (bit_not w64 (1 * 2 ^ b % 2 ^ 64)) in
+    let low = bit_at-trailing_zeros w64 left some fits in
+    let under : b < 64 = low.0 in
+    let at : (w * 64 + b) / 64 ≡ w = omega (arith, under) in
+    let bit : (w * 64 + b) % 64 ≡ b = omega (arith, under) in
+    record {
+      long = set_length old w x;
+      within = at;
+      was = ap (λ y. bit_at (slice_index old y) ((w * 64 + b) % 64)) at ∙ ap (λ y. bit_at y ((w * 64 + b) % 64)) is ∙ ap (bit_at left) bit ∙ low.1;
+      first = λ k q l. ap (λ y. bit_at (slice_index old y) (k % 64)) q ∙ ap (λ y. bit_at y (k % 64)) is ∙ low.2 (k % 64) (omega (arith, q, l));
+      gone = written_same old w x (w * 64 + b) h at ∙ ap (bit_at x) bit ∙ bit_at_clear_same w64 left b under;
+      others = λ k n. elim (same_or_not (k / 64) w) [
+        | inl q ↦ written_same old w x k h q ∙ bit_at_clear_other w64 left b under (k % 64) (omega arith) (λ e. n (omega (arith, e, q))) ∙ ap (λ y. bit_at y (k % 64)) (sym is) ∙ ap (λ y. bit_at (slice_index old y) (k % 64)) (sym q)
+        | inr q ↦ written_other old w x k q
+      ];
+    }
+
+pub marked_none : (readers : List ℕ) (from : ℕ) (marks : List ℕ) → HasMarked readers from from marks marks
+marked_none readers from marks = record {
+  long = refl;
+  grows = λ k e. e;
+  all = λ j k f t e. absurd (omega (arith, f, t));
+  others = λ k n. refl;
+}
+
+-- one reader more is marked
+pub marked_step : (readers : List ℕ) (from j r : ℕ) (old marks new : List ℕ) → from ≤ j → HasMarked readers from j old marks → slice_get readers j ≡ Some r → HasMark marks new r → HasMarked readers from (j + 1) old new
+marked_step readers from j r old marks new le w e m = record {
+  long = m.long ∙ w.long;
+  grows = λ k h. elim (same_or_not k r) [ inl q ↦ ap (marked new) q ∙ m.here | inr q ↦ m.others k q ∙ w.grows k h ];
+  all = λ i k f t h. elim (same_or_not k r) [
+    | inl q ↦ ap (marked new) q ∙ m.here
+    | inr q ↦ m.others k q ∙ (elim (lower_or_same i j t) [
+      | inl l ↦ w.all i k f l h
+      | inr s ↦ absurd (q (let z : Some k ≡ Some r = sym h ∙ ap (slice_get readers) s ∙ e in cc))
+    ])
+  ];
+  others = λ k n. m.others k (λ q. n j le (omega arith) (e ∙ ap Some (sym q))) ∙ w.others k (λ i f t. n i f (omega (arith, t)));
+}

@@ -1,0 +1,11 @@
+use Rattle.std.proofs.Common.{◌≡◌, ℕ, ◌*◌, ◌≤◌, List, length}
+use Rattle.safl_order.specs.Order.{Order}
+use Rattle.safl_sim.specs.Steps.{Runs}
+use Rattle.safl_sim.proofs.phases.run_marked.Given as goal
+
+abbrev pub invariant-words : goal.invariant-words
+invariant-words l = record {
+  count : l.count ≤ l.w * 64;
+  long : length l.marks ≡ length l.initial.marks;
+  runs : (o : Order) (start : List ℕ) → Runs o l.steps l.starts l.readers start 0 l.initial.values l.initial.marks → Runs o l.steps l.starts l.readers start (l.w * 64) l.values l.marks;
+}
