@@ -1,6 +1,8 @@
 """The commands: words, the order of refusals, and what is printed. Written from README.md and the documents that it names."""
+import generator
 import language
 import machine
+import report
 import verilog
 from circuit import Circuit, meaning
 from language import Fault
@@ -99,6 +101,24 @@ def walk(words, files):
     return 0, [f"result {result}", f"events {events}", f"units {units}"]
 
 
+def reported(words, files):
+    return 0, report.report_lines(built(words, files))
+
+
+def generated(words):
+    """The seed, the number of functions, and the lines of their source."""
+    seed, count = decimal(words[1], 0, (1 << 64) - 1), decimal(words[2], 1, generator.COUNT_MAX)
+    return seed, count, generator.source_lines(seed, count)
+
+
+def bench(words):
+    seed, count, lines = generated(words)
+    limit = decimal(words[4], 1, 1_000_000_000)
+    circuit = Circuit(language.accept("\n".join(lines).encode()))
+    status, found = timed(circuit.run(generator.arguments(seed, count), limit), limit, "cycles")
+    return status, report.summary_lines(circuit) + found
+
+
 def built(words, files):
     """The circuit of IN's program: what of OUT's text is fixed comes from it."""
     return Circuit(accept(files, words[1]))
@@ -123,6 +143,12 @@ def call(words, files):
             return run_file(words, files)
         if verb == "walk" and len(words) >= 6 and words[2] == "--order" and words[4] == "--steps":
             return walk(words, files)
+        if verb == "report" and len(words) == 2:
+            return reported(words, files)
+        if verb == "gen" and len(words) == 3:
+            return 0, generated(words)[2]
+        if verb == "bench" and len(words) == 5 and words[3] == "--cycles":
+            return bench(words)
         raise Refusal(2, USAGE)
     except Refusal as refusal:
         return refusal.status, [refusal.line]

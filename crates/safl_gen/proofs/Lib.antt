@@ -1,0 +1,3 @@
+pub mod DrawLemmas
+pub mod Lengths
+pub mod LineLemmas

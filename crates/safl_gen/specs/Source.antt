@@ -1,0 +1,71 @@
+-- The text of a source that is made from draws.
+use Rattle.std.specs.Prelude.{ℕ, zero, suc, ◌+◌, ◌-◌, ◌*◌, ◌%◌, ◌++◌, List, map, codes, decimal, nat_lt, if◌then◌else◌}
+use Rattle.std.specs.List.{concat, range_with_len}
+
+abbrev pub Text : Type 0
+Text = List ℕ
+
+-- The bodies of the first four functions, with a number k. Function i calls none but itself
+abbrev pub scaled_sum : ℕ → Text
+scaled_sum k = codes "x + y * " ++ decimal k
+
+abbrev pub halving : ℕ → ℕ → Text
+halving i k = codes "if y == 0 then x else f" ++ decimal i ++ codes "(x + " ++ decimal k ++ codes ", y >> 1)"
+
+abbrev pub masked_sum : ℕ → Text
+masked_sum k = codes "let p = x ^ y, q = x & " ++ decimal k ++ codes " in p + q"
+
+abbrev pub first_body : ℕ → ℕ → ℕ → Text
+first_body zero i k = scaled_sum k
+first_body (suc zero) i k = halving i k
+first_body (suc (suc form)) i k = masked_sum k
+
+-- The bodies of the others, with a number k. They call the function before, p, and one of the first four, j
+abbrev pub sum_of_calls : ℕ → ℕ → ℕ → Text
+sum_of_calls p j k = codes "f" ++ decimal p ++ codes "(x + " ++ decimal k ++ codes ", y) + f" ++ decimal j ++ codes "(x, y)"
+
+abbrev pub call_in_call : ℕ → ℕ → ℕ → Text
+call_in_call p j k = codes "f" ++ decimal j ++ codes "(f" ++ decimal p ++ codes "(x, y ^ " ++ decimal k ++ codes "), y)"
+
+abbrev pub bound_call : ℕ → ℕ → ℕ → Text
+bound_call p j k =
+    codes "let p = f" ++ decimal p ++ codes "(y, x) in if p < " ++ decimal k ++ codes " then f" ++ decimal j ++ codes "(p, x) else p"
+
+abbrev pub compared_call : ℕ → ℕ → ℕ → Text
+compared_call p j k =
+    codes "if f" ++ decimal j ++ codes "(x, " ++ decimal k ++ codes ") == y then x else f" ++ decimal p ++ codes "(y, x + " ++ decimal k ++ codes ")"
+
+abbrev pub later_body : ℕ → ℕ → ℕ → ℕ → Text
+later_body zero p j k = sum_of_calls p j k
+later_body (suc zero) p j k = call_in_call p j k
+later_body (suc (suc zero)) p j k = bound_call p j k
+later_body (suc (suc (suc form))) p j k = compared_call p j k
+
+-- the number k is 1 to 16, and j is one of the first four functions
+abbrev pub constant_of : ℕ → ℕ
+constant_of d = d % 16 + 1
+
+abbrev pub first_function_of : ℕ → ℕ
+first_function_of d = d % 4
+
+-- the body of function i, from the draws for its form, its constant and the first function that it calls
+abbrev pub body : ℕ → ℕ → ℕ → ℕ → Text
+body i form constant first =
+    if nat_lt i 4
+    then first_body (form % 3) i (constant_of constant)
+    else later_body (form % 4) (i - 1) (first_function_of first) (constant_of constant)
+
+abbrev pub function_line : ℕ → ℕ → ℕ → ℕ → Text
+function_line i form constant first =
+    codes "fun f" ++ decimal i ++ codes "(x:16, y:16):16 = " ++ body i form constant first ++ codes "\n"
+
+abbrev pub main_line : ℕ → Text
+main_line last = codes "fun main(a:16, b:16):16 = f" ++ decimal last ++ codes "(a, b)\n"
+
+-- each function has three draws
+abbrev pub drawn_line : (ℕ → ℕ) → ℕ → Text
+drawn_line draws i = function_line i (draws (3 * i)) (draws (3 * i + 1)) (draws (3 * i + 2))
+
+-- The source of so many functions, and of main, which calls the last of them
+abbrev pub source : (ℕ → ℕ) → ℕ → Text
+source draws count = concat (map (drawn_line draws) (range_with_len 0 count)) ++ main_line (count - 1)

@@ -1,0 +1,4 @@
+pub mod LineLemmas
+pub mod CallLemmas
+pub mod RegisterLemmas
+pub mod OnceLemmas

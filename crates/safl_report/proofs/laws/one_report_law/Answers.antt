@@ -1,0 +1,5 @@
+use Rattle.safl_report.proofs.OnceLemmas.{report_once}
+use Rattle.safl_report.proofs.laws.one_report_law.Goals as goal
+
+pub returns : goal.returns
+returns c = report_once

@@ -1,0 +1,86 @@
+-- What is printed of a program's plan, and of a netlist's registers.
+use Rattle.std.specs.Prelude.{◌≡◌, ℕ, ◌++◌, ◌==◌, List, length, map, filter, count_by, sum_by, Bool, true, false, codes, decimal}
+use Rattle.std.specs.List.{concat, range_with_len}
+use Rattle.safl_term.specs.Checked.{CheckedProgram, program_of, name_of}
+use Rattle.safl_term.specs.Program.{Program}
+use Rattle.safl_sites.specs.Plan.{IsPlan}
+use Rattle.safl_net.specs.Netlist.{Netlist, Signal, Kind, Input, Reg, Wire}
+
+abbrev pub Text : Type 0
+Text = List ℕ
+
+abbrev pub answer : Bool → Text
+answer true = codes "yes"
+answer false = codes "no"
+
+-- how many of the program's sites call a function
+abbrev pub calls_of : Program → ℕ → ℕ
+calls_of C f = count_by (λ g. g == f) (map C.callee (range_with_len 1 C.sites))
+
+-- the line of a function: its name, how many sites call it, and whether its unit has an arbiter
+abbrev pub function_text : Text → ℕ → Bool → Text
+function_text name calls arbiter =
+    codes "function " ++ name ++ codes " sites " ++ decimal calls ++ codes " arbiter " ++ answer arbiter ++ codes "\n"
+
+abbrev pub function_line : CheckedProgram → (ℕ → Bool) → ℕ → Text
+function_line c arbiter f = function_text (name_of c f) (calls_of (program_of c) f) (arbiter ((program_of c).unit f))
+
+-- the line of a site: its number, the names of the function that it calls and of that in which it stands, and whether
+-- it keeps its word
+abbrev pub site_text : ℕ → Text → Text → Bool → Text
+site_text k callee caller kept =
+    codes "site " ++ decimal k ++ codes " " ++ callee ++ codes " in " ++ caller ++ codes " kept " ++ answer kept ++ codes "\n"
+
+abbrev pub site_line : CheckedProgram → (ℕ → Bool) → ℕ → Text
+site_line c kept k = site_text k (name_of c ((program_of c).callee k)) (name_of c ((program_of c).caller k)) (kept k)
+
+-- the registers of a netlist
+abbrev pub is_register : Kind → Bool
+is_register Input = false
+is_register (Reg init next) = true
+is_register (Wire cell) = false
+
+abbrev pub registers : List Signal → List Signal
+registers signals = filter (λ g. is_register g.kind) signals
+
+-- how many bits signals have together
+abbrev pub bits_of : List Signal → ℕ
+bits_of signals = sum_by (λ g. g.width) signals
+
+abbrev pub register_text : ℕ → ℕ → Text
+register_text count bits = codes "registers " ++ decimal count ++ codes " bits " ++ decimal bits ++ codes "\n"
+
+abbrev pub register_line : Netlist → Text
+register_line n = register_text (length (registers n.signals)) (bits_of (registers n.signals))
+
+-- the lines of the functions, by number from 0, and of the sites, by number from 1
+abbrev pub function_lines : CheckedProgram → (ℕ → Bool) → Text
+function_lines c arbiter = concat (map (function_line c arbiter) (range_with_len 0 (program_of c).functions))
+
+abbrev pub site_lines : CheckedProgram → (ℕ → Bool) → Text
+site_lines c kept = concat (map (site_line c kept) (range_with_len 1 (program_of c).sites))
+
+abbrev pub report_lines : CheckedProgram → (ℕ → Bool) → (ℕ → Bool) → Netlist → Text
+report_lines c arbiter kept n = function_lines c arbiter ++ site_lines c kept ++ register_line n
+
+-- the text is the report of a netlist, and of the program's one plan: which units need an arbiter, and which sites keep
+-- their words
+pub record IsReport (c : CheckedProgram) (n : Netlist) (text : Text) : Type 0 where
+  pub arbiter : ℕ → Bool
+  pub kept : ℕ → Bool
+  pub plan : IsPlan (program_of c) arbiter kept
+  pub lines : text ≡ report_lines c arbiter kept n
+
+-- of how many functions the unit has an arbiter
+abbrev pub arbiters_of : Program → (ℕ → Bool) → ℕ
+arbiters_of C arbiter = count_by arbiter (map C.unit (range_with_len 0 C.functions))
+
+abbrev pub summary_lines : CheckedProgram → (ℕ → Bool) → Netlist → Text
+summary_lines c arbiter n = codes "arbiters " ++ decimal (arbiters_of (program_of c) arbiter) ++ codes "\n" ++ register_line n
+
+-- the text is the summary of a netlist, and of the program's one plan
+pub record IsSummary (c : CheckedProgram) (n : Netlist) (text : Text) : Type 0 where
+  pub arbiter : ℕ → Bool
+  pub kept : ℕ → Bool
+  pub plan : IsPlan (program_of c) arbiter kept
+  pub lines : text ≡ summary_lines c arbiter n

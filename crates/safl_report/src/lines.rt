@@ -1,0 +1,48 @@
+//! The lines of all functions and of all sites.
+
+ghost use Rattle.std.specs.Prelude.{◌≡◌, ◌++◌, OnOk};
+ghost use Rattle.safl_term.specs.Checked.{program_of};
+ghost use Rattle.safl_sites.specs.Planned.{arbiter_of, kept_of};
+ghost use Rattle.safl_report.specs.Counting.{AreCalls};
+ghost use Rattle.safl_report.specs.Report.{function_lines, site_lines, arbiters_of};
+
+use crate::pieces::{push_function, push_site};
+use safl_sites::Planned;
+use safl_word::NoMemory;
+
+/// Appends the lines of the functions. The table has for each how many sites call it.
+pub fn push_functions(out: &mut Vec<u8>, p: &Planned, calls: &[u32]) -> Result<(), NoMemory>
+    requires { AreCalls (program_of p.now.program) (program_of p.now.program).sites calls.now }
+    ensures { OnOk result (out.new.items ≡ out.old.items ++ function_lines p.now.program (arbiter_of p.now)) }
+{
+    let c = p.checked();
+    for f in 0..c.functions() {
+        push_function(out, c.name(f), calls[f as usize], p.arbiter(f))?;
+    }
+    Ok(())
+}
+
+/// Appends the lines of the sites.
+pub fn push_sites(out: &mut Vec<u8>, p: &Planned) -> Result<(), NoMemory>
+    ensures { OnOk result (out.new.items ≡ out.old.items ++ site_lines p.now.program (kept_of p.now)) }
+{
+    let c = p.checked();
+    for done in 0..c.sites() {
+        let k = done + 1;
+        let callee = c.name(c.callee(k));
+        let caller = c.name(c.caller(k));
+        push_site(out, k, callee, caller, p.kept(k))?;
+    }
+    Ok(())
+}
+
+/// Of how many functions the unit has an arbiter.
+pub fn count_arbiters(p: &Planned) -> u32
+    ensures { result ≡ arbiters_of (program_of p.now.program) (arbiter_of p.now) }
+{
+    let mut count = 0;
+    for f in 0..p.checked().functions() {
+        count += u32::from(p.arbiter(f));
+    }
+    count
+}

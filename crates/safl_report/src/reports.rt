@@ -1,0 +1,42 @@
+//! Whole reports.
+
+ghost use Rattle.std.specs.Prelude.{IfOk};
+ghost use Rattle.safl_report.specs.Report.{IsReport, IsSummary};
+
+use crate::calls::count_calls;
+use crate::lines::{count_arbiters, push_functions, push_sites};
+use crate::pieces::{push_end, push_number, push_registers};
+use crate::registers::count_registers;
+use safl_net::Net;
+use safl_sites::Planned;
+use safl_word::NoMemory;
+use std::alloc::Global;
+
+/// A line for each function, with how many sites call it and whether its unit has an arbiter; one for each site, with
+/// whether it keeps its word; and how many registers the net has, with their bits. Fails only if out of memory.
+pub fn report(alloc: Global, p: &Planned, n: &Net) -> Result<Vec<u8>, NoMemory>
+    ensures { IfOk result (λ text. IsReport p.now.program n.now text.items) }
+{
+    let _checked = p.checked();
+    let calls = count_calls(alloc, p)?;
+    let total = count_registers(n);
+    let mut out = Vec::new(alloc);
+    push_functions(&mut out, p, &calls)?;
+    push_sites(&mut out, p)?;
+    push_registers(&mut out, total.count, total.bits)?;
+    Ok(out)
+}
+
+/// How many functions have a unit with an arbiter, and how many registers the net has, with their bits: a line each.
+/// Fails only if out of memory.
+pub fn summary(alloc: Global, p: &Planned, n: &Net) -> Result<Vec<u8>, NoMemory>
+    ensures { IfOk result (λ text. IsSummary p.now.program n.now text.items) }
+{
+    let total = count_registers(n);
+    let _checked = p.checked();
+    let mut out = Vec::new(alloc);
+    push_number(&mut out, "arbiters ", u64::from(count_arbiters(p)))?;
+    push_end(&mut out)?;
+    push_registers(&mut out, total.count, total.bits)?;
+    Ok(out)
+}
