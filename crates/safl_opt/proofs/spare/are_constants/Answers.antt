@@ -1,0 +1,21 @@
+use Rattle.std.proofs.Common.{◌≡◌, ◌<◌, ◌+◌, ℕ, suc, length, take, true, false, refl, sym, ap, subst, ◌∙◌, arith}
+use Rattle.safl_net.specs.Making.{numbers}
+use Rattle.safl_opt.specs.Lean.{is_constant, are_constants}
+use Rattle.safl_opt.specs.Values.{sig_at}
+use Rattle.safl_opt.proofs.Starting.{sig_or}
+use Rattle.safl_opt.proofs.Sparing.{all_next, not_all}
+use Rattle.safl_opt.proofs.ListSteps.{take_whole}
+use Rattle.safl_opt.proofs.spare.are_constants.Goals as goal
+
+pub returns-then-not-is_constant : goal.returns-then-not-is_constant
+returns-then-not-is_constant c =
+    sym (not_all c.args.n.now c.args.all.now c.loop-s.s-index (omega arith) (ap (is_constant c.args.n.now) (sym (sig_or c.args.all.now c.loop-s.s-index)) ∙ sym c.is_constant.ensures ∙ c.if-not-is_constant.true))
+
+pub loop-s-preserved : goal.loop-s-preserved
+loop-s-preserved c =
+    ap (λ k. are_constants c.args.n.now (numbers (take k c.args.all.now))) (let q : c.loop-s.s-index + 1 ≡ suc c.loop-s.s-index = omega arith in q)
+    ∙ all_next c.args.n.now c.args.all.now c.loop-s.s-index (omega arith) c.loop-s.invariant
+    (ap (is_constant c.args.n.now) (sym (sig_or c.args.all.now c.loop-s.s-index)) ∙ sym c.is_constant.ensures ∙ c.if-not-is_constant.false)
+
+pub returns : goal.returns
+returns c = sym c.loop-s.invariant ∙ ap (λ l. are_constants c.args.n.now (numbers l)) (take_whole c.args.all.now c.loop-s.s-index c.loop-s-test.false)

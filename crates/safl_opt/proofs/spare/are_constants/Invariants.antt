@@ -1,0 +1,7 @@
+use Rattle.std.proofs.Common.{◌≡◌, take, true}
+use Rattle.safl_net.specs.Making.{numbers}
+use Rattle.safl_opt.specs.Lean.{are_constants}
+use Rattle.safl_opt.proofs.spare.are_constants.Given as goal
+
+abbrev pub invariant-loop-s : goal.invariant-loop-s
+invariant-loop-s l = are_constants l.n (numbers (take l.s-index l.all)) ≡ true

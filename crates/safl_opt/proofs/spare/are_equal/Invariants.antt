@@ -1,0 +1,6 @@
+use Rattle.std.proofs.Common.{◌≡◌, ◌<◌, ℕ}
+use Rattle.safl_opt.specs.Values.{sig_at}
+use Rattle.safl_opt.proofs.spare.are_equal.Given as goal
+
+abbrev pub invariant-all : goal.invariant-all
+invariant-all l = (k : ℕ) → k < l.i → sig_at l.a k ≡ sig_at l.b k

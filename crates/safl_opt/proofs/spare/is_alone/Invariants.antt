@@ -1,0 +1,7 @@
+use Rattle.std.proofs.Common.{◌≡◌, ◌<◌, ℕ}
+use Rattle.safl_net.specs.Stored.{cell_of}
+use Rattle.safl_opt.specs.Lean.{HasCell}
+use Rattle.safl_opt.proofs.spare.is_alone.Given as goal
+
+abbrev pub invariant-signals : goal.invariant-signals
+invariant-signals l = (t : ℕ) → t < l.i → HasCell l.n t (cell_of l.cell) → t ≡ l.s.0

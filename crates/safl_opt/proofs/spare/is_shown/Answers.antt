@@ -1,0 +1,29 @@
+use Rattle.std.proofs.Common.{◌≡◌, ◌≢◌, ◌<◌, ◌+◌, ℕ, List, Some, length, true, false, inl, inr, slice_get, refl, sym, ap, subst, ◌∙◌, arith}
+use Rattle.std.proofs.lemmas.Bool.{cases_eq}
+use Rattle.safl_net.specs.Netlist.{Netlist}
+use Rattle.safl_net.proofs.Naming.{within}
+use Rattle.safl_opt.proofs.Showing.{output_at}
+use Rattle.safl_opt.proofs.spare.is_shown.Goals as goal
+
+one_more : (n : Netlist) (i t s : ℕ) → (o : List ℕ × ℕ) × (slice_get n.outputs i ≡ Some o) × (t ≡ o.1) → (t ≢ s) → ((k : ℕ) (o : List ℕ × ℕ) → k < i → slice_get n.outputs k ≡ Some o → o.1 ≢ s) → (k : ℕ) (o : List ℕ × ℕ) → k < i + 1 → slice_get n.outputs k ≡ Some o → o.1 ≢ s
+one_more n i t s at ne h k o lt e q = elim (cases_eq k i) [
+  | inl same ↦
+      let one : o ≡ at.0 = (let z = sym e ∙ ap (slice_get n.outputs) same ∙ at.1 in cc) in
+      ne (at.2 ∙ ap (λ (x : List ℕ × ℕ). x.1) (sym one) ∙ q)
+  | inr d ↦ h k o (omega (arith, lt, d)) e q
+]
+
+pub outputs-preserved : goal.outputs-preserved
+outputs-preserved c =
+    one_more c.args.n.now c.outputs.i c.output_sig-shown.result.0 c.args.s.0 (output_at c.args.n.now c.outputs.i c.output_sig-shown.result.0 c.output_sig-shown.ensures) c.if-shown-s.false c.outputs.invariant
+
+pub returns-then-shown-s : goal.returns-then-shown-s
+returns-then-shown-s c =
+    let o = output_at c.args.n.now c.outputs.i c.output_sig-shown.result.0 c.output_sig-shown.ensures in
+    ((λ e. record { index = c.outputs.i; output = o.0; there = o.1; is = sym o.2 ∙ c.if-shown-s.true }), (λ w. refl))
+
+pub returns : goal.returns
+returns c = (
+  (λ e. absurd (let z = e in cc)),
+  (λ w. absurd (c.outputs.invariant w.index w.output (let k = within c.args.n.now.outputs w.index w.output w.there in let a = c.outputs-test.false in let d = c.outputs-i-end.ensures in omega (arith, k, a, d)) w.there w.is)),
+)
