@@ -1,0 +1,10 @@
+pub mod Rest
+pub mod Codes
+pub mod Looks
+pub mod Changes
+pub mod Lines
+pub mod Stands
+pub mod Shows
+pub mod Told
+pub mod Traced
+pub mod Sent

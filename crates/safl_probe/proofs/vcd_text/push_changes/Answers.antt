@@ -1,0 +1,17 @@
+use Rattle.std.proofs.Common.{ℕ, List, ◌++◌, refl}
+use Rattle.safl_probe.specs.Texts.{changes, changed}
+use Rattle.safl_probe.specs.Entries.{lasts, nows, watched_all}
+use Rattle.safl_probe.specs.declared.entry.Entry.{Entry}
+use Rattle.safl_probe.proofs.Rest.{rest_more, rest_none, drop_or}
+use Rattle.safl_probe.proofs.vcd_text.push_changes.Goals as goal
+
+pub entries-preserved : goal.entries-preserved
+entries-preserved c =
+    rest_more (λ (i : ℕ) (es : List Entry). changes i (watched_all es) (lasts es) (nows es)) (λ (i : ℕ) (e : Entry). changed i e.width e.last e.number) (λ i. refl) (λ i e es. refl)
+    c.args.entries.now c.entries.i c.index-entries-i.result c.entries.out.items c.push_changed.new.out.items (c.args.out.now.items ++ changes 0 (watched_all c.args.entries.now) (lasts c.args.entries.now) (nows c.args.entries.now))
+    (drop_or c.args.entries.now c.entries.i c.index-entries-i.result c.entries-test.true c.index-entries-i.is) c.entries.invariant c.in_ok-push_changed.ensures
+
+pub returns : goal.returns
+returns c =
+    rest_none (λ (i : ℕ) (es : List Entry). changes i (watched_all es) (lasts es) (nows es)) (λ (i : ℕ) (e : Entry). changed i e.width e.last e.number) (λ i. refl) (λ i e es. refl)
+    c.args.entries.now c.entries.i c.entries.out.items (c.args.out.now.items ++ changes 0 (watched_all c.args.entries.now) (lasts c.args.entries.now) (nows c.args.entries.now)) c.entries-test.false c.entries.invariant

@@ -1,0 +1,57 @@
+-- What a probe tells, and what its calls add.
+use Rattle.std.specs.Prelude.{◌≡◌, ℕ, ◌+◌, List, [], length, Option, Some, None}
+use Rattle.safl_net.specs.Netlist.{Netlist}
+use Rattle.safl_net.specs.Valuations.{Valuation}
+use Rattle.safl_probe.specs.Watching.{Shape, kind_of, shape_of, seen}
+use Rattle.safl_probe.specs.Texts.{Text, opening, frame_text, closing}
+
+-- its kind; what it watches, once it was begun; the numbers that it saw in the last frame, if there was one; how many frames
+-- it was given; and how often it failed
+pub record ProbeState : Type 0 where
+  pub kind : ℕ
+  pub shape : Option Shape
+  pub last : Option (List ℕ)
+  pub turn : ℕ
+  pub faults : ℕ
+
+-- before it was begun
+abbrev pub fresh : ℕ → ProbeState
+fresh kind = record { kind = kind; shape = None; last = None; turn = 0; faults = 0 }
+
+-- it tells this, whatever its count of faults is
+abbrev pub Tells : ProbeState → ProbeState → Type 0
+Tells want now = now ≡ record want { faults = now.faults }
+
+-- it was begun, and the frame has a number for each signal
+abbrev pub FrameFits : Option Shape → Valuation → Type 0
+FrameFits None frame = ⊥
+FrameFits (Some shape) frame = length frame ≡ shape.signals
+
+-- after it was begun on a net
+abbrev pub begun : Netlist → ProbeState → ProbeState
+begun n s = record s { shape = Some (shape_of s.kind n); last = None; turn = 0 }
+
+-- after a frame
+abbrev pub last_seen : Option Shape → Valuation → Option (List ℕ)
+last_seen None frame = None
+last_seen (Some shape) frame = Some (seen shape.watched frame)
+
+abbrev pub after_frame : Valuation → ProbeState → ProbeState
+after_frame frame s = record s { last = last_seen s.shape frame; turn = s.turn + 1 }
+
+-- the text of a net's beginning, of a frame, and of the end
+abbrev pub opening_on : ℕ → Shape → Text
+opening_on number shape = opening (kind_of number) shape.watched
+
+abbrev pub begin_text : Netlist → ProbeState → Text
+begin_text n s = opening_on s.kind (shape_of s.kind n)
+
+abbrev pub text_on : Option Shape → ProbeState → Valuation → Text
+text_on None s frame = []
+text_on (Some shape) s frame = frame_text (kind_of s.kind) shape.watched s.turn s.last (seen shape.watched frame)
+
+abbrev pub cycle_text : Valuation → ProbeState → Text
+cycle_text frame s = text_on s.shape s frame
+
+abbrev pub finish_text : ProbeState → Text
+finish_text s = closing (kind_of s.kind) s.turn

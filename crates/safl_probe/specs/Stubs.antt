@@ -1,0 +1,14 @@
+-- A probe of which one call is to fail.
+use Rattle.std.specs.Prelude.{◌≡◌, ℕ}
+use Rattle.safl_io.specs.Counts.{raised}
+use Rattle.safl_probe.specs.Probing.{ProbeState}
+
+-- what it tells, the number of the call that is to fail, and how many calls there were
+pub record Stub : Type 0 where
+  pub probe : ProbeState
+  pub fail_at : ℕ
+  pub calls : ℕ
+
+-- the next call is to fail; the first one has number 1
+abbrev pub FailsNext : Stub → Type 0
+FailsNext s = raised s.calls ≡ s.fail_at

@@ -1,0 +1,113 @@
+-- The texts of traces, byte by byte.
+use Rattle.std.specs.Prelude.{ℕ, suc, ◌+◌, List, [], ◌∷◌, ◌++◌, map, length, Option, Some, None, ◌==◌, if◌then◌else◌, codes, reverse, bit_xor, count_ones}
+use Rattle.std.specs.Fmt.{decimal}
+use Rattle.std.specs.Int.Digits.{digits_of}
+use Rattle.safl_word.specs.Numerals.{binary}
+use Rattle.safl_net.specs.Netlist.{Netlist}
+use Rattle.safl_net.specs.Valuations.{Valuation}
+use Rattle.safl_probe.specs.Watching.{Watched, kind_of, watched_by, seen}
+use Rattle.safl_probe.specs.declared.kind.TraceKind.{TraceKind}
+use Rattle.safl_probe.specs.declared.kind.TraceKind.TheVariants.{Vcd, Starts, Toggles, Silent}
+
+abbrev pub Text : Type 0
+Text = List ℕ
+
+-- ---- VCD
+
+-- the code of the i-th watched signal: the digits of i in base 94, lowest first and at least one, each as the character 33
+-- plus the digit
+unfoldable pub code : ℕ → Text
+code i = if i == 0 then codes "!" else map (λ d. 33 + d) (reverse (digits_of 94 i))
+
+-- the line of a number of the i-th: of one bit its digit and the code, and of more a `b`, the shortest binary, a space and the code
+abbrev pub value : ℕ → ℕ → ℕ → Text
+value i width number = (if width == 1 then binary number else codes "b" ++ binary number ++ codes " ") ++ code i ++ codes "\n"
+
+-- the declaration of the i-th
+abbrev pub variable : ℕ → Watched → Text
+variable i w = codes "$var wire " ++ decimal w.width ++ codes " " ++ code i ++ codes " " ++ w.name ++ codes " $end\n"
+
+-- the declarations from the i-th on, the lines of all numbers, and those of the numbers that changed
+abbrev pub variables : ℕ → List Watched → Text
+variables i [] = []
+variables i (w ∷ ws) = variable i w ++ variables (suc i) ws
+
+abbrev pub values : ℕ → List Watched → List ℕ → Text
+values i (w ∷ ws) (x ∷ now) = value i w.width x ++ values (suc i) ws now
+values i _ _ = []
+
+abbrev pub changed : ℕ → ℕ → ℕ → ℕ → Text
+changed i width old new = if old == new then [] else value i width new
+
+abbrev pub changes : ℕ → List Watched → List ℕ → List ℕ → Text
+changes i (w ∷ ws) (x ∷ last) (y ∷ now) = changed i w.width x y ++ changes (suc i) ws last now
+changes i _ _ _ = []
+
+abbrev pub header : List Watched → Text
+header ws = codes "$timescale 1 ns $end\n$scope module safl $end\n" ++ variables 0 ws ++ codes "$upscope $end\n$enddefinitions $end\n"
+
+-- the time of a frame, and that time before a text that isn't empty
+abbrev pub time : ℕ → Text
+time t = codes "#" ++ decimal t ++ codes "\n"
+
+abbrev pub timed : ℕ → Text → Text
+timed t [] = []
+timed t (c ∷ cs) = time t ++ c ∷ cs
+
+abbrev pub dump : ℕ → List Watched → List ℕ → Text
+dump t ws now = time t ++ codes "$dumpvars\n" ++ values 0 ws now ++ codes "$end\n"
+
+-- ---- starts and toggles
+
+-- a line for each signal that is 1
+abbrev pub start : ℕ → List ℕ → ℕ → Text
+start t name number = if number == 1 then decimal t ++ codes " " ++ name ++ codes "\n" else []
+
+abbrev pub starts : ℕ → List Watched → List ℕ → Text
+starts t (w ∷ ws) (x ∷ now) = start t w.name x ++ starts t ws now
+starts t _ _ = []
+
+-- how many bits differ
+abbrev pub toggled : List ℕ → List ℕ → ℕ
+toggled (x ∷ last) (y ∷ now) = count_ones (bit_xor x y) + toggled last now
+toggled _ _ = 0
+
+abbrev pub toggles : ℕ → ℕ → Text
+toggles t count = decimal t ++ codes " " ++ decimal count ++ codes "\n"
+
+-- ---- what a probe of a kind writes
+
+-- at the beginning
+abbrev pub opening : TraceKind → List Watched → Text
+opening Vcd ws = header ws
+opening Starts ws = []
+opening Toggles ws = []
+opening Silent ws = []
+
+-- in cycle t, where the watched signals have these numbers, and had those in the frame before, if there is one
+abbrev pub frame_text : TraceKind → List Watched → ℕ → Option (List ℕ) → List ℕ → Text
+frame_text Vcd ws t None now = dump t ws now
+frame_text Vcd ws t (Some last) now = timed t (changes 0 ws last now)
+frame_text Starts ws t last now = starts t ws now
+frame_text Toggles ws t None now = toggles t 0
+frame_text Toggles ws t (Some last) now = toggles t (toggled last now)
+frame_text Silent ws t last now = []
+
+-- at the end, after so many frames
+abbrev pub closing : TraceKind → ℕ → Text
+closing Vcd turn = time turn
+closing Starts turn = []
+closing Toggles turn = []
+closing Silent turn = []
+
+-- the frames from cycle t on
+abbrev pub frames_text : TraceKind → List Watched → ℕ → Option (List ℕ) → List Valuation → Text
+frames_text kind ws t last [] = []
+frames_text kind ws t last (f ∷ fs) = frame_text kind ws t last (seen ws f) ++ frames_text kind ws (suc t) (Some (seen ws f)) fs
+
+-- the whole trace of a run, by the number of its kind
+abbrev pub trace : ℕ → Netlist → List Valuation → Text
+trace number n frames =
+    let kind = kind_of number in
+    let ws = watched_by kind n in
+    opening kind ws ++ frames_text kind ws 0 None frames ++ closing kind (length frames)

@@ -1,0 +1,107 @@
+//! What a probe watches of a net, and what it sees in a frame.
+
+ghost use Rattle.std.specs.Prelude.{◌≡◌, ◌++◌, ◌<◌, ◌∷◌, [], length, map, slice_index, IfOk, OnOk};
+ghost use Rattle.safl_word.specs.Words.{Word};
+ghost use Rattle.safl_net.specs.Netlist.{Signal, width_of};
+ghost use Rattle.safl_net.specs.Rules.{IsNetlist};
+ghost use Rattle.safl_net.specs.Making.{kind_at, name_at};
+ghost use Rattle.safl_probe.specs.Watching.{watched_by, group_from, one_watched, output_watched, seen};
+ghost use Rattle.safl_probe.specs.Entries.{watched_all, lasts, nows};
+
+use crate::entry::{Entry, make_entry, see};
+use crate::kind::{Group, TraceKind, belongs};
+use safl_net::{Net, Sig};
+use safl_word::{NoMemory, Raw, Word};
+use std::alloc::Global;
+
+/// The entries of what a probe of a kind watches.
+pub(crate) fn entries_of(alloc: Global, kind: TraceKind, net: &Net) -> Result<Vec<Entry>, NoMemory>
+    ensures { IfOk result (λ v. watched_all v.items ≡ watched_by kind net.now) }
+{
+    let mut entries = Vec::new(alloc);
+    match kind {
+        TraceKind::Vcd => watch_traced(alloc, &mut entries, net)?,
+        TraceKind::Starts => watch_group(alloc, &mut entries, net, Group::StartWires)?,
+        TraceKind::Toggles => watch_group(alloc, &mut entries, net, Group::Registers)?,
+        TraceKind::Silent => (),
+    }
+    Ok(entries)
+}
+
+fn watch_traced(alloc: Global, entries: &mut Vec<Entry>, net: &Net) -> Result<(), NoMemory>
+    ensures { OnOk result (watched_all entries.new.items ≡ watched_all entries.old.items ++ watched_by TraceKind.Vcd net.now) }
+{
+    watch_group(alloc, entries, net, Group::Inputs)?;
+    watch_group(alloc, entries, net, Group::Registers)?;
+    watch_group(alloc, entries, net, Group::NamedWires)?;
+    watch_outputs(alloc, entries, net)
+}
+
+// Watches the signals of a group.
+fn watch_group(
+    alloc: Global,
+    entries: &mut Vec<Entry>,
+    net: &Net,
+    group: Group,
+) -> Result<(), NoMemory>
+    ensures { OnOk result (watched_all entries.new.items ≡ watched_all entries.old.items ++ group_from group net.now.signals 0) }
+{
+    'signals: for i in 0..net.signals() {
+        watch_signal(alloc, entries, net, group, Sig(i))?;
+    }
+    Ok(())
+}
+
+// Watches a signal, where it is one of the group.
+fn watch_signal(
+    alloc: Global,
+    entries: &mut Vec<Entry>,
+    net: &Net,
+    group: Group,
+    signal: Sig,
+) -> Result<(), NoMemory>
+    requires { signal.0 < length net.now.signals }
+    ensures { OnOk result (watched_all entries.new.items ≡ watched_all entries.old.items ++ one_watched group (record { name = name_at net.now signal.0; width = width_of net.now signal.0; kind = kind_at net.now signal.0 }) signal.0) }
+{
+    let name = net.name(signal);
+    if !belongs(group, net.kind(signal), name) {
+        return Ok(());
+    }
+    let entry = make_entry(alloc, name, signal, net.width(signal))?;
+    entries.push(entry)?;
+    Ok(())
+}
+
+fn watch_outputs(alloc: Global, entries: &mut Vec<Entry>, net: &Net) -> Result<(), NoMemory>
+    ensures { OnOk result (watched_all entries.new.items ≡ watched_all entries.old.items ++ map (output_watched net.now) net.now.outputs) }
+{
+    let _count = net.signals();
+    'outputs: for i in 0..net.outputs() {
+        let signal = net.output_sig(i);
+        let entry = make_entry(alloc, net.output_name(i), signal, net.width(signal))?;
+        entries.push(entry)?;
+    }
+    Ok(())
+}
+
+/// Sees a frame: each entry takes the number that its signal has in it.
+pub(crate) fn look(entries: &mut [Entry], frame: &[Word])
+    ensures same { watched_all entries.new ≡ watched_all entries.old }
+    ensures last { lasts entries.new ≡ nows entries.old }
+    ensures now { nows entries.new ≡ seen (watched_all entries.old) (map (λ (w : Word). w.bits) frame.now) }
+{
+    'entries: for i in 0..entries.len() {
+        let number = number_at(frame, entries[i].signal);
+        see(&mut entries[i], number);
+    }
+}
+
+// The number of a signal in a frame, and 0 where there is no such signal.
+fn number_at(frame: &[Word], signal: u32) -> Raw
+    ensures { result ≡ slice_index (map (λ (w : Word). w.bits) frame.now) signal }
+{
+    match frame.get(signal as usize) {
+        Some(word) => word.bits(),
+        None => 0,
+    }
+}

@@ -1,0 +1,74 @@
+// What watches a simulation and gives text.
+ghost use Rattle.std.specs.Prelude.{◌≡◌, ◌≤◌, ◌<◌, map, OnOk, OnErr, IsErrOf, IsSome};
+ghost use Rattle.safl_word.specs.Words.{Word};
+ghost use Rattle.safl_io.specs.Counts.{Rose};
+ghost use Rattle.safl_io.specs.Sink.{Sends, SendsPart};
+ghost use Rattle.safl_probe.specs.Probing.{ProbeState, Tells, FrameFits, begun, after_frame, begin_text, cycle_text, finish_text};
+ghost use Rattle.safl_probe.specs.declared.probe.ProbeErr.TheVariants as why;
+
+use safl_net::Net;
+use safl_word::{NoMemory, Word};
+use thiserror::Error;
+
+/// Why a probe gave no text.
+#[derive(Clone, Copy, Debug, PartialEq, Eq, Error)]
+pub enum ProbeErr {
+    /// The probe failed. It has counted that.
+    #[error("the probe failed")]
+    Failed,
+    #[error("out of memory")]
+    NoMemory,
+}
+
+impl From<NoMemory> for ProbeErr {
+    ghost from_gives = { λ _ e. e ≡ why.NoMemory };
+
+    fn from(_: NoMemory) -> Self {
+        ProbeErr::NoMemory
+    }
+}
+
+/// Watches a simulation and gives text: first that of the beginning, then that of each frame, and then that of the end.
+///
+/// A frame is the words of all signals in a cycle, in the order of their numbers. A call fails only where the probe counts
+/// a fault. The count never falls, and may stand still at 2^64 - 1. After an error a prefix of the text was appended, and
+/// the probe is used no more.
+pub trait Probe: Drop {
+    /// What the probe tells: its kind, what it watches, what it saw last, how many frames it was given, and its faults.
+    ghost state: { Self → ProbeState };
+
+    /// The kind: 1 is VCD, 2 is starts, 3 is toggles. Any other kind writes nothing.
+    fn kind(&self) -> u8
+        ensures { result ≡ (state self.now).kind };
+
+    /// Begins on a net, and appends the text of the beginning.
+    fn begin(&mut self, net: &Net, out: &mut Vec<u8>) -> Result<(), ProbeErr>
+        ensures added { OnOk result (Sends (begin_text net.now (state self.old)) out.old.items out.new.items) }
+        ensures part { OnErr result (SendsPart (begin_text net.now (state self.old)) out.old.items out.new.items) }
+        ensures tells { OnOk result (Tells (begun net.now (state self.old)) (state self.new)) }
+        ensures same_kind { (state self.new).kind ≡ (state self.old).kind }
+        ensures failed { IsErrOf result ProbeErr.Failed → Rose (state self.old).faults (state self.new).faults }
+        ensures faults_later { (state self.old).faults ≤ (state self.new).faults };
+
+    /// Takes the frame of cycle `t`, which is the number of frames so far, and appends its text.
+    fn cycle(&mut self, t: u64, frame: &[Word], out: &mut Vec<u8>) -> Result<(), ProbeErr>
+        requires fits { FrameFits (state self.old).shape (map (λ (w : Word). w.bits) frame.now) }
+        requires turn { t ≡ (state self.old).turn }
+        requires room { t < 0xffff_ffff_ffff_ffff }
+        ensures added { OnOk result (Sends (cycle_text (map (λ (w : Word). w.bits) frame.now) (state self.old)) out.old.items out.new.items) }
+        ensures part { OnErr result (SendsPart (cycle_text (map (λ (w : Word). w.bits) frame.now) (state self.old)) out.old.items out.new.items) }
+        ensures tells { OnOk result (Tells (after_frame (map (λ (w : Word). w.bits) frame.now) (state self.old)) (state self.new)) }
+        ensures same_kind { (state self.new).kind ≡ (state self.old).kind }
+        ensures failed { IsErrOf result ProbeErr.Failed → Rose (state self.old).faults (state self.new).faults }
+        ensures faults_later { (state self.old).faults ≤ (state self.new).faults };
+
+    /// Appends the text of the end.
+    fn finish(&mut self, out: &mut Vec<u8>) -> Result<(), ProbeErr>
+        requires begun { IsSome (state self.old).shape }
+        ensures added { OnOk result (Sends (finish_text (state self.old)) out.old.items out.new.items) }
+        ensures part { OnErr result (SendsPart (finish_text (state self.old)) out.old.items out.new.items) }
+        ensures tells { OnOk result (Tells (state self.old) (state self.new)) }
+        ensures same_kind { (state self.new).kind ≡ (state self.old).kind }
+        ensures failed { IsErrOf result ProbeErr.Failed → Rose (state self.old).faults (state self.new).faults }
+        ensures faults_later { (state self.old).faults ≤ (state self.new).faults };
+}

@@ -1,0 +1,93 @@
+//! A probe of which one call fails, for tests.
+
+use crate::probe::{Probe, ProbeErr};
+use crate::tracer::Tracer;
+use safl_net::Net;
+use safl_word::Word;
+use std::alloc::Global;
+use std::marker::Model;
+
+/// A probe of any kind, which gives the texts of that kind. One call fails, counts that, and appends nothing.
+#[derive(Drop)]
+pub struct StubProbe {
+    tracer: Tracer,
+    fail_at: u64,
+    calls: u64,
+    faults: u64,
+}
+
+impl Model for StubProbe {
+    ghost use Rattle.safl_probe.specs.Stubs.{Stub};
+
+    ghost Value = { Stub };
+
+    ghost view = { λ s. record { probe = record s.tracer { faults = s.faults }; fail_at = s.fail_at; calls = s.calls } };
+}
+
+impl StubProbe {
+    ghost use Rattle.std.specs.Prelude.{◌≡◌, ◌↔◌, ◌≤◌, IsTrue};
+    ghost use Rattle.safl_io.specs.Counts.{Rose, raised};
+    ghost use Rattle.safl_probe.specs.Probing.{fresh};
+    ghost use Rattle.safl_probe.specs.Stubs.{Stub, FailsNext};
+
+    /// A probe of this kind, of which the call of this number fails. Calls of `begin`, `cycle` and `finish` are numbered
+    /// from 1.
+    pub fn new(alloc: Global, kind: u8, fail_at: u64) -> StubProbe
+        ensures { result ≡ record { probe = fresh kind; fail_at = fail_at; calls = 0 } }
+    {
+        StubProbe {
+            tracer: Tracer::new(alloc, kind),
+            fail_at,
+            calls: 0,
+            faults: 0,
+        }
+    }
+
+    // Counts a call, and answers whether it fails, which it counts too.
+    fn next_fails(&mut self) -> bool
+        ensures fails { IsTrue result ↔ FailsNext self.old }
+        ensures calls { self.new.calls ≡ raised self.old.calls }
+        ensures same { self.new ≡ record { probe = record self.old.probe { faults = self.new.probe.faults }; fail_at = self.old.fail_at; calls = self.new.calls } }
+        ensures rose { IsTrue result → Rose self.old.probe.faults self.new.probe.faults }
+        ensures later { self.old.probe.faults ≤ self.new.probe.faults }
+    {
+        self.calls = self.calls.saturating_add(1);
+        if self.calls != self.fail_at {
+            return false;
+        }
+        self.faults = self.faults.saturating_add(1);
+        true
+    }
+}
+
+impl Probe for StubProbe {
+    ghost state = { λ stub. stub.probe };
+
+    fn kind(&self) -> u8 {
+        self.tracer.kind()
+    }
+
+    fn begin(&mut self, net: &Net, out: &mut Vec<u8>) -> Result<(), ProbeErr> {
+        if self.next_fails() {
+            return Err(ProbeErr::Failed);
+        }
+        self.tracer.begin(net, out)?;
+        Ok(())
+    }
+
+    fn cycle(&mut self, t: u64, frame: &[Word], out: &mut Vec<u8>) -> Result<(), ProbeErr> {
+        if self.next_fails() {
+            return Err(ProbeErr::Failed);
+        }
+        self.tracer.cycle(t, frame, out)?;
+        Ok(())
+    }
+
+    fn finish(&mut self, out: &mut Vec<u8>) -> Result<(), ProbeErr> {
+        if self.next_fails() {
+            return Err(ProbeErr::Failed);
+        }
+        self.tracer.finish(out)?;
+        Ok(())
+    }
+}

@@ -1,0 +1,101 @@
+//! A probe of any kind that never fails but for lack of memory.
+
+use crate::entry::Entry;
+use crate::kind::kind_of;
+use crate::look::{entries_of, look};
+use crate::texts::{send_closing, send_frame, send_opening};
+use safl_net::Net;
+use safl_word::{NoMemory, Word};
+use std::alloc::Global;
+use std::marker::Model;
+
+#[derive(Drop)]
+pub(crate) struct Tracer {
+    alloc: Global,
+    kind: u8,
+    begun: bool,
+    signals: u32,
+    entries: Vec<Entry>,
+    turn: u64,
+    text: Vec<u8>,
+}
+
+impl Model for Tracer {
+    ghost use Rattle.safl_probe.specs.Probing.{ProbeState};
+
+    ghost Value = { ProbeState };
+
+    ghost use Rattle.safl_probe.specs.Entries.{told_of};
+
+    ghost view = { λ t. told_of t.kind t.begun t.signals t.entries.items t.turn };
+}
+
+impl Tracer {
+    ghost use Rattle.std.specs.Prelude.{◌≡◌, ◌<◌, ◌++◌, map, OnOk, OnErr};
+    ghost use Rattle.safl_word.specs.Words.{Word};
+    ghost use Rattle.safl_probe.specs.Probing.{fresh, begun, after_frame, FrameFits, begin_text, cycle_text, finish_text};
+
+    pub(crate) fn new(alloc: Global, kind: u8) -> Self
+        ensures { result ≡ fresh kind }
+    {
+        Tracer {
+            alloc,
+            kind,
+            begun: false,
+            signals: 0,
+            entries: Vec::new(alloc),
+            turn: 0,
+            text: Vec::new(alloc),
+        }
+    }
+
+    pub(crate) fn kind(&self) -> u8
+        ensures { result ≡ self.now.kind }
+    {
+        self.kind
+    }
+
+    pub(crate) fn begin(&mut self, net: &Net, out: &mut Vec<u8>) -> Result<(), NoMemory>
+        ensures added { OnOk result (out.new.items ≡ out.old.items ++ begin_text net.now self.old) }
+        ensures same { OnErr result (out.new.items ≡ out.old.items) }
+        ensures told { OnOk result (self.new ≡ begun net.now self.old) }
+        ensures kind { self.new.kind ≡ self.old.kind }
+    {
+        let kind = kind_of(self.kind);
+        let entries = entries_of(self.alloc, kind, net)?;
+        send_opening(&mut self.text, kind, &entries, out)?;
+        self.begun = true;
+        self.signals = net.signals();
+        self.entries = entries;
+        self.turn = 0;
+        Ok(())
+    }
+
+    pub(crate) fn cycle(
+        &mut self,
+        t: u64,
+        frame: &[Word],
+        out: &mut Vec<u8>,
+    ) -> Result<(), NoMemory>
+        requires fits { FrameFits self.old.shape (map (λ (w : Word). w.bits) frame.now) }
+        requires turn { t ≡ self.old.turn }
+        requires room { t < 0xffff_ffff_ffff_ffff }
+        ensures added { OnOk result (out.new.items ≡ out.old.items ++ cycle_text (map (λ (w : Word). w.bits) frame.now) self.old) }
+        ensures same { OnErr result (out.new.items ≡ out.old.items) }
+        ensures told { OnOk result (self.new ≡ after_frame (map (λ (w : Word). w.bits) frame.now) self.old) }
+        ensures kind { self.new.kind ≡ self.old.kind }
+    {
+        look(&mut self.entries, frame);
+        send_frame(&mut self.text, kind_of(self.kind), t, &self.entries, out)?;
+        self.turn = t + 1;
+        Ok(())
+    }
+
+    pub(crate) fn finish(&mut self, out: &mut Vec<u8>) -> Result<(), NoMemory>
+        ensures added { OnOk result (out.new.items ≡ out.old.items ++ finish_text self.old) }
+        ensures same { OnErr result (out.new.items ≡ out.old.items) }
+        ensures told { self.new ≡ self.old }
+    {
+        send_closing(&mut self.text, kind_of(self.kind), self.turn, out)
+    }
+}
