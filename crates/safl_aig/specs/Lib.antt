@@ -1,0 +1,12 @@
+pub mod Literals
+pub mod Circuits
+pub mod Runs
+pub mod Texts
+pub mod Lines
+pub mod Reads
+pub mod RunLaws
+pub mod Sections
+pub mod Symbols
+pub mod Readings
+pub mod ReadLaws
+pub mod TextLaws
