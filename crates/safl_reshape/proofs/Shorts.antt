@@ -1,0 +1,54 @@
+-- Lets stay short where calls are changed into expressions with short lets. And who calls none.
+use Rattle.std.proofs.Common.{◌≡◌, ℕ, ◌+◌, ◌≤◌, List, Bool, false, refl, sym, subst, length}
+use Rattle.safl_typing.specs.Rewriting.{Expression, Number, Sized, Variable, Choice, Binding, Applied, Called, Expressions, no_expression, an_expression, Bindings, no_binding, a_binding}
+use Rattle.safl_typing.specs.Heads.{Known, Callee, callee, is_site, sites, sites_bound}
+use Rattle.safl_term.specs.Sizes.{max_bindings}
+use Rattle.safl_typing.specs.Forms.{HasShortLets, HaveShortLets, HaveShortBound}
+use Rattle.safl_reshape.specs.Changed.{calls, calls_in, calls_bound}
+use Rattle.safl_reshape.proofs.Altered.{Alteration, altered, altered_all, altered_bound}
+use Rattle.safl_reshape.proofs.Shapes.{IsRigid, names_same}
+
+abbrev pub IsShort : Alteration → Type 0
+IsShort a = (f : Callee) (lo p : ℕ) (x : List ℕ) (es : Expressions) → HaveShortLets es → HasShortLets (a f lo p x es)
+
+module _ (k : Known) (a : Alteration) (r : IsRigid a) (s : IsShort a) where
+  mutual
+    pub short_altered : (lo : ℕ) (e : Expression) → HasShortLets e → HasShortLets (altered k a lo e)
+    short_altered lo (Number p n) h = tt
+    short_altered lo (Sized p w n) h = tt
+    short_altered lo (Variable p x) h = tt
+    short_altered lo (Choice p c x y) h = (short_altered lo c h.0, short_altered (lo + sites k c) x h.1, short_altered (lo + sites k c + sites k x) y h.2)
+    short_altered lo (Binding p bs b) h =
+        (subst (λ (l : List (List ℕ)). length l ≤ max_bindings) (sym (names_same k a r lo bs)) h.0, short_altered_bound lo bs h.1, short_altered (lo + sites_bound k bs) b h.2)
+    short_altered lo (Applied p o es) h = short_altered_all lo es h
+    short_altered lo (Called p x es) h = s _ _ _ _ _ (short_altered_all (lo + is_site (callee k x)) es h)
+
+    short_altered_all : (lo : ℕ) (es : Expressions) → HaveShortLets es → HaveShortLets (altered_all k a lo es)
+    short_altered_all lo no_expression h = tt
+    short_altered_all lo (an_expression e es) h = (short_altered lo e h.0, short_altered_all (lo + sites k e) es h.1)
+
+    short_altered_bound : (lo : ℕ) (bs : Bindings) → HaveShortBound bs → HaveShortBound (altered_bound k a lo bs)
+    short_altered_bound lo no_binding h = tt
+    short_altered_bound lo (a_binding p x w e bs) h = (short_altered lo e h.0, short_altered_bound (lo + sites k e) bs h.1)
+
+-- nothing passes this test
+abbrev pub no_callee : Callee → Bool
+no_callee c = false
+
+mutual
+  pub calls_none : (k : Known) (e : Expression) → calls no_callee k e ≡ false
+  calls_none k (Number p n) = refl
+  calls_none k (Sized p w n) = refl
+  calls_none k (Variable p x) = refl
+  calls_none k (Choice p c x y) = rw (calls_none k c, calls_none k x) (calls_none k y)
+  calls_none k (Binding p bs b) = rw (calls_none_bound k bs) (calls_none k b)
+  calls_none k (Applied p o es) = calls_none_in k es
+  calls_none k (Called p x es) = calls_none_in k es
+
+  calls_none_in : (k : Known) (es : Expressions) → calls_in no_callee k es ≡ false
+  calls_none_in k no_expression = refl
+  calls_none_in k (an_expression e es) = rw (calls_none k e) (calls_none_in k es)
+
+  calls_none_bound : (k : Known) (bs : Bindings) → calls_bound no_callee k bs ≡ false
+  calls_none_bound k no_binding = refl
+  calls_none_bound k (a_binding p x w e bs) = rw (calls_none k e) (calls_none_bound k bs)

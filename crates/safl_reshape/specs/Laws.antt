@@ -1,0 +1,46 @@
+-- What is claimed of reshaped programs.
+use Rattle.std.specs.Prelude.{◌≡◌, ℕ, ◌+◌, List, false}
+use Rattle.safl_word.specs.Words.{Word}
+use Rattle.safl_term.specs.Program.{Program}
+use Rattle.safl_term.specs.Meaning.{Main, main_cost}
+use Rattle.safl_term.specs.WellFormed.{AreWordsOf}
+use Rattle.safl_tree.specs.Tree.{Definition}
+use Rattle.safl_tree.specs.Places.{unplaced_program}
+use Rattle.safl_typing.specs.Forms.{Form, IsFormOf}
+use Rattle.safl_check.specs.Numbered.{program_in}
+use Rattle.safl_reshape.specs.Executions.{main_executions}
+use Rattle.safl_reshape.specs.Reshaped.{unfolded, is_recursive, copied_under, IsCopyable}
+use Rattle.safl_reshape.specs.Limits.{KeepsLimits}
+
+-- On words of its parameters main gives a word in B where it gives it in C, and nowhere else: in as many calls
+pub record IsAlike (C B : Program) : Type 0 where
+  pub params : B.params B.main ≡ C.params C.main
+  pub gives : (args : List Word) (v : Word) (d : Main C args v) → AreWordsOf args (C.params C.main) → (e : Main B args v) × (main_cost B args e ≡ main_cost C args d)
+  pub only : (args : List Word) (v : Word) (e : Main B args v) → AreWordsOf args (C.params C.main) → (d : Main C args v) × (main_cost B args e ≡ main_cost C args d)
+
+-- The same in one call less for each time that it makes the call of site k in C. A cost is never 0, since main's own
+-- application counts
+pub record Spares (k : ℕ) (C B : Program) : Type 0 where
+  pub params : B.params B.main ≡ C.params C.main
+  pub gives : (args : List Word) (v : Word) (d : Main C args v) → AreWordsOf args (C.params C.main) → (e : Main B args v) × (main_cost B args e + main_executions C args d k ≡ main_cost C args d)
+  pub only : (args : List Word) (v : Word) (e : Main B args v) → AreWordsOf args (C.params C.main) → (d : Main C args v) × (main_cost B args e + main_executions C args d k ≡ main_cost C args d)
+
+-- ---- the two laws, on sources as trees
+
+-- Where the callee of site k calls no member of its group, and the program with the call unfolded keeps the limits, it has
+-- a form, which gives the same in one call less for each time that the call is made
+abbrev pub UnfoldingSpares : Type 0
+UnfoldingSpares = (ds : List Definition) (c : Form) (k : ℕ) → IsFormOf ds c → is_recursive ds ((program_in c).callee k) ≡ false → KeepsLimits (unfolded ds k)
+    → (e : Form) × IsFormOf (unfolded ds k) e × Spares k (program_in c) (program_in e)
+
+-- Where function j, the callee of site k, is a group by itself and not the last one, the new name is no function's, and the
+-- program with the copy keeps the limits, it has a form, which gives the same in as many calls
+abbrev pub CopyIsAlike : Type 0
+CopyIsAlike = (ds : List Definition) (c : Form) (k j : ℕ) (d : Definition) (new : List ℕ) → IsFormOf ds c → IsCopyable ds c k j d new → KeepsLimits (copied_under new ds k j d)
+    → (e : Form) × IsFormOf (copied_under new ds k j d) e × IsAlike (program_in c) (program_in e)
+
+-- ---- places
+
+-- Programs that differ in places alone have the same form
+abbrev pub FormsHaveNoPlaces : Type 0
+FormsHaveNoPlaces = (ds es : List Definition) (c : Form) → unplaced_program ds ≡ unplaced_program es → IsFormOf ds c → IsFormOf es c

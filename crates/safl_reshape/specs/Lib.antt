@@ -1,0 +1,8 @@
+pub mod Executions
+pub mod Laws
+pub mod Changed
+pub mod Reshaped
+pub mod Counting
+pub mod Limits
+pub mod Lists
+pub mod Refusals

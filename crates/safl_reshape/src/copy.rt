@@ -1,0 +1,140 @@
+//! A function that is copied for one of its calls.
+
+ghost use Rattle.std.specs.Prelude.{◌≡◌, ◌<◌, ◌≤◌, ◌^◌, ℕ, Some, IsTrue, length, slice_get, IfOk, IfErr};
+ghost use Rattle.safl_term.specs.Checked.{program_of};
+ghost use Rattle.safl_tree.specs.Tree.{Definition};
+ghost use Rattle.safl_tree.specs.Shown.{shows_def, shows_defs, shows_program};
+ghost use Rattle.safl_tree.specs.Printable.{IsFormedProgram, IsPrintable};
+ghost use Rattle.safl_typing.specs.Heads.{Head, heads};
+ghost use Rattle.safl_typing.specs.Forms.{IsFormOf, shown};
+ghost use Rattle.safl_typing.specs.PlainHeads.{plain_heads};
+ghost use Rattle.safl_reshape.specs.Reshaped.{copy_name, copy_of, copied, copied_under};
+ghost use Rattle.safl_reshape.specs.Refusals.{HasForm, MayCopy, RefusesCopy, CopyRefused, IsCopied, GivesAlike, is_grouped, is_taken};
+
+use crate::change::change;
+use crate::changes::Changes;
+use crate::defs::{change_defs, copy_params};
+use crate::error::ReshapeErr;
+use crate::heads::heads_of;
+use safl_check::laws::forms_are_numbered_law;
+use safl_term::Checked;
+use safl_tree::{Def, Name, Program};
+use safl_typing::heads::Heads;
+use safl_word::{NoMemory, Raw, push_decimal};
+use std::alloc::Global;
+
+// The most bytes of a name.
+const NAME_MAX: usize = 64;
+
+/// The definitions with the callee of this site copied for its call.
+pub fn copied_defs(
+    alloc: Global,
+    checked: &Checked,
+    defs: &[Def],
+    site: u32,
+) -> Result<Vec<Def>, ReshapeErr>
+    requires form { IsFormOf (shows_defs defs.now) (shown checked.now) }
+    ensures may { IfOk result (λ es. MayCopy (program_of checked.now) (shows_defs defs.now) site) }
+    ensures copied { IfOk result (λ es. shows_defs es.items ≡ copied (shows_defs defs.now) site ((program_of checked.now).callee site)) }
+    ensures refused { IfErr result (RefusesCopy (program_of checked.now) (shows_defs defs.now) site) }
+{
+    forms_are_numbered_law();
+    let _functions = checked.functions();
+    if site == 0 || site > checked.sites() {
+        return Err(ReshapeErr::NoSite);
+    }
+    let callee = checked.callee(site) as usize;
+    if is_grouped(defs, callee) {
+        return Err(ReshapeErr::Grouped);
+    }
+    let name = name_for(alloc, &defs[callee].name, site)?;
+    if name.bytes().len() > NAME_MAX {
+        return Err(ReshapeErr::NameLong);
+    }
+    if is_taken(defs, &name) {
+        return Err(ReshapeErr::NameTaken);
+    }
+    Ok(copy_function(alloc, defs, callee, site, name)?)
+}
+
+// Whether the group of this function has two or more members.
+fn is_grouped(defs: &[Def], number: usize) -> bool
+    requires { number < length defs.now }
+    ensures { result ≡ is_grouped (shows_defs defs.now) number }
+{
+    if defs[number].joined {
+        return true;
+    }
+    match defs.get(number + 1) {
+        Some(next) => next.joined,
+        None => false,
+    }
+}
+
+// Whether a function has this name.
+fn is_taken(defs: &[Def], name: &Name) -> bool
+    ensures { result ≡ is_taken (shows_defs defs.now) name.now }
+{
+    for def in defs {
+        if name.bytes() == def.name.bytes() {
+            return true;
+        }
+    }
+    false
+}
+
+// The name of the copy of a function for this site.
+fn name_for(alloc: Global, name: &Name, site: u32) -> Result<Name, NoMemory>
+    ensures { IfOk result (λ new. new ≡ copy_name name.now site) }
+{
+    let mut bytes = Vec::new(alloc);
+    bytes.extend_from_slice(name.bytes())?;
+    bytes.push(b'_')?;
+    push_decimal(Raw::from(site), &mut bytes)?;
+    Name::new(alloc, bytes.as_slice())
+}
+
+// A function copied under a new name for the call of this site.
+fn copy_function(
+    alloc: Global,
+    defs: &[Def],
+    number: usize,
+    site: u32,
+    name: Name,
+) -> Result<Vec<Def>, NoMemory>
+    requires few { length defs.now ≤ 1000 }
+    requires within { number < length defs.now }
+    ensures { IfOk result (λ es. (d : Definition) → slice_get (shows_defs defs.now) number ≡ Some d → shows_defs es.items ≡ copied_under name (shows_defs defs.now) site number d) }
+{
+    let all_heads = heads_of(alloc, defs)?;
+    let copy = copy_def(alloc, &all_heads, number as u32, &defs[number], &name)?;
+    let changes = Changes::Copying(name);
+    let mut all = change_defs(alloc, &all_heads, &changes, site, defs)?;
+    all.insert(number + 1, copy)?;
+    Ok(all)
+}
+
+// The copy of a definition under a new name.
+fn copy_def(
+    alloc: Global,
+    all_heads: &Heads,
+    number: u32,
+    def: &Def,
+    name: &Name,
+) -> Result<Def, NoMemory>
+    ensures { IfOk result (λ d. shows_def d ≡ copy_of (plain_heads all_heads.now) number name.now (shows_def def.now)) }
+{
+    let changes = Changes::Own(Name::new(alloc, name.bytes())?);
+    let mut left = 0;
+    let body = change(alloc, all_heads, number, &changes, &mut left, &def.body)?;
+    let name = Name::new(alloc, name.bytes())?;
+    let params = copy_params(alloc, &def.params)?;
+    Ok(Def {
+        joined: false,
+        place: def.place,
+        name,
+        params,
+        width: def.width,
+        body,
+    })
+}

@@ -1,0 +1,102 @@
+//! How many call sites and nodes expressions have.
+
+ghost use Rattle.safl_tree.specs.Shown.{shows, shows_all, shows_bounds, shows_labelled};
+ghost use Rattle.safl_typing.specs.Rewriting.{rewritten, nodes};
+ghost use Rattle.safl_typing.specs.PlainHeads.{known};
+ghost use Rattle.safl_reshape.specs.Changed.{sites_in_tree};
+ghost use Rattle.safl_reshape.specs.Counting.{Adds, nodes_list, nodes_bounds, nodes_labelled};
+ghost use Rattle.safl_reshape.specs.Lists.{sites_list, sites_bounds, sites_labelled};
+
+use safl_tree::{Arm, Bind, Expr, Node};
+use safl_typing::heads::{Heads, find_callee};
+use safl_typing::sites::sites_of_callee;
+
+/// So many call sites, and so many nodes where each `case` is rewritten. A number that would pass the end of its type
+/// stays there.
+#[derive(Clone, Copy)]
+pub struct Counts {
+    pub sites: u32,
+    pub nodes: u32,
+}
+
+impl Counts {
+    ghost use Rattle.safl_reshape.specs.Counting.{Adds};
+
+    /// So many more.
+    pub fn plus(self, sites: u32, nodes: u32) -> Counts
+        ensures { Adds self result sites nodes }
+    {
+        Counts {
+            sites: self.sites.saturating_add(sites),
+            nodes: self.nodes.saturating_add(nodes),
+        }
+    }
+}
+
+/// Those of an expression of a body of this group, and those before it. It recurses as deep as the expression is.
+#[cycle(counting)]
+pub fn count(heads: &Heads, unit: u32, before: Counts, e: &Expr) -> Counts
+    ensures { Adds before result (sites_in_tree (known heads.now unit) (shows e.now)) (nodes (rewritten (shows e.now))) }
+{
+    let itself = before.plus(0, 1);
+    match &e.node {
+        Node::Num(_) | Node::Sized(..) | Node::Var(_) => itself,
+        Node::If(condition, first, second) => {
+            let upto_condition = count(heads, unit, itself, condition);
+            let upto_first = count(heads, unit, upto_condition, first);
+            count(heads, unit, upto_first, second)
+        }
+        Node::Let(binds, body) => {
+            let upto_binds = count_binds(heads, unit, itself, binds);
+            count(heads, unit, upto_binds, body)
+        }
+        Node::Case(value, arms, other) => {
+            let upto_value = count(heads, unit, itself, value);
+            let upto_arms = count_arms(heads, unit, upto_value, arms);
+            count(heads, unit, upto_arms, other)
+        }
+        Node::Op(_, operands) => count_all(heads, unit, itself, operands),
+        Node::Call(name, arguments) => {
+            let sites = sites_of_callee(find_callee(heads, unit, name));
+            let called = itself.plus(sites, 0);
+            count_all(heads, unit, called, arguments)
+        }
+    }
+}
+
+// Operands or arguments.
+#[cycle(counting)]
+fn count_all(heads: &Heads, unit: u32, before: Counts, es: &[Expr]) -> Counts
+    ensures { Adds before result (sites_list (known heads.now unit) (shows_all es.now)) (nodes_list (shows_all es.now)) }
+{
+    let mut counts = before;
+    for e in es {
+        counts = count(heads, unit, counts, e);
+    }
+    counts
+}
+
+#[cycle(counting)]
+fn count_binds(heads: &Heads, unit: u32, before: Counts, binds: &[Bind]) -> Counts
+    ensures { Adds before result (sites_bounds (known heads.now unit) (shows_bounds binds.now)) (nodes_bounds (shows_bounds binds.now)) }
+{
+    let mut counts = before;
+    for b in binds {
+        counts = count(heads, unit, counts, &b.value);
+    }
+    counts
+}
+
+// A labelled arm stands for an if, its test and the test's variable beside its label and its value.
+#[cycle(counting)]
+fn count_arms(heads: &Heads, unit: u32, before: Counts, arms: &[Arm]) -> Counts
+    ensures { Adds before result (sites_labelled (known heads.now unit) (shows_labelled arms.now)) (nodes_labelled (shows_labelled arms.now)) }
+{
+    let mut counts = before;
+    for arm in arms {
+        let itself = counts.plus(0, 3);
+        let upto_label = count(heads, unit, itself, &arm.label);
+        counts = count(heads, unit, upto_label, &arm.value);
+    }
+    counts
+}

@@ -1,0 +1,87 @@
+//! Definitions in which calls are changed.
+
+ghost use Rattle.std.specs.Prelude.{◌≡◌, ◌≤◌, length, IfOk};
+ghost use Rattle.safl_tree.specs.Shown.{shows, shows_def, shows_defs, shows_params};
+ghost use Rattle.safl_typing.specs.Heads.{heads};
+ghost use Rattle.safl_typing.specs.PlainHeads.{plain_heads};
+ghost use Rattle.safl_reshape.specs.Changed.{with_body, changed_definitions};
+ghost use Rattle.safl_reshape.specs.Lists.{change_of};
+
+use crate::change::change;
+use crate::changes::Changes;
+use crate::duplicate::copy_expr;
+use crate::heads::next_unit;
+use safl_tree::{Def, Expr, Name, Param};
+use safl_typing::heads::Heads;
+use safl_word::NoMemory;
+use std::alloc::Global;
+
+/// The same definitions with calls changed, where this site is meant.
+pub fn change_defs(
+    alloc: Global,
+    all_heads: &Heads,
+    changes: &Changes<'_>,
+    site: u32,
+    defs: &[Def],
+) -> Result<Vec<Def>, NoMemory>
+    requires few { length defs.now ≤ 1000 }
+    requires heads { plain_heads all_heads.now ≡ heads (shows_defs defs.now) }
+    ensures { IfOk result (λ all. shows_defs all.items ≡ changed_definitions (heads (shows_defs defs.now)) (change_of site changes.now) 0 0 1 (shows_defs defs.now)) }
+{
+    let mut all = Vec::new(alloc);
+    let mut unit = 0;
+    let mut left = site;
+    for number in 0..defs.len() {
+        let def = &defs[number];
+        unit = next_unit(number as u32, unit, def);
+        let body = change(alloc, all_heads, unit, changes, &mut left, &def.body)?;
+        let next = with_other_body(alloc, def, body)?;
+        all.push(next)?;
+    }
+    Ok(all)
+}
+
+// The same definition with another body.
+fn with_other_body(alloc: Global, def: &Def, body: Expr) -> Result<Def, NoMemory>
+    ensures { IfOk result (λ d. shows_def d ≡ with_body (shows_def def.now) (shows body)) }
+{
+    let name = Name::new(alloc, def.name.bytes())?;
+    let params = copy_params(alloc, &def.params)?;
+    Ok(Def {
+        joined: def.joined,
+        place: def.place,
+        name,
+        params,
+        width: def.width,
+        body,
+    })
+}
+
+/// The same definitions.
+pub fn copy_defs(alloc: Global, defs: &[Def]) -> Result<Vec<Def>, NoMemory>
+    ensures { IfOk result (λ all. shows_defs all.items ≡ shows_defs defs.now) }
+{
+    let mut all = Vec::new(alloc);
+    for def in defs {
+        let body = copy_expr(alloc, &def.body)?;
+        let copy = with_other_body(alloc, def, body)?;
+        all.push(copy)?;
+    }
+    Ok(all)
+}
+
+/// The same parameters.
+pub fn copy_params(alloc: Global, params: &[Param]) -> Result<Vec<Param>, NoMemory>
+    ensures { IfOk result (λ all. shows_params all.items ≡ shows_params params.now) }
+{
+    let mut all = Vec::new(alloc);
+    for param in params {
+        let name = Name::new(alloc, param.name.bytes())?;
+        all.push(Param {
+            place: param.place,
+            name,
+            width: param.width,
+        })?;
+    }
+    Ok(all)
+}

@@ -1,0 +1,43 @@
+//! Definitions in which the call of one site is replaced by the body of its callee.
+
+ghost use Rattle.std.specs.Prelude.{◌≡◌, IfOk, IfErr};
+ghost use Rattle.safl_term.specs.Checked.{program_of};
+ghost use Rattle.safl_tree.specs.Shown.{shows_defs};
+ghost use Rattle.safl_typing.specs.Forms.{IsFormOf, shown};
+ghost use Rattle.safl_reshape.specs.Reshaped.{unfolded};
+ghost use Rattle.safl_reshape.specs.Refusals.{MayUnfold, RefusesUnfolding};
+
+use crate::changes::Changes;
+use crate::defs::change_defs;
+use crate::error::ReshapeErr;
+use crate::heads::heads_of;
+use crate::own::calls_own;
+use safl_term::Checked;
+use safl_tree::Def;
+use std::alloc::Global;
+
+/// The definitions with the call of this site replaced by the body of its callee.
+pub fn unfolded_defs(
+    alloc: Global,
+    checked: &Checked,
+    defs: &[Def],
+    site: u32,
+) -> Result<Vec<Def>, ReshapeErr>
+    requires form { IsFormOf (shows_defs defs.now) (shown checked.now) }
+    ensures may { IfOk result (λ es. MayUnfold (program_of checked.now) (shows_defs defs.now) site) }
+    ensures unfolded { IfOk result (λ es. shows_defs es.items ≡ unfolded (shows_defs defs.now) site) }
+    ensures refused { IfErr result (RefusesUnfolding (program_of checked.now) (shows_defs defs.now) site) }
+{
+    let _functions = checked.functions();
+    if site == 0 || site > checked.sites() {
+        return Err(ReshapeErr::NoSite);
+    }
+    let callee = checked.callee(site) as usize;
+    let heads = heads_of(alloc, defs)?;
+    let unit = heads.get(callee).unit;
+    if calls_own(&heads, unit, &defs[callee].body) {
+        return Err(ReshapeErr::Recursive);
+    }
+    let changes = Changes::Unfolding(defs);
+    Ok(change_defs(alloc, &heads, &changes, site, defs)?)
+}

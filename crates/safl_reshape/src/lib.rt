@@ -1,0 +1,21 @@
+//! Sources that are reshaped: a function copied for one of its calls, and a call replaced by the function's body.
+#![tactic(auto)]
+
+mod change;
+mod changes;
+mod copy;
+mod counts;
+mod defs;
+mod duplicate;
+pub mod error;
+mod heads;
+mod inline;
+pub mod laws;
+mod limits;
+mod make;
+mod own;
+pub mod program;
+mod unfold;
+
+pub use crate::error::ReshapeErr;
+pub use crate::program::{copy_site, unfold_site};

@@ -1,0 +1,59 @@
+//! The limits that a reshaped program may pass.
+
+ghost use Rattle.std.specs.Prelude.{◌≡◌, ◌≤◌, length, OnOk, IfErr};
+ghost use Rattle.safl_tree.specs.Shown.{shows_defs};
+ghost use Rattle.safl_typing.specs.Heads.{heads};
+ghost use Rattle.safl_typing.specs.PlainHeads.{plain_heads};
+ghost use Rattle.safl_typing.specs.Forms.{nodes_of};
+ghost use Rattle.safl_reshape.specs.Counting.{saturated};
+ghost use Rattle.safl_reshape.specs.Limits.{KeepsLimits, site_total};
+ghost use Rattle.safl_reshape.specs.Refusals.{RefusesLimit};
+
+use crate::counts::{Counts, count};
+use crate::error::ReshapeErr;
+use crate::heads::{heads_of, next_unit};
+use safl_tree::Def;
+use safl_typing::heads::Heads;
+use std::alloc::Global;
+
+const FUNCTIONS_MAX: usize = 1_000;
+
+const SITES_MAX: u32 = 4_000;
+
+const NODES_MAX: u32 = 50_000;
+
+/// Refuses definitions that pass a limit on functions, call sites or nodes: the first of these that is passed.
+pub fn look_at_limits(alloc: Global, defs: &[Def]) -> Result<(), ReshapeErr>
+    ensures kept { OnOk result (KeepsLimits (shows_defs defs.now)) }
+    ensures refused { IfErr result (RefusesLimit (shows_defs defs.now)) }
+{
+    if defs.len() > FUNCTIONS_MAX {
+        return Err(ReshapeErr::Limit(1));
+    }
+    let heads = heads_of(alloc, defs)?;
+    let counts = count_defs(&heads, defs);
+    if counts.sites > SITES_MAX {
+        return Err(ReshapeErr::Limit(4));
+    }
+    if counts.nodes > NODES_MAX {
+        return Err(ReshapeErr::Limit(5));
+    }
+    Ok(())
+}
+
+// The call sites and nodes of all bodies.
+fn count_defs(all_heads: &Heads, defs: &[Def]) -> Counts
+    requires few { length defs.now ≤ 1000 }
+    requires heads { plain_heads all_heads.now ≡ heads (shows_defs defs.now) }
+    ensures sites { saturated result.sites ≡ saturated (site_total (heads (shows_defs defs.now)) 0 0 (shows_defs defs.now)) }
+    ensures nodes { saturated result.nodes ≡ saturated (nodes_of (shows_defs defs.now)) }
+{
+    let mut unit = 0;
+    let mut counts = Counts { sites: 0, nodes: 0 };
+    for number in 0..defs.len() {
+        let def = &defs[number];
+        unit = next_unit(number as u32, unit, def);
+        counts = count(all_heads, unit, counts, &def.body);
+    }
+    counts
+}

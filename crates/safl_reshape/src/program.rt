@@ -1,0 +1,91 @@
+//! Programs that are reshaped.
+
+ghost use Rattle.std.specs.Prelude.{◌≡◌, IfOk, IfErr};
+ghost use Rattle.safl_tree.specs.Shown.{shows_defs, shows_program};
+ghost use Rattle.safl_tree.specs.Printable.{IsFormedProgram, IsPrintable};
+ghost use Rattle.safl_typing.specs.Forms.{IsFormOf, shown};
+ghost use Rattle.safl_reshape.specs.Refusals.{HasForm, CopyRefused, IsCopied, GivesAlike, UnfoldingRefused, IsUnfolded, GivesSparing};
+
+use crate::copy::copied_defs;
+use crate::defs::copy_defs;
+use crate::error::ReshapeErr;
+use crate::inline::unfolded_defs;
+use crate::laws::{copy_law, unfolding_law};
+use crate::limits::look_at_limits;
+use safl_check::laws::forms_are_numbered_law;
+use safl_check::{CheckErr, check};
+use safl_term::Checked;
+use safl_tree::laws::{printed_law, shallow_law};
+use safl_tree::{Def, Program, levels_ok};
+use safl_typing::laws::{fault_or_form_law, one_form_law};
+use safl_word::NoMemory;
+use std::alloc::Global;
+
+/// The program in which the callee of a site is copied for its call: right behind the callee stands the copy, whose name
+/// is the callee's, `_` and the number of the site. It has a form, and main gives the same words in as many calls. A
+/// refusal is the first that holds.
+pub fn copy_site(alloc: Global, program: Program, site: u32) -> Result<Program, ReshapeErr>
+    requires printable { IsPrintable (shows_program program) }
+    requires form { HasForm (shows_program program) }
+    ensures copied { IfOk result (λ q. IsCopied (shows_program program) site (shows_program q)) }
+    ensures printable { IfOk result (λ q. IsPrintable (shows_program q)) }
+    ensures alike { IfOk result (λ q. GivesAlike (shows_program program) (shows_program q)) }
+    ensures refused { IfErr result (CopyRefused (shows_program program) site) }
+{
+    forms_are_numbered_law();
+    one_form_law();
+    copy_law();
+    let checked = checked_of(alloc, &program.defs)?;
+    let _functions = checked.functions();
+    let defs = copied_defs(alloc, &checked, &program.defs, site)?;
+    look_at_limits(alloc, &defs)?;
+    let copy = Program { defs };
+    if !levels_ok(&copy) {
+        return Err(ReshapeErr::TooDeep);
+    }
+    Ok(copy)
+}
+
+/// The program in which the call of a site is replaced by `let r:w = B in r`, where B is the body of the callee under a
+/// let of its parameters, and w the callee's width. It has a form, and main gives the same words, in one call less for
+/// each time that it made the call. A refusal is the first that holds.
+pub fn unfold_site(alloc: Global, program: Program, site: u32) -> Result<Program, ReshapeErr>
+    requires printable { IsPrintable (shows_program program) }
+    requires form { HasForm (shows_program program) }
+    ensures unfolded { IfOk result (λ q. IsUnfolded (shows_program program) site (shows_program q)) }
+    ensures printable { IfOk result (λ q. IsPrintable (shows_program q)) }
+    ensures sparing { IfOk result (λ q. GivesSparing site (shows_program program) (shows_program q)) }
+    ensures refused { IfErr result (UnfoldingRefused (shows_program program) site) }
+{
+    forms_are_numbered_law();
+    one_form_law();
+    unfolding_law();
+    let checked = checked_of(alloc, &program.defs)?;
+    let _functions = checked.functions();
+    let defs = unfolded_defs(alloc, &checked, &program.defs, site)?;
+    look_at_limits(alloc, &defs)?;
+    let unfolded = Program { defs };
+    if !levels_ok(&unfolded) {
+        return Err(ReshapeErr::TooDeep);
+    }
+    Ok(unfolded)
+}
+
+// The checked program of printable definitions that have a form. The checker takes a program, so it is given a copy.
+#[tactic(auto, using(crate::proofs::Checkable::never_refused, crate::proofs::Checkable::never_deep))]
+fn checked_of(alloc: Global, defs: &[Def]) -> Result<Checked, NoMemory>
+    requires printable { IsPrintable (shows_defs defs.now) }
+    requires form { HasForm (shows_defs defs.now) }
+    ensures form { IfOk result (λ c. IsFormOf (shows_defs defs.now) (shown c)) }
+{
+    fault_or_form_law();
+    printed_law();
+    shallow_law();
+    let copy = copy_defs(alloc, defs)?;
+    match check(alloc, Program { defs: copy }) {
+        Ok(checked) => Ok(checked),
+        Err(CheckErr::NoMemory) => Err(NoMemory),
+        Err(CheckErr::TooDeep) => unreachable!(),
+        Err(CheckErr::Refused(_)) => unreachable!(),
+    }
+}
