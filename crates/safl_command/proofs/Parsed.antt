@@ -1,0 +1,29 @@
+-- What a parse of a line says of its command.
+use Rattle.std.proofs.Common.{◌≡◌, List, [], ◌∷◌, None, true, refl, sym, ap, ◌∙◌}
+use Rattle.clap.specs.Words.{Text, Kinds, IsAmong, fault_of, subcommand_of, subcommand_rows_of, is_simple, is_simple_and_free}
+use Rattle.clap.specs.declared.error.kind.ErrorKind.{ErrorKind}
+use Rattle.clap.specs.declared.parser.matches.ArgMatches.{ArgMatches}
+use Rattle.clap.proofs.OnLiterals.{clap_on_literals}
+use Rattle.safl_command.specs.Forms.{app}
+use Rattle.safl_command.specs.Commands.{command_of_line, entered_command, faultless}
+
+-- the program's command is one whose matches and faults `clap` defines
+pub app_simple : is_simple app ≡ true
+unfolding app clap_on_literals
+app_simple = refl
+
+pub app_free : is_simple_and_free app ≡ true
+unfolding app clap_on_literals
+app_free = refl
+
+pub parsed : (line : List Text) (m : ArgMatches) → fault_of app line ≡ [] → subcommand_rows_of m ≡ subcommand_of app line → entered_command (subcommand_rows_of m) ≡ command_of_line line
+unfolding command_of_line
+parsed line m none is = ap entered_command is ∙ ap (λ (ks : Kinds). faultless ks (subcommand_of app line)) (sym none)
+
+pub not_parsed : (line : List Text) (k : ErrorKind) → IsAmong k (fault_of app line) → None ≡ command_of_line line
+unfolding command_of_line
+not_parsed line k among = go (fault_of app line) among
+  where
+    go : (ks : Kinds) → IsAmong k ks → None ≡ faultless ks (subcommand_of app line)
+    go [] h = absurd h
+    go (x ∷ xs) h = refl

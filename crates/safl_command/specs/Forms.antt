@@ -1,0 +1,65 @@
+-- The forms of the commands, as `clap` reads them.
+use Rattle.std.specs.Prelude.{ℕ, List, [], ◌∷◌, map, Some, true, codes}
+use Rattle.clap.specs.declared.builder.action.ArgAction.TheVariants.{Append}
+use Rattle.clap.specs.Words.{App, Shape, Rule, new_app, new_rule, with_rule, with_subcommand}
+use Rattle.safl_command.specs.declared.forms.Argument as code
+use Rattle.safl_command.specs.declared.forms.Argument.TheVariants as code_of
+use Rattle.safl_command.specs.declared.forms.Form as code_form
+
+-- a word behind a command's own
+pub data Argument : Type 0 where
+  -- a word that has to be given, as `IN`
+  Name : (id : List ℕ) → Argument
+  -- an option that has to be given, with a value, as `--cycles L`
+  Option : (id : List ℕ) → Argument
+  -- any words, as `[ARG..]`
+  Rest : (id : List ℕ) → Argument
+
+-- a command's own word and what stands behind it
+pub record Form : Type 0 where
+  pub word : List ℕ
+  pub arguments : List Argument
+
+-- the commands: `check IN`, `build IN OUT`, `sim IN --cycles L [ARG..]`, `walk IN --order SEED --steps N [ARG..]` and `run FILE --cycles L [ARG..]`
+abbrev pub forms : List Form
+forms =
+    (record { word = codes "check"; arguments = Name (codes "IN") ∷ [] })
+    ∷ (record { word = codes "build"; arguments = Name (codes "IN") ∷ Name (codes "OUT") ∷ [] })
+    ∷ (record { word = codes "sim"; arguments = Name (codes "IN") ∷ Option (codes "cycles") ∷ Rest (codes "ARG") ∷ [] })
+    ∷ (record { word = codes "walk"; arguments = Name (codes "IN") ∷ Option (codes "order") ∷ Option (codes "steps") ∷ Rest (codes "ARG") ∷ [] })
+    ∷ (record { word = codes "run"; arguments = Name (codes "FILE") ∷ Option (codes "cycles") ∷ Rest (codes "ARG") ∷ [] })
+    ∷ []
+
+abbrev pub rule : Argument → Rule
+rule (Name id) = record (new_rule id) { required = true }
+rule (Option id) = record (new_rule id) { long = Some id; required = true }
+rule (Rest id) = record (new_rule id) { action = Some Append }
+
+-- with these arguments, in order
+abbrev pub with_rules : App → List Argument → App
+with_rules a [] = a
+with_rules a (x ∷ xs) = with_rules (with_rule a (rule x)) xs
+
+abbrev pub form_shape : Form → Shape
+form_shape f = (with_rules (new_app f.word) f.arguments).top
+
+-- with these subcommands, in order
+abbrev pub with_forms : App → List Form → App
+with_forms a [] = a
+with_forms a (f ∷ fs) = with_forms (with_subcommand a (form_shape f)) fs
+
+-- the program, which has to be given a subcommand
+abbrev pub bare : App
+bare = let a = new_app (codes "safl") in record a { top = record a.top { subcommand_required = true } }
+
+-- the program's command
+unfoldable pub app : App
+app = with_forms bare forms
+
+abbrev pub shown : code.Argument → Argument
+shown (code_of.Name id) = Name id.now
+shown (code_of.Option id) = Option id.now
+shown (code_of.Rest id) = Rest id.now
+
+abbrev pub shown_form : code_form.Form → Form
+shown_form f = record { word = f.word.now; arguments = map shown f.arguments.now }
