@@ -1,7 +1,8 @@
 -- The first of two faults.
 use Rattle.std.proofs.Common.{◌≡◌, Bool, true, false, Option, Some, None, refl, sym, ap, ◌∙◌}
 use Rattle.safl_word.specs.declared.fault.Fault.{Fault}
-use Rattle.safl_typing.specs.Walk.{needs, or_else}
+use Rattle.safl_term.specs.Readiness.{or_else}
+use Rattle.safl_typing.specs.Walk.{needs}
 
 pub or_else_assoc : (a b c : Option Fault) → or_else (or_else a b) c ≡ or_else a (or_else b c)
 or_else_assoc (Some f) b c = refl

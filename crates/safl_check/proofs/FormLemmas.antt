@@ -9,7 +9,7 @@ use Rattle.std.proofs.lemmas.List.{map-append}
 use Rattle.safl_term.specs.declared.checked.Parameter.{Parameter}
 use Rattle.safl_tree.specs.declared.tree.Param.{Param}
 use Rattle.safl_tree.specs.Printable.{AreFormedParameters}
-use Rattle.safl_tree.specs.Shown.{shows_param, shows_params}
+use Rattle.safl_tree.specs.Shown.{shown_parameter, shown_parameters}
 use Rattle.safl_typing.specs.Forms.{shown_param}
 use Rattle.safl_typing.specs.Heads.{Slot, slot_of}
 use Rattle.safl_word.specs.Numerals.{between}
@@ -51,25 +51,25 @@ pub utf8_name : (w : List ℕ) → IsName w → IsUtf8 w
 utf8_name w h = IsUtf8-from_ascii w (ascii_name w h.like)
 
 -- each parameter of a definition has a name
-pub param_name : (ps : List Param) (i : ℕ) (p : Param) → AreFormedParameters (shows_params ps) → i < length ps → p ≡ get_or ps i p → IsName p.name
+pub param_name : (ps : List Param) (i : ℕ) (p : Param) → AreFormedParameters (shown_parameters ps) → i < length ps → p ≡ get_or ps i p → IsName p.name
 param_name [] i p h lt is = absurd (omega (arith, lt))
 param_name (q ∷ ps) zero p h lt is = subst (λ (x : Param). IsName x.name) (sym is) h.0.0
 param_name (q ∷ ps) (suc i) p h lt is = param_name ps i p h.1 (omega (arith, lt)) is
 
-upto : (ps : List Param) (i : ℕ) (p : Param) → i < length ps → p ≡ get_or ps i p → map slot_of (shows_params (take (i + 1) ps)) ≡ map slot_of (shows_params (take i ps)) ++ slot_of (shows_param p) ∷ []
+upto : (ps : List Param) (i : ℕ) (p : Param) → i < length ps → p ≡ get_or ps i p → map slot_of (shown_parameters (take (i + 1) ps)) ≡ map slot_of (shown_parameters (take i ps)) ++ slot_of (shown_parameter p) ∷ []
 upto [] i p lt is = absurd (omega (arith, lt))
-upto (q ∷ ps) zero p lt is = ap (λ (x : Param). slot_of (shows_param x) ∷ []) (sym is)
+upto (q ∷ ps) zero p lt is = ap (λ (x : Param). slot_of (shown_parameter x) ∷ []) (sym is)
 upto (q ∷ ps) (suc i) p lt is =
     let e : suc i + 1 ≡ suc (i + 1) = omega arith in
-    ap (λ (j : ℕ). map slot_of (shows_params (take j (q ∷ ps)))) e ∙ ap (λ (l : List Slot). slot_of (shows_param q) ∷ l) (upto ps i p (omega (arith, lt)) is)
+    ap (λ (j : ℕ). map slot_of (shown_parameters (take j (q ∷ ps)))) e ∙ ap (λ (l : List Slot). slot_of (shown_parameter q) ∷ l) (upto ps i p (omega (arith, lt)) is)
 
 -- one more parameter
 pub params_next : (all more : List Parameter) (ps : List Param) (i : ℕ) (p : Param) (text : String Global) → i < length ps → p ≡ get_or ps i p
-    → map shown_param all ≡ map slot_of (shows_params (take i ps)) → string_bytes text ≡ p.name → more ≡ all ++ record { name = text; width = p.width } ∷ []
-    → map shown_param more ≡ map slot_of (shows_params (take (i + 1) ps))
+    → map shown_param all ≡ map slot_of (shown_parameters (take i ps)) → string_bytes text ≡ p.name → more ≡ all ++ record { name = text; width = p.width } ∷ []
+    → map shown_param more ≡ map slot_of (shown_parameters (take (i + 1) ps))
 params_next all more ps i p text lt is h name em =
     ap (λ (l : List Parameter). map shown_param l) em
     ∙ map-append shown_param all (record { name = text; width = p.width } ∷ [])
     ∙ ap (λ (l : List Slot). l ++ record { name = string_bytes text; width = p.width } ∷ []) h
-    ∙ ap (λ (x : List ℕ). map slot_of (shows_params (take i ps)) ++ record { name = x; width = p.width } ∷ []) name
+    ∙ ap (λ (x : List ℕ). map slot_of (shown_parameters (take i ps)) ++ record { name = x; width = p.width } ∷ []) name
     ∙ sym (upto ps i p lt is)

@@ -12,10 +12,11 @@ use Rattle.std.proofs.Math.Bool.{or_comm}
 use Rattle.safl_word.specs.declared.fault.Rule.TheVariants as rules
 use Rattle.safl_word.specs.declared.fault.Fault.{Fault}
 use Rattle.safl_tree.specs.Tree.{Definition, Parameter}
-use Rattle.safl_tree.specs.Shown.{shows_def, shows_defs, shows_params}
+use Rattle.safl_tree.specs.Shown.{shown_definition, shown_definitions, shown_parameters}
 use Rattle.safl_tree.specs.declared.tree.Def.{Def}
 use Rattle.safl_tree.specs.declared.tree.Param.{Param}
-use Rattle.safl_typing.specs.Walk.{Placed, fault, fault_with, or_else, needs, repeated, placed_params, head_fault, joined_faults}
+use Rattle.safl_term.specs.Readiness.{or_else}
+use Rattle.safl_typing.specs.Walk.{Placed, fault, fault_with, needs, repeated, placed_params, head_fault, joined_faults}
 use Rattle.safl_check.specs.Groups.{name_in, earlier, first_group_fault, group_fault_at}
 use Rattle.safl_check.proofs.FaultLemmas.{first_of, second_of}
 
@@ -52,23 +53,23 @@ any_before {A = A} name x xs (suc n) le = ⊎_elim
 abbrev pub def_names : List Def → ℕ → List (List ℕ)
 def_names ds n = names_before (λ (d : Def). d.name) ds n
 
-shown_name : (o : Option Def) → name_in (option_map shows_def o) ≡ name_at (λ (d : Def). d.name) o
+shown_name : (o : Option Def) → name_in (option_map shown_definition o) ≡ name_at (λ (d : Def). d.name) o
 shown_name None = refl
 shown_name (Some d) = refl
 
-earlier_names : (ds : List Def) (n : ℕ) → earlier (shows_defs ds) n ≡ def_names ds n
+earlier_names : (ds : List Def) (n : ℕ) → earlier (shown_definitions ds) n ≡ def_names ds n
 earlier_names ds zero = refl
 earlier_names ds (suc n) =
-    ap (λ (o : Option Definition). name_in o ∷ earlier (shows_defs ds) n) (slice_get-map shows_def ds n) ∙ ap (λ (x : List ℕ). x ∷ earlier (shows_defs ds) n) (shown_name (slice_get ds n))
+    ap (λ (o : Option Definition). name_in o ∷ earlier (shown_definitions ds) n) (slice_get-map shown_definition ds n) ∙ ap (λ (x : List ℕ). x ∷ earlier (shown_definitions ds) n) (shown_name (slice_get ds n))
     ∙ ap (λ (l : List (List ℕ)). name_at (λ (d : Def). d.name) (slice_get ds n) ∷ l) (earlier_names ds n)
 
-earlier_next : (ds : List Def) (i : ℕ) (d : Def) → i < length ds → d ≡ get_or ds i d → earlier (shows_defs ds) (i + 1) ≡ d.name ∷ earlier (shows_defs ds) i
+earlier_next : (ds : List Def) (i : ℕ) (d : Def) → i < length ds → d ≡ get_or ds i d → earlier (shown_definitions ds) (i + 1) ≡ d.name ∷ earlier (shown_definitions ds) i
 earlier_next ds i d lt is = earlier_names ds (i + 1) ∙ names_next (λ (d : Def). d.name) ds i d lt is ∙ ap (λ (l : List (List ℕ)). d.name ∷ l) (sym (earlier_names ds i))
 
 -- ---- parameters
 
 abbrev pub places : List Param → List Placed
-places ps = map (λ (p : Parameter). record { place = p.place; name = p.name }) (shows_params ps)
+places ps = map (λ (p : Parameter). record { place = p.place; name = p.name }) (shown_parameters ps)
 
 abbrev pub param_names : List Param → ℕ → List (List ℕ)
 param_names ps n = names_before (λ (p : Param). p.name) ps n
@@ -112,26 +113,26 @@ head_same names w d e h = head_new names w d true e (eq-eqb w d.width (sym h))
 -- ---- members
 
 pub joined_at : (ds : List Def) (i w : ℕ) (d : Def) (b : Bool) → i < length ds → d ≡ get_or ds i d → d.joined ≡ b
-    → joined_faults (earlier (shows_defs ds) i) w (shows_defs (drop i ds)) ≡ cond b (or_else (head_fault (earlier (shows_defs ds) i) w (shows_def d)) (joined_faults (earlier (shows_defs ds) (i + 1)) w (shows_defs (drop (i + 1) ds)))) None
+    → joined_faults (earlier (shown_definitions ds) i) w (shown_definitions (drop i ds)) ≡ cond b (or_else (head_fault (earlier (shown_definitions ds) i) w (shown_definition d)) (joined_faults (earlier (shown_definitions ds) (i + 1)) w (shown_definitions (drop (i + 1) ds)))) None
 joined_at ds i w d b lt is j =
     let t : drop i ds ≡ d ∷ drop (i + 1) ds = drop_more ds i d lt ∙ ap (λ (z : Def). z ∷ drop (i + 1) ds) (sym is) in
-    ap (λ (l : List Def). joined_faults (earlier (shows_defs ds) i) w (shows_defs l)) t
-    ∙ ap (λ (c : Bool). cond c (or_else (head_fault (earlier (shows_defs ds) i) w (shows_def d)) (joined_faults (d.name ∷ earlier (shows_defs ds) i) w (shows_defs (drop (i + 1) ds)))) None) j
-    ∙ ap (λ (l : List (List ℕ)). cond b (or_else (head_fault (earlier (shows_defs ds) i) w (shows_def d)) (joined_faults l w (shows_defs (drop (i + 1) ds)))) None) (sym (earlier_next ds i d lt is))
+    ap (λ (l : List Def). joined_faults (earlier (shown_definitions ds) i) w (shown_definitions l)) t
+    ∙ ap (λ (c : Bool). cond c (or_else (head_fault (earlier (shown_definitions ds) i) w (shown_definition d)) (joined_faults (d.name ∷ earlier (shown_definitions ds) i) w (shown_definitions (drop (i + 1) ds)))) None) j
+    ∙ ap (λ (l : List (List ℕ)). cond b (or_else (head_fault (earlier (shown_definitions ds) i) w (shown_definition d)) (joined_faults l w (shown_definitions (drop (i + 1) ds)))) None) (sym (earlier_next ds i d lt is))
 
 pub group_at : (ds : List Def) (i : ℕ) (d : Def) (b : Bool) → i < length ds → d ≡ get_or ds i d → d.joined ≡ b
-    → group_fault_at (shows_defs ds) i ≡ cond b None (or_else (head_fault (earlier (shows_defs ds) i) d.width (shows_def d)) (joined_faults (earlier (shows_defs ds) (i + 1)) d.width (shows_defs (drop (i + 1) ds))))
+    → group_fault_at (shown_definitions ds) i ≡ cond b None (or_else (head_fault (earlier (shown_definitions ds) i) d.width (shown_definition d)) (joined_faults (earlier (shown_definitions ds) (i + 1)) d.width (shown_definitions (drop (i + 1) ds))))
 group_at ds i d b lt is j =
     let t : drop i ds ≡ d ∷ drop (i + 1) ds = drop_more ds i d lt ∙ ap (λ (z : Def). z ∷ drop (i + 1) ds) (sym is) in
-    ap (λ (l : List Definition). first_group_fault (earlier (shows_defs ds) i) l) (drop-map shows_def i ds)
-    ∙ ap (λ (l : List Def). first_group_fault (earlier (shows_defs ds) i) (shows_defs l)) t
-    ∙ ap (λ (c : Bool). cond c None (or_else (head_fault (earlier (shows_defs ds) i) d.width (shows_def d)) (joined_faults (d.name ∷ earlier (shows_defs ds) i) d.width (shows_defs (drop (i + 1) ds))))) j
-    ∙ ap (λ (l : List (List ℕ)). cond b None (or_else (head_fault (earlier (shows_defs ds) i) d.width (shows_def d)) (joined_faults l d.width (shows_defs (drop (i + 1) ds))))) (sym (earlier_next ds i d lt is))
+    ap (λ (l : List Definition). first_group_fault (earlier (shown_definitions ds) i) l) (drop-map shown_definition i ds)
+    ∙ ap (λ (l : List Def). first_group_fault (earlier (shown_definitions ds) i) (shown_definitions l)) t
+    ∙ ap (λ (c : Bool). cond c None (or_else (head_fault (earlier (shown_definitions ds) i) d.width (shown_definition d)) (joined_faults (d.name ∷ earlier (shown_definitions ds) i) d.width (shown_definitions (drop (i + 1) ds))))) j
+    ∙ ap (λ (l : List (List ℕ)). cond b None (or_else (head_fault (earlier (shown_definitions ds) i) d.width (shown_definition d)) (joined_faults l d.width (shown_definitions (drop (i + 1) ds))))) (sym (earlier_next ds i d lt is))
 
 -- ---- the head of a definition, and those that follow it
 
 abbrev pub HasHeadFault : List Def → ℕ → ℕ → Option Fault → Def → Type 0
-HasHeadFault ds n w r d = r ≡ head_fault (earlier (shows_defs ds) n) w (shows_def d)
+HasHeadFault ds n w r d = r ≡ head_fault (earlier (shown_definitions ds) n) w (shown_definition d)
 
 pub head_shown : (ds : List Def) (n w : ℕ) (d : Def) (r : Option Fault) → n < length ds → d ≡ get_or ds n d → HasHeadFault ds n w r d → IfSome (slice_get ds n) (HasHeadFault ds n w r)
 head_shown ds n w d r lt is h = subst (λ (o : Option Def). IfSome o (HasHeadFault ds n w r)) (sym (slice_get_read ds (length ds) n d refl lt is)) h
@@ -140,17 +141,17 @@ head_here : (ds : List Def) (n w : ℕ) (d : Def) (r : Option Fault) → n < len
 head_here ds n w d r lt is h = subst (λ (o : Option Def). IfSome o (HasHeadFault ds n w r)) (slice_get_read ds (length ds) n d refl lt is) h
 
 pub group_stops : (ds : List Def) (i : ℕ) (d : Def) (f : Fault) → i < length ds → d ≡ get_or ds i d → d.joined ≡ false
-    → IfSome (slice_get ds i) (HasHeadFault ds i d.width (Some f)) → Some f ≡ group_fault_at (shows_defs ds) i
+    → IfSome (slice_get ds i) (HasHeadFault ds i d.width (Some f)) → Some f ≡ group_fault_at (shown_definitions ds) i
 group_stops ds i d f lt is j h = sym (first_of _ _ _ f (group_at ds i d false lt is j) (head_here ds i d.width d (Some f) lt is h))
 
 pub group_next : (ds : List Def) (i : ℕ) (d : Def) → i < length ds → d ≡ get_or ds i d → d.joined ≡ false
-    → IfSome (slice_get ds i) (HasHeadFault ds i d.width (None)) → group_fault_at (shows_defs ds) i ≡ joined_faults (earlier (shows_defs ds) (i + 1)) d.width (shows_defs (drop (i + 1) ds))
+    → IfSome (slice_get ds i) (HasHeadFault ds i d.width (None)) → group_fault_at (shown_definitions ds) i ≡ joined_faults (earlier (shown_definitions ds) (i + 1)) d.width (shown_definitions (drop (i + 1) ds))
 group_next ds i d lt is j h = second_of _ _ _ (group_at ds i d false lt is j) (head_here ds i d.width d None lt is h)
 
-pub joined_stops : (ds : List Def) (i w : ℕ) (d : Def) (f : Fault) (o : Option Fault) → i < length ds → d ≡ get_or ds i d → d.joined ≡ true → o ≡ joined_faults (earlier (shows_defs ds) i) w (shows_defs (drop i ds))
+pub joined_stops : (ds : List Def) (i w : ℕ) (d : Def) (f : Fault) (o : Option Fault) → i < length ds → d ≡ get_or ds i d → d.joined ≡ true → o ≡ joined_faults (earlier (shown_definitions ds) i) w (shown_definitions (drop i ds))
     → IfSome (slice_get ds i) (HasHeadFault ds i w (Some f)) → Some f ≡ o
 joined_stops ds i w d f o lt is j e h = sym (first_of _ _ _ f (e ∙ joined_at ds i w d true lt is j) (head_here ds i w d (Some f) lt is h))
 
-pub joined_next : (ds : List Def) (i w : ℕ) (d : Def) (o : Option Fault) → i < length ds → d ≡ get_or ds i d → d.joined ≡ true → o ≡ joined_faults (earlier (shows_defs ds) i) w (shows_defs (drop i ds))
-    → IfSome (slice_get ds i) (HasHeadFault ds i w (None)) → o ≡ joined_faults (earlier (shows_defs ds) (i + 1)) w (shows_defs (drop (i + 1) ds))
+pub joined_next : (ds : List Def) (i w : ℕ) (d : Def) (o : Option Fault) → i < length ds → d ≡ get_or ds i d → d.joined ≡ true → o ≡ joined_faults (earlier (shown_definitions ds) i) w (shown_definitions (drop i ds))
+    → IfSome (slice_get ds i) (HasHeadFault ds i w (None)) → o ≡ joined_faults (earlier (shown_definitions ds) (i + 1)) w (shown_definitions (drop (i + 1) ds))
 joined_next ds i w d o lt is j e h = second_of _ _ _ (e ∙ joined_at ds i w d true lt is j) (head_here ds i w d None lt is h)

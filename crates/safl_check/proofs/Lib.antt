@@ -11,4 +11,3 @@ mod OutcomeLemmas
 mod NamesakeLemmas
 mod PartLemmas
 mod StackLemmas
-mod TestLemmas

@@ -10,16 +10,17 @@ use Rattle.std.specs.Option.{option_map}
 use Rattle.safl_word.specs.declared.fault.Rule.TheVariants as rules
 use Rattle.safl_word.specs.declared.fault.Fault.{Fault}
 use Rattle.safl_tree.specs.Tree.{Definition}
-use Rattle.safl_tree.specs.Shown.{shows_def, shows_defs, shows_params}
+use Rattle.safl_tree.specs.Shown.{shown_definition, shown_definitions, shown_parameters}
 use Rattle.safl_tree.specs.declared.tree.Param.{Param}
 use Rattle.safl_tree.specs.declared.tree.Def.{Def}
 use Rattle.safl_term.specs.Sizes.{max_bindings}
 use Rattle.safl_typing.specs.Forms.{max_params, max_sites, max_nodes}
 use Rattle.safl_typing.specs.Heads.{Head, sites, unit_of}
 use Rattle.safl_typing.specs.declared.heads.Head as code_head
-use Rattle.safl_typing.specs.PlainHeads.{plain_heads, known}
+use Rattle.safl_typing.specs.PlainHeads.{shown_heads, known}
 use Rattle.safl_typing.specs.Rewriting.{Expression, rewritten, nodes}
-use Rattle.safl_typing.specs.Walk.{fault, fault_with, needs, or_else, limit, excess, long_let, limits_from, main_fault}
+use Rattle.safl_term.specs.Readiness.{or_else}
+use Rattle.safl_typing.specs.Walk.{fault, fault_with, needs, limit, excess, long_let, limits_from, main_fault}
 use Rattle.safl_check.proofs.FaultLemmas.{or_else_assoc, first_of, second_of, none_both, needs_none}
 
 -- the element that is one too many
@@ -91,49 +92,49 @@ here all i u s n d ds b v eb ev =
 pub record IsAt (ds : List Def) (i : ℕ) (d : Def) (b : Expression) : Type 0 where
   pub within : i < length ds
   pub read : d ≡ get_or ds i d
-  pub body : b ≡ rewritten (shows_def d).body
+  pub body : b ≡ rewritten (shown_definition d).body
 
-pub body_at : (ds : List Def) (i : ℕ) (d : Def) → i < length ds → d ≡ get_or ds i d → IsAt ds i d (rewritten (shows_def d).body)
+pub body_at : (ds : List Def) (i : ℕ) (d : Def) → i < length ds → d ≡ get_or ds i d → IsAt ds i d (rewritten (shown_definition d).body)
 body_at ds i d lt is = record { within = lt; read = is; body = refl }
 
 abbrev pub rest_from : List Head → List Def → ℕ → ℕ → ℕ → ℕ → Option Fault
-rest_from all ds i u s n = limits_from all i u s n (shows_defs (drop i ds))
+rest_from all ds i u s n = limits_from all i u s n (shown_definitions (drop i ds))
 
 -- none of those before i passes a limit
 pub record IsSearched (all : List Head) (ds : List Def) (i u s n : ℕ) : Type 0 where
-  pub rest : limits_from all 0 0 0 0 (shows_defs ds) ≡ rest_from all ds i u s n
+  pub rest : limits_from all 0 0 0 0 (shown_definitions ds) ≡ rest_from all ds i u s n
   pub sites : s ≤ 4000
   pub nodes : n ≤ 50000
 
-step : (all : List Head) (ds : List Def) (i u s n : ℕ) (d : Def) (b : Expression) (v : ℕ) → IsAt ds i d b → v ≡ unit_of i u (shows_def d)
-    → rest_from all ds i u s n ≡ or_else (list_fault (shows_def d) b) (or_else (sum_fault d.place (sites_with all v s b) (n + nodes b)) (rest_from all ds (i + 1) v (sites_with all v s b) (n + nodes b)))
+step : (all : List Head) (ds : List Def) (i u s n : ℕ) (d : Def) (b : Expression) (v : ℕ) → IsAt ds i d b → v ≡ unit_of i u (shown_definition d)
+    → rest_from all ds i u s n ≡ or_else (list_fault (shown_definition d) b) (or_else (sum_fault d.place (sites_with all v s b) (n + nodes b)) (rest_from all ds (i + 1) v (sites_with all v s b) (n + nodes b)))
 step all ds i u s n d b v at ev =
     let lt : i < length ds = at.within in
     let e : suc i ≡ i + 1 = omega arith in
     let t : drop i ds ≡ d ∷ drop (i + 1) ds = drop_more ds i d lt ∙ ap (λ (z : Def). z ∷ drop (i + 1) ds) (sym at.read) in
-    ap (λ (l : List Def). limits_from all i u s n (shows_defs l)) t ∙ here all i u s n (shows_def d) (shows_defs (drop (i + 1) ds)) b v at.body ev
-    ∙ ap (λ (j : ℕ). or_else (list_fault (shows_def d) b) (or_else (sum_fault d.place (sites_with all v s b) (n + nodes b)) (limits_from all j v (sites_with all v s b) (n + nodes b) (shows_defs (drop (i + 1) ds))))) e
+    ap (λ (l : List Def). limits_from all i u s n (shown_definitions l)) t ∙ here all i u s n (shown_definition d) (shown_definitions (drop (i + 1) ds)) b v at.body ev
+    ∙ ap (λ (j : ℕ). or_else (list_fault (shown_definition d) b) (or_else (sum_fault d.place (sites_with all v s b) (n + nodes b)) (limits_from all j v (sites_with all v s b) (n + nodes b) (shown_definitions (drop (i + 1) ds))))) e
 
 pub list_stops : (all : List Head) (ds : List Def) (i u s n : ℕ) (d : Def) (b : Expression) (f : Fault) → IsSearched all ds i u s n → IsAt ds i d b
-    → Some f ≡ list_fault (shows_def d) b → Some f ≡ limits_from all 0 0 0 0 (shows_defs ds)
+    → Some f ≡ list_fault (shown_definition d) b → Some f ≡ limits_from all 0 0 0 0 (shown_definitions ds)
 list_stops all ds i u s n d b f h at e =
-    let v : ℕ = unit_of i u (shows_def d) in
+    let v : ℕ = unit_of i u (shown_definition d) in
     sym (h.rest ∙ first_of _ _ _ f (step all ds i u s n d b v at refl) e)
 
 -- without a fault of its lists: its sums, and then the rest
-sums_next : (all : List Head) (ds : List Def) (i u s n : ℕ) (d : Def) (b : Expression) (v t m : ℕ) → IsSearched all ds i u s n → IsAt ds i d b → v ≡ unit_of i u (shows_def d)
-    → t ≡ min 4001 (sites_with all v s b) → m ≡ min 50001 (n + nodes b) → None ≡ list_fault (shows_def d) b
-    → limits_from all 0 0 0 0 (shows_defs ds) ≡ or_else (sum_fault d.place t m) (rest_from all ds (i + 1) v (sites_with all v s b) (n + nodes b))
+sums_next : (all : List Head) (ds : List Def) (i u s n : ℕ) (d : Def) (b : Expression) (v t m : ℕ) → IsSearched all ds i u s n → IsAt ds i d b → v ≡ unit_of i u (shown_definition d)
+    → t ≡ min 4001 (sites_with all v s b) → m ≡ min 50001 (n + nodes b) → None ≡ list_fault (shown_definition d) b
+    → limits_from all 0 0 0 0 (shown_definitions ds) ≡ or_else (sum_fault d.place t m) (rest_from all ds (i + 1) v (sites_with all v s b) (n + nodes b))
 sums_next all ds i u s n d b v t m h at ev et em e =
     h.rest ∙ second_of _ _ _ (step all ds i u s n d b v at ev) e
     ∙ ap (λ (o : Option Fault). or_else o (rest_from all ds (i + 1) v (sites_with all v s b) (n + nodes b))) (sums_capped d.place t m (sites_with all v s b) (n + nodes b) et em)
 
-pub sum_stops : (all : List Head) (ds : List Def) (i u s n : ℕ) (d : Def) (b : Expression) (v t m : ℕ) (f : Fault) → IsSearched all ds i u s n → IsAt ds i d b → v ≡ unit_of i u (shows_def d)
-    → t ≡ min 4001 (sites_with all v s b) → m ≡ min 50001 (n + nodes b) → None ≡ list_fault (shows_def d) b → Some f ≡ sum_fault d.place t m → Some f ≡ limits_from all 0 0 0 0 (shows_defs ds)
+pub sum_stops : (all : List Head) (ds : List Def) (i u s n : ℕ) (d : Def) (b : Expression) (v t m : ℕ) (f : Fault) → IsSearched all ds i u s n → IsAt ds i d b → v ≡ unit_of i u (shown_definition d)
+    → t ≡ min 4001 (sites_with all v s b) → m ≡ min 50001 (n + nodes b) → None ≡ list_fault (shown_definition d) b → Some f ≡ sum_fault d.place t m → Some f ≡ limits_from all 0 0 0 0 (shown_definitions ds)
 sum_stops all ds i u s n d b v t m f h at ev et em e q = sym (first_of _ _ _ f (sums_next all ds i u s n d b v t m h at ev et em e) q)
 
-pub searched_next : (all : List Head) (ds : List Def) (i u s n : ℕ) (d : Def) (b : Expression) (v t m : ℕ) → IsSearched all ds i u s n → IsAt ds i d b → v ≡ unit_of i u (shows_def d)
-    → t ≡ min 4001 (sites_with all v s b) → m ≡ min 50001 (n + nodes b) → None ≡ list_fault (shows_def d) b → None ≡ sum_fault d.place t m → IsSearched all ds (i + 1) v t m
+pub searched_next : (all : List Head) (ds : List Def) (i u s n : ℕ) (d : Def) (b : Expression) (v t m : ℕ) → IsSearched all ds i u s n → IsAt ds i d b → v ≡ unit_of i u (shown_definition d)
+    → t ≡ min 4001 (sites_with all v s b) → m ≡ min 50001 (n + nodes b) → None ≡ list_fault (shown_definition d) b → None ≡ sum_fault d.place t m → IsSearched all ds (i + 1) v t m
 searched_next all ds i u s n d b v t m h at ev et em e q =
     let x : ℕ = sites_with all v s b in
     let y : ℕ = n + nodes b in
@@ -146,23 +147,23 @@ searched_next all ds i u s n d b v t m h at ev et em e q =
 
 -- what the code calls with parts of a definition, and with all heads
 pub lists_of : (r : Option Fault) (d : Def) (ps : List Param) (long : Option ℕ) (b : Expression) → ps ≡ d.params.items → long ≡ long_let b
-    → r ≡ or_else (limit 2 max_params (excess max_params (map (λ p. p.place) (shows_params ps)))) (limit 3 max_bindings long) → r ≡ list_fault (shows_def d) b
+    → r ≡ or_else (limit 2 max_params (excess max_params (map (λ p. p.place) (shown_parameters ps)))) (limit 3 max_bindings long) → r ≡ list_fault (shown_definition d) b
 lists_of r d ps long b e l h =
-    h ∙ ap (λ (l : List Param). or_else (limit 2 max_params (excess max_params (map (λ p. p.place) (shows_params l)))) (limit 3 max_bindings long)) e
-    ∙ ap (λ (o : Option ℕ). or_else (limit 2 max_params (excess max_params (map (λ p. p.place) (shows_def d).params))) (limit 3 max_bindings o)) l
+    h ∙ ap (λ (l : List Param). or_else (limit 2 max_params (excess max_params (map (λ p. p.place) (shown_parameters l)))) (limit 3 max_bindings long)) e
+    ∙ ap (λ (o : Option ℕ). or_else (limit 2 max_params (excess max_params (map (λ p. p.place) (shown_definition d).params))) (limit 3 max_bindings o)) l
 
-pub sites_of : (hs : List code_head.Head) (all : List Head) (v s t : ℕ) (b : Expression) → plain_heads hs ≡ all → t ≡ min 4001 (s + sites (known hs v) b) → t ≡ min 4001 (sites_with all v s b)
+pub sites_of : (hs : List code_head.Head) (all : List Head) (v s t : ℕ) (b : Expression) → shown_heads hs ≡ all → t ≡ min 4001 (s + sites (known hs v) b) → t ≡ min 4001 (sites_with all v s b)
 sites_of hs all v s t b p h = h ∙ ap (λ (l : List Head). min 4001 (sites_with l v s b)) p
 
 -- ---- the last definition
 
-last_at : (ds : List Def) (i : ℕ) (d : Def) → length ds ≡ suc i → Some d ≡ slice_get ds i → main_fault (shows_defs ds) ≡ needs (bytes_eq d.name (codes "main")) (fault rules.E15 d.place)
+last_at : (ds : List Def) (i : ℕ) (d : Def) → length ds ≡ suc i → Some d ≡ slice_get ds i → main_fault (shown_definitions ds) ≡ needs (bytes_eq d.name (codes "main")) (fault rules.E15 d.place)
 last_at [] i d e h = absurd cc
 last_at (x ∷ []) zero d e h = let g : x ≡ d = cc in ap (λ (z : Def). needs (bytes_eq z.name (codes "main")) (fault rules.E15 z.place)) g
 last_at (x ∷ []) (suc i) d e h = absurd cc
 last_at (x ∷ (y ∷ ys)) zero d e h = absurd (omega (arith, e))
 last_at (x ∷ (y ∷ ys)) (suc i) d e h = last_at (y ∷ ys) i d (omega (arith, e)) h
 
-pub main_at : (ds : List Def) (d : Def) (b : Bool) → Some d ≡ slice_get ds (length ds - 1) → bytes_eq d.name (codes "main") ≡ b → main_fault (shows_defs ds) ≡ needs b (fault rules.E15 d.place)
+pub main_at : (ds : List Def) (d : Def) (b : Bool) → Some d ≡ slice_get ds (length ds - 1) → bytes_eq d.name (codes "main") ≡ b → main_fault (shown_definitions ds) ≡ needs b (fault rules.E15 d.place)
 main_at [] d b h q = absurd cc
 main_at (x ∷ xs) d b h q = last_at (x ∷ xs) (suc (length xs) - 1) d (omega arith) h ∙ ap (λ (z : Bool). needs z (fault rules.E15 d.place)) q

@@ -9,7 +9,7 @@ use Rattle.safl_word.specs.Words.{no_word}
 use Rattle.safl_term.specs.Checked as checked
 use Rattle.safl_term.specs.Checked.{CheckedProgram, program_of, name_of}
 use Rattle.safl_term.specs.Terms.{Const}
-use Rattle.safl_term.specs.Tree.{tree}
+use Rattle.safl_term.specs.Tree.{shown_term}
 use Rattle.safl_term.specs.declared.checked.Function.{Function}
 use Rattle.safl_term.specs.declared.checked.Parameter.{Parameter}
 use Rattle.safl_term.specs.declared.checked.Site.{Site}
@@ -47,7 +47,7 @@ program_shown c =
       sites = length c.sites;
       main = last k;
       unit = λ f. function_shown (λ g. g.unit) (λ g. g.unit) 0 c (λ g. refl) f k;
-      body = λ f. function_shown (λ g. tree g.body) (λ g. g.body) (Const no_word) c (λ g. refl) f k;
+      body = λ f. function_shown (λ g. shown_term g.body) (λ g. g.body) (Const no_word) c (λ g. refl) f k;
       params = λ f. function_shown (λ g. map (λ p. p.width) g.params.items) (λ g. map (λ p. p.width) g.params) [] c (λ g. widths_shown g.params.items) f k;
       result = λ f. function_shown (λ g. g.width) (λ g. g.width) 0 c (λ g. refl) f k;
       caller = λ s. site_shown (λ t. t.caller) 0 0 c refl s k;

@@ -1,23 +1,24 @@
 -- The outcome of the walk, by its parts.
-use Rattle.std.proofs.Common.{◌≡◌, ℕ, suc, ◌≤◌, List, [], ◌∷◌, length, map, Option, Some, None, ◌⊎◌, inl, inr, refl, sym, ap, ◌∙◌, subst, arith}
-use Rattle.std.specs.Prelude.{Result, Ok, Err, IfErr, OnOk}
+use Rattle.std.proofs.Common.{◌≡◌, ℕ, suc, ◌≤◌, List, [], ◌∷◌, length, map, Option, Some, None, inl, inr, refl, sym, ap, subst, arith}
+use Rattle.std.specs.Prelude.{Ok, Err}
 use Rattle.std.proofs.lemmas.List.{length-map}
 use Rattle.safl_word.specs.declared.fault.Fault.{Fault}
 use Rattle.safl_term.specs.declared.checked.Function.{Function}
 use Rattle.safl_term.specs.declared.checked.Site.{Site}
 use Rattle.safl_tree.specs.Tree.{Definition}
-use Rattle.safl_tree.specs.Shown.{shows_def, shows_defs}
+use Rattle.safl_tree.specs.Shown.{shown_definition, shown_definitions}
 use Rattle.safl_tree.specs.declared.tree.Def.{Def}
 use Rattle.safl_tree.specs.Printable.{IsFormedProgram}
 use Rattle.safl_typing.specs.Heads.{Head, heads, unit_of}
 use Rattle.safl_typing.specs.Forms.{FunctionForm, Form, AreFunctionsOf, AreShallow, IsFormOf, all_sites, shown, shown_function, max_functions}
 use Rattle.safl_typing.specs.Laws.{WalkGivesForm}
 use Rattle.safl_typing.specs.PlainTyped.{Refuses}
-use Rattle.safl_typing.specs.Walk.{limits, limits_from, limit, excess, or_else, functions_from, main_fault, outcome, first_fault}
+use Rattle.safl_term.specs.Readiness.{or_else}
+use Rattle.safl_typing.specs.Walk.{limits, limits_from, limit, excess, functions_from, main_fault, outcome, first_fault}
 use Rattle.safl_typing.specs.declared.typed.CheckErr.{CheckErr}
 use Rattle.safl_typing.specs.declared.typed.CheckErr.TheVariants as errors
 use Rattle.safl_typing.proofs.Limits.{none_limit, none_excess}
-use Rattle.safl_check.specs.Answers.{RefusesProgram, RefusesLimits, RefusesShallow, IsTooDeep, FindsTooDeep}
+use Rattle.safl_check.specs.Answers.{RefusesProgram, RefusesLimits, RefusesShallow}
 
 -- ---- faults
 
@@ -34,23 +35,6 @@ pub refused_shallow : (ds : List Definition) (e : CheckErr) → AreShallow ds �
 refused_shallow ds (errors.Refused f) s h = (h, inr s)
 refused_shallow ds errors.TooDeep s h = absurd h
 refused_shallow ds errors.NoMemory s h = tt
-
-pub if_refused : {A : Type 0} (r : Result A CheckErr) (ds : List Definition) → AreShallow ds → IfErr r (RefusesShallow ds) → IfErr r (RefusesProgram ds)
-if_refused (Ok a) ds s h = h
-if_refused (Err e) ds s h = refused_shallow ds e s h
-
-pub where_ok : {A E : Type 0} (r : Result A E) (P : Type 0) → P → OnOk r P
-where_ok (Ok a) P p = p
-where_ok (Err e) P p = tt
-
--- where a body is too deep, no limit refuses
-pub limits_find : {A : Type 0} (r : Result A CheckErr) (ds : List Definition) (e : CheckErr) → r ≡ Err e → RefusesLimits ds e → IsTooDeep ds → FindsTooDeep r
-limits_find r ds (errors.Refused f) q h d = absurd (none_some f (sym d.0 ∙ h))
-  where
-    none_some : (g : Fault) → None ≡ Some g → ⊥
-    none_some g e = absurd cc
-limits_find r ds errors.TooDeep q h d = inl q
-limits_find r ds errors.NoMemory q h d = inr q
 
 pub fault_of_functions : (ds : List Definition) (f : Fault) → limits ds ≡ None → functions_from (heads ds) [] 0 0 1 ds ≡ Err f → first_fault ds ≡ Some f
 unfolding outcome
@@ -81,14 +65,11 @@ count_first ds f e = first_of _ _ f e
 pub limit_next : (ds : List Definition) (f : Fault) → count_fault ds ≡ None → limits_from (heads ds) 0 0 0 0 ds ≡ Some f → limits ds ≡ Some f
 limit_next ds f e h = second_of _ _ f e h
 
-pub no_limit : (ds : List Definition) → count_fault ds ≡ None → limits_from (heads ds) 0 0 0 0 ds ≡ None → limits ds ≡ None
-no_limit ds e h = rw e h
-
 -- definitions that are not too many
-pub few : (defs : List Def) → count_fault (shows_defs defs) ≡ None → length defs ≤ 1000
+pub few : (defs : List Def) → count_fault (shown_definitions defs) ≡ None → length defs ≤ 1000
 few defs e =
-    let places = none_excess max_functions (map (λ d. d.place) (shows_defs defs)) (none_limit _ _ _ e) in
-    omega (arith, places, length-map (shows_defs defs) (λ d. d.place), length-map defs shows_def)
+    let places = none_excess max_functions (map (λ d. d.place) (shown_definitions defs)) (none_limit _ _ _ e) in
+    omega (arith, places, length-map (shown_definitions defs) (λ d. d.place), length-map defs shown_definition)
 
 -- ---- forms
 

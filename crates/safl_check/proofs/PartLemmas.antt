@@ -2,7 +2,7 @@
 use Rattle.std.proofs.Common.{◌≡◌, ℕ, ◌+◌, ◌*◌, ◌<◌, ◌≤◌, arith, List, [], ◌∷◌, ◌++◌, Option, Some, None, refl, sym, ap, ◌∙◌}
 use Rattle.std.specs.Prelude.{min}
 use Rattle.std.specs.Option.{option_or}
-use Rattle.safl_tree.specs.Tree.{Tree, Number, Sized, Variable, Choice, Binding, Cases, Applied, Called, Trees, no_tree, a_tree, Binds, no_bind, a_bind, Arms, default_arm, an_arm}
+use Rattle.safl_tree.specs.Tree.{Tree, Number, Sized, Variable, If, Let, Cases, Op, Call, Trees, no_tree, a_tree, Binds, no_bind, a_bind, Arms, default_arm, an_arm}
 use Rattle.safl_typing.specs.Heads.{Known, sites, sites_in, sites_bound}
 use Rattle.safl_typing.specs.Rewriting.{Expression, rewritten, rewritten_all, rewritten_binds, rewritten_arms, nodes, nodes_in, nodes_bound}
 use Rattle.safl_typing.specs.Walk.{or_place, long_let, long_let_in, long_let_bound}
@@ -60,22 +60,22 @@ nodes_parts : (t : Tree) → nodes (rewritten t) ≡ own_nodes t + total_nodes (
 nodes_parts (Number p n) = refl
 nodes_parts (Sized p w n) = refl
 nodes_parts (Variable p x) = refl
-nodes_parts (Choice p c a b) = omega arith
-nodes_parts (Binding p bs t) = omega (arith, nodes_values bs, nodes_append (values_in bs) (t ∷ []))
+nodes_parts (If p c a b) = omega arith
+nodes_parts (Let p bs t) = omega (arith, nodes_values bs, nodes_append (values_in bs) (t ∷ []))
 nodes_parts (Cases p e arms) = omega (arith, nodes_arms p arms)
-nodes_parts (Applied p o ts) = omega (arith, nodes_trees ts)
-nodes_parts (Called p f ts) = omega (arith, nodes_trees ts)
+nodes_parts (Op p o ts) = omega (arith, nodes_trees ts)
+nodes_parts (Call p f ts) = omega (arith, nodes_trees ts)
 
 -- an expression is a node
 own_nodes_some : (t : Tree) → 1 ≤ own_nodes t
 own_nodes_some (Number p n) = omega arith
 own_nodes_some (Sized p w n) = omega arith
 own_nodes_some (Variable p x) = omega arith
-own_nodes_some (Choice p c a b) = omega arith
-own_nodes_some (Binding p bs t) = omega arith
+own_nodes_some (If p c a b) = omega arith
+own_nodes_some (Let p bs t) = omega arith
 own_nodes_some (Cases p e arms) = omega arith
-own_nodes_some (Applied p o ts) = omega arith
-own_nodes_some (Called p f ts) = omega arith
+own_nodes_some (Op p o ts) = omega arith
+own_nodes_some (Call p f ts) = omega arith
 
 -- its parts are fewer nodes than it
 pub parts_below : (t : Tree) → total_nodes (parts t) < nodes (rewritten t)
@@ -102,11 +102,11 @@ sites_parts : (k : Known) (t : Tree) → sites k (rewritten t) ≡ own_sites k t
 sites_parts k (Number p n) = refl
 sites_parts k (Sized p w n) = refl
 sites_parts k (Variable p x) = refl
-sites_parts k (Choice p c a b) = omega arith
-sites_parts k (Binding p bs t) = omega (arith, sites_values k bs, sites_append k (values_in bs) (t ∷ []))
+sites_parts k (If p c a b) = omega arith
+sites_parts k (Let p bs t) = omega (arith, sites_values k bs, sites_append k (values_in bs) (t ∷ []))
 sites_parts k (Cases p e arms) = omega (arith, sites_arms k p arms)
-sites_parts k (Applied p o ts) = omega (arith, sites_trees k ts)
-sites_parts k (Called p f ts) = omega (arith, sites_trees k ts)
+sites_parts k (Op p o ts) = omega (arith, sites_trees k ts)
+sites_parts k (Call p f ts) = omega (arith, sites_trees k ts)
 
 -- ---- lets
 
@@ -128,17 +128,17 @@ lets_parts : (t : Tree) → long_let (rewritten t) ≡ or_place (own_long_let t)
 lets_parts (Number p n) = refl
 lets_parts (Sized p w n) = refl
 lets_parts (Variable p x) = refl
-lets_parts (Choice p c a b) = ap (λ (o : Option ℕ). or_place (long_let (rewritten c)) (or_place (long_let (rewritten a)) o)) (sym (or_none (long_let (rewritten b))))
-lets_parts (Binding p bs t) =
-    ap (λ (o : Option ℕ). or_place (own_long_let (Binding p bs t)) o)
+lets_parts (If p c a b) = ap (λ (o : Option ℕ). or_place (long_let (rewritten c)) (or_place (long_let (rewritten a)) o)) (sym (or_none (long_let (rewritten b))))
+lets_parts (Let p bs t) =
+    ap (λ (o : Option ℕ). or_place (own_long_let (Let p bs t)) o)
     (ap (λ (o : Option ℕ). or_place o (long_let (rewritten t))) (lets_values bs)
     ∙ ap (λ (o : Option ℕ). or_place (first_long_let (values_in bs)) o) (sym (or_none (long_let (rewritten t))))
     ∙ sym (lets_append (values_in bs) (t ∷ [])))
 lets_parts (Cases p e arms) =
     ap (λ (o : Option ℕ). or_place o (long_let (rewritten_arms p arms))) (or_none (long_let (rewritten e)))
     ∙ ap (λ (o : Option ℕ). or_place (long_let (rewritten e)) o) (lets_arms p arms)
-lets_parts (Applied p o ts) = lets_trees ts
-lets_parts (Called p f ts) = lets_trees ts
+lets_parts (Op p o ts) = lets_trees ts
+lets_parts (Call p f ts) = lets_trees ts
 
 -- ---- a walk over parts
 
@@ -149,16 +149,6 @@ pub record IsMeasured (k : Known) (before_sites before_nodes : ℕ) (body : Expr
   pub nodes : min 50001 (before_nodes + nodes body) ≡ min 50001 (n + total_nodes rest)
   pub few_sites : s ≤ 4001
   pub few_nodes : n ≤ 50001
-
-pub measured_first : (k : Known) (s n : ℕ) (t : Tree) → s ≤ 4001 → n ≤ 50001 → IsMeasured k s n (rewritten t) None s n (t ∷ [])
-measured_first k s n t ls ln =
-    record {
-      lets = sym (or_none (long_let (rewritten t)));
-      sites = omega arith;
-      nodes = omega arith;
-      few_sites = ls;
-      few_nodes = ln;
-    }
 
 pub measured_next : (k : Known) (s0 n0 : ℕ) (body : Expression) (long : Option ℕ) (s n : ℕ) (t : Tree) (rest : List Tree) (long' : Option ℕ) (s' n' : ℕ)
     → IsMeasured k s0 n0 body long s n (t ∷ rest) → long' ≡ option_or long (own_long_let t) → s' ≡ min 4001 (s + own_sites k t) → n' ≡ min 50001 (n + min 50001 (own_nodes t))

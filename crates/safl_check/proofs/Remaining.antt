@@ -15,8 +15,8 @@ use Rattle.safl_term.specs.Sizes.{max_bindings}
 use Rattle.safl_typing.specs.Forms.{max_functions, max_params, max_sites, max_nodes}
 use Rattle.safl_typing.specs.Ranges.{WideSlots, WideHeads, IsInRange}
 use Rattle.safl_typing.specs.Walk.{fault_with, needs, excess, limit, long_let, limits_from, limits}
-use Rattle.safl_typing.specs.Plain.{plain}
-use Rattle.safl_typing.specs.PlainHeads.{plain_slots, plain_head, plain_heads, known}
+use Rattle.safl_typing.specs.Plain.{shown_expression}
+use Rattle.safl_typing.specs.PlainHeads.{shown_slots, shown_head, shown_heads, known}
 use Rattle.safl_typing.specs.MayWalk.{CountParams, MayCheck}
 use Rattle.safl_typing.proofs.Names.{some_none}
 use Rattle.safl_typing.proofs.Formed.{params_wide, heads_wide, formed_range}
@@ -55,30 +55,30 @@ keeps_limits all n u s m d ds e =
       rest = q4.1;
     }
 
-params_count : (hs : List code_slot.Slot) (d : Definition) → plain_slots hs ≡ params_of d → length hs ≡ length d.params
+params_count : (hs : List code_slot.Slot) (d : Definition) → shown_slots hs ≡ params_of d → length hs ≡ length d.params
 params_count hs d e = sym (length-map hs _) ∙ (ap (λ (l : List Slot). length l) e ∙ length-map d.params _)
 
-counts_params : (all : List Head) (n u s m : ℕ) (ds : List Definition) (hs : List code_head.Head) → limits_from all n u s m ds ≡ None → plain_heads hs ≡ heads_from n u ds → CountParams hs
+counts_params : (all : List Head) (n u s m : ℕ) (ds : List Definition) (hs : List code_head.Head) → limits_from all n u s m ds ≡ None → shown_heads hs ≡ heads_from n u ds → CountParams hs
 counts_params all n u s m ds [] e q = tt
 counts_params all n u s m [] (h ∷ hs) e q = absurd cc
 counts_params all n u s m (d ∷ ds) (h ∷ hs) e q =
     let k = keeps_limits all n u s m d ds e in
-    let p = parts_same (plain_head h) (head_of (unit_of n u d) d) (plain_heads hs) (heads_from (suc n) (unit_of n u d) ds) q in
+    let p = parts_same (shown_head h) (head_of (unit_of n u d) d) (shown_heads hs) (heads_from (suc n) (unit_of n u d) ds) q in
     (omega (arith, params_count h.params.items d (ap (λ (z : Head). z.params) p.0), k.few_params), counts_params all (suc n) (unit_of n u d) _ _ ds hs k.rest p.1)
 
 -- ---- the heads of the whole program
 
-heads_count : (hs : List code_head.Head) → length (plain_heads hs) ≡ length hs
+heads_count : (hs : List code_head.Head) → length (shown_heads hs) ≡ length hs
 heads_count [] = refl
 heads_count (h ∷ hs) = ap (λ (n : ℕ). suc n) (heads_count hs)
 
-pub as_many_heads : (ds : List Definition) (hs : List code_head.Head) → plain_heads hs ≡ heads ds → length hs ≡ length ds
+pub as_many_heads : (ds : List Definition) (hs : List code_head.Head) → shown_heads hs ≡ heads ds → length hs ≡ length ds
 as_many_heads ds hs is = sym (heads_count hs) ∙ (ap (λ (l : List Head). length l) is ∙ heads_length 0 0 ds)
 
 -- the heads can be walked
 pub record AreKnown (all : List Head) (hs : List code_head.Head) : Type 0 where
-  pub same : plain_heads hs ≡ all
-  pub wide : WideHeads (plain_heads hs)
+  pub same : shown_heads hs ≡ all
+  pub wide : WideHeads (shown_heads hs)
   pub counted : length hs < 2 ^ 32
   pub params : CountParams hs
 
@@ -90,7 +90,7 @@ few_functions ds e =
 no_limit_from : (ds : List Definition) → limits ds ≡ None → limits_from (heads ds) 0 0 0 0 ds ≡ None
 no_limit_from ds e = (none_both (limit 1 max_functions (excess max_functions (map (λ (d : Definition). d.place) ds))) _ e).1
 
-pub are_known : (ds : List Definition) (hs : List code_head.Head) → IsFormedProgram ds → plain_heads hs ≡ heads ds → limits ds ≡ None → AreKnown (heads ds) hs
+pub are_known : (ds : List Definition) (hs : List code_head.Head) → IsFormedProgram ds → shown_heads hs ≡ heads ds → limits ds ≡ None → AreKnown (heads ds) hs
 are_known ds hs formed is e =
     record {
       same = is;
@@ -104,20 +104,20 @@ are_known ds hs formed is e =
 -- the definitions from number n on, with their heads, where u is the group before them, and their sites are numbered from lo on
 pub record AreLeft (all : List Head) (n u lo : ℕ) (ds : List Definition) (hs : List code_head.Head) : Type 0 where
   pub formed : AreFormedDefinitions ds
-  pub heads : plain_heads hs ≡ heads_from n u ds
+  pub heads : shown_heads hs ≡ heads_from n u ds
   pub sites_before : ℕ
   pub nodes_before : ℕ
   pub first : lo ≡ suc sites_before
   pub limits : limits_from all n u sites_before nodes_before ds ≡ None
 
-pub all_left : (ds : List Definition) (hs : List code_head.Head) → IsFormedProgram ds → plain_heads hs ≡ heads ds → limits ds ≡ None → AreLeft (heads ds) 0 0 1 ds hs
+pub all_left : (ds : List Definition) (hs : List code_head.Head) → IsFormedProgram ds → shown_heads hs ≡ heads ds → limits ds ≡ None → AreLeft (heads ds) 0 0 1 ds hs
 all_left ds hs formed is e =
     record { formed = formed.formed; heads = is; sites_before = 0; nodes_before = 0; first = refl; limits = no_limit_from ds e }
 
 -- a definition with its head
 pub record IsPaired (u : ℕ) (d : Definition) (h : code_head.Head) : Type 0 where
   pub unit : h.unit ≡ u
-  pub params : plain_slots h.params.items ≡ params_of d
+  pub params : shown_slots h.params.items ≡ params_of d
 
 pub same_known : (all : List Head) (u : ℕ) (whole : List code_head.Head) (h : code_head.Head) → AreKnown all whole → h.unit ≡ u → ◌≡◌ {A = Known} (known whole h.unit) (record { heads = all; unit = u })
 same_known all u whole h k e = rw (k.same, e) refl
@@ -125,13 +125,13 @@ same_known all u whole h k e = rw (k.same, e) refl
 module _ (all : List Head) (n u lo : ℕ) (d : Definition) (ds : List Definition) (h : code_head.Head) (hs : List code_head.Head) (left : AreLeft all n u lo (d ∷ ds) (h ∷ hs)) where
   pub is_paired : IsPaired (unit_of n u d) d h
   is_paired =
-      let p = parts_same (plain_head h) (head_of (unit_of n u d) d) (plain_heads hs) (heads_from (suc n) (unit_of n u d) ds) left.heads in
+      let p = parts_same (shown_head h) (head_of (unit_of n u d) d) (shown_heads hs) (heads_from (suc n) (unit_of n u d) ds) left.heads in
       record { unit = ap (λ (z : Head). z.unit) p.0; params = ap (λ (z : Head). z.params) p.0 }
 
   pub rest_left : AreLeft all (suc n) (unit_of n u d) (lo + sites (record { heads = all; unit = unit_of n u d }) (rewritten d.body)) ds hs
   rest_left =
       let k = keeps_limits all n u left.sites_before left.nodes_before d ds left.limits in
-      let p = parts_same (plain_head h) (head_of (unit_of n u d) d) (plain_heads hs) (heads_from (suc n) (unit_of n u d) ds) left.heads in
+      let p = parts_same (shown_head h) (head_of (unit_of n u d) d) (shown_heads hs) (heads_from (suc n) (unit_of n u d) ds) left.heads in
       record {
         formed = left.formed.1;
         heads = p.1;
@@ -141,11 +141,11 @@ module _ (all : List Head) (n u lo : ℕ) (d : Definition) (ds : List Definition
         limits = k.rest;
       }
 
-  pub same_sites : (b : code_expression.Expression) → plain b ≡ rewritten d.body → (whole : List code_head.Head) → AreKnown all whole → sites (known whole h.unit) (plain b) ≡ sites (record { heads = all; unit = unit_of n u d }) (rewritten d.body)
+  pub same_sites : (b : code_expression.Expression) → shown_expression b ≡ rewritten d.body → (whole : List code_head.Head) → AreKnown all whole → sites (known whole h.unit) (shown_expression b) ≡ sites (record { heads = all; unit = unit_of n u d }) (rewritten d.body)
   same_sites b body whole k =
-      ap (λ (z : Known). sites z (plain b)) (same_known all (unit_of n u d) whole h k is_paired.unit) ∙ ap (λ (e : Expression). sites (record { heads = all; unit = unit_of n u d }) e) body
+      ap (λ (z : Known). sites z (shown_expression b)) (same_known all (unit_of n u d) whole h k is_paired.unit) ∙ ap (λ (e : Expression). sites (record { heads = all; unit = unit_of n u d }) e) body
 
-  pub may_check : (b : code_expression.Expression) → plain b ≡ rewritten d.body → (whole : List code_head.Head) → AreKnown all whole → MayCheck whole h.unit (plain_slots h.params.items) lo (plain b)
+  pub may_check : (b : code_expression.Expression) → shown_expression b ≡ rewritten d.body → (whole : List code_head.Head) → AreKnown all whole → MayCheck whole h.unit (shown_slots h.params.items) lo (shown_expression b)
   may_check b body whole known_all =
       let k = keeps_limits all n u left.sites_before left.nodes_before d ds left.limits in
       let same = same_sites b body whole known_all in

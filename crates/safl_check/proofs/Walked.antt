@@ -8,7 +8,7 @@ use Rattle.std.proofs.lemmas.Option.{slice_get_read}
 use Rattle.safl_word.specs.declared.fault.Fault.{Fault}
 use Rattle.safl_term.specs.declared.checked.Function.{Function}
 use Rattle.safl_tree.specs.declared.tree.Def.{Def}
-use Rattle.safl_tree.specs.Shown.{shows_def, shows_defs}
+use Rattle.safl_tree.specs.Shown.{shown_definition, shown_definitions}
 use Rattle.safl_tree.specs.Tree.{Definition}
 use Rattle.safl_tree.specs.Printable.{IsFormedDefinition, IsFormedProgram}
 use Rattle.safl_typing.specs.declared.expression.Expression as code_expression
@@ -19,8 +19,8 @@ use Rattle.safl_typing.specs.Rewriting.{Expression, rewritten}
 use Rattle.safl_typing.specs.Heads.{Slot, Head, Known, unit_of, params_of, heads, sites}
 use Rattle.safl_typing.specs.Forms.{FunctionForm, shown_function}
 use Rattle.safl_typing.specs.Walk.{Exactly, after, unless, limits, check, group_fault, function, functions_from}
-use Rattle.safl_typing.specs.Plain.{plain}
-use Rattle.safl_typing.specs.PlainHeads.{plain_slots, plain_heads, known}
+use Rattle.safl_typing.specs.Plain.{shown_expression}
+use Rattle.safl_typing.specs.PlainHeads.{shown_slots, shown_heads, known}
 use Rattle.safl_typing.specs.PlainTyped.{Refuses}
 use Rattle.safl_typing.specs.MayWalk.{MayCheck}
 use Rattle.safl_check.specs.Groups.{name_in, earlier, first_group_fault, group_fault_at}
@@ -66,7 +66,7 @@ pub record IsWalked (ds : List Definition) (hs : List code_head.Head) (fs : List
   pub left : AreLeft (heads ds) i group lo (drop i ds) (drop i hs)
   pub functions : functions_from (heads ds) [] 0 0 1 ds ≡ joined_with (map shown_function fs) (functions_from (heads ds) (earlier ds i) i group lo (drop i ds))
 
-pub walk_begins : (ds : List Definition) (hs : List code_head.Head) → IsFormedProgram ds → plain_heads hs ≡ heads ds → limits ds ≡ None → IsWalked ds hs [] 0 1
+pub walk_begins : (ds : List Definition) (hs : List code_head.Head) → IsFormedProgram ds → shown_heads hs ≡ heads ds → limits ds ≡ None → IsWalked ds hs [] 0 1
 walk_begins ds hs formed is e = record { group = 0; left = all_left ds hs formed is e; functions = none_before _ }
 
 pub walk_ends : (ds : List Definition) (hs : List code_head.Head) (fs : List Function) (i lo : ℕ) → IsWalked ds hs fs i lo → length ds ≤ i → functions_from (heads ds) [] 0 0 1 ds ≡ Ok (map shown_function fs)
@@ -87,14 +87,14 @@ pub record IsThere (ds : List Definition) (hs : List code_head.Head) (i : ℕ) (
   pub head : drop i hs ≡ h ∷ drop (i + 1) hs
 
 pub is_there : (defs : List Def) (hs : List code_head.Head) (i : ℕ) (d : Def) (h : code_head.Head)
-    → plain_heads hs ≡ heads (shows_defs defs) → i < length defs → d ≡ get_or defs i d → h ≡ get_or hs i h → IsThere (shows_defs defs) hs i (shows_def d) h
+    → shown_heads hs ≡ heads (shown_definitions defs) → i < length defs → d ≡ get_or defs i d → h ≡ get_or hs i h → IsThere (shown_definitions defs) hs i (shown_definition d) h
 is_there defs hs i d h is few ed eh =
-    let lt : i < length (shows_defs defs) = omega (arith, few, length-map defs shows_def) in
-    let q : shows_def d ≡ get_or (shows_defs defs) i (shows_def d) = ap shows_def ed ∙ sym (get_or-map shows_def defs i d) in
+    let lt : i < length (shown_definitions defs) = omega (arith, few, length-map defs shown_definition) in
+    let q : shown_definition d ≡ get_or (shown_definitions defs) i (shown_definition d) = ap shown_definition ed ∙ sym (get_or-map shown_definition defs i d) in
     record {
-      name = ap name_in (slice_get_read (shows_defs defs) (length (shows_defs defs)) i (shows_def d) refl lt q);
-      definition = here (shows_defs defs) i (shows_def d) lt q;
-      head = here hs i h (omega (arith, lt, as_many_heads (shows_defs defs) hs is)) eh;
+      name = ap name_in (slice_get_read (shown_definitions defs) (length (shown_definitions defs)) i (shown_definition d) refl lt q);
+      definition = here (shown_definitions defs) i (shown_definition d) lt q;
+      head = here hs i h (omega (arith, lt, as_many_heads (shown_definitions defs) hs is)) eh;
     }
 
 stops : {A : Type 0} (e : CheckErr) (whole : Result (List FunctionForm) Fault) (fs : List FunctionForm) (r : Result A Fault) (rest : A → Result (List FunctionForm) Fault) → whole ≡ joined_with fs (after r rest) → Refuses e r → Refuses e whole
@@ -102,7 +102,7 @@ stops (errors.Refused f) whole fs r rest p h = p ∙ ap (λ z. joined_with fs (a
 stops errors.TooDeep whole fs r rest p h = absurd h
 stops errors.NoMemory whole fs r rest p h = tt
 
-module _ (ds : List Definition) (hs : List code_head.Head) (fs : List Function) (i lo : ℕ) (d : Definition) (h : code_head.Head) (b : code_expression.Expression) (walked : IsWalked ds hs fs i lo) (there : IsThere ds hs i d h) (body : plain b ≡ rewritten d.body) where
+module _ (ds : List Definition) (hs : List code_head.Head) (fs : List Function) (i lo : ℕ) (d : Definition) (h : code_head.Head) (b : code_expression.Expression) (walked : IsWalked ds hs fs i lo) (there : IsThere ds hs i d h) (body : shown_expression b ≡ rewritten d.body) where
   -- the group of definition i, what its body sees, and how many sites it has
   abbrev own : ℕ
   own = unit_of i walked.group d
@@ -125,10 +125,10 @@ module _ (ds : List Definition) (hs : List code_head.Head) (fs : List Function) 
   pub formed_here : IsFormedDefinition d
   formed_here = left_here.formed.0
 
-  pub params_here : plain_slots h.params.items ≡ params_of d
+  pub params_here : shown_slots h.params.items ≡ params_of d
   params_here = (is_paired (heads ds) i walked.group lo d (drop (i + 1) ds) h (drop (i + 1) hs) left_here).params
 
-  pub may_check_here : (whole : List code_head.Head) → AreKnown (heads ds) whole → MayCheck whole h.unit (plain_slots h.params.items) lo (plain b)
+  pub may_check_here : (whole : List code_head.Head) → AreKnown (heads ds) whole → MayCheck whole h.unit (shown_slots h.params.items) lo (shown_expression b)
   may_check_here whole k = may_check (heads ds) i walked.group lo d (drop (i + 1) ds) h (drop (i + 1) hs) left_here b body whole k
 
   functions_here : functions_from (heads ds) [] 0 0 1 ds ≡ joined_with (map shown_function fs) (unless (group_fault_at ds i) (from_here (checked_function sees (params_of d) lo d (rewritten d.body))))
@@ -138,25 +138,25 @@ module _ (ds : List Definition) (hs : List code_head.Head) (fs : List Function) 
       ∙ sym (ap (λ (l : List Definition). joined_with (map shown_function fs) (unless (first_group_fault (earlier ds i) l) (from_here (checked_function sees (params_of d) lo d (rewritten d.body))))) there.definition)
 
   -- the function of the code is that of the walk
-  same_function : (whole : List code_head.Head) → AreKnown (heads ds) whole → checked_function (known whole h.unit) (plain_slots h.params.items) lo d (plain b) ≡ checked_function sees (params_of d) lo d (rewritten d.body)
+  same_function : (whole : List code_head.Head) → AreKnown (heads ds) whole → checked_function (known whole h.unit) (shown_slots h.params.items) lo d (shown_expression b) ≡ checked_function sees (params_of d) lo d (rewritten d.body)
   same_function whole k =
       let q = is_paired (heads ds) i walked.group lo d (drop (i + 1) ds) h (drop (i + 1) hs) left_here in
-      ap (λ (z : Known). checked_function z (plain_slots h.params.items) lo d (plain b)) (same_known (heads ds) own whole h k q.unit)
-      ∙ ap (λ (l : List Slot). checked_function sees l lo d (plain b)) q.params ∙ ap (λ (e : Expression). checked_function sees (params_of d) lo d e) body
+      ap (λ (z : Known). checked_function z (shown_slots h.params.items) lo d (shown_expression b)) (same_known (heads ds) own whole h k q.unit)
+      ∙ ap (λ (l : List Slot). checked_function sees l lo d (shown_expression b)) q.params ∙ ap (λ (e : Expression). checked_function sees (params_of d) lo d e) body
 
-  function_next : (whole : List code_head.Head) → AreKnown (heads ds) whole → group_fault_at ds i ≡ None → functions_from (heads ds) [] 0 0 1 ds ≡ joined_with (map shown_function fs) (from_here (checked_function (known whole h.unit) (plain_slots h.params.items) lo d (plain b)))
+  function_next : (whole : List code_head.Head) → AreKnown (heads ds) whole → group_fault_at ds i ≡ None → functions_from (heads ds) [] 0 0 1 ds ≡ joined_with (map shown_function fs) (from_here (checked_function (known whole h.unit) (shown_slots h.params.items) lo d (shown_expression b)))
   function_next whole k g =
       functions_here ∙ ap (λ (o : Option Fault). joined_with (map shown_function fs) (unless o (from_here (checked_function sees (params_of d) lo d (rewritten d.body))))) g
       ∙ sym (ap (λ (r : Result FunctionForm Fault). joined_with (map shown_function fs) (from_here r)) (same_function whole k))
 
-  pub function_refused : (whole : List code_head.Head) → AreKnown (heads ds) whole → (e : CheckErr) → group_fault_at ds i ≡ None → Refuses e (checked_function (known whole h.unit) (plain_slots h.params.items) lo d (plain b)) → Refuses e (functions_from (heads ds) [] 0 0 1 ds)
-  function_refused whole k e g r = stops e _ (map shown_function fs) (checked_function (known whole h.unit) (plain_slots h.params.items) lo d (plain b)) _ (function_next whole k g) r
+  pub function_refused : (whole : List code_head.Head) → AreKnown (heads ds) whole → (e : CheckErr) → group_fault_at ds i ≡ None → Refuses e (checked_function (known whole h.unit) (shown_slots h.params.items) lo d (shown_expression b)) → Refuses e (functions_from (heads ds) [] 0 0 1 ds)
+  function_refused whole k e g r = stops e _ (map shown_function fs) (checked_function (known whole h.unit) (shown_slots h.params.items) lo d (shown_expression b)) _ (function_next whole k g) r
 
   names_next : earlier ds (i + 1) ≡ d.name ∷ earlier ds i
   names_next = ap (λ (n : ℕ). earlier ds n) (add-one i) ∙ ap (λ (x : List ℕ). x ∷ earlier ds i) there.name
 
   -- the function is added to those before it
-  added : (whole : List code_head.Head) → AreKnown (heads ds) whole → (f : Function) → group_fault_at ds i ≡ None → checked_function (known whole h.unit) (plain_slots h.params.items) lo d (plain b) ≡ Ok (shown_function f)
+  added : (whole : List code_head.Head) → AreKnown (heads ds) whole → (f : Function) → group_fault_at ds i ≡ None → checked_function (known whole h.unit) (shown_slots h.params.items) lo d (shown_expression b) ≡ Ok (shown_function f)
       → functions_from (heads ds) [] 0 0 1 ds ≡ joined_with (map shown_function (fs ++ f ∷ [])) (functions_from (heads ds) (earlier ds (i + 1)) (i + 1) own (lo + own_sites) (drop (i + 1) ds))
   added whole k f g r =
       let shown_next : map shown_function (fs ++ f ∷ []) ≡ map shown_function fs ++ shown_function f ∷ [] = map-append shown_function fs (f ∷ []) in
@@ -166,7 +166,7 @@ module _ (ds : List Definition) (hs : List code_head.Head) (fs : List Function) 
       ∙ sym (ap (λ (l : List (List ℕ)). joined_with (map shown_function (fs ++ f ∷ [])) (functions_from (heads ds) l (suc i) own (lo + own_sites) (drop (i + 1) ds))) names_next)
       ∙ sym (ap (λ (n : ℕ). joined_with (map shown_function (fs ++ f ∷ [])) (functions_from (heads ds) (earlier ds (i + 1)) n own (lo + own_sites) (drop (i + 1) ds))) (add-one i))
 
-  next_is : (whole : List code_head.Head) → AreKnown (heads ds) whole → (next : ℕ) → next ≡ min 4001 (lo + sites (known whole h.unit) (plain b)) → lo + own_sites ≡ next
+  next_is : (whole : List code_head.Head) → AreKnown (heads ds) whole → (next : ℕ) → next ≡ min 4001 (lo + sites (known whole h.unit) (shown_expression b)) → lo + own_sites ≡ next
   next_is whole k next e =
       omega (arith, e, (may_check_here whole k).within, same_sites (heads ds) i walked.group lo d (drop (i + 1) ds) h (drop (i + 1) hs) left_here b body whole k)
 
@@ -176,7 +176,7 @@ module _ (ds : List Definition) (hs : List code_head.Head) (fs : List Function) 
       (rest_left (heads ds) i walked.group lo d (drop (i + 1) ds) h (drop (i + 1) hs) left_here)
 
   pub walk_goes_on : (whole again : List code_head.Head) → AreKnown (heads ds) whole → AreKnown (heads ds) again → (f : Function) (gs : List Function) (next : ℕ) → group_fault_at ds i ≡ None
-      → checked_function (known whole h.unit) (plain_slots h.params.items) lo d (plain b) ≡ Ok (shown_function f) → gs ≡ fs ++ f ∷ [] → next ≡ min 4001 (lo + sites (known again h.unit) (plain b)) → IsWalked ds hs gs (i + 1) next
+      → checked_function (known whole h.unit) (shown_slots h.params.items) lo d (shown_expression b) ≡ Ok (shown_function f) → gs ≡ fs ++ f ∷ [] → next ≡ min 4001 (lo + sites (known again h.unit) (shown_expression b)) → IsWalked ds hs gs (i + 1) next
   walk_goes_on whole again k l f gs next g r eg en =
       let w : IsWalked ds hs (fs ++ f ∷ []) (i + 1) (lo + own_sites) = record { group = own; left = left_next; functions = added whole k f g r } in
       subst (λ (l : List Function). IsWalked ds hs l (i + 1) next) (sym eg) (subst (λ (n : ℕ). IsWalked ds hs (fs ++ f ∷ []) (i + 1) n) (next_is again l next en) w)

@@ -1,8 +1,8 @@
 -- The parts of an expression, and what each expression counts by itself towards a limit.
 use Rattle.std.specs.Prelude.{ℕ, ◌+◌, ◌*◌, List, [], ◌∷◌, ◌++◌, map, Option, None}
 use denote.Ref.{Bor}
-use Rattle.safl_tree.specs.Tree.{Tree, Number, Sized, Variable, Choice, Binding, Cases, Applied, Called, Trees, no_tree, a_tree, Binds, no_bind, a_bind, Arms, default_arm, an_arm}
-use Rattle.safl_tree.specs.Shown.{shows}
+use Rattle.safl_tree.specs.Tree.{Tree, Number, Sized, Variable, If, Let, Cases, Op, Call, Trees, no_tree, a_tree, Binds, no_bind, a_bind, Arms, default_arm, an_arm}
+use Rattle.safl_tree.specs.Shown.{shown_tree}
 use Rattle.safl_tree.specs.declared.tree.Expr.{Expr}
 use Rattle.safl_tree.specs.declared.tree.Bind.{Bind}
 use Rattle.safl_tree.specs.declared.tree.Arm.{Arm}
@@ -30,11 +30,11 @@ abbrev pub parts : Tree → List Tree
 parts (Number p n) = []
 parts (Sized p w n) = []
 parts (Variable p x) = []
-parts (Choice p c a b) = c ∷ (a ∷ (b ∷ []))
-parts (Binding p bs t) = values_in bs ++ t ∷ []
+parts (If p c a b) = c ∷ (a ∷ (b ∷ []))
+parts (Let p bs t) = values_in bs ++ t ∷ []
 parts (Cases p e arms) = e ∷ arms_in arms
-parts (Applied p o ts) = trees_in ts
-parts (Called p f ts) = trees_in ts
+parts (Op p o ts) = trees_in ts
+parts (Call p f ts) = trees_in ts
 
 abbrev pub arm_count : Arms → ℕ
 arm_count (default_arm t) = 0
@@ -45,45 +45,45 @@ abbrev pub own_nodes : Tree → ℕ
 own_nodes (Number p n) = 1
 own_nodes (Sized p w n) = 1
 own_nodes (Variable p x) = 1
-own_nodes (Choice p c a b) = 1
-own_nodes (Binding p bs t) = 1
+own_nodes (If p c a b) = 1
+own_nodes (Let p bs t) = 1
 own_nodes (Cases p e arms) = 1 + 3 * arm_count arms
-own_nodes (Applied p o ts) = 1
-own_nodes (Called p f ts) = 1
+own_nodes (Op p o ts) = 1
+own_nodes (Call p f ts) = 1
 
 abbrev pub own_sites : Known → Tree → ℕ
 own_sites k (Number p n) = 0
 own_sites k (Sized p w n) = 0
 own_sites k (Variable p x) = 0
-own_sites k (Choice p c a b) = 0
-own_sites k (Binding p bs t) = 0
+own_sites k (If p c a b) = 0
+own_sites k (Let p bs t) = 0
 own_sites k (Cases p e arms) = 0
-own_sites k (Applied p o ts) = 0
-own_sites k (Called p f ts) = is_site (callee k f)
+own_sites k (Op p o ts) = 0
+own_sites k (Call p f ts) = is_site (callee k f)
 
 -- the place of the binding that is one too many, where the expression is itself such a let
 abbrev pub own_long_let : Tree → Option ℕ
 own_long_let (Number p n) = None
 own_long_let (Sized p w n) = None
 own_long_let (Variable p x) = None
-own_long_let (Choice p c a b) = None
-own_long_let (Binding p bs t) = excess max_bindings (map (λ x. x.place) (placed (rewritten_binds bs)))
+own_long_let (If p c a b) = None
+own_long_let (Let p bs t) = excess max_bindings (map (λ x. x.place) (placed (rewritten_binds bs)))
 own_long_let (Cases p e arms) = None
-own_long_let (Applied p o ts) = None
-own_long_let (Called p f ts) = None
+own_long_let (Op p o ts) = None
+own_long_let (Call p f ts) = None
 
 -- what stands on a stack, from its top, the last one, down
 abbrev pub pending : List (Bor Expr) → List Tree
 pending [] = []
-pending (e ∷ es) = pending es ++ shows e.now ∷ []
+pending (e ∷ es) = pending es ++ shown_tree e.now ∷ []
 
 -- the values of bindings, and the labels and values of arms
 abbrev pub values_of : List Bind → List Tree
-values_of bs = map (λ b. shows b.value) bs
+values_of bs = map (λ b. shown_tree b.value) bs
 
 abbrev pub arms_of : List Arm → List Tree
 arms_of [] = []
-arms_of (a ∷ arms) = shows a.label ∷ (shows a.value ∷ arms_of arms)
+arms_of (a ∷ arms) = shown_tree a.label ∷ (shown_tree a.value ∷ arms_of arms)
 
 -- how many nodes several expressions have, where each `case` is rewritten
 abbrev pub total_nodes : List Tree → ℕ

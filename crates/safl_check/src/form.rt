@@ -4,8 +4,8 @@ ghost use Rattle.std.specs.Prelude.{◌≡◌, IfOk, length, map, string_bytes};
 ghost use Rattle.safl_word.specs.Tokens.{IsName};
 ghost use Rattle.safl_term.specs.Checked.{BodyHasSlots};
 ghost use Rattle.safl_term.specs.Slots.{HasSlots};
-ghost use Rattle.safl_term.specs.Tree.{tree};
-ghost use Rattle.safl_tree.specs.Shown.{shows_def, shows_params};
+ghost use Rattle.safl_term.specs.Tree.{shown_term};
+ghost use Rattle.safl_tree.specs.Shown.{shown_definition, shown_parameters};
 ghost use Rattle.safl_tree.specs.Printable.{IsFormedDefinition, AreFormedParameters};
 ghost use Rattle.safl_typing.specs.Forms.{shown_function, shown_param};
 ghost use Rattle.safl_typing.specs.Heads.{slot_of, params_of};
@@ -24,9 +24,9 @@ pub fn function_of(
     first_site: u32,
     body: Term,
 ) -> Result<Function, NoMemory>
-    requires formed { IsFormedDefinition (shows_def def.now) }
-    requires slots { HasSlots (length (params_of (shows_def def.now))) body }
-    ensures shown { IfOk result (λ f. shown_function f ≡ function unit first_site (shows_def def.now) (tree body)) }
+    requires formed { IsFormedDefinition (shown_definition def.now) }
+    requires slots { HasSlots (length (params_of (shown_definition def.now))) body }
+    ensures shown { IfOk result (λ f. shown_function f ≡ function unit first_site (shown_definition def.now) (shown_term body)) }
     ensures slots { IfOk result BodyHasSlots }
 {
     let name = text_of(alloc, &def.name)?;
@@ -43,8 +43,8 @@ pub fn function_of(
 
 // The parameters of a function, in order.
 fn parameters_of(alloc: Global, params: &[Param]) -> Result<Vec<Parameter>, NoMemory>
-    requires { AreFormedParameters (shows_params params.now) }
-    ensures { IfOk result (λ all. map shown_param all.items ≡ map slot_of (shows_params params.now)) }
+    requires { AreFormedParameters (shown_parameters params.now) }
+    ensures { IfOk result (λ all. map shown_param all.items ≡ map slot_of (shown_parameters params.now)) }
 {
     let mut all = Vec::new(alloc);
     for param in params {

@@ -3,14 +3,14 @@
 ghost use Rattle.std.specs.Prelude.{◌≡◌, ◌↔◌, [], None, IfOk, IsTrue};
 ghost use Rattle.std.specs.List.{All};
 ghost use Rattle.safl_term.specs.Checked.{BodyHasSlots};
-ghost use Rattle.safl_tree.specs.Shown.{shows_def, shows_defs};
+ghost use Rattle.safl_tree.specs.Shown.{shown_definition, shown_definitions};
 ghost use Rattle.safl_tree.specs.Printable.{IsFormedDefinition, IsFormedProgram};
 ghost use Rattle.safl_typing.specs.Forms.{AreShallow};
 ghost use Rattle.safl_typing.specs.Heads.{heads, params_of};
 ghost use Rattle.safl_typing.specs.Marks.{IsMarked};
 ghost use Rattle.safl_typing.specs.MayWalk.{MayCheck};
-ghost use Rattle.safl_typing.specs.Plain.{plain};
-ghost use Rattle.safl_typing.specs.PlainHeads.{plain_heads, plain_slots, known};
+ghost use Rattle.safl_typing.specs.Plain.{shown_expression};
+ghost use Rattle.safl_typing.specs.PlainHeads.{shown_heads, shown_slots, known};
 ghost use Rattle.safl_typing.specs.Walk.{limits, functions_from};
 ghost use Rattle.safl_check.specs.Answers.{SaysFunctions};
 ghost use Rattle.safl_check.specs.Functions.{SaysFunction, checked_function};
@@ -35,7 +35,7 @@ const DEPTH_MAX: u32 = 2_000;
 
 /// Whether no body is deeper than 2,000.
 pub fn are_shallow(defs: &[Def]) -> bool
-    ensures { IsTrue result ↔ AreShallow (shows_defs defs.now) }
+    ensures { IsTrue result ↔ AreShallow (shown_definitions defs.now) }
 {
     for def in defs {
         if !is_within(&def.body, DEPTH_MAX) {
@@ -51,11 +51,11 @@ pub fn check_functions(
     defs: &[Def],
     all_heads: &Heads,
 ) -> Result<Vec<Function>, CheckErr>
-    requires formed { IsFormedProgram (shows_defs defs.now) }
-    requires heads { plain_heads all_heads.now ≡ heads (shows_defs defs.now) }
-    requires within { limits (shows_defs defs.now) ≡ None }
-    requires shallow { AreShallow (shows_defs defs.now) }
-    ensures says { SaysFunctions result (functions_from (heads (shows_defs defs.now)) [] 0 0 1 (shows_defs defs.now)) }
+    requires formed { IsFormedProgram (shown_definitions defs.now) }
+    requires heads { shown_heads all_heads.now ≡ heads (shown_definitions defs.now) }
+    requires within { limits (shown_definitions defs.now) ≡ None }
+    requires shallow { AreShallow (shown_definitions defs.now) }
+    ensures says { SaysFunctions result (functions_from (heads (shown_definitions defs.now)) [] 0 0 1 (shown_definitions defs.now)) }
     ensures slots { IfOk result (λ fs. All BodyHasSlots fs.items) }
 {
     let mut functions = Vec::new(alloc);
@@ -83,11 +83,11 @@ fn check_function(
     first_site: u32,
     body: &Expression,
 ) -> Result<Function, CheckErr>
-    requires formed { IsFormedDefinition (shows_def def.now) }
-    requires params { plain_slots head.now.params.items ≡ params_of (shows_def def.now) }
-    requires able { MayCheck heads.now head.now.unit (plain_slots head.now.params.items) first_site (plain body.now) }
+    requires formed { IsFormedDefinition (shown_definition def.now) }
+    requires params { shown_slots head.now.params.items ≡ params_of (shown_definition def.now) }
+    requires able { MayCheck heads.now head.now.unit (shown_slots head.now.params.items) first_site (shown_expression body.now) }
     requires marked { IsMarked (known heads.now head.now.unit) body.now }
-    ensures says { SaysFunction result (checked_function (known heads.now head.now.unit) (plain_slots head.now.params.items) first_site (shows_def def.now) (plain body.now)) }
+    ensures says { SaysFunction result (checked_function (known heads.now head.now.unit) (shown_slots head.now.params.items) first_site (shown_definition def.now) (shown_expression body.now)) }
     ensures slots { IfOk result BodyHasSlots }
 {
     let unit = head.unit;

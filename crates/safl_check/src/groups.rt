@@ -3,9 +3,9 @@
 ghost use Rattle.std.specs.Prelude.{◌≡◌, ◌<◌, [], length, slice_get, IfSome};
 ghost use Rattle.std.specs.List.{list_any};
 ghost use Rattle.std.specs.Str.{bytes_eq};
-ghost use Rattle.safl_tree.specs.Shown.{shows_def, shows_defs};
+ghost use Rattle.safl_tree.specs.Shown.{shown_definition, shown_definitions};
 ghost use Rattle.safl_typing.specs.Heads.{heads};
-ghost use Rattle.safl_typing.specs.PlainHeads.{plain_heads};
+ghost use Rattle.safl_typing.specs.PlainHeads.{shown_heads};
 ghost use Rattle.safl_typing.specs.Walk.{fault_with, repeated, placed_params, head_fault};
 ghost use Rattle.safl_check.specs.Groups.{earlier, group_fault_at};
 
@@ -17,8 +17,8 @@ use safl_word::{Fault, Rule};
 /// twice), E12 (another width than the group's) and E07 (parameter named twice). None where it is joined to a group.
 pub fn find_group_fault(defs: &[Def], all_heads: &Heads, number: usize) -> Option<Fault>
     requires number { number < length defs.now }
-    requires heads { plain_heads all_heads.now ≡ heads (shows_defs defs.now) }
-    ensures { result ≡ group_fault_at (shows_defs defs.now) number }
+    requires heads { shown_heads all_heads.now ≡ heads (shown_definitions defs.now) }
+    ensures { result ≡ group_fault_at (shown_definitions defs.now) number }
 {
     let first = &defs[number];
     if first.joined {
@@ -42,8 +42,8 @@ pub fn find_group_fault(defs: &[Def], all_heads: &Heads, number: usize) -> Optio
 // The first fault of the head of the definition of this number, in a group of this width.
 fn find_head_fault(defs: &[Def], all_heads: &Heads, number: usize, width: u8) -> Option<Fault>
     requires number { number < length defs.now }
-    requires heads { plain_heads all_heads.now ≡ heads (shows_defs defs.now) }
-    ensures { IfSome (slice_get defs.now number) (λ d. result ≡ head_fault (earlier (shows_defs defs.now) number) width (shows_def d)) }
+    requires heads { shown_heads all_heads.now ≡ heads (shown_definitions defs.now) }
+    ensures { IfSome (slice_get defs.now number) (λ d. result ≡ head_fault (earlier (shown_definitions defs.now) number) width (shown_definition d)) }
 {
     let def = &defs[number];
     let namesake = all_heads.before(number);
@@ -59,7 +59,7 @@ fn find_head_fault(defs: &[Def], all_heads: &Heads, number: usize, width: u8) ->
 
 // E07 at the first parameter whose name stands earlier in the list.
 fn find_repeated_param(def: &Def) -> Option<Fault>
-    ensures { result ≡ repeated [] (placed_params (shows_def def.now)) }
+    ensures { result ≡ repeated [] (placed_params (shown_definition def.now)) }
 {
     let params = def.params.as_slice();
     for i in 0..params.len() {

@@ -1,9 +1,9 @@
 //! The heads of all definitions, which are known before any body is checked.
 
 ghost use Rattle.std.specs.Prelude.{◌≡◌, ◌≤◌, length, map, IfOk};
-ghost use Rattle.safl_tree.specs.Shown.{shows_def, shows_defs, shows_params};
+ghost use Rattle.safl_tree.specs.Shown.{shown_definition, shown_definitions, shown_parameters};
 ghost use Rattle.safl_typing.specs.Heads.{slot_of, unit_of, head_of, heads};
-ghost use Rattle.safl_typing.specs.PlainHeads.{plain_slots, plain_head, plain_heads};
+ghost use Rattle.safl_typing.specs.PlainHeads.{shown_slots, shown_head, shown_heads};
 
 use safl_tree::{Def, Name, Param};
 use safl_typing::heads::{Head, Heads, Slot};
@@ -13,7 +13,7 @@ use std::alloc::Global;
 /// The heads of at most 1,000 definitions.
 pub fn heads_of(alloc: Global, defs: &[Def]) -> Result<Heads, NoMemory>
     requires { length defs.now ≤ 1000 }
-    ensures { IfOk result (λ all. plain_heads all ≡ heads (shows_defs defs.now)) }
+    ensures { IfOk result (λ all. shown_heads all ≡ heads (shown_definitions defs.now)) }
 {
     let list = make_heads(alloc, defs)?;
     Ok(Heads::new(alloc, list)?)
@@ -21,14 +21,14 @@ pub fn heads_of(alloc: Global, defs: &[Def]) -> Result<Heads, NoMemory>
 
 /// The group of the definition of this number, where that of the definition before it is `unit`.
 pub fn next_unit(number: u32, unit: u32, def: &Def) -> u32
-    ensures { result ≡ unit_of number unit (shows_def def.now) }
+    ensures { result ≡ unit_of number unit (shown_definition def.now) }
 {
     if def.joined { unit } else { number }
 }
 
 fn make_heads(alloc: Global, defs: &[Def]) -> Result<Vec<Head>, NoMemory>
     requires { length defs.now ≤ 1000 }
-    ensures { IfOk result (λ all. plain_heads all.items ≡ heads (shows_defs defs.now)) }
+    ensures { IfOk result (λ all. shown_heads all.items ≡ heads (shown_definitions defs.now)) }
 {
     let mut all = Vec::new(alloc);
     let mut unit = 0;
@@ -41,7 +41,7 @@ fn make_heads(alloc: Global, defs: &[Def]) -> Result<Vec<Head>, NoMemory>
 }
 
 fn make_head(alloc: Global, unit: u32, def: &Def) -> Result<Head, NoMemory>
-    ensures { IfOk result (λ head. plain_head head ≡ head_of unit (shows_def def.now)) }
+    ensures { IfOk result (λ head. shown_head head ≡ head_of unit (shown_definition def.now)) }
 {
     let name = Name::new(alloc, def.name.bytes())?;
     let params = make_slots(alloc, &def.params)?;
@@ -54,7 +54,7 @@ fn make_head(alloc: Global, unit: u32, def: &Def) -> Result<Head, NoMemory>
 }
 
 fn make_slots(alloc: Global, params: &[Param]) -> Result<Vec<Slot>, NoMemory>
-    ensures { IfOk result (λ all. plain_slots all.items ≡ map slot_of (shows_params params.now)) }
+    ensures { IfOk result (λ all. shown_slots all.items ≡ map slot_of (shown_parameters params.now)) }
 {
     let mut all = Vec::new(alloc);
     for param in params {

@@ -11,9 +11,7 @@ mod nodes;
 pub mod program;
 mod sites;
 
+pub use crate::heads::{heads_of, next_unit};
 pub use crate::program::check;
 pub use safl_term::{Checked, Function, Parameter, Site, Term};
 pub use safl_typing::typed::CheckErr;
-
-#[cfg(test)]
-mod tests;

@@ -2,12 +2,13 @@
 
 ghost use Rattle.std.specs.Prelude.{◌≡◌, ◌≤◌, length, map, nat_le, IfOk};
 ghost use Rattle.safl_word.specs.declared.fault.Rule.TheVariants as rules;
-ghost use Rattle.safl_tree.specs.Shown.{shows_defs, shows_params};
+ghost use Rattle.safl_tree.specs.Shown.{shown_definitions, shown_parameters};
 ghost use Rattle.safl_typing.specs.Heads.{heads};
 ghost use Rattle.safl_term.specs.Sizes.{max_bindings};
 ghost use Rattle.safl_typing.specs.Forms.{max_functions, max_params, max_sites, max_nodes};
-ghost use Rattle.safl_typing.specs.PlainHeads.{plain_heads};
-ghost use Rattle.safl_typing.specs.Walk.{fault_with, needs, or_else, limit, excess, limits_from, main_fault};
+ghost use Rattle.safl_typing.specs.PlainHeads.{shown_heads};
+ghost use Rattle.safl_term.specs.Readiness.{or_else};
+ghost use Rattle.safl_typing.specs.Walk.{fault_with, needs, limit, excess, limits_from, main_fault};
 
 use crate::heads::next_unit;
 use crate::nodes::{BINDINGS_MAX, measure};
@@ -28,7 +29,7 @@ const MAIN: &[u8] = b"main";
 
 /// E16 at the definition that is one too many.
 pub fn find_function_fault(defs: &[Def]) -> Option<Fault>
-    ensures { result ≡ limit 1 max_functions (excess max_functions (map (λ d. d.place) (shows_defs defs.now))) }
+    ensures { result ≡ limit 1 max_functions (excess max_functions (map (λ d. d.place) (shown_definitions defs.now))) }
 {
     let def = defs.get(FUNCTIONS_MAX)?;
     Some(past_limit(def.place, 1, FUNCTIONS_MAX as u32))
@@ -41,8 +42,8 @@ pub fn find_limit_fault(
     all_heads: &Heads,
 ) -> Result<Option<Fault>, NoMemory>
     requires few { length defs.now ≤ 1000 }
-    requires heads { plain_heads all_heads.now ≡ heads (shows_defs defs.now) }
-    ensures { IfOk result (λ fault. fault ≡ limits_from (heads (shows_defs defs.now)) 0 0 0 0 (shows_defs defs.now)) }
+    requires heads { shown_heads all_heads.now ≡ heads (shown_definitions defs.now) }
+    ensures { IfOk result (λ fault. fault ≡ limits_from (heads (shown_definitions defs.now)) 0 0 0 0 (shown_definitions defs.now)) }
 {
     let mut unit = 0;
     let mut sites = 0;
@@ -64,7 +65,7 @@ pub fn find_limit_fault(
 
 // Too many parameters, or too many bindings of one let.
 fn find_list_fault(params: &[Param], long_let: Option<u32>) -> Option<Fault>
-    ensures { result ≡ or_else (limit 2 max_params (excess max_params (map (λ p. p.place) (shows_params params.now)))) (limit 3 max_bindings long_let) }
+    ensures { result ≡ or_else (limit 2 max_params (excess max_params (map (λ p. p.place) (shown_parameters params.now)))) (limit 3 max_bindings long_let) }
 {
     if let Some(param) = params.get(PARAMS_MAX) {
         return Some(past_limit(param.place, 2, PARAMS_MAX as u32));
@@ -94,7 +95,7 @@ fn past_limit(place: u32, number: u32, value: u32) -> Fault
 
 /// E15 at the last definition where it is not `main`, or at place 0 where there is none.
 pub fn find_main_fault(defs: &[Def]) -> Option<Fault>
-    ensures { result ≡ main_fault (shows_defs defs.now) }
+    ensures { result ≡ main_fault (shown_definitions defs.now) }
 {
     let Some(last) = defs.last() else {
         return Some(no_main(0));

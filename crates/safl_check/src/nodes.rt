@@ -1,7 +1,7 @@
 //! What rule E16 limits in a body, counted node by node on a stack: a tree may be of any depth.
 
 ghost use Rattle.std.specs.Prelude.{◌≡◌, ◌+◌, ◌*◌, ◌≤◌, ◌++◌, map, min, IfOk, OnOk};
-ghost use Rattle.safl_tree.specs.Shown.{shows, shows_all};
+ghost use Rattle.safl_tree.specs.Shown.{shown_tree, shown_trees};
 ghost use Rattle.safl_term.specs.Sizes.{max_bindings};
 ghost use Rattle.safl_typing.specs.PlainHeads.{known};
 ghost use Rattle.safl_typing.specs.Heads.{sites};
@@ -43,9 +43,9 @@ pub fn measure(
 ) -> Result<Measures, NoMemory>
     requires sites { sites_before ≤ 4001 }
     requires nodes { nodes_before ≤ 50001 }
-    ensures long_let { IfOk result (λ m. m.long_let ≡ long_let (rewritten (shows body.now))) }
-    ensures sites { IfOk result (λ m. m.sites ≡ min 4001 (sites_before + sites (known heads.now unit) (rewritten (shows body.now)))) }
-    ensures nodes { IfOk result (λ m. m.nodes ≡ min 50001 (nodes_before + nodes (rewritten (shows body.now)))) }
+    ensures long_let { IfOk result (λ m. m.long_let ≡ long_let (rewritten (shown_tree body.now))) }
+    ensures sites { IfOk result (λ m. m.sites ≡ min 4001 (sites_before + sites (known heads.now unit) (rewritten (shown_tree body.now)))) }
+    ensures nodes { IfOk result (λ m. m.nodes ≡ min 50001 (nodes_before + nodes (rewritten (shown_tree body.now)))) }
 {
     let mut long_let = None;
     let mut sites = sites_before;
@@ -67,7 +67,7 @@ pub fn measure(
 
 // The place of the binding that is one too many, where this is a let that has one.
 fn find_excess_binding(e: &Expr) -> Option<u32>
-    ensures { result ≡ own_long_let (shows e.now) }
+    ensures { result ≡ own_long_let (shown_tree e.now) }
 {
     match &e.node {
         Node::Num(_) => None,
@@ -90,7 +90,7 @@ fn find_excess(binds: &[Bind]) -> Option<u32>
 
 // Whether this is a call of a function of another group: 1, or else 0.
 fn sites_at(heads: &Heads, unit: u32, e: &Expr) -> u32
-    ensures { result ≡ own_sites (known heads.now unit) (shows e.now) }
+    ensures { result ≡ own_sites (known heads.now unit) (shown_tree e.now) }
 {
     match &e.node {
         Node::Num(_) => 0,
@@ -106,7 +106,7 @@ fn sites_at(heads: &Heads, unit: u32, e: &Expr) -> u32
 
 // A node, or those that a `case` stands for: a let, and for each labelled arm an if and its test of two nodes.
 fn nodes_at(e: &Expr) -> u32
-    ensures { result ≡ min 50001 (own_nodes (shows e.now)) }
+    ensures { result ≡ min 50001 (own_nodes (shown_tree e.now)) }
 {
     match &e.node {
         Node::Num(_) => 1,
@@ -132,7 +132,7 @@ fn nodes_of_case(arms: usize) -> u32
 
 // Puts the parts of an expression on the stack, the first one on top.
 fn push_parts<'a>(stack: &mut Vec<&'a Expr>, e: &'a Expr) -> Result<(), NoMemory>
-    ensures { OnOk result (pending stack.new.items ≡ parts (shows e.now) ++ pending stack.old.items) }
+    ensures { OnOk result (pending stack.new.items ≡ parts (shown_tree e.now) ++ pending stack.old.items) }
 {
     match &e.node {
         Node::Num(_) => Ok(()),
@@ -148,10 +148,10 @@ fn push_parts<'a>(stack: &mut Vec<&'a Expr>, e: &'a Expr) -> Result<(), NoMemory
             stack.push(body)?;
             push_values(stack, binds)
         }
-        Node::Case(looked_at, arms, other) => {
-            stack.push(other)?;
+        Node::Case(scrutinee, arms, default) => {
+            stack.push(default)?;
             push_arms(stack, arms)?;
-            stack.push(looked_at)?;
+            stack.push(scrutinee)?;
             Ok(())
         }
         Node::Op(_, operands) => push_all(stack, operands),
@@ -160,7 +160,7 @@ fn push_parts<'a>(stack: &mut Vec<&'a Expr>, e: &'a Expr) -> Result<(), NoMemory
 }
 
 fn push_all<'a>(stack: &mut Vec<&'a Expr>, es: &'a [Expr]) -> Result<(), NoMemory>
-    ensures { OnOk result (pending stack.new.items ≡ shows_all es.now ++ pending stack.old.items) }
+    ensures { OnOk result (pending stack.new.items ≡ shown_trees es.now ++ pending stack.old.items) }
 {
     for i in (0..es.len()).rev() {
         stack.push(&es[i])?;

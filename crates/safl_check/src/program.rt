@@ -3,11 +3,11 @@
 ghost use Rattle.std.specs.Prelude.{◌≡◌, [], None, Ok, map, IfOk, OnOk, IfErr};
 ghost use Rattle.std.specs.List.{All};
 ghost use Rattle.safl_term.specs.Checked.{BodyHasSlots};
-ghost use Rattle.safl_tree.specs.Shown.{shows_defs, shows_program};
+ghost use Rattle.safl_tree.specs.Shown.{shown_definitions, shown_program};
 ghost use Rattle.safl_tree.specs.Printable.{IsFormedProgram};
 ghost use Rattle.safl_typing.specs.Heads.{heads};
 ghost use Rattle.safl_typing.specs.Forms.{IsFormOf, AreShallow, shown, shown_function};
-ghost use Rattle.safl_typing.specs.PlainHeads.{plain_heads};
+ghost use Rattle.safl_typing.specs.PlainHeads.{shown_heads};
 ghost use Rattle.safl_typing.specs.Walk.{limits, functions_from};
 ghost use Rattle.safl_check.specs.Answers.{RefusesProgram, RefusesLimits, RefusesShallow, IsTooDeep, FindsTooDeep};
 
@@ -26,22 +26,22 @@ use std::alloc::Global;
 /// first fault of E05 to E16 in the order of checking; there is one exactly where the program has no numbered form.
 /// TooDeep is answered where no limit is passed and a body is more than 2,000 deep; a source's are at most 1,100 deep.
 pub fn check(alloc: Global, program: Program) -> Result<Checked, CheckErr>
-    requires { IsFormedProgram (shows_program program) }
-    ensures form { IfOk result (λ c. IsFormOf (shows_program program) (shown c)) }
-    ensures shallow { OnOk result (AreShallow (shows_program program)) }
-    ensures refused { IfErr result (RefusesProgram (shows_program program)) }
-    ensures deep { IsTooDeep (shows_program program) → FindsTooDeep result }
+    requires { IsFormedProgram (shown_program program) }
+    ensures form { IfOk result (λ c. IsFormOf (shown_program program) (shown c)) }
+    ensures shallow { OnOk result (AreShallow (shown_program program)) }
+    ensures refused { IfErr result (RefusesProgram (shown_program program)) }
+    ensures deep { IsTooDeep (shown_program program) → FindsTooDeep result }
 {
     check_defs(alloc, &program.defs)
 }
 
 // The checked program of definitions.
 fn check_defs(alloc: Global, defs: &[Def]) -> Result<Checked, CheckErr>
-    requires { IsFormedProgram (shows_defs defs.now) }
-    ensures form { IfOk result (λ c. IsFormOf (shows_defs defs.now) (shown c)) }
-    ensures shallow { OnOk result (AreShallow (shows_defs defs.now)) }
-    ensures refused { IfErr result (RefusesProgram (shows_defs defs.now)) }
-    ensures deep { IsTooDeep (shows_defs defs.now) → FindsTooDeep result }
+    requires { IsFormedProgram (shown_definitions defs.now) }
+    ensures form { IfOk result (λ c. IsFormOf (shown_definitions defs.now) (shown c)) }
+    ensures shallow { OnOk result (AreShallow (shown_definitions defs.now)) }
+    ensures refused { IfErr result (RefusesProgram (shown_definitions defs.now)) }
+    ensures deep { IsTooDeep (shown_definitions defs.now) → FindsTooDeep result }
 {
     let heads = heads_within(alloc, defs)?;
     if !are_shallow(defs) {
@@ -53,9 +53,9 @@ fn check_defs(alloc: Global, defs: &[Def]) -> Result<Checked, CheckErr>
 
 // The heads of definitions that pass no limit. Limits come first.
 fn heads_within(alloc: Global, defs: &[Def]) -> Result<Heads, CheckErr>
-    ensures heads { IfOk result (λ all. plain_heads all ≡ heads (shows_defs defs.now)) }
-    ensures within { OnOk result (limits (shows_defs defs.now) ≡ None) }
-    ensures refused { IfErr result (RefusesLimits (shows_defs defs.now)) }
+    ensures heads { IfOk result (λ all. shown_heads all ≡ heads (shown_definitions defs.now)) }
+    ensures within { OnOk result (limits (shown_definitions defs.now) ≡ None) }
+    ensures refused { IfErr result (RefusesLimits (shown_definitions defs.now)) }
 {
     if let Some(fault) = find_function_fault(defs) {
         return Err(CheckErr::Refused(fault));
@@ -69,13 +69,13 @@ fn heads_within(alloc: Global, defs: &[Def]) -> Result<Heads, CheckErr>
 
 // The program of checked functions, whose last one is `main`.
 fn checked_of(alloc: Global, defs: &[Def], functions: Vec<Function>) -> Result<Checked, CheckErr>
-    requires formed { IsFormedProgram (shows_defs defs.now) }
-    requires within { limits (shows_defs defs.now) ≡ None }
-    requires shallow { AreShallow (shows_defs defs.now) }
-    requires functions { functions_from (heads (shows_defs defs.now)) [] 0 0 1 (shows_defs defs.now) ≡ Ok (map shown_function functions.items) }
+    requires formed { IsFormedProgram (shown_definitions defs.now) }
+    requires within { limits (shown_definitions defs.now) ≡ None }
+    requires shallow { AreShallow (shown_definitions defs.now) }
+    requires functions { functions_from (heads (shown_definitions defs.now)) [] 0 0 1 (shown_definitions defs.now) ≡ Ok (map shown_function functions.items) }
     requires slots { All BodyHasSlots functions.items }
-    ensures form { IfOk result (λ c. IsFormOf (shows_defs defs.now) (shown c)) }
-    ensures refused { IfErr result (RefusesShallow (shows_defs defs.now)) }
+    ensures form { IfOk result (λ c. IsFormOf (shown_definitions defs.now) (shown c)) }
+    ensures refused { IfErr result (RefusesShallow (shown_definitions defs.now)) }
 {
     if let Some(fault) = find_main_fault(defs) {
         return Err(CheckErr::Refused(fault));

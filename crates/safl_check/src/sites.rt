@@ -1,7 +1,7 @@
 //! The call sites of all functions.
 
 ghost use Rattle.std.specs.Prelude.{◌≡◌, ◌≤◌, ◌++◌, length, map, IfOk, OnOk};
-ghost use Rattle.safl_term.specs.Tree.{tree, forest};
+ghost use Rattle.safl_term.specs.Tree.{shown_term, shown_terms};
 ghost use Rattle.safl_typing.specs.Forms.{all_sites, sites_of, sites_of_all, shown_function};
 
 use safl_term::{Function, Site, Term};
@@ -23,7 +23,7 @@ pub fn sites_of(alloc: Global, functions: &[Function]) -> Result<Vec<Site>, NoMe
 // Adds the sites of a term in the body of `caller`.
 #[cycle(sites)]
 fn push_sites(sites: &mut Vec<Site>, caller: u32, term: &Term) -> Result<(), NoMemory>
-    ensures { OnOk result (sites.new.items ≡ sites.old.items ++ sites_of caller (tree term.now)) }
+    ensures { OnOk result (sites.new.items ≡ sites.old.items ++ sites_of caller (shown_term term.now)) }
 {
     match term {
         Term::Const(_) => Ok(()),
@@ -52,7 +52,7 @@ fn push_sites(sites: &mut Vec<Site>, caller: u32, term: &Term) -> Result<(), NoM
 // Adds the sites of several terms, in order.
 #[cycle(sites)]
 fn push_all(sites: &mut Vec<Site>, caller: u32, terms: &[Term]) -> Result<(), NoMemory>
-    ensures { OnOk result (sites.new.items ≡ sites.old.items ++ sites_of_all caller (forest terms.now)) }
+    ensures { OnOk result (sites.new.items ≡ sites.old.items ++ sites_of_all caller (shown_terms terms.now)) }
 {
     for term in terms {
         push_sites(sites, caller, term)?;

@@ -12,11 +12,11 @@ use Rattle.safl_term.specs.Fuel.{Outcome, Nothing, Gave, Outcomes, NoWords, Word
 use Rattle.safl_term.specs.Program.{Program}
 use Rattle.safl_term.specs.Sizes.{nodes, nodes_in}
 use Rattle.safl_term.specs.Terms.{Term, Const, Var, If, Let, Op, Call, Loop, Terms, Cons}
-use Rattle.safl_term.specs.Tree.{tree, forest}
+use Rattle.safl_term.specs.Tree.{shown_term, shown_terms}
 use Rattle.safl_term.specs.declared.checked.Function.{Function}
 use Rattle.safl_term.specs.declared.term.Term as declared
 use Rattle.safl_term.specs.WellFormed.{HasWidth, HaveWidths, IsWellFormed}
-use Rattle.safl_term.proofs.TreeLemmas.{tree-Call, tree-Loop}
+use Rattle.safl_term.proofs.TreeLemmas.{shown_term-Call, shown_term-Loop}
 use Rattle.safl_term.proofs.Widths.{widths_append}
 use Rattle.safl_interpreter.specs.declared.answer.Answer.{Answer}
 use Rattle.safl_interpreter.specs.declared.answer.Step.{Step}
@@ -30,10 +30,10 @@ use Rattle.safl_interpreter.proofs.Meanings.{one_call, terms_typed}
 abbrev pub call_size : ℕ
 call_size = 150001
 
-sum_from : (fs : List Function) (i k : ℕ) → 1 ≤ k → sum_by (λ (f : Function). nodes (tree f.body)) fs ≤ k → nodes (option_map_or (λ (f : Function). tree f.body) (slice_get fs i) (Const no_word)) ≤ k
+sum_from : (fs : List Function) (i k : ℕ) → 1 ≤ k → sum_by (λ (f : Function). nodes (shown_term f.body)) fs ≤ k → nodes (option_map_or (λ (f : Function). shown_term f.body) (slice_get fs i) (Const no_word)) ≤ k
 sum_from [] i k one h = one
-sum_from (f ∷ fs) zero k one h = omega (arith, h, sum_by-cons (λ (g : Function). nodes (tree g.body)) f fs)
-sum_from (f ∷ fs) (suc i) k one h = sum_from fs i k one (omega (arith, h, sum_by-cons (λ (g : Function). nodes (tree g.body)) f fs))
+sum_from (f ∷ fs) zero k one h = omega (arith, h, sum_by-cons (λ (g : Function). nodes (shown_term g.body)) f fs)
+sum_from (f ∷ fs) (suc i) k one h = sum_from fs i k one (omega (arith, h, sum_by-cons (λ (g : Function). nodes (shown_term g.body)) f fs))
 
 pub few_nodes : (c : CheckedProgram) → IsChecked c → (f : ℕ) → nodes ((program_of c).body f) ≤ 50000
 unfolding program_of
@@ -54,11 +54,11 @@ op_by p e f = e ∙ ap (Op p) (sym f)
 abbrev pub Applies : Term → ℕ → Terms → Type 0
 Applies t f ts = ((k : ℕ) × (t ≡ Call f k ts)) ⊎ (t ≡ Loop f ts)
 
-pub applies_by : {t : declared.Term} {us : Terms} (f : ℕ) (ts : Vec declared.Term Global) → ((k : ℕ) × (t ≡ declared.Call f k ts)) ⊎ (t ≡ declared.Loop f ts) → us ≡ forest ts.items → Applies (tree t) f us
+pub applies_by : {t : declared.Term} {us : Terms} (f : ℕ) (ts : Vec declared.Term Global) → ((k : ℕ) × (t ≡ declared.Call f k ts)) ⊎ (t ≡ declared.Loop f ts) → us ≡ shown_terms ts.items → Applies (shown_term t) f us
 applies_by {t} {us} f ts h g =
     ⊎_elim
-    (λ p. inl (p.0, ap tree p.1 ∙ (tree-Call f p.0 ts ∙ ap (Call f p.0) (sym g))))
-    (λ e. inr (ap tree e ∙ (tree-Loop f ts ∙ ap (Loop f) (sym g))))
+    (λ p. inl (p.0, ap shown_term p.1 ∙ (shown_term-Call f p.0 ts ∙ ap (Call f p.0) (sym g))))
+    (λ e. inr (ap shown_term e ∙ (shown_term-Loop f ts ∙ ap (Loop f) (sym g))))
     h
 
 -- what holds of calls and of tail calls
@@ -116,18 +116,18 @@ module _ {C : Program} {E : List Word} where
         (λ g. (g.fits.2, terms_typed C wf ts n E us m (C.params f) g.fits.0 (sym e)))
 
 -- one of several terms
-pub typed_at : {C : Program} {E : List Word} (ts : List declared.Term) (i : ℕ) (t : declared.Term) → slice_get ts i ≡ Some t → AreTyped C E (forest ts) → IsTyped C E (tree t)
+pub typed_at : {C : Program} {E : List Word} (ts : List declared.Term) (i : ℕ) (t : declared.Term) → slice_get ts i ≡ Some t → AreTyped C E (shown_terms ts) → IsTyped C E (shown_term t)
 typed_at {C} {E} ts i t e h = at ts i h.all e h.fit
   where
-    at : (ts : List declared.Term) (i : ℕ) (ws : List ℕ) → slice_get ts i ≡ Some t → HaveWidths C (widths E) (forest ts) ws → IsTyped C E (tree t)
+    at : (ts : List declared.Term) (i : ℕ) (ws : List ℕ) → slice_get ts i ≡ Some t → HaveWidths C (widths E) (shown_terms ts) ws → IsTyped C E (shown_term t)
     at [] i ws e h = absurd (cc)
     at (x ∷ ts) i [] e h = absurd h
-    at (x ∷ ts) zero (w ∷ ws) e h = let q : x ≡ t = cc in subst (λ (y : declared.Term). IsTyped C E (tree y)) q (record { width = w; fits = h.0 })
+    at (x ∷ ts) zero (w ∷ ws) e h = let q : x ≡ t = cc in subst (λ (y : declared.Term). IsTyped C E (shown_term y)) q (record { width = w; fits = h.0 })
     at (x ∷ ts) (suc i) (w ∷ ws) e h = at ts i ws e h.1
 
-pub smaller_at : (ts : List declared.Term) (i : ℕ) (t : declared.Term) → slice_get ts i ≡ Some t → nodes (tree t) ≤ nodes_in (forest ts)
+pub smaller_at : (ts : List declared.Term) (i : ℕ) (t : declared.Term) → slice_get ts i ≡ Some t → nodes (shown_term t) ≤ nodes_in (shown_terms ts)
 smaller_at [] i t e = absurd (cc)
-smaller_at (x ∷ ts) zero t e = let q : x ≡ t = cc in let h = ap (λ (y : declared.Term). nodes (tree y)) q in omega (arith, h)
+smaller_at (x ∷ ts) zero t e = let q : x ≡ t = cc in let h = ap (λ (y : declared.Term). nodes (shown_term y)) q in omega (arith, h)
 smaller_at (x ∷ ts) (suc i) t e = let h = smaller_at ts i t e in omega (arith, h)
 
 -- ---- meanings by parts
@@ -186,18 +186,18 @@ after_more : (us : List Word) (v : Word) (x : Outcomes) → after us (with_rest 
 after_more us v NoWords = refl
 after_more us v (Words vs m) = ap (λ l. Words l m) (sym (append_assoc us (v ∷ []) vs))
 
-drop_at : (ts : List declared.Term) (i : ℕ) (t : declared.Term) → slice_get ts i ≡ Some t → forest (drop i ts) ≡ Cons (tree t) (forest (drop (suc i) ts))
+drop_at : (ts : List declared.Term) (i : ℕ) (t : declared.Term) → slice_get ts i ≡ Some t → shown_terms (drop i ts) ≡ Cons (shown_term t) (shown_terms (drop (suc i) ts))
 drop_at [] i t e = absurd (cc)
-drop_at (x ∷ ts) zero t e = let q : x ≡ t = cc in ap (λ (y : declared.Term). Cons (tree y) (forest ts)) q
+drop_at (x ∷ ts) zero t e = let q : x ≡ t = cc in ap (λ (y : declared.Term). Cons (shown_term y) (shown_terms ts)) q
 drop_at (x ∷ ts) (suc i) t e = drop_at ts i t e
 
 module _ (C : Program) (E : List Word) (ts : List declared.Term) (i : ℕ) (t : declared.Term) (at : slice_get ts i ≡ Some t) (us : List Word) (n : ℕ) where
-  pub all_next : (v : Word) (m : ℕ) → Gave v m ≡ eval C (applied C) (tree t) n E → after us (eval_all C (applied C) (forest (drop i ts)) n E) ≡ after (us ++ (v ∷ [])) (eval_all C (applied C) (forest (drop (i + 1) ts)) m E)
+  pub all_next : (v : Word) (m : ℕ) → Gave v m ≡ eval C (applied C) (shown_term t) n E → after us (eval_all C (applied C) (shown_terms (drop i ts)) n E) ≡ after (us ++ (v ∷ [])) (eval_all C (applied C) (shown_terms (drop (i + 1) ts)) m E)
   all_next v m e =
       ap (λ x. after us (eval_all C (applied C) x n E)) (drop_at ts i t at)
-      ∙ (ap (λ x. after us (with_head x (λ k. eval_all C (applied C) (forest (drop (suc i) ts)) k E))) (sym e)
-      ∙ (after_more us v (eval_all C (applied C) (forest (drop (suc i) ts)) m E)
-      ∙ ap (λ k. after (us ++ (v ∷ [])) (eval_all C (applied C) (forest (drop k ts)) m E)) (sym (add-one i))))
+      ∙ (ap (λ x. after us (with_head x (λ k. eval_all C (applied C) (shown_terms (drop (suc i) ts)) k E))) (sym e)
+      ∙ (after_more us v (eval_all C (applied C) (shown_terms (drop (suc i) ts)) m E)
+      ∙ ap (λ k. after (us ++ (v ∷ [])) (eval_all C (applied C) (shown_terms (drop k ts)) m E)) (sym (add-one i))))
 
 -- ---- steps
 

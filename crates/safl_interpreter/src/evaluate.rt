@@ -3,7 +3,7 @@
 ghost use Rattle.std.specs.Prelude.{◌≡◌, ◌<◌, IfOk};
 ghost use Rattle.safl_term.specs.Checked.{program_of, IsChecked};
 ghost use Rattle.safl_term.specs.Fuel.{eval, eval_all};
-ghost use Rattle.safl_term.specs.Tree.{tree, forest};
+ghost use Rattle.safl_term.specs.Tree.{shown_term, shown_terms};
 ghost use Rattle.safl_interpreter.specs.Interpreting.{widths, shown, shown_all, applied, IsStep, IsTyped, AreTyped};
 
 use crate::answer::{Answer, Operands, Step};
@@ -46,8 +46,8 @@ pub fn call(
 #[cycle(evaluate)]
 fn evaluate(alloc: Global, c: &Checked, env: &[Word], t: &Term, left: u32) -> Result<Step, NoMemory>
     requires checked { IsChecked c.now }
-    requires typed { IsTyped (program_of c.now) env.now (tree t.now) }
-    ensures { IfOk result (λ s. IsStep (program_of c.now) env.now (tree t.now) left s) }
+    requires typed { IsTyped (program_of c.now) env.now (shown_term t.now) }
+    ensures { IfOk result (λ s. IsStep (program_of c.now) env.now (shown_term t.now) left s) }
 {
     match t {
         Term::Const(word) => Ok(Step::Done(Answer { word: *word, left })),
@@ -98,8 +98,8 @@ fn value(
     left: u32,
 ) -> Result<Option<Answer>, NoMemory>
     requires checked { IsChecked c.now }
-    requires typed { IsTyped (program_of c.now) env.now (tree t.now) }
-    ensures { IfOk result (λ answer. shown answer ≡ eval (program_of c.now) (applied (program_of c.now)) (tree t.now) left env.now) }
+    requires typed { IsTyped (program_of c.now) env.now (shown_term t.now) }
+    ensures { IfOk result (λ answer. shown answer ≡ eval (program_of c.now) (applied (program_of c.now)) (shown_term t.now) left env.now) }
 {
     match evaluate(alloc, c, env, t, left)? {
         Step::Done(answer) => Ok(Some(answer)),
@@ -118,8 +118,8 @@ fn values(
     left: u32,
 ) -> Result<Option<Operands>, NoMemory>
     requires checked { IsChecked c.now }
-    requires typed { AreTyped (program_of c.now) env.now (forest ts.now) }
-    ensures { IfOk result (λ operands. shown_all operands ≡ eval_all (program_of c.now) (applied (program_of c.now)) (forest ts.now) left env.now) }
+    requires typed { AreTyped (program_of c.now) env.now (shown_terms ts.now) }
+    ensures { IfOk result (λ operands. shown_all operands ≡ eval_all (program_of c.now) (applied (program_of c.now)) (shown_terms ts.now) left env.now) }
 {
     let mut words = Vec::new(alloc);
     let mut rest = left;

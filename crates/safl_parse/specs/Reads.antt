@@ -5,7 +5,7 @@ use Rattle.safl_grammar.specs.Reading.{Reading}
 use Rattle.safl_word.specs.declared.token.Token.{Token}
 use Rattle.safl_tree.specs.Tree.{Tree}
 use Rattle.safl_tree.specs.Terminals.{Terminal, terminals}
-use Rattle.safl_tree.specs.Shown.{shows}
+use Rattle.safl_tree.specs.Shown.{shown_tree}
 use Rattle.safl_parse.specs.declared.error.ReadError.{ReadError}
 use Rattle.safl_parse.specs.declared.parser.Parser.{Parser}
 use Rattle.safl_parse.specs.declared.part.Part.{Part}
@@ -17,4 +17,4 @@ Reads p ts view result reading = Gives p.text.now view result (reading (terminal
 
 -- an expression
 abbrev pub ReadsTree : Parser → List Token → Result (Part × Bor (List Token)) ReadError → Reading Terminal Tree → Type 0
-ReadsTree p ts result reading = Reads p ts (λ x. (shows x.0.expr, x.1.now)) result reading
+ReadsTree p ts result reading = Reads p ts (λ x. (shown_tree x.0.expr, x.1.now)) result reading

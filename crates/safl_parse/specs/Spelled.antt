@@ -1,7 +1,7 @@
 -- What a parsed source shows.
 use Rattle.std.specs.Prelude.{ℕ, List}
 use Rattle.safl_tree.specs.Tree.{Definition}
-use Rattle.safl_tree.specs.Shown.{shows_program}
+use Rattle.safl_tree.specs.Shown.{shown_program}
 use Rattle.safl_parse.specs.declared.parsed.Parsed.{Parsed}
 
 -- the bytes of the source
@@ -10,4 +10,4 @@ source_of p = p.source.items
 
 -- the program
 abbrev pub program_of : Parsed → List Definition
-program_of p = shows_program p.program
+program_of p = shown_program p.program

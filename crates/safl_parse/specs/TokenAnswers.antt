@@ -4,7 +4,7 @@ use Rattle.safl_word.specs.declared.token.Token.{Token}
 use Rattle.safl_word.specs.declared.fault.Fault.{Fault}
 use Rattle.safl_tree.specs.Tree.{Definition}
 use Rattle.safl_tree.specs.Source.{TokensFault}
-use Rattle.safl_tree.specs.Shown.{shows_program}
+use Rattle.safl_tree.specs.Shown.{shown_program}
 use Rattle.safl_tree.specs.declared.tree.Program.{Program}
 use Rattle.safl_parse.specs.declared.syntax.ParseErr.{ParseErr}
 use Rattle.safl_parse.specs.declared.syntax.ParseErr.TheVariants as answers
@@ -21,7 +21,7 @@ OnlyNoMemory answers.NoMemory = Unit {0}
 
 -- this program, or lack of memory
 abbrev pub IsProgramUnlessNoMemory : List Definition → Result Program ParseErr → Type 0
-IsProgramUnlessNoMemory p (Ok program) = shows_program program ≡ p
+IsProgramUnlessNoMemory p (Ok program) = shown_program program ≡ p
 IsProgramUnlessNoMemory p (Err e) = OnlyNoMemory e
 
 -- this fault, or lack of memory

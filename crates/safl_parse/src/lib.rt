@@ -9,8 +9,6 @@ mod parser;
 mod part;
 mod program;
 pub mod syntax;
-#[cfg(test)]
-mod tests;
 
-pub use crate::parsed::{Parsed, parse};
+pub use crate::parsed::{Parsed, parse, parse_program};
 pub use crate::syntax::{ParseErr, parse_tokens};

@@ -1,18 +1,18 @@
 //! Sources with the programs that they spell.
 
-ghost use Rattle.std.specs.Prelude.{◌≡◌, ◌<◌, ◌≤◌, ◌^◌, length, List, IfOk, IfErr};
-ghost use Rattle.safl_word.specs.Tokens.{HasTokens};
+ghost use Rattle.std.specs.Prelude.{◌≡◌, ◌≤◌, length, List, IfOk, IfErr};
+ghost use Rattle.safl_word.specs.declared.word.TheConstants.{SOURCE_MAX};
 ghost use Rattle.safl_word.specs.declared.fault.Fault.{Fault};
 ghost use Rattle.safl_tree.specs.Tree.{Definition};
-ghost use Rattle.safl_tree.specs.Shown.{shows_program};
+ghost use Rattle.safl_tree.specs.Shown.{shown_program};
 ghost use Rattle.safl_tree.specs.Source.{SpellsProgram, SyntaxFault};
 ghost use Rattle.safl_parse.specs.Spelled.{program_of};
 ghost use Rattle.safl_parse.specs.Answers.{Spells, RefusedFirst, SpelledUnlessNoMemory, FaultUnlessNoMemory};
+ghost use Rattle.safl_parse.specs.TokenAnswers.{IsProgramUnlessNoMemory, IsFaultUnlessNoMemory};
 
 use crate::syntax::{ParseErr, parse_tokens};
 use safl_text::lex;
 use safl_tree::Program;
-use safl_word::Token;
 use std::alloc::Global;
 
 /// A source and the program that it spells.
@@ -23,47 +23,46 @@ pub struct Parsed {
 }
 
 impl Parsed {
-    /// What the source spells, whose tokens these are, or else its first fault.
-    pub fn of_tokens(alloc: Global, source: &[u8], tokens: &[Token]) -> Result<Parsed, ParseErr>
-        requires size { length source.now < 2 ^ 32 }
-        requires cut { HasTokens source.now tokens.now }
-        ensures program { IfOk result (λ p. Spells source.now p) }
-        ensures refused { IfErr result (λ e. RefusedFirst source.now e) }
-        ensures spelled { (p : List Definition) → SpellsProgram source.now p → SpelledUnlessNoMemory p result }
-        ensures faulty { (f : Fault) → SyntaxFault source.now f → FaultUnlessNoMemory f result }
-    {
-        let program = parse_tokens(alloc, source, tokens)?;
-        match Vec::from_slice(alloc, source) {
-            Ok(source) => Ok(Parsed { source, program }),
-            Err(_) => Err(ParseErr::NoMemory),
-        }
-    }
-
     /// The program.
     pub fn program(&self) -> &Program
-        ensures { shows_program result.now ≡ program_of self.now }
+        ensures { shown_program result.now ≡ program_of self.now }
     {
         &self.program
     }
 
     /// The program alone.
     pub fn into_program(self) -> Program
-        ensures { shows_program result ≡ program_of self }
+        ensures { shown_program result ≡ program_of self }
     {
         self.program
     }
 }
 
-/// The program that a source of at most 1,048,576 bytes spells, or else its first fault: E01 (foreign byte) and E03
+/// The program that a source of at most `SOURCE_MAX` bytes spells, or else its first fault: E01 (foreign byte) and E03
 /// (name or number too long) before all others, and then, at the earliest token that breaks a rule, E04 (nesting too
 /// deep) before E02 (unexpected token) before E05 (bad width or range).
+pub fn parse_program(alloc: Global, source: &[u8]) -> Result<Program, ParseErr>
+    requires { length source.now ≤ SOURCE_MAX }
+    ensures program { IfOk result (λ p. SpellsProgram source.now (shown_program p)) }
+    ensures refused { IfErr result (λ e. RefusedFirst source.now e) }
+    ensures spelled { (p : List Definition) → SpellsProgram source.now p → IsProgramUnlessNoMemory p result }
+    ensures faulty { (f : Fault) → SyntaxFault source.now f → IsFaultUnlessNoMemory f result }
+{
+    let tokens = lex(alloc, source)?;
+    parse_tokens(alloc, source, tokens.as_slice())
+}
+
+/// The program of `parse_program`, with a copy of its source.
 pub fn parse(alloc: Global, source: &[u8]) -> Result<Parsed, ParseErr>
-    requires { length source.now ≤ 1048576 }
+    requires { length source.now ≤ SOURCE_MAX }
     ensures program { IfOk result (λ p. Spells source.now p) }
     ensures refused { IfErr result (λ e. RefusedFirst source.now e) }
     ensures spelled { (p : List Definition) → SpellsProgram source.now p → SpelledUnlessNoMemory p result }
     ensures faulty { (f : Fault) → SyntaxFault source.now f → FaultUnlessNoMemory f result }
 {
-    let tokens = lex(alloc, source)?;
-    Parsed::of_tokens(alloc, source, tokens.as_slice())
+    let program = parse_program(alloc, source)?;
+    match Vec::from_slice(alloc, source) {
+        Ok(source) => Ok(Parsed { source, program }),
+        Err(_) => Err(ParseErr::NoMemory),
+    }
 }

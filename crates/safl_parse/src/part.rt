@@ -1,8 +1,8 @@
 //! Expressions with their depths, up to the limit of a left operand.
 
 ghost use Rattle.std.specs.Prelude.{◌≡◌, [], ◌∷◌, ◌++◌, ◌+◌, ◌≤◌, min, max, IfOk};
-ghost use Rattle.safl_tree.specs.Tree.{depth as tree_depth, deepest, deepest_bind, deepest_arm, trees_of, binds_of, arms_of, Applied, Called, Binding, Cases, Choice};
-ghost use Rattle.safl_tree.specs.Shown.{shows, shows_all, shows_bind, shows_bounds, shows_arm, shows_labelled};
+ghost use Rattle.safl_tree.specs.Tree.{depth as tree_depth, deepest, deepest_bind, deepest_arm, trees_of, binds_of, arms_of, Op, Call, Let, Cases, If};
+ghost use Rattle.safl_tree.specs.Shown.{shown_tree, shown_trees, shown_bind, shown_bounds, shown_arm, shown_labelled};
 ghost use Rattle.safl_parse.specs.Parts.{labelled_depth};
 
 use safl_tree::{Arm, Bind, Expr, Name, Node};
@@ -17,7 +17,7 @@ pub const DEPTH_LIMIT: u8 = 100;
 pub struct Part {
     pub expr: Expr,
     pub depth: u8,
-    ghost capped: { depth ≡ min (tree_depth (shows expr)) 100 },
+    ghost capped: { depth ≡ min (tree_depth (shown_tree expr)) 100 },
 }
 
 impl Part {
@@ -34,7 +34,7 @@ impl Part {
 pub struct Parts {
     pub exprs: Vec<Expr>,
     pub depth: u8,
-    ghost capped: { depth ≡ min (deepest (trees_of (shows_all exprs.items))) 100 },
+    ghost capped: { depth ≡ min (deepest (trees_of (shown_trees exprs.items))) 100 },
 }
 
 /// Bindings, and the greatest depth of a value, or the limit if that is less.
@@ -42,7 +42,7 @@ pub struct Parts {
 pub struct Bindings {
     pub binds: Vec<Bind>,
     pub depth: u8,
-    ghost capped: { depth ≡ min (deepest_bind (binds_of (shows_bounds binds.items))) 100 },
+    ghost capped: { depth ≡ min (deepest_bind (binds_of (shown_bounds binds.items))) 100 },
 }
 
 /// Labelled arms, and the depth of their ifs, the default aside, or the limit if that is less.
@@ -50,7 +50,7 @@ pub struct Bindings {
 pub struct Labels {
     pub arms: Vec<Arm>,
     pub depth: u8,
-    ghost capped: { depth ≡ min (labelled_depth (shows_labelled arms.items)) 100 },
+    ghost capped: { depth ≡ min (labelled_depth (shown_labelled arms.items)) 100 },
 }
 
 /// All arms of a case, and the depth of their ifs, or the limit if that is less.
@@ -59,7 +59,7 @@ pub struct AllArms {
     pub arms: Vec<Arm>,
     pub default: Expr,
     pub depth: u8,
-    ghost capped: { depth ≡ min (deepest_arm (arms_of (shows_labelled arms.items) (shows default))) 100 },
+    ghost capped: { depth ≡ min (deepest_arm (arms_of (shown_labelled arms.items) (shown_tree default))) 100 },
 }
 
 /// One more, or the limit if that is less.
@@ -82,7 +82,7 @@ pub fn greater(a: u8, b: u8) -> u8
 
 /// One expression alone.
 pub fn single(alloc: Global, part: Part) -> Result<Parts, AllocError>
-    ensures { IfOk result (λ x. shows_all x.exprs.items ≡ shows part.expr ∷ []) }
+    ensures { IfOk result (λ x. shown_trees x.exprs.items ≡ shown_tree part.expr ∷ []) }
 {
     let depth = part.depth;
     let exprs = vec![in alloc; part.expr]?;
@@ -91,7 +91,7 @@ pub fn single(alloc: Global, part: Part) -> Result<Parts, AllocError>
 
 /// One more at the end.
 pub fn push(parts: Parts, next: Part) -> Result<Parts, AllocError>
-    ensures { IfOk result (λ x. shows_all x.exprs.items ≡ shows_all parts.exprs.items ++ shows next.expr ∷ []) }
+    ensures { IfOk result (λ x. shown_trees x.exprs.items ≡ shown_trees parts.exprs.items ++ shown_tree next.expr ∷ []) }
 {
     let depth = greater(parts.depth, next.depth);
     let mut exprs = parts.exprs;
@@ -101,8 +101,8 @@ pub fn push(parts: Parts, next: Part) -> Result<Parts, AllocError>
 
 /// One binding alone.
 pub fn single_bind(alloc: Global, bind: Bind, depth: u8) -> Result<Bindings, AllocError>
-    requires { depth ≡ min (tree_depth (shows bind.value)) 100 }
-    ensures { IfOk result (λ x. shows_bounds x.binds.items ≡ shows_bind bind ∷ []) }
+    requires { depth ≡ min (tree_depth (shown_tree bind.value)) 100 }
+    ensures { IfOk result (λ x. shown_bounds x.binds.items ≡ shown_bind bind ∷ []) }
 {
     let binds = vec![in alloc; bind]?;
     Ok(Bindings { binds, depth })
@@ -110,8 +110,8 @@ pub fn single_bind(alloc: Global, bind: Bind, depth: u8) -> Result<Bindings, All
 
 /// One more at the end.
 pub fn push_bind(bindings: Bindings, next: Bind, depth: u8) -> Result<Bindings, AllocError>
-    requires { depth ≡ min (tree_depth (shows next.value)) 100 }
-    ensures { IfOk result (λ x. shows_bounds x.binds.items ≡ shows_bounds bindings.binds.items ++ shows_bind next ∷ []) }
+    requires { depth ≡ min (tree_depth (shown_tree next.value)) 100 }
+    ensures { IfOk result (λ x. shown_bounds x.binds.items ≡ shown_bounds bindings.binds.items ++ shown_bind next ∷ []) }
 {
     let depth = greater(bindings.depth, depth);
     let mut binds = bindings.binds;
@@ -121,7 +121,7 @@ pub fn push_bind(bindings: Bindings, next: Bind, depth: u8) -> Result<Bindings, 
 
 /// An operator and its operands.
 pub fn applied(place: u32, op: Primitive, operands: Parts) -> Part
-    ensures { shows result.expr ≡ Applied place op (trees_of (shows_all operands.exprs.items)) }
+    ensures { shown_tree result.expr ≡ Op place op (trees_of (shown_trees operands.exprs.items)) }
 {
     let depth = above(operands.depth);
     Part {
@@ -135,7 +135,7 @@ pub fn applied(place: u32, op: Primitive, operands: Parts) -> Part
 
 /// A call.
 pub fn called(place: u32, name: Name, arguments: Parts) -> Part
-    ensures { shows result.expr ≡ Called place name (trees_of (shows_all arguments.exprs.items)) }
+    ensures { shown_tree result.expr ≡ Call place name (trees_of (shown_trees arguments.exprs.items)) }
 {
     let depth = above(arguments.depth);
     Part {
@@ -149,7 +149,7 @@ pub fn called(place: u32, name: Name, arguments: Parts) -> Part
 
 /// A let.
 pub fn bound(alloc: Global, place: u32, bindings: Bindings, body: Part) -> Result<Part, AllocError>
-    ensures { IfOk result (λ x. shows x.expr ≡ Binding place (binds_of (shows_bounds bindings.binds.items)) (shows body.expr)) }
+    ensures { IfOk result (λ x. shown_tree x.expr ≡ Let place (binds_of (shown_bounds bindings.binds.items)) (shown_tree body.expr)) }
 {
     let depth = above(greater(bindings.depth, body.depth));
     let body = Box::new(alloc, body.expr)?;
@@ -164,7 +164,7 @@ pub fn bound(alloc: Global, place: u32, bindings: Bindings, body: Part) -> Resul
 
 /// No arm yet.
 pub fn no_labels(alloc: Global) -> Labels
-    ensures { shows_labelled result.arms.items ≡ [] }
+    ensures { shown_labelled result.arms.items ≡ [] }
 {
     Labels {
         arms: Vec::new(alloc),
@@ -191,7 +191,7 @@ fn arm_depth(before: usize, depth: u8) -> u8
 
 /// One more arm at the end.
 pub fn push_arm(labels: Labels, label: Expr, value: Part) -> Result<Labels, AllocError>
-    ensures { IfOk result (λ x. shows_labelled x.arms.items ≡ shows_labelled labels.arms.items ++ record { label = shows label; value = shows value.expr } ∷ []) }
+    ensures { IfOk result (λ x. shown_labelled x.arms.items ≡ shown_labelled labels.arms.items ++ record { label = shown_tree label; value = shown_tree value.expr } ∷ []) }
 {
     let depth = greater(labels.depth, arm_depth(labels.arms.len(), value.depth));
     let mut arms = labels.arms;
@@ -221,8 +221,8 @@ fn default_depth(before: usize, depth: u8) -> u8
 
 /// The default at the end.
 pub fn with_default(labels: Labels, default: Part) -> AllArms
-    ensures labelled { shows_labelled result.arms.items ≡ shows_labelled labels.arms.items }
-    ensures default { shows result.default ≡ shows default.expr }
+    ensures labelled { shown_labelled result.arms.items ≡ shown_labelled labels.arms.items }
+    ensures default { shown_tree result.default ≡ shown_tree default.expr }
 {
     let depth = greater(
         labels.depth,
@@ -237,7 +237,7 @@ pub fn with_default(labels: Labels, default: Part) -> AllArms
 
 /// A case.
 pub fn cased(alloc: Global, place: u32, scrutinee: Part, arms: AllArms) -> Result<Part, AllocError>
-    ensures { IfOk result (λ x. shows x.expr ≡ Cases place (shows scrutinee.expr) (arms_of (shows_labelled arms.arms.items) (shows arms.default))) }
+    ensures { IfOk result (λ x. shown_tree x.expr ≡ Cases place (shown_tree scrutinee.expr) (arms_of (shown_labelled arms.arms.items) (shown_tree arms.default))) }
 {
     let depth = above(greater(scrutinee.depth, arms.depth));
     let scrutinee = Box::new(alloc, scrutinee.expr)?;
@@ -259,7 +259,7 @@ pub fn chosen(
     first: Part,
     second: Part,
 ) -> Result<Part, AllocError>
-    ensures { IfOk result (λ x. shows x.expr ≡ Choice place (shows condition.expr) (shows first.expr) (shows second.expr)) }
+    ensures { IfOk result (λ x. shown_tree x.expr ≡ If place (shown_tree condition.expr) (shown_tree first.expr) (shown_tree second.expr)) }
 {
     let depth = above(greater(condition.depth, greater(first.depth, second.depth)));
     let node = Node::If(

@@ -2,7 +2,7 @@
 
 ghost use Rattle.std.specs.Prelude.{◌≡◌, [], ◌∷◌, ◌++◌, true, false, IfOk};
 ghost use Rattle.safl_tree.specs.Terminals.{terminals};
-ghost use Rattle.safl_tree.specs.Shown.{shows_param, shows_params, shows_def, shows_defs, shows_program};
+ghost use Rattle.safl_tree.specs.Shown.{shown_parameter, shown_parameters, shown_definition, shown_definitions, shown_program};
 ghost use Rattle.safl_tree.specs.Reader.{read_param, read_another_param, read_params, read_one, read_another_one, read_group, read_another_group, read_program, read_source, expr_at};
 ghost use Rattle.safl_parse.specs.Reads.{Reads, ReadsTree};
 
@@ -17,7 +17,7 @@ const LEVELS: u8 = 100;
 
 /// One more parameter at the end.
 fn push_param(params: Vec<Param>, next: Param) -> Result<Vec<Param>, AllocError>
-    ensures { IfOk result (λ x. shows_params x.items ≡ shows_params params.items ++ shows_param next ∷ []) }
+    ensures { IfOk result (λ x. shown_parameters x.items ≡ shown_parameters params.items ++ shown_parameter next ∷ []) }
 {
     let mut params = params;
     params.push(next)?;
@@ -26,7 +26,7 @@ fn push_param(params: Vec<Param>, next: Param) -> Result<Vec<Param>, AllocError>
 
 /// One more definition at the end.
 fn push_def(defs: Vec<Def>, next: Def) -> Result<Vec<Def>, AllocError>
-    ensures { IfOk result (λ x. shows_defs x.items ≡ shows_defs defs.items ++ shows_def next ∷ []) }
+    ensures { IfOk result (λ x. shown_definitions x.items ≡ shown_definitions defs.items ++ shown_definition next ∷ []) }
 {
     let mut defs = defs;
     defs.push(next)?;
@@ -36,7 +36,7 @@ fn push_def(defs: Vec<Def>, next: Def) -> Result<Vec<Def>, AllocError>
 impl<'s> Parser<'s> {
     #[tactic(auto, unfolding(safl_tree::specs::Reader::read_param))]
     fn param<'a>(&self, tokens: &'a [Token]) -> Read<'a, Param>
-        ensures { Reads self.now tokens.now (λ x. (shows_param x.0, x.1.now)) result read_param }
+        ensures { Reads self.now tokens.now (λ x. (shown_parameter x.0, x.1.now)) result read_param }
     {
         let ((place, name), rest) = self.name(tokens)?;
         let (_, rest) = self.symbol(rest, Sym::Colon)?;
@@ -47,7 +47,7 @@ impl<'s> Parser<'s> {
     /// One more parameter, behind a comma.
     #[tactic(auto, unfolding(safl_tree::specs::Reader::read_another_param))]
     fn another_param<'a>(&self, params: Vec<Param>, tokens: &'a [Token]) -> Read<'a, Vec<Param>>
-        ensures { Reads self.now tokens.now (λ x. (shows_params x.0.items, x.1.now)) result (read_another_param (shows_params params.items)) }
+        ensures { Reads self.now tokens.now (λ x. (shown_parameters x.0.items, x.1.now)) result (read_another_param (shown_parameters params.items)) }
     {
         let (_, rest) = self.symbol(tokens, Sym::Comma)?;
         let (next, rest) = self.param(rest)?;
@@ -57,7 +57,7 @@ impl<'s> Parser<'s> {
     /// Parameters with commas between them, or none.
     #[tactic(auto, unfolding(safl_tree::specs::Reader::read_params))]
     fn params<'a>(&self, tokens: &'a [Token]) -> Read<'a, Vec<Param>>
-        ensures { Reads self.now tokens.now (λ x. (shows_params x.0.items, x.1.now)) result read_params }
+        ensures { Reads self.now tokens.now (λ x. (shown_parameters x.0.items, x.1.now)) result read_params }
     {
         if !self.comes(tokens, TokenKind::Name) {
             return Ok((Vec::new(self.alloc), tokens));
@@ -76,7 +76,7 @@ impl<'s> Parser<'s> {
     /// A definition behind `fun` or `and`.
     #[tactic(auto, unfolding(safl_tree::specs::Reader::read_one))]
     fn one<'a>(&self, joined: bool, tokens: &'a [Token]) -> Read<'a, Def>
-        ensures { Reads self.now tokens.now (λ x. (shows_def x.0, x.1.now)) result (read_one joined (expr_at 100)) }
+        ensures { Reads self.now tokens.now (λ x. (shown_definition x.0, x.1.now)) result (read_one joined (expr_at 100)) }
     {
         let ((place, name), rest) = self.name(tokens)?;
         let (_, rest) = self.symbol(rest, Sym::OpenParen)?;
@@ -100,7 +100,7 @@ impl<'s> Parser<'s> {
     /// One more member of a group, behind `and`.
     #[tactic(auto, unfolding(safl_tree::specs::Reader::read_another_one))]
     fn another_one<'a>(&self, defs: Vec<Def>, tokens: &'a [Token]) -> Read<'a, Vec<Def>>
-        ensures { Reads self.now tokens.now (λ x. (shows_defs x.0.items, x.1.now)) result (read_another_one (expr_at 100) (shows_defs defs.items)) }
+        ensures { Reads self.now tokens.now (λ x. (shown_definitions x.0.items, x.1.now)) result (read_another_one (expr_at 100) (shown_definitions defs.items)) }
     {
         let (_, rest) = self.word(tokens, Key::And)?;
         let (next, rest) = self.one(true, rest)?;
@@ -110,7 +110,7 @@ impl<'s> Parser<'s> {
     /// A group of definitions.
     #[tactic(auto, unfolding(safl_tree::specs::Reader::read_group))]
     fn group<'a>(&self, defs: Vec<Def>, tokens: &'a [Token]) -> Read<'a, Vec<Def>>
-        ensures { Reads self.now tokens.now (λ x. (shows_defs x.0.items, x.1.now)) result (read_group (expr_at 100) (shows_defs defs.items)) }
+        ensures { Reads self.now tokens.now (λ x. (shown_definitions x.0.items, x.1.now)) result (read_group (expr_at 100) (shown_definitions defs.items)) }
     {
         let (_, rest) = self.word(tokens, Key::Fun)?;
         let (first, rest) = self.one(false, rest)?;
@@ -127,7 +127,7 @@ impl<'s> Parser<'s> {
     /// One more group, with its semicolon where there is one.
     #[tactic(auto, unfolding(safl_tree::specs::Reader::read_another_group, safl_tree::specs::Reader::read_ended))]
     fn another_group<'a>(&self, defs: Vec<Def>, tokens: &'a [Token]) -> Read<'a, Vec<Def>>
-        ensures { Reads self.now tokens.now (λ x. (shows_defs x.0.items, x.1.now)) result (read_another_group (expr_at 100) (shows_defs defs.items)) }
+        ensures { Reads self.now tokens.now (λ x. (shown_definitions x.0.items, x.1.now)) result (read_another_group (expr_at 100) (shown_definitions defs.items)) }
     {
         let (defs, rest) = self.group(defs, tokens)?;
         if self.comes(rest, TokenKind::Sym(Sym::Semicolon)) {
@@ -141,7 +141,7 @@ impl<'s> Parser<'s> {
     /// All groups that stand at the start.
     #[tactic(auto, unfolding(safl_tree::specs::Reader::read_program))]
     fn groups<'a>(&self, tokens: &'a [Token]) -> Read<'a, Vec<Def>>
-        ensures { Reads self.now tokens.now (λ x. (shows_defs x.0.items, x.1.now)) result (read_program (expr_at 100)) }
+        ensures { Reads self.now tokens.now (λ x. (shown_definitions x.0.items, x.1.now)) result (read_program (expr_at 100)) }
     {
         let mut defs = Vec::new(self.alloc);
         let mut rest = tokens;
@@ -156,7 +156,7 @@ impl<'s> Parser<'s> {
     /// The whole text.
     #[tactic(auto, unfolding(safl_tree::specs::Reader::read_source))]
     pub fn whole<'a>(&self, tokens: &'a [Token]) -> Read<'a, Program>
-        ensures { Reads self.now tokens.now (λ x. (shows_program x.0, x.1.now)) result read_source }
+        ensures { Reads self.now tokens.now (λ x. (shown_program x.0, x.1.now)) result read_source }
     {
         let (defs, rest) = self.groups(tokens)?;
         match rest {

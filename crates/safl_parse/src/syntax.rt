@@ -5,7 +5,7 @@ ghost use Rattle.safl_word.specs.declared.fault.Fault.{Fault};
 ghost use Rattle.safl_tree.specs.Tree.{Definition};
 ghost use Rattle.safl_tree.specs.Terminals.{terminals};
 ghost use Rattle.safl_tree.specs.Source.{TokensSpell, TokensFault, rule_of, place_in, fault_at};
-ghost use Rattle.safl_tree.specs.Shown.{shows_program};
+ghost use Rattle.safl_tree.specs.Shown.{shown_program};
 ghost use Rattle.safl_parse.specs.Gives.{rule_of as grammar_rule};
 ghost use Rattle.safl_parse.specs.Errors.{error_of};
 ghost use Rattle.safl_parse.specs.TokenAnswers.{RefusedRightly, IsProgramUnlessNoMemory, IsFaultUnlessNoMemory};
@@ -62,7 +62,7 @@ fn fault_at(source: &[u8], cause: Cause, rest: &[Token]) -> Fault
 /// rule, E04 (nesting too deep) before E02 (unexpected token) before E05 (bad width or range).
 pub fn parse_tokens(alloc: Global, source: &[u8], tokens: &[Token]) -> Result<Program, ParseErr>
     requires { length source.now < 2 ^ 32 }
-    ensures program { IfOk result (λ p. TokensSpell source.now tokens.now (shows_program p)) }
+    ensures program { IfOk result (λ p. TokensSpell source.now tokens.now (shown_program p)) }
     ensures refused { IfErr result (λ e. RefusedRightly source.now tokens.now e) }
     ensures spelled { (p : List Definition) → TokensSpell source.now tokens.now p → IsProgramUnlessNoMemory p result }
     ensures faulty { (f : Fault) → TokensFault source.now tokens.now f → IsFaultUnlessNoMemory f result }

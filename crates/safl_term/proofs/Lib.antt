@@ -11,3 +11,4 @@ pub mod Values
 pub mod TreeLemmas
 pub mod SlotLemmas
 pub mod CheckedLemmas
+pub mod Dismantling

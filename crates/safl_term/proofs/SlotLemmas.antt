@@ -7,7 +7,7 @@ use Rattle.safl_word.specs.Words.{Word}
 use Rattle.safl_word.specs.declared.primitive.Primitive.{Primitive}
 use Rattle.safl_term.specs.declared.term.Term.{Term, Const, Var, If, Let, Op, Call, Loop, Row_of-Term, end_of-Term, more_of-Term, items-the_row-Term, items_hidden-the_row-Term-0}
 use Rattle.safl_term.specs.Slots.{count, HasSlots, HaveSlots}
-use Rattle.safl_term.specs.Tree.{forest}
+use Rattle.safl_term.specs.Tree.{shown_terms}
 use Rattle.safl_term.proofs.TreeLemmas.{row_of, listed}
 
 slots_row : (n : ℕ) (m : Count) (row : Row_of-Term m) → AllByRecursion (HasSlots n) (items-the_row-Term m row) → HaveSlots n row
@@ -19,7 +19,7 @@ slots_row n m (more_of-Term t rest) h = (h.0, slots_row n _ rest h.1)
 slots_listed : (n o : ℕ) (ts : Vec Term Global) → AllByRecursion (HasSlots n) ts.items → HaveSlots n (row_of (Loop o ts)).1
 slots_listed n o ts h = let row = row_of (Loop o ts) in slots_row n row.0 row.1 (subst (AllByRecursion (HasSlots n)) (sym (items_hidden-the_row-Term-0 ts)) h)
 
-pub count_forest : (ts : List Term) → count (forest ts) ≡ length ts
+pub count_forest : (ts : List Term) → count (shown_terms ts) ≡ length ts
 count_forest [] = refl
 count_forest (t ∷ ts) = ap suc (count_forest ts)
 

@@ -11,7 +11,7 @@ use Rattle.safl_term.specs.Program.{Program, arity}
 use Rattle.safl_term.specs.Sizes.{nodes, depth, max_depth, HasShortLets}
 use Rattle.safl_term.specs.Slots.{HasSlots}
 use Rattle.safl_term.specs.Terms as plain
-use Rattle.safl_term.specs.Tree.{tree}
+use Rattle.safl_term.specs.Tree.{shown_term}
 use Rattle.safl_term.specs.WellFormed.{IsWellFormed, Spans}
 
 pub record CheckedProgram : Type 0 where
@@ -37,7 +37,7 @@ program_of c = record {
   sites = length c.sites;
   main = main_of c;
   unit = of_function (λ f. f.unit) 0 c;
-  body = of_function (λ f. tree f.body) (plain.Const no_word) c;
+  body = of_function (λ f. shown_term f.body) (plain.Const no_word) c;
   params = of_function (λ f. map (λ p. p.width) f.params.items) [] c;
   result = of_function (λ f. f.width) 0 c;
   caller = of_site (λ s. s.caller) 0 c;
@@ -72,7 +72,7 @@ pub record IsWithinLimits (c : CheckedProgram) : Type 0 where
   pub functions : (program_of c).functions ≤ functions_max
   pub params : (f : ℕ) → arity (program_of c) f ≤ params_max
   pub sites : (program_of c).sites ≤ sites_max
-  pub nodes : sum_by (λ f. nodes (tree f.body)) c.functions ≤ nodes_max
+  pub nodes : sum_by (λ f. nodes (shown_term f.body)) c.functions ≤ nodes_max
   pub bindings : (f : ℕ) → HasShortLets ((program_of c).body f)
   -- what recurses on a body has a stack that is large enough
   pub depth : (f : ℕ) → depth ((program_of c).body f) ≤ max_depth

@@ -10,3 +10,4 @@ pub mod WellFormed
 pub mod Laws
 pub mod Sizes
 pub mod Checked
+pub mod Weights

@@ -1,7 +1,7 @@
 -- In which slots the lets of a term bind.
 use Rattle.std.specs.Prelude.{◌≡◌, ℕ, suc, ◌+◌}
 use Rattle.safl_term.specs.Terms as plain
-use Rattle.safl_term.specs.Tree.{trees}
+use Rattle.safl_term.specs.Tree.{shown_row}
 use Rattle.safl_term.specs.declared.term.Term.{Term, Const, Var, If', Let', Op', Call', Loop', Row_of-Term, end_of-Term, more_of-Term}
 
 -- how many terms
@@ -16,7 +16,7 @@ unfoldable mutual
   HasSlots n (Const w) = Unit {0}
   HasSlots n (Var i) = Unit {0}
   HasSlots n (If' p c q a r b) = HasSlots n c × HasSlots n a × HasSlots n b
-  HasSlots n (Let' slot shape ts q b) = (slot ≡ n) × HaveSlots n ts × HasSlots (n + count (trees ts)) b
+  HasSlots n (Let' slot shape ts q b) = (slot ≡ n) × HaveSlots n ts × HasSlots (n + count (shown_row ts)) b
   HasSlots n (Op' o shape ts) = HaveSlots n ts
   HasSlots n (Call' f k shape ts) = HaveSlots n ts
   HasSlots n (Loop' h shape ts) = HaveSlots n ts

@@ -5,21 +5,21 @@ use Rattle.safl_term.specs.declared.term.Term.{Term, Const, Var, If', Let', Op',
 
 abbrev mutual
   -- a term's own tree: the slot of the first binding of a `Let` is not part of it
-  pub tree : Term → plain.Term
-  tree (Const w) = plain.Const w
-  tree (Var i) = plain.Var i
-  tree (If' p c q a r b) = plain.If (tree c) (tree a) (tree b)
-  tree (Let' n shape ts q b) = plain.Let (trees ts) (tree b)
-  tree (Op' o shape ts) = plain.Op o (trees ts)
-  tree (Call' f k shape ts) = plain.Call f k (trees ts)
-  tree (Loop' h shape ts) = plain.Loop h (trees ts)
+  pub shown_term : Term → plain.Term
+  shown_term (Const w) = plain.Const w
+  shown_term (Var i) = plain.Var i
+  shown_term (If' p c q a r b) = plain.If (shown_term c) (shown_term a) (shown_term b)
+  shown_term (Let' n shape ts q b) = plain.Let (shown_row ts) (shown_term b)
+  shown_term (Op' o shape ts) = plain.Op o (shown_row ts)
+  shown_term (Call' f k shape ts) = plain.Call f k (shown_row ts)
+  shown_term (Loop' h shape ts) = plain.Loop h (shown_row ts)
 
   -- the trees of the terms that stand in a term's list
-  pub trees : {m : _} → Row_of-Term m → plain.Terms
-  trees end_of-Term = plain.Nil
-  trees (more_of-Term t rest) = plain.Cons (tree t) (trees rest)
+  pub shown_row : {m : _} → Row_of-Term m → plain.Terms
+  shown_row end_of-Term = plain.Nil
+  shown_row (more_of-Term t rest) = plain.Cons (shown_term t) (shown_row rest)
 
 -- the trees of a list of terms
-abbrev pub forest : List Term → plain.Terms
-forest [] = plain.Nil
-forest (t ∷ ts) = plain.Cons (tree t) (forest ts)
+abbrev pub shown_terms : List Term → plain.Terms
+shown_terms [] = plain.Nil
+shown_terms (t ∷ ts) = plain.Cons (shown_term t) (shown_terms ts)

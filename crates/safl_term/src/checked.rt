@@ -58,7 +58,7 @@ impl Checked {
     ghost use Rattle.safl_term.specs.Program.{arity, unit_for};
     ghost use Rattle.safl_word.specs.Words.{max_width};
     ghost use Rattle.safl_term.specs.Slots.{HasSlots};
-    ghost use Rattle.safl_term.specs.Tree.{tree};
+    ghost use Rattle.safl_term.specs.Tree.{shown_term};
 
     /// The program of these functions and sites, which are in order.
     pub fn new(functions: Vec<Function>, sites: Vec<Site>) -> Checked
@@ -157,7 +157,7 @@ impl Checked {
     /// The body of a function.
     pub fn body(&self, f: u32) -> &Term
         requires { f < (program_of self.now).functions }
-        ensures term { tree result.now ≡ (program_of self.now).body f }
+        ensures term { shown_term result.now ≡ (program_of self.now).body f }
         ensures slots { HasSlots (arity (program_of self.now) f) result.now }
         ensures checked { IsChecked self.now }
     {

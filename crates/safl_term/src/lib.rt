@@ -2,6 +2,7 @@
 #![tactic(auto)]
 
 pub mod checked;
+mod dismantle;
 pub mod laws;
 pub mod term;
 

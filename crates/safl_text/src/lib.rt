@@ -6,8 +6,6 @@ mod front;
 pub mod laws;
 pub mod lexer;
 mod symbols;
-#[cfg(test)]
-mod tests;
 
 pub use crate::error::LexErr;
 pub use crate::lexer::lex;

@@ -3,7 +3,7 @@ use Rattle.std.proofs.Common.{◌≡◌, ℕ, suc, ◌+◌, ◌*◌, ◌≤◌, 
 use Rattle.std.specs.List.{AllByRecursion}
 use Rattle.safl_word.specs.declared.primitive.Primitive.{Primitive}
 use Rattle.safl_word.specs.declared.primitive.Primitive.TheVariants as prims
-use Rattle.safl_tree.specs.Tree.{Definition, Tree, Number, Sized, Variable, Choice, Binding, Cases, Applied, Called, Trees, no_tree, a_tree, Binds, no_bind, a_bind, Arms, default_arm, an_arm, depth, deepest, deepest_bind, deepest_arm}
+use Rattle.safl_tree.specs.Tree.{Definition, Tree, Number, Sized, Variable, If, Let, Cases, Op, Call, Trees, no_tree, a_tree, Binds, no_bind, a_bind, Arms, default_arm, an_arm, depth, deepest, deepest_bind, deepest_arm}
 use Rattle.safl_tree.specs.Printable.{own, own_of, lifted, levels, most, most_operand, most_bind, most_arm, below_of, left_place, right_place, is_binary, IsShallow, AreShallow, AreShallowBinds, AreShallowArms, OfBinary, LeftShallow, KeepsLevels, AllKeepLevels}
 use Rattle.safl_tree.specs.Keeps.{Keeps}
 use Rattle.safl_tree.proofs.Operators.{own_small}
@@ -60,11 +60,11 @@ mutual
   deep (Number p n) s = omega arith
   deep (Sized p w n) s = omega arith
   deep (Variable p x) s = omega arith
-  deep (Choice p c a b) s = let h = deep c s.0 in let i = deep a s.1 in let j = deep b s.2 in omega (arith, h, i, j, own_small c, own_small a, own_small b)
-  deep (Binding p bs t) s = let h = deep_binds bs s.0 in let i = deep t s.1 in omega (arith, h, i, own_small t)
+  deep (If p c a b) s = let h = deep c s.0 in let i = deep a s.1 in let j = deep b s.2 in omega (arith, h, i, j, own_small c, own_small a, own_small b)
+  deep (Let p bs t) s = let h = deep_binds bs s.0 in let i = deep t s.1 in omega (arith, h, i, own_small t)
   deep (Cases p e arms) s = let h = deep e s.0 in let i = deep_arms arms s.1 in omega (arith, h, i, own_small e)
-  deep (Applied p o ts) s = applied_bound o ts s.0 (λ k. deep_operands k ts s.1) (λ k. deep_tail k ts s.1)
-  deep (Called p f ts) s = let h = deep_all ts s in omega (arith, h)
+  deep (Op p o ts) s = applied_bound o ts s.0 (λ k. deep_operands k ts s.1) (λ k. deep_tail k ts s.1)
+  deep (Call p f ts) s = let h = deep_all ts s in omega (arith, h)
 
   deep_all : (ts : Trees) → AreShallow ts → deepest ts ≤ bound (most ts) 8
   deep_all no_tree s = omega arith

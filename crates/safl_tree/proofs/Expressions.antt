@@ -9,7 +9,7 @@ use Rattle.safl_grammar.proofs.Rules.{then, or_else, repeated, narrowed}
 use Rattle.safl_word.specs.declared.token.Key.TheVariants as keys
 use Rattle.safl_word.specs.declared.token.Sym.TheVariants as syms
 use Rattle.safl_word.specs.declared.primitive.Primitive.TheVariants as prims
-use Rattle.safl_tree.specs.Tree.{Tree, Choice, Binding, Cases, Applied, Bound, Labelled, trees_of, binds_of, arms_of, place_of}
+use Rattle.safl_tree.specs.Tree.{Tree, If, Let, Cases, Op, Bound, Labelled, trees_of, binds_of, arms_of, place_of}
 use Rattle.safl_tree.specs.Terminals.{Terminal, code, word_code, symbol_code, operators, operator}
 use Rattle.safl_tree.specs.Grammar
 use Rattle.safl_tree.specs.Grammar.{shallow, ArmList}
@@ -21,7 +21,7 @@ use Rattle.safl_tree.proofs.Leaves.{classed_within, a_word, a_symbol, a_name, a_
 module _ (pe : Reading Terminal Tree) (se ce : Syntax Terminal Tree) (e : Parses code pe se ce false starts Every after_expr) (pu : Reading Terminal Tree) (su cu : Syntax Terminal Tree) (u : Parses code pu su cu false operand_starts Every after_operand) where
   inverted_parses : Parses code (read_inverted pu) (Grammar.inverted su) (Grammar.inverted cu) false (Only (symbol_code syms.Tilde ∷ [])) (Only []) after_operand
   unfolding read_inverted
-  inverted_parses = then (a_symbol syms.Tilde) (λ p. then u (λ x. parses_nothing code (Applied p prims.Not (trees_of (x ∷ []))) after_operand) refl refl) refl refl
+  inverted_parses = then (a_symbol syms.Tilde) (λ p. then u (λ x. parses_nothing code (Op p prims.Not (trees_of (x ∷ []))) after_operand) refl refl) refl refl
 
   pub unary_parses : Parses code (read_unary pu pe) (Grammar.unary su se) (Grammar.unary cu ce) false operand_starts operand_opens after_operand
   unfolding read_unary
@@ -31,7 +31,7 @@ module _ (pe : Reading Terminal Tree) (se ce : Syntax Terminal Tree) (e : Parses
 module _ (k : ℕ) (xs ys : List ℕ) (ps : Reading Terminal Tree) (ss cs : Syntax Terminal Tree) (sub : Parses code ps ss cs false operand_starts operand_opens (Only xs)) (ops_ops : subset (Only (operators k)) (Only (operators k)) ≡ true) (ops_xs : subset (Only (operators k)) (Only xs) ≡ true) (both_xs : subset (Only (operators k ++ ys)) (Only xs) ≡ true) (xs_xs : subset (Only xs) (Only xs) ≡ true) (ys_xs : subset (Only ys) (Only xs) ≡ true) (ys_ys : subset (Only ys) (Only ys) ≡ true) (ys_ops : apart (Only ys) (Only (operators k)) ≡ true) (ops_none : subset (Only (operators k ++ [])) (Only (operators k)) ≡ true) where
   joined_parses : (zs : List ℕ) → subset (Only zs) (Only xs) ≡ true → (a : Tree) → Parses code (read_joined k ps a) (Grammar.joined k ss a) (Grammar.joined k cs a) false (Only (operators k)) (Only (operators k)) (Only zs)
   unfolding read_joined
-  joined_parses zs zs_xs a = then (parses_limited code Deep tt (shallow a) (operator k) (Only (operators k)) (classed_within (Only (operators k)) _)) (λ op. then sub (λ b. parses_nothing code (Applied (place_of a) op (trees_of (a ∷ b ∷ []))) (Only zs)) zs_xs refl) refl refl
+  joined_parses zs zs_xs a = then (parses_limited code Deep tt (shallow a) (operator k) (Only (operators k)) (classed_within (Only (operators k)) _)) (λ op. then sub (λ b. parses_nothing code (Op (place_of a) op (trees_of (a ∷ b ∷ []))) (Only zs)) zs_xs refl) refl refl
 
   chained_parses : Parses code (read_chained k ps) (Grammar.chained k ss) (Grammar.chained k cs) false operand_starts operand_opens (Only ys)
   unfolding read_chained
@@ -84,7 +84,7 @@ label_parses = or_else (Only (2 ∷ [])) (literal_parses (Only gives)) (sized_pa
 module _ (pe : Reading Terminal Tree) (se ce : Syntax Terminal Tree) (e : Parses code pe se ce false starts Every after_expr) where
   choice_parses : Parses code (read_choice pe) (Grammar.choice se) (Grammar.choice ce) false (Only (word_code keys.If ∷ [])) (Only []) after_expr
   unfolding read_choice
-  choice_parses = then (a_word keys.If) (λ p. then e (λ c. then (a_word keys.Then) (λ thens. then e (λ a. then (a_word keys.Else) (λ elses. then e (λ b. parses_nothing code (Choice p c a b) after_expr) refl refl) refl refl) refl refl) refl refl) refl refl) refl refl
+  choice_parses = then (a_word keys.If) (λ p. then e (λ c. then (a_word keys.Then) (λ thens. then e (λ a. then (a_word keys.Else) (λ elses. then e (λ b. parses_nothing code (If p c a b) after_expr) refl refl) refl refl) refl refl) refl refl) refl refl) refl refl
 
   bind_parses : Parses code (read_bind pe) (Grammar.bind se) (Grammar.bind ce) false (Only (1 ∷ [])) (Only []) (Only (comma ++ inner))
   unfolding read_bind
@@ -100,7 +100,7 @@ module _ (pe : Reading Terminal Tree) (se ce : Syntax Terminal Tree) (e : Parses
 
   binding_parses : Parses code (read_binding pe) (Grammar.binding se) (Grammar.binding ce) false (Only (word_code keys.Let ∷ [])) (Only []) after_expr
   unfolding read_binding
-  binding_parses = then (a_word keys.Let) (λ p. then binds_parses (λ bs. then (a_word keys.In) (λ inner. then e (λ x. parses_nothing code (Binding p (binds_of bs) x) after_expr) refl refl) refl refl) refl refl) refl refl
+  binding_parses = then (a_word keys.Let) (λ p. then binds_parses (λ bs. then (a_word keys.In) (λ inner. then e (λ x. parses_nothing code (Let p (binds_of bs) x) after_expr) refl refl) refl refl) refl refl) refl refl
 
   pub arms_parses : (pr : List Labelled → Reading Terminal ArmList) (sr cr : List Labelled → Syntax Terminal ArmList) → ((xs : List Labelled) → Parses code (pr xs) (sr xs) (cr xs) false arm_starts Every after_arms) → (xs : List Labelled) → Parses code (read_arms pe pr xs) (Grammar.arms se sr xs) (Grammar.arms ce cr xs) false arm_starts (Only (3 ∷ [])) after_arms
   unfolding read_arms read_arm read_last_arm

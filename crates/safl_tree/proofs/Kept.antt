@@ -11,7 +11,7 @@ use Rattle.safl_word.specs.declared.token.TokenKind.{TokenKind}
 use Rattle.safl_word.specs.declared.primitive.Primitive.{Primitive}
 use Rattle.safl_word.specs.declared.primitive.Primitive.TheVariants as prims
 use Rattle.safl_word.specs.Tokens.{IsName}
-use Rattle.safl_tree.specs.Tree.{Tree, Number, Sized, Variable, Choice, Binding, Cases, Applied, Called, Trees, no_tree, a_tree, Bound, Labelled, trees_of, binds_of, arms_of, place_of, placed, depth}
+use Rattle.safl_tree.specs.Tree.{Tree, Number, Sized, Variable, If, Let, Cases, Op, Call, Trees, no_tree, a_tree, Bound, Labelled, trees_of, binds_of, arms_of, place_of, placed, depth}
 use Rattle.safl_tree.specs.Terminals.{Terminal, code_of, word_code, symbol_code, comes, NameAt, operators, primitive_in, operator}
 use Rattle.safl_tree.specs.Grammar.{shallow, ArmList}
 use Rattle.safl_tree.specs.Reader.{read_literal, read_sized_literal, read_another, read_exprs, read_no_arguments, read_arguments, read_call, read_named, read_parenthesised, read_cat, read_bits, read_ext, read_primary, read_inverted, read_unary, read_joined, read_chained, read_compared, read_layer, read_chain, read_choice, read_written, read_bind, read_another_bind, read_binds, read_binding, read_label, read_arm, read_last_arm, read_arms, read_cases, read_expr, operand_at, expr_at, arm_value_at, more_arms_at, open_paren, close_paren, comma}
@@ -44,11 +44,11 @@ placed_at : (q m : ℕ) (t : Tree) → Whole m t → At 0 (suc m) (placed q t)
 placed_at q m (Number p n) w = risen m (Number q n) (record { formed = w.formed; shallow = w.shallow; kept = w.kept })
 placed_at q m (Sized p n x) w = risen m (Sized q n x) (record { formed = w.formed; shallow = w.shallow; kept = w.kept })
 placed_at q m (Variable p x) w = risen m (Variable q x) (record { formed = w.formed; shallow = w.shallow; kept = w.kept })
-placed_at q m (Choice p c a b) w = risen m (Choice q c a b) (record { formed = w.formed; shallow = w.shallow; kept = w.kept })
-placed_at q m (Binding p bs t) w = risen m (Binding q bs t) (record { formed = w.formed; shallow = w.shallow; kept = w.kept })
+placed_at q m (If p c a b) w = risen m (If q c a b) (record { formed = w.formed; shallow = w.shallow; kept = w.kept })
+placed_at q m (Let p bs t) w = risen m (Let q bs t) (record { formed = w.formed; shallow = w.shallow; kept = w.kept })
 placed_at q m (Cases p e arms) w = risen m (Cases q e arms) (record { formed = w.formed; shallow = w.shallow; kept = w.kept })
-placed_at q m (Applied p o ts) w = risen m (Applied q o ts) (record { formed = w.formed; shallow = w.shallow; kept = w.kept })
-placed_at q m (Called p f ts) w = risen m (Called q f ts) (record { formed = w.formed; shallow = w.shallow; kept = w.kept })
+placed_at q m (Op p o ts) w = risen m (Op q o ts) (record { formed = w.formed; shallow = w.shallow; kept = w.kept })
+placed_at q m (Call p f ts) w = risen m (Call q f ts) (record { formed = w.formed; shallow = w.shallow; kept = w.kept })
 
 own_of_small : (o : Primitive) → own_of o ≤ 8
 own_of_small prims.Mul = omega arith
@@ -56,7 +56,7 @@ own_of_small _ = omega arith
 
 own_small : (t : Tree) → own t ≤ 8
 own_small (Number p n) = omega arith
-own_small (Applied p o ts) = own_of_small o
+own_small (Op p o ts) = own_of_small o
 own_small _ = omega arith
 
 -- a whole expression stands at any place of 8 layers
@@ -82,7 +82,7 @@ all_kept m [] e = omega arith
 all_kept m (t ∷ ts) e = let h = all_kept m ts e.1 in omega (arith, e.0.kept, h)
 
 -- a call and its arguments
-called_at : (m p : ℕ) (f : List ℕ) (ts : List Tree) → IsName f → Each (Whole m) ts → At 0 (suc m) (Called p f (trees_of ts))
+called_at : (m p : ℕ) (f : List ℕ) (ts : List Tree) → IsName f → Each (Whole m) ts → At 0 (suc m) (Call p f (trees_of ts))
 called_at m p f ts n e = record { formed = (n, all_formed m ts e); shallow = all_shallow m ts e; kept = let h = all_kept m ts e in omega (arith, h) }
 
 -- ---- primary expressions
@@ -110,7 +110,7 @@ module _ (m : ℕ) (pe : Reading Terminal Tree) (e : Yields IsTerminal pe (Whole
 
   call_yields : (f : NameAt) → NamedWell f → Yields IsTerminal (read_call pe f) (At 0 (suc m))
   unfolding read_call read_no_arguments read_arguments
-  call_yields f n = yields_follows (At 0 (suc m)) (any_symbol syms.OpenParen) (λ o u. yields_either (comes close_paren) (yields_follows (At 0 (suc m)) (any_symbol syms.CloseParen) (λ c v. yields_nothing (At 0 (suc m)) (Called f.place f.name (trees_of [])) (called_at m f.place f.name [] n tt))) (yields_follows (At 0 (suc m)) exprs_yields (λ xs h. yields_follows (At 0 (suc m)) (any_symbol syms.CloseParen) (λ c v. yields_nothing (At 0 (suc m)) (Called f.place f.name (trees_of xs)) (called_at m f.place f.name xs n h)))))
+  call_yields f n = yields_follows (At 0 (suc m)) (any_symbol syms.OpenParen) (λ o u. yields_either (comes close_paren) (yields_follows (At 0 (suc m)) (any_symbol syms.CloseParen) (λ c v. yields_nothing (At 0 (suc m)) (Call f.place f.name (trees_of [])) (called_at m f.place f.name [] n tt))) (yields_follows (At 0 (suc m)) exprs_yields (λ xs h. yields_follows (At 0 (suc m)) (any_symbol syms.CloseParen) (λ c v. yields_nothing (At 0 (suc m)) (Call f.place f.name (trees_of xs)) (called_at m f.place f.name xs n h)))))
 
   named_yields : Yields IsTerminal (read_named pe) (At 0 (suc m))
   unfolding read_named
@@ -120,26 +120,26 @@ module _ (m : ℕ) (pe : Reading Terminal Tree) (e : Yields IsTerminal pe (Whole
   unfolding read_parenthesised
   parenthesised_yields = yields_follows (At 0 (suc m)) (any_symbol syms.OpenParen) (λ p u. yields_follows (At 0 (suc m)) e (λ x w. yields_follows (At 0 (suc m)) (any_symbol syms.CloseParen) (λ c v. yields_nothing (At 0 (suc m)) (placed p x) (placed_at p m x w))))
 
-  cat_at : (p : ℕ) (a b : Tree) → Whole m a → Whole m b → At 0 (suc m) (Applied p prims.Cat (trees_of (a ∷ b ∷ [])))
+  cat_at : (p : ℕ) (a b : Tree) → Whole m a → Whole m b → At 0 (suc m) (Op p prims.Cat (trees_of (a ∷ b ∷ [])))
   cat_at p a b v w = record { formed = (refl, tt, (v.formed, (w.formed, tt))); shallow = (tt, (v.shallow, (w.shallow, tt))); kept = let h = (at_whole m a v).kept in let i = (at_whole m b w).kept in omega (arith, h, i) }
 
   cat_yields : Yields IsTerminal (read_cat pe) (At 0 (suc m))
   unfolding read_cat
-  cat_yields = yields_follows (At 0 (suc m)) (any_word keys.Cat) (λ p u. yields_follows (At 0 (suc m)) (any_symbol syms.OpenParen) (λ o u. yields_follows (At 0 (suc m)) e (λ a v. yields_follows (At 0 (suc m)) (any_symbol syms.Comma) (λ k u. yields_follows (At 0 (suc m)) e (λ b w. yields_follows (At 0 (suc m)) (any_symbol syms.CloseParen) (λ c u. yields_nothing (At 0 (suc m)) (Applied p prims.Cat (trees_of (a ∷ b ∷ []))) (cat_at p a b v w)))))))
+  cat_yields = yields_follows (At 0 (suc m)) (any_word keys.Cat) (λ p u. yields_follows (At 0 (suc m)) (any_symbol syms.OpenParen) (λ o u. yields_follows (At 0 (suc m)) e (λ a v. yields_follows (At 0 (suc m)) (any_symbol syms.Comma) (λ k u. yields_follows (At 0 (suc m)) e (λ b w. yields_follows (At 0 (suc m)) (any_symbol syms.CloseParen) (λ c u. yields_nothing (At 0 (suc m)) (Op p prims.Cat (trees_of (a ∷ b ∷ []))) (cat_at p a b v w)))))))
 
-  bits_at : (p h l : ℕ) (a : Tree) → InRange (prims.Bits h l) → Whole m a → At 0 (suc m) (Applied p (prims.Bits h l) (trees_of (a ∷ [])))
+  bits_at : (p h l : ℕ) (a : Tree) → InRange (prims.Bits h l) → Whole m a → At 0 (suc m) (Op p (prims.Bits h l) (trees_of (a ∷ [])))
   bits_at p h l a r v = record { formed = (refl, r, (v.formed, tt)); shallow = (tt, (v.shallow, tt)); kept = let i = (at_whole m a v).kept in omega (arith, i) }
 
   bits_yields : Yields IsTerminal (read_bits pe) (At 0 (suc m))
   unfolding read_bits
-  bits_yields = yields_follows (At 0 (suc m)) (any_word keys.Bits) (λ p u. yields_follows (At 0 (suc m)) (any_symbol syms.OpenParen) (λ o u. yields_follows (At 0 (suc m)) e (λ a v. yields_follows (At 0 (suc m)) (any_symbol syms.Comma) (λ k u. yields_follows (At 0 (suc m)) an_index (λ h i. yields_follows (At 0 (suc m)) (any_symbol syms.Comma) (λ k u. yields_follows (At 0 (suc m)) an_index (λ l j. yields_follows (At 0 (suc m)) (any_symbol syms.CloseParen) (λ c u. yields_nothing (At 0 (suc m)) (Applied p (prims.Bits h.value l.value) (trees_of (a ∷ []))) (bits_at p h.value l.value a (i, j) v)))))))))
+  bits_yields = yields_follows (At 0 (suc m)) (any_word keys.Bits) (λ p u. yields_follows (At 0 (suc m)) (any_symbol syms.OpenParen) (λ o u. yields_follows (At 0 (suc m)) e (λ a v. yields_follows (At 0 (suc m)) (any_symbol syms.Comma) (λ k u. yields_follows (At 0 (suc m)) an_index (λ h i. yields_follows (At 0 (suc m)) (any_symbol syms.Comma) (λ k u. yields_follows (At 0 (suc m)) an_index (λ l j. yields_follows (At 0 (suc m)) (any_symbol syms.CloseParen) (λ c u. yields_nothing (At 0 (suc m)) (Op p (prims.Bits h.value l.value) (trees_of (a ∷ []))) (bits_at p h.value l.value a (i, j) v)))))))))
 
-  ext_at : (p n : ℕ) (a : Tree) → InRange (prims.Ext n) → Whole m a → At 0 (suc m) (Applied p (prims.Ext n) (trees_of (a ∷ [])))
+  ext_at : (p n : ℕ) (a : Tree) → InRange (prims.Ext n) → Whole m a → At 0 (suc m) (Op p (prims.Ext n) (trees_of (a ∷ [])))
   ext_at p n a r v = record { formed = (refl, r, (v.formed, tt)); shallow = (tt, (v.shallow, tt)); kept = let i = (at_whole m a v).kept in omega (arith, i) }
 
   ext_yields : Yields IsTerminal (read_ext pe) (At 0 (suc m))
   unfolding read_ext
-  ext_yields = yields_follows (At 0 (suc m)) (any_word keys.Ext) (λ p u. yields_follows (At 0 (suc m)) (any_symbol syms.OpenParen) (λ o u. yields_follows (At 0 (suc m)) e (λ a v. yields_follows (At 0 (suc m)) (any_symbol syms.Comma) (λ k u. yields_follows (At 0 (suc m)) a_width (λ n i. yields_follows (At 0 (suc m)) (any_symbol syms.CloseParen) (λ c u. yields_nothing (At 0 (suc m)) (Applied p (prims.Ext n.value) (trees_of (a ∷ []))) (ext_at p n.value a i v)))))))
+  ext_yields = yields_follows (At 0 (suc m)) (any_word keys.Ext) (λ p u. yields_follows (At 0 (suc m)) (any_symbol syms.OpenParen) (λ o u. yields_follows (At 0 (suc m)) e (λ a v. yields_follows (At 0 (suc m)) (any_symbol syms.Comma) (λ k u. yields_follows (At 0 (suc m)) a_width (λ n i. yields_follows (At 0 (suc m)) (any_symbol syms.CloseParen) (λ c u. yields_nothing (At 0 (suc m)) (Op p (prims.Ext n.value) (trees_of (a ∷ []))) (ext_at p n.value a i v)))))))
 
   primary_yields : Yields IsTerminal (read_primary pe) (At 0 (suc m))
   unfolding read_primary
@@ -148,15 +148,15 @@ module _ (m : ℕ) (pe : Reading Terminal Tree) (e : Yields IsTerminal pe (Whole
   -- ---- operators
 
   module _ (pu : Reading Terminal Tree) (u : Yields IsTerminal pu (At 0 m)) where
-    not_at : (p : ℕ) (a : Tree) → At 0 m a → At 0 (suc m) (Applied p prims.Not (trees_of (a ∷ [])))
+    not_at : (p : ℕ) (a : Tree) → At 0 m a → At 0 (suc m) (Op p prims.Not (trees_of (a ∷ [])))
     not_at p a v = record { formed = (refl, tt, (v.formed, tt)); shallow = (tt, (v.shallow, tt)); kept = omega (arith, v.kept) }
 
     pub unary_yields : Yields IsTerminal (read_unary pu pe) (At 0 (suc m))
     unfolding read_unary read_inverted
-    unary_yields = yields_either (comes (symbol_code syms.Tilde ∷ [])) (yields_follows (At 0 (suc m)) (any_symbol syms.Tilde) (λ p w. yields_follows (At 0 (suc m)) u (λ x v. yields_nothing (At 0 (suc m)) (Applied p prims.Not (trees_of (x ∷ []))) (not_at p x v)))) primary_yields
+    unary_yields = yields_either (comes (symbol_code syms.Tilde ∷ [])) (yields_follows (At 0 (suc m)) (any_symbol syms.Tilde) (λ p w. yields_follows (At 0 (suc m)) u (λ x v. yields_nothing (At 0 (suc m)) (Op p prims.Not (trees_of (x ∷ []))) (not_at p x v)))) primary_yields
 
 -- an operator between its operands
-joined_at : (k j m p : ℕ) (o : Primitive) (a b : Tree) → Layer k j o → depth a < 100 → At j m a → At k m b → At (suc k) m (Applied p o (trees_of (a ∷ b ∷ [])))
+joined_at : (k j m p : ℕ) (o : Primitive) (a b : Tree) → Layer k j o → depth a < 100 → At j m a → At k m b → At (suc k) m (Op p o (trees_of (a ∷ b ∷ [])))
 joined_at k j m p o a b l d v w = record {
   formed = (sym l.two, l.range, (v.formed, (w.formed, tt)));
   shallow = (subst (λ (x : Bool). OfBinary x (depth a < 100)) (sym l.binary) d, (v.shallow, (w.shallow, tt)));
@@ -176,7 +176,7 @@ Operates k j a o = Layer k j o × (depth a < 100)
 module _ (k j m : ℕ) (table : LayerTable k j) (ps : Reading Terminal Tree) (sub : Yields IsTerminal ps (At k m)) where
   joined_yields : (a : Tree) → At j m a → Yields IsTerminal (read_joined k ps a) (At (suc k) m)
   unfolding read_joined
-  joined_yields a v = yields_follows (At (suc k) m) (yields_limited (Operates k j a) Deep (shallow a) (operator k) (λ t x q e f. let h = classed_is (within (Only (operators k)) (code_of t.kind)) _ x e in (subst (Layer k j) h.1 (table t.kind h.0), ltb-true (depth a) 100 f))) (λ o h. yields_follows (At (suc k) m) sub (λ b w. yields_nothing (At (suc k) m) (Applied (place_of a) o (trees_of (a ∷ b ∷ []))) (joined_at k j m (place_of a) o a b h.0 h.1 v w)))
+  joined_yields a v = yields_follows (At (suc k) m) (yields_limited (Operates k j a) Deep (shallow a) (operator k) (λ t x q e f. let h = classed_is (within (Only (operators k)) (code_of t.kind)) _ x e in (subst (Layer k j) h.1 (table t.kind h.0), ltb-true (depth a) 100 f))) (λ o h. yields_follows (At (suc k) m) sub (λ b w. yields_nothing (At (suc k) m) (Op (place_of a) o (trees_of (a ∷ b ∷ []))) (joined_at k j m (place_of a) o a b h.0 h.1 v w)))
 
 chained_yields : (k m : ℕ) (table : LayerTable k (suc k)) (ps : Reading Terminal Tree) → Yields IsTerminal ps (At k m) → Yields IsTerminal (read_chained k ps) (At (suc k) m)
 unfolding read_chained
@@ -200,7 +200,7 @@ chain_yields m pu u =
 
 -- ---- expressions
 
-choice_whole : (m p : ℕ) (c a b : Tree) → Whole m c → Whole m a → Whole m b → Whole (suc m) (Choice p c a b)
+choice_whole : (m p : ℕ) (c a b : Tree) → Whole m c → Whole m a → Whole m b → Whole (suc m) (If p c a b)
 choice_whole m p c a b u v w = record { formed = (u.formed, v.formed, w.formed); shallow = (u.shallow, v.shallow, w.shallow); kept = omega (arith, u.kept, v.kept, w.kept) }
 
 -- a binding's facts
@@ -227,7 +227,7 @@ some_end : (bs : List Bound) (b : Bound) → HasBinding (binds_of (bs ++ b ∷ [
 some_end [] b = tt
 some_end (c ∷ bs) b = tt
 
-binding_whole : (m p : ℕ) (bs : List Bound) (t : Tree) → Binds m bs → Whole m t → Whole (suc m) (Binding p (binds_of bs) t)
+binding_whole : (m p : ℕ) (bs : List Bound) (t : Tree) → Binds m bs → Whole m t → Whole (suc m) (Let p (binds_of bs) t)
 binding_whole m p bs t h w = record { formed = (h.some, binds_formed m bs h.each, w.formed); shallow = (binds_shallow m bs h.each, w.shallow); kept = let i = binds_kept m bs h.each in omega (arith, i, w.kept) }
 
 written_yields : Yields IsTerminal read_written FitsWritten
@@ -309,7 +309,7 @@ arms_yields j pv v pr r n arms i h =
 module _ (m : ℕ) (pe : Reading Terminal Tree) (e : Yields IsTerminal pe (Whole m)) where
   choice_yields : Yields IsTerminal (read_choice pe) (Whole (suc m))
   unfolding read_choice
-  choice_yields = yields_follows (Whole (suc m)) (any_word keys.If) (λ p u. yields_follows (Whole (suc m)) e (λ c v. yields_follows (Whole (suc m)) (any_word keys.Then) (λ t u. yields_follows (Whole (suc m)) e (λ a w. yields_follows (Whole (suc m)) (any_word keys.Else) (λ l u. yields_follows (Whole (suc m)) e (λ b x. yields_nothing (Whole (suc m)) (Choice p c a b) (choice_whole m p c a b v w x)))))))
+  choice_yields = yields_follows (Whole (suc m)) (any_word keys.If) (λ p u. yields_follows (Whole (suc m)) e (λ c v. yields_follows (Whole (suc m)) (any_word keys.Then) (λ t u. yields_follows (Whole (suc m)) e (λ a w. yields_follows (Whole (suc m)) (any_word keys.Else) (λ l u. yields_follows (Whole (suc m)) e (λ b x. yields_nothing (Whole (suc m)) (If p c a b) (choice_whole m p c a b v w x)))))))
 
   bind_yields : Yields IsTerminal (read_bind pe) (BoundWell m)
   unfolding read_bind
@@ -321,7 +321,7 @@ module _ (m : ℕ) (pe : Reading Terminal Tree) (e : Yields IsTerminal pe (Whole
 
   binding_yields : Yields IsTerminal (read_binding pe) (Whole (suc m))
   unfolding read_binding
-  binding_yields = yields_follows (Whole (suc m)) (any_word keys.Let) (λ p u. yields_follows (Whole (suc m)) binds_yields (λ bs h. yields_follows (Whole (suc m)) (any_word keys.In) (λ i u. yields_follows (Whole (suc m)) e (λ x w. yields_nothing (Whole (suc m)) (Binding p (binds_of bs) x) (binding_whole m p bs x h w)))))
+  binding_yields = yields_follows (Whole (suc m)) (any_word keys.Let) (λ p u. yields_follows (Whole (suc m)) binds_yields (λ bs h. yields_follows (Whole (suc m)) (any_word keys.In) (λ i u. yields_follows (Whole (suc m)) e (λ x w. yields_nothing (Whole (suc m)) (Let p (binds_of bs) x) (binding_whole m p bs x h w)))))
 
   cases_yields : (pa : List Labelled → Reading Terminal ArmList) → Yields IsTerminal (pa []) (ArmsWell m) → Yields IsTerminal (read_cases pe pa) (Whole (suc m))
   unfolding read_cases

@@ -8,7 +8,7 @@ use Rattle.safl_grammar.proofs.Sets.{subset_within, apart_within}
 use Rattle.safl_grammar.proofs.Many.{stops_here}
 use Rattle.safl_grammar.proofs.Small.{Small, Eats, small, small_nothing, eats_limited, small_follows, eats_follows, small_either, small_many}
 use Rattle.safl_word.specs.declared.token.Sym.TheVariants as syms
-use Rattle.safl_tree.specs.Tree.{Tree, Number, Sized, Variable, Choice, Binding, Cases, Applied, Called, Trees, no_tree, a_tree, Arms, default_arm, an_arm, trees_of, place_of, placed, depth, deepest, deepest_bind, deepest_arm, Binds, no_bind, a_bind}
+use Rattle.safl_tree.specs.Tree.{Tree, Number, Sized, Variable, If, Let, Cases, Op, Call, Trees, no_tree, a_tree, Arms, default_arm, an_arm, trees_of, place_of, placed, depth, deepest, deepest_bind, deepest_arm, Binds, no_bind, a_bind}
 use Rattle.safl_tree.specs.Terminals.{Terminal, code, comes, symbol_code, operators, operator}
 use Rattle.safl_tree.specs.Grammar.{shallow}
 use Rattle.safl_tree.specs.Reader.{read_parenthesised, read_primary, read_unary, read_joined, read_chained, read_compared, read_layer, read_chain, operand_at, expr_at}
@@ -40,11 +40,11 @@ mutual
   depth_unplaced (Number p n) = refl
   depth_unplaced (Sized p w n) = refl
   depth_unplaced (Variable p x) = refl
-  depth_unplaced (Choice p c a b) = rw (depth_unplaced c, depth_unplaced a, depth_unplaced b) refl
-  depth_unplaced (Binding p bs t) = rw (deepest_bind_unplaced bs, depth_unplaced t) refl
+  depth_unplaced (If p c a b) = rw (depth_unplaced c, depth_unplaced a, depth_unplaced b) refl
+  depth_unplaced (Let p bs t) = rw (deepest_bind_unplaced bs, depth_unplaced t) refl
   depth_unplaced (Cases p e arms) = rw (depth_unplaced e, deepest_arm_unplaced arms) refl
-  depth_unplaced (Applied p o ts) = rw (deepest_unplaced ts) refl
-  depth_unplaced (Called p f ts) = rw (deepest_unplaced ts) refl
+  depth_unplaced (Op p o ts) = rw (deepest_unplaced ts) refl
+  depth_unplaced (Call p f ts) = rw (deepest_unplaced ts) refl
 
   deepest_unplaced : (ts : Trees) → deepest (unplaced_trees ts) ≡ deepest ts
   deepest_unplaced no_tree = refl
@@ -62,11 +62,11 @@ unplaced_placed : (p : ℕ) (t : Tree) → unplaced (placed p t) ≡ unplaced t
 unplaced_placed p (Number q n) = refl
 unplaced_placed p (Sized q w n) = refl
 unplaced_placed p (Variable q x) = refl
-unplaced_placed p (Choice q c a b) = refl
-unplaced_placed p (Binding q bs t) = refl
+unplaced_placed p (If q c a b) = refl
+unplaced_placed p (Let q bs t) = refl
 unplaced_placed p (Cases q e arms) = refl
-unplaced_placed p (Applied q o ts) = refl
-unplaced_placed p (Called q f ts) = refl
+unplaced_placed p (Op q o ts) = refl
+unplaced_placed p (Call q f ts) = refl
 
 pub same_depth : (x t : Tree) → unplaced x ≡ unplaced t → depth x ≡ depth t
 same_depth x t e = sym (depth_unplaced x) ∙ ap depth e ∙ depth_unplaced t
@@ -75,7 +75,7 @@ same_depth x t e = sym (depth_unplaced x) ∙ ap depth e ∙ depth_unplaced t
 
 eats_joined : (k : ℕ) (p : Reading Terminal Tree) → Small p → (a : Tree) → Eats (read_joined k p a)
 unfolding read_joined
-eats_joined k p h a = eats_follows (eats_limited Deep (shallow a) (operator k)) (λ op. small_follows h (λ b. small_nothing (Applied (place_of a) op (trees_of (a ∷ b ∷ [])))))
+eats_joined k p h a = eats_follows (eats_limited Deep (shallow a) (operator k)) (λ op. small_follows h (λ b. small_nothing (Op (place_of a) op (trees_of (a ∷ b ∷ [])))))
 
 small_chained : (k : ℕ) (p : Reading Terminal Tree) → Small p → Small (read_chained k p)
 unfolding read_chained

@@ -12,7 +12,7 @@ use Rattle.safl_word.specs.declared.token.Key.TheVariants as keys
 use Rattle.safl_word.specs.declared.token.Sym.{Sym}
 use Rattle.safl_word.specs.declared.token.Sym.TheVariants as syms
 use Rattle.safl_word.specs.declared.primitive.Primitive.TheVariants as prims
-use Rattle.safl_tree.specs.Tree.{Tree, Number, Sized, Variable, Applied, Called, trees_of, placed}
+use Rattle.safl_tree.specs.Tree.{Tree, Number, Sized, Variable, Op, Call, trees_of, placed}
 use Rattle.safl_tree.specs.Terminals.{Terminal, code, code_of, word_code, symbol_code, classed, NameAt, name, number, sized, operators}
 use Rattle.safl_tree.specs.Grammar
 use Rattle.safl_tree.specs.Grammar.{word, symbol, fits_width, fits_sized, fits_index}
@@ -113,11 +113,11 @@ module _ (pe : Reading Terminal Tree) (se ce : Syntax Terminal Tree) (e : Parses
 
   no_arguments_parses : (f : NameAt) → Parses code (read_no_arguments f) (Grammar.no_arguments f) (Grammar.no_arguments f) false (Only close_paren) (Only []) after_operand
   unfolding read_no_arguments
-  no_arguments_parses f = then (a_symbol syms.CloseParen) (λ closed. parses_nothing code (Called f.place f.name (trees_of [])) after_operand) refl refl
+  no_arguments_parses f = then (a_symbol syms.CloseParen) (λ closed. parses_nothing code (Call f.place f.name (trees_of [])) after_operand) refl refl
 
   arguments_parses : (f : NameAt) → Parses code (read_arguments pe f) (Grammar.arguments se f) (Grammar.arguments ce f) false starts Every after_operand
   unfolding read_arguments
-  arguments_parses f = then exprs_parses (λ xs. then (a_symbol syms.CloseParen) (λ closed. parses_nothing code (Called f.place f.name (trees_of xs)) after_operand) refl refl) refl refl
+  arguments_parses f = then exprs_parses (λ xs. then (a_symbol syms.CloseParen) (λ closed. parses_nothing code (Call f.place f.name (trees_of xs)) after_operand) refl refl) refl refl
 
   call_parses : (f : NameAt) → Parses code (read_call pe f) (Grammar.call se f) (Grammar.call ce f) false (Only open_paren) (Only []) after_operand
   unfolding read_call
@@ -133,15 +133,15 @@ module _ (pe : Reading Terminal Tree) (se ce : Syntax Terminal Tree) (e : Parses
 
   cat_parses : Parses code (read_cat pe) (Grammar.cat se) (Grammar.cat ce) false (Only (word_code keys.Cat ∷ [])) (Only []) after_operand
   unfolding read_cat
-  cat_parses = then (a_word keys.Cat) (λ p. then (a_symbol syms.OpenParen) (λ opened. then e (λ a. then (a_symbol syms.Comma) (λ sep. then e (λ b. then (a_symbol syms.CloseParen) (λ closed. parses_nothing code (Applied p prims.Cat (trees_of (a ∷ b ∷ []))) after_operand) refl refl) refl refl) refl refl) refl refl) refl refl) refl refl
+  cat_parses = then (a_word keys.Cat) (λ p. then (a_symbol syms.OpenParen) (λ opened. then e (λ a. then (a_symbol syms.Comma) (λ sep. then e (λ b. then (a_symbol syms.CloseParen) (λ closed. parses_nothing code (Op p prims.Cat (trees_of (a ∷ b ∷ []))) after_operand) refl refl) refl refl) refl refl) refl refl) refl refl) refl refl
 
   bits_parses : Parses code (read_bits pe) (Grammar.bits se) (Grammar.bits ce) false (Only (word_code keys.Bits ∷ [])) (Only []) after_operand
   unfolding read_bits
-  bits_parses = then (a_word keys.Bits) (λ p. then (a_symbol syms.OpenParen) (λ opened. then e (λ a. then (a_symbol syms.Comma) (λ sep. then an_index (λ high. then (a_symbol syms.Comma) (λ sep. then an_index (λ low. then (a_symbol syms.CloseParen) (λ closed. parses_nothing code (Applied p (prims.Bits high.value low.value) (trees_of (a ∷ []))) after_operand) refl refl) refl refl) refl refl) refl refl) refl refl) refl refl) refl refl) refl refl
+  bits_parses = then (a_word keys.Bits) (λ p. then (a_symbol syms.OpenParen) (λ opened. then e (λ a. then (a_symbol syms.Comma) (λ sep. then an_index (λ high. then (a_symbol syms.Comma) (λ sep. then an_index (λ low. then (a_symbol syms.CloseParen) (λ closed. parses_nothing code (Op p (prims.Bits high.value low.value) (trees_of (a ∷ []))) after_operand) refl refl) refl refl) refl refl) refl refl) refl refl) refl refl) refl refl) refl refl
 
   ext_parses : Parses code (read_ext pe) (Grammar.ext se) (Grammar.ext ce) false (Only (word_code keys.Ext ∷ [])) (Only []) after_operand
   unfolding read_ext
-  ext_parses = then (a_word keys.Ext) (λ p. then (a_symbol syms.OpenParen) (λ opened. then e (λ a. then (a_symbol syms.Comma) (λ sep. then a_width (λ n. then (a_symbol syms.CloseParen) (λ closed. parses_nothing code (Applied p (prims.Ext n.value) (trees_of (a ∷ []))) after_operand) refl refl) refl refl) refl refl) refl refl) refl refl) refl refl
+  ext_parses = then (a_word keys.Ext) (λ p. then (a_symbol syms.OpenParen) (λ opened. then e (λ a. then (a_symbol syms.Comma) (λ sep. then a_width (λ n. then (a_symbol syms.CloseParen) (λ closed. parses_nothing code (Op p (prims.Ext n.value) (trees_of (a ∷ []))) after_operand) refl refl) refl refl) refl refl) refl refl) refl refl) refl refl
 
   pub primary_parses : Parses code (read_primary pe) (Grammar.primary se) (Grammar.primary ce) false (Only primary_list) operand_opens after_operand
   unfolding read_primary

@@ -12,7 +12,7 @@ use Rattle.safl_word.specs.declared.token.Key.TheVariants as keys
 use Rattle.safl_word.specs.declared.token.Sym.TheVariants as syms
 use Rattle.safl_word.specs.declared.primitive.Primitive.{Primitive}
 use Rattle.safl_word.specs.declared.primitive.Primitive.TheVariants as prims
-use Rattle.safl_tree.specs.Tree.{Tree, Number, Applied, no_tree, a_tree, trees_of, place_of, depth}
+use Rattle.safl_tree.specs.Tree.{Tree, Number, Op, no_tree, a_tree, trees_of, place_of, depth}
 use Rattle.safl_tree.specs.Terminals.{Terminal, comes, word_code, symbol_code, operators, operator, primitive_of, primitive_in}
 use Rattle.safl_tree.specs.Grammar.{shallow}
 use Rattle.safl_tree.specs.Reader.{read_joined, read_compared, read_layer, read_chain, read_expr, expr_at}
@@ -50,7 +50,7 @@ own_of_small _ = omega arith
 
 pub own_small : (t : Tree) → own t ≤ 8
 own_small (Number p n) = omega arith
-own_small (Applied p o ts) = own_of_small o
+own_small (Op p o ts) = own_of_small o
 own_small _ = omega arith
 
 seven_whole : (m : ℕ) (ks : List Word) (v : Tree) → Plain ks → Stands 7 m ks v → Reads (expr_at (suc m)) ks after_expr unplaced v
@@ -178,18 +178,18 @@ between_or = record { own = refl; small = omega arith; among = refl; means = ref
 abbrev two_words : ℕ → Primitive → Tree → Tree → List Word
 two_words l o a b = enclosed (leb (own a) l) (words a) ++ (Printed.sym (symbol_of o) ∷ enclosed (leb (own b) (right_place o)) (words b))
 
-words_two : (p : ℕ) (o : Primitive) (a b : Tree) → Between o → words (Applied p o (a_tree a (a_tree b no_tree))) ≡ two_words (left_place o) o a b
+words_two : (p : ℕ) (o : Primitive) (a b : Tree) → Between o → words (Op p o (a_tree a (a_tree b no_tree))) ≡ two_words (left_place o) o a b
 words_two p o a b s = s.written (enclosed (leb (own a) (left_place o)) (words a) ∷ (enclosed (leb (own b) (right_place o)) (words b) ∷ []))
 
 -- an operator and its right operand, behind a left one
-joined_reads : (o : Primitive) (m : ℕ) (x : Tree) (ks : List Word) (v : Tree) → Between o → depth x < 100 → Stands (right_place o) m ks v → Reads (read_joined (right_place o) (chain_at (right_place o) m) x) (Printed.sym (symbol_of o) ∷ ks) (behind (right_place o)) unplaced (Applied 0 o (a_tree (unplaced x) (a_tree v no_tree)))
+joined_reads : (o : Primitive) (m : ℕ) (x : Tree) (ks : List Word) (v : Tree) → Between o → depth x < 100 → Stands (right_place o) m ks v → Reads (read_joined (right_place o) (chain_at (right_place o) m) x) (Printed.sym (symbol_of o) ∷ ks) (behind (right_place o)) unplaced (Op 0 o (a_tree (unplaced x) (a_tree v no_tree)))
 unfolding read_joined
 joined_reads o m x ks v s d b =
     reads_then (reads_limited Every Deep (shallow x) (operator (right_place o)) (Printed.sym (symbol_of o)) (λ (q : Primitive). q) o (λ t e.
     (primitive_in t.kind, ap (λ (y : Word). primitive_in y.kind) e ∙ s.means, classed_some (Only (operators (right_place o))) (λ t. primitive_in t.kind) t (Printed.sym (symbol_of o)) e s.among, lt-ltb (depth x) 100 d)))
-    (λ op e. reads_give (λ y. Applied (place_of x) op (trees_of (x ∷ y ∷ []))) unplaced (Applied 0 o (a_tree (unplaced x) (a_tree v no_tree))) b (λ y i. ap (λ (q : Primitive). Applied 0 q (a_tree (unplaced x) (a_tree (unplaced y) no_tree))) e ∙ ap (λ (z : Tree). Applied 0 o (a_tree (unplaced x) (a_tree z no_tree))) i)) refl
+    (λ op e. reads_give (λ y. Op (place_of x) op (trees_of (x ∷ y ∷ []))) unplaced (Op 0 o (a_tree (unplaced x) (a_tree v no_tree))) b (λ y i. ap (λ (q : Primitive). Op 0 q (a_tree (unplaced x) (a_tree (unplaced y) no_tree))) e ∙ ap (λ (z : Tree). Op 0 o (a_tree (unplaced x) (a_tree z no_tree))) i)) refl
 
-chain_goes : (o : Primitive) (m : ℕ) (a b : Tree) (ka kb : List Word) → Between o → Chain (right_place o) → depth a < 100 → Loops (right_place o) m ka (unplaced a) → Stands (right_place o) m kb (unplaced b) → Loops (right_place o) m (ka ++ (Printed.sym (symbol_of o) ∷ kb)) (Applied 0 o (a_tree (unplaced a) (a_tree (unplaced b) no_tree)))
+chain_goes : (o : Primitive) (m : ℕ) (a b : Tree) (ka kb : List Word) → Between o → Chain (right_place o) → depth a < 100 → Loops (right_place o) m ka (unplaced a) → Stands (right_place o) m kb (unplaced b) → Loops (right_place o) m (ka ++ (Printed.sym (symbol_of o) ∷ kb)) (Op 0 o (a_tree (unplaced a) (a_tree (unplaced b) no_tree)))
 chain_goes o m a b ka kb s chains d l q = record {
   goes = λ w r e h.
       let k = right_place o in
@@ -201,32 +201,32 @@ chain_goes o m a b ka kb s chains d l q = record {
       let y = (joined_reads o m x.0 kb (unplaced b) s low q).reads c.back r c.second h in
       let test : comes (operators k) (head_of (c.back ++ r)) ≡ true = ap (λ (v : List Terminal). comes (operators k) (head_of (v ++ r))) f.is ∙ kind_is (Only (operators k)) f.token (Printed.sym (symbol_of o)) true f.word s.among in (
         y.0,
-        y.1 ∙ ap (λ (z : Tree). Applied 0 o (a_tree z (a_tree (unplaced b) no_tree))) x.1,
+        y.1 ∙ ap (λ (z : Tree). Op 0 o (a_tree z (a_tree (unplaced b) no_tree))) x.1,
         ap (λ (v : List Terminal). read_chain (suc k) (unary_at m) v) (ap (λ (v : List Terminal). v ++ r) c.is ∙ append_assoc c.front c.back r)
             ∙ x.2
             ∙ sym (goes_on (comes (operators k)) (read_joined k (chain_at k m)) (joined_eats k m) x.0 (c.back ++ r) (turns k m x.0 (c.back ++ r)) refl y.0 r test y.2),
       );
 }
 
-compared_stands : (o : Primitive) (m : ℕ) (a b : Tree) (ka kb : List Word) → Between o → right_place o ≡ 3 → depth a < 100 → Stands 3 m ka (unplaced a) → Stands 3 m kb (unplaced b) → Stands 4 m (ka ++ (Printed.sym (symbol_of o) ∷ kb)) (Applied 0 o (a_tree (unplaced a) (a_tree (unplaced b) no_tree)))
+compared_stands : (o : Primitive) (m : ℕ) (a b : Tree) (ka kb : List Word) → Between o → right_place o ≡ 3 → depth a < 100 → Stands 3 m ka (unplaced a) → Stands 3 m kb (unplaced b) → Stands 4 m (ka ++ (Printed.sym (symbol_of o) ∷ kb)) (Op 0 o (a_tree (unplaced a) (a_tree (unplaced b) no_tree)))
 unfolding read_chain read_layer read_compared
 compared_stands o m a b ka kb s three d l q =
     let among : within (Only (operators 3)) (symbol_code (symbol_of o)) ≡ true = subst (λ (k : ℕ). within (Only (operators k)) (symbol_code (symbol_of o)) ≡ true) three s.among in
     reads_narrowed (behind 3) (reads_then l (λ x e. reads_first (operators 3) _ (joined_at x e) among) (subset_within (Only (operators 3)) (behind 3) (symbol_code (symbol_of o)) refl among)) refl
   where
-    joined_at : (x : Tree) → unplaced x ≡ unplaced a → Reads (read_joined 3 (chain_at 3 m) x) (Printed.sym (symbol_of o) ∷ kb) (behind 3) unplaced (Applied 0 o (a_tree (unplaced a) (a_tree (unplaced b) no_tree)))
+    joined_at : (x : Tree) → unplaced x ≡ unplaced a → Reads (read_joined 3 (chain_at 3 m) x) (Printed.sym (symbol_of o) ∷ kb) (behind 3) unplaced (Op 0 o (a_tree (unplaced a) (a_tree (unplaced b) no_tree)))
     joined_at x e =
         let low : depth x < 100 = subst (λ (n : ℕ). n < 100) (sym (same_depth x a e)) d in
         let j = joined_reads o m x kb (unplaced b) s low (subst (λ (k : ℕ). Stands k m kb (unplaced b)) (sym three) q) in
-        let i = subst (λ (k : ℕ). Reads (read_joined k (chain_at k m) x) (Printed.sym (symbol_of o) ∷ kb) (behind k) unplaced (Applied 0 o (a_tree (unplaced x) (a_tree (unplaced b) no_tree)))) three j in
-        subst (λ (z : Tree). Reads (read_joined 3 (chain_at 3 m) x) (Printed.sym (symbol_of o) ∷ kb) (behind 3) unplaced (Applied 0 o (a_tree z (a_tree (unplaced b) no_tree)))) e i
+        let i = subst (λ (k : ℕ). Reads (read_joined k (chain_at k m) x) (Printed.sym (symbol_of o) ∷ kb) (behind k) unplaced (Op 0 o (a_tree (unplaced x) (a_tree (unplaced b) no_tree)))) three j in
+        subst (λ (z : Tree). Reads (read_joined 3 (chain_at 3 m) x) (Printed.sym (symbol_of o) ∷ kb) (behind 3) unplaced (Op 0 o (a_tree z (a_tree (unplaced b) no_tree)))) e i
 
-most_two : (p : ℕ) (o : Primitive) (a b : Tree) (m : ℕ) → levels (Applied p o (a_tree a (a_tree b no_tree))) ≤ m → (lifted (left_place o) (own a) (levels a) ≤ m) × (lifted (right_place o) (own b) (levels b) ≤ m)
+most_two : (p : ℕ) (o : Primitive) (a b : Tree) (m : ℕ) → levels (Op p o (a_tree a (a_tree b no_tree))) ≤ m → (lifted (left_place o) (own a) (levels a) ≤ m) × (lifted (right_place o) (own b) (levels b) ≤ m)
 most_two p o a b m le = (omega arith, omega arith)
 
-chain_back : (p : ℕ) (o : Primitive) (a b : Tree) → Between o → left_place o ≡ suc (right_place o) → Chain (right_place o) → depth a < 100 → Claim a → Claim b → (m : ℕ) → levels (Applied p o (a_tree a (a_tree b no_tree))) ≤ suc m → Back m (Applied p o (a_tree a (a_tree b no_tree)))
+chain_back : (p : ℕ) (o : Primitive) (a b : Tree) → Between o → left_place o ≡ suc (right_place o) → Chain (right_place o) → depth a < 100 → Claim a → Claim b → (m : ℕ) → levels (Op p o (a_tree a (a_tree b no_tree))) ≤ suc m → Back m (Op p o (a_tree a (a_tree b no_tree)))
 chain_back p o a b s left chains d ca cb m le =
-    let t = Applied p o (a_tree a (a_tree b no_tree)) in
+    let t = Op p o (a_tree a (a_tree b no_tree)) in
     let both = most_two p o a b (suc m) le in
     let la : lifted (suc (right_place o)) (own a) (levels a) ≤ suc m = subst (λ (k : ℕ). lifted k (own a) (levels a) ≤ suc m) left both.0 in
     let l = chain_goes o m a b (enclosed (leb (own a) (suc (right_place o))) (words a)) (enclosed (leb (own b) (right_place o)) (words b)) s chains d (left_part a ca (right_place o) m s.small chains la) (part b cb (right_place o) m (omega (arith, s.small)) both.1) in
@@ -238,9 +238,9 @@ chain_back p o a b s left chains d ca cb m le =
       loops = λ k e c. let same : right_place o ≡ k = omega (arith, s.own, e) in subst (λ (k : ℕ). Loops k m (words t) (unplaced t)) same loops;
     }
 
-compared_back : (p : ℕ) (o : Primitive) (a b : Tree) → Between o → left_place o ≡ 3 → right_place o ≡ 3 → depth a < 100 → Claim a → Claim b → (m : ℕ) → levels (Applied p o (a_tree a (a_tree b no_tree))) ≤ suc m → Back m (Applied p o (a_tree a (a_tree b no_tree)))
+compared_back : (p : ℕ) (o : Primitive) (a b : Tree) → Between o → left_place o ≡ 3 → right_place o ≡ 3 → depth a < 100 → Claim a → Claim b → (m : ℕ) → levels (Op p o (a_tree a (a_tree b no_tree))) ≤ suc m → Back m (Op p o (a_tree a (a_tree b no_tree)))
 compared_back p o a b s left three d ca cb m le =
-    let t = Applied p o (a_tree a (a_tree b no_tree)) in
+    let t = Op p o (a_tree a (a_tree b no_tree)) in
     let both = most_two p o a b (suc m) le in
     let la : lifted 3 (own a) (levels a) ≤ suc m = subst (λ (k : ℕ). lifted k (own a) (levels a) ≤ suc m) left both.0 in
     let lb : lifted 3 (own b) (levels b) ≤ suc m = subst (λ (k : ℕ). lifted k (own b) (levels b) ≤ suc m) three both.1 in
@@ -261,7 +261,7 @@ lifted_some k j n h = go (leb j k)
     go true = h
     go false = omega arith
 
-pub between_claim : (p : ℕ) (o : Primitive) (a b : Tree) → Between o → depth a < 100 → Claim a → Claim b → Claim (Applied p o (a_tree a (a_tree b no_tree)))
+pub between_claim : (p : ℕ) (o : Primitive) (a b : Tree) → Between o → depth a < 100 → Claim a → Claim b → Claim (Op p o (a_tree a (a_tree b no_tree)))
 between_claim p o a b s d ca cb = record {
   level = let i = lifted_some (left_place o) (own a) (levels a) ca.level in omega (arith, i);
   opens = subst (Avoids (symbol_code syms.CloseParen ∷ [])) (sym (words_two p o a b s)) (avoids_front (symbol_code syms.CloseParen ∷ []) (enclosed (leb (own a) (left_place o)) (words a)) (Printed.sym (symbol_of o) ∷ enclosed (leb (own b) (right_place o)) (words b)) (opens_part a ca (left_place o)));

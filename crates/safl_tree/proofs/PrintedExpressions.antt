@@ -7,7 +7,7 @@ use Rattle.safl_word.specs.declared.token.Key.TheVariants as keys
 use Rattle.safl_word.specs.declared.token.Sym.TheVariants as syms
 use Rattle.safl_word.specs.declared.primitive.Primitive.{Primitive}
 use Rattle.safl_word.specs.declared.primitive.Primitive.TheVariants as prims
-use Rattle.safl_tree.specs.Tree.{Tree, Number, Sized, Variable, Choice, Binding, Cases, Applied, Called, Trees, no_tree, a_tree, Binds, no_bind, a_bind, Arms, default_arm, an_arm, Bound, Labelled, trees_of, binds_of, arms_of, depth}
+use Rattle.safl_tree.specs.Tree.{Tree, Number, Sized, Variable, If, Let, Cases, Op, Call, Trees, no_tree, a_tree, Binds, no_bind, a_bind, Arms, default_arm, an_arm, Bound, Labelled, trees_of, binds_of, arms_of, depth}
 use Rattle.safl_tree.specs.Terminals.{Terminal, code, code_of, comes, word_code, symbol_code, operators, operator, primitive_of, primitive_in}
 use Rattle.safl_tree.specs.Grammar.{ArmList, is_width}
 use Rattle.safl_tree.specs.Reader.{read_literal, read_sized_literal, read_another, read_exprs, read_no_arguments, read_arguments, read_call, read_named, read_cat, read_bits, read_ext, read_primary, read_inverted, read_unary, read_chain, read_choice, read_written, read_bind, read_another_bind, read_binds, read_binding, read_label, read_arm, read_last_arm, read_arms, read_cases, read_expr, operand_at, expr_at, arm_value_at, more_arms_at, open_paren, close_paren}
@@ -118,56 +118,56 @@ opens_list t [] ks c = avoids_front close_paren (enclosed (leb (own t) 8) (words
 opens_list t (x ∷ xs) ks c = avoids_front close_paren (separated (Printed.sym syms.Comma) (enclosed (leb (own t) 8) (words t) ∷ (x ∷ xs))) ks (avoids_front close_paren (enclosed (leb (own t) 8) (words t)) (Printed.sym syms.Comma ∷ separated (Printed.sym syms.Comma) (x ∷ xs)) (opens_part t c 8))
 
 -- a call, behind its name's `(`
-call_read : (p : ℕ) (f : List ℕ) (ts : Trees) → AllClaim ts → (m : ℕ) → most ts ≤ m → (q : Rattle.safl_tree.specs.Terminals.NameAt) → q.name ≡ f → Reads (read_either (comes close_paren) (read_no_arguments q) (read_arguments (expr_at m) q)) (separated (Printed.sym syms.Comma) (part_words 8 8 ts) ++ (Printed.sym syms.CloseParen ∷ [])) (behind 0) unplaced (Called 0 f (unplaced_trees ts))
+call_read : (p : ℕ) (f : List ℕ) (ts : Trees) → AllClaim ts → (m : ℕ) → most ts ≤ m → (q : Rattle.safl_tree.specs.Terminals.NameAt) → q.name ≡ f → Reads (read_either (comes close_paren) (read_no_arguments q) (read_arguments (expr_at m) q)) (separated (Printed.sym syms.Comma) (part_words 8 8 ts) ++ (Printed.sym syms.CloseParen ∷ [])) (behind 0) unplaced (Call 0 f (unplaced_trees ts))
 unfolding read_no_arguments read_arguments
-call_read p f no_tree c m le q e = reads_narrowed Every (reads_first close_paren _ (reads_give (λ closed. Called q.place q.name (trees_of [])) unplaced (Called 0 f no_tree) (reads_symbol syms.CloseParen) (λ x u. ap (λ (n : List ℕ). Called 0 n no_tree) e)) refl) refl
+call_read p f no_tree c m le q e = reads_narrowed Every (reads_first close_paren _ (reads_give (λ closed. Call q.place q.name (trees_of [])) unplaced (Call 0 f no_tree) (reads_symbol syms.CloseParen) (λ x u. ap (λ (n : List ℕ). Call 0 n no_tree) e)) refl) refl
 call_read p f (a_tree t ts) c m le q e =
     reads_narrowed Every
-    (reads_second close_paren _ (reads_then (exprs_read t ts c.0 c.1 m (omega arith) (omega arith)) (λ xs i. reads_give (λ closed. Called q.place q.name (trees_of xs)) unplaced (Called 0 f (unplaced_trees (a_tree t ts))) (reads_symbol syms.CloseParen) (λ x u. ap (λ (n : List ℕ). Called 0 n (unplaced_trees (trees_of xs))) e ∙ ap (Called 0 f) (list_shows xs (a_tree t ts) i))) refl) (opens_list t (part_words 8 8 ts) (Printed.sym syms.CloseParen ∷ []) c.0)) refl
+    (reads_second close_paren _ (reads_then (exprs_read t ts c.0 c.1 m (omega arith) (omega arith)) (λ xs i. reads_give (λ closed. Call q.place q.name (trees_of xs)) unplaced (Call 0 f (unplaced_trees (a_tree t ts))) (reads_symbol syms.CloseParen) (λ x u. ap (λ (n : List ℕ). Call 0 n (unplaced_trees (trees_of xs))) e ∙ ap (Call 0 f) (list_shows xs (a_tree t ts) i))) refl) (opens_list t (part_words 8 8 ts) (Printed.sym syms.CloseParen ∷ []) c.0)) refl
 
-call_stands : (p : ℕ) (f : List ℕ) (ts : Trees) → AllClaim ts → (m : ℕ) → most ts ≤ m → Stands 0 m (words (Called p f ts)) (Called 0 f (unplaced_trees ts))
+call_stands : (p : ℕ) (f : List ℕ) (ts : Trees) → AllClaim ts → (m : ℕ) → most ts ≤ m → Stands 0 m (words (Call p f ts)) (Call 0 f (unplaced_trees ts))
 unfolding read_chain read_unary read_primary read_named read_call
 call_stands p f ts c m le = reads_second (symbol_code syms.Tilde ∷ []) _ (reads_second (2 ∷ []) _ (reads_second (3 ∷ []) _ (reads_first (1 ∷ []) _ (reads_then (reads_name f) (λ q e. reads_first open_paren _ (reads_then (reads_symbol syms.OpenParen) (λ o u. call_read p f ts c m le q e) refl) refl) refl) refl) (avoids _ _ refl)) (avoids _ _ refl)) (avoids _ _ refl)
 
-call_claim : (p : ℕ) (f : List ℕ) (ts : Trees) → AllClaim ts → Claim (Called p f ts)
-call_claim p f ts c = primary_claim (Called p f ts) refl (omega arith) (avoids _ _ refl) (plain_first _ _ refl refl refl) (λ m le. call_stands p f ts c m (omega arith))
+call_claim : (p : ℕ) (f : List ℕ) (ts : Trees) → AllClaim ts → Claim (Call p f ts)
+call_claim p f ts c = primary_claim (Call p f ts) refl (omega arith) (avoids _ _ refl) (plain_first _ _ refl refl refl) (λ m le. call_stands p f ts c m (omega arith))
 
 -- ---- operators in front of their operands
 
-not_stands : (p : ℕ) (a : Tree) → Claim a → (m : ℕ) → lifted 0 (own a) (levels a) ≤ m → Stands 0 m (words (Applied p prims.Not (a_tree a no_tree))) (Applied 0 prims.Not (a_tree (unplaced a) no_tree))
+not_stands : (p : ℕ) (a : Tree) → Claim a → (m : ℕ) → lifted 0 (own a) (levels a) ≤ m → Stands 0 m (words (Op p prims.Not (a_tree a no_tree))) (Op 0 prims.Not (a_tree (unplaced a) no_tree))
 unfolding read_chain read_unary read_inverted operand_at
 not_stands p a c zero le = let h = lifted_some 0 (own a) (levels a) c.level in absurd (omega arith)
-not_stands p a c (suc m) le = reads_first (symbol_code syms.Tilde ∷ []) _ (reads_then (reads_symbol syms.Tilde) (λ q u. reads_give (λ x. Applied q prims.Not (trees_of (x ∷ []))) unplaced (Applied 0 prims.Not (a_tree (unplaced a) no_tree)) (part a c 0 m (omega arith) le) (λ x e. ap (λ (z : Tree). Applied 0 prims.Not (a_tree z no_tree)) e)) refl) refl
+not_stands p a c (suc m) le = reads_first (symbol_code syms.Tilde ∷ []) _ (reads_then (reads_symbol syms.Tilde) (λ q u. reads_give (λ x. Op q prims.Not (trees_of (x ∷ []))) unplaced (Op 0 prims.Not (a_tree (unplaced a) no_tree)) (part a c 0 m (omega arith) le) (λ x e. ap (λ (z : Tree). Op 0 prims.Not (a_tree z no_tree)) e)) refl) refl
 
 inner_read : (a : Tree) → Claim a → (m : ℕ) → lifted 8 (own a) (levels a) ≤ m → Reads (expr_at m) (enclosed (leb (own a) 8) (words a)) after_expr unplaced (unplaced a)
 inner_read a c m le = subst (λ (ks : List Word). Reads (expr_at m) ks after_expr unplaced (unplaced a)) (sym (bare_part a)) (whole a c m (subst (λ (b : Bool). cond b (levels a) (suc (levels a)) ≤ m) (le-leb (own a) 8 (own_small a)) le))
 
-cat_stands : (p : ℕ) (a b : Tree) → Claim a → Claim b → (m : ℕ) → lifted 8 (own a) (levels a) ≤ m → lifted 8 (own b) (levels b) ≤ m → Stands 0 m (words (Applied p prims.Cat (a_tree a (a_tree b no_tree)))) (Applied 0 prims.Cat (a_tree (unplaced a) (a_tree (unplaced b) no_tree)))
+cat_stands : (p : ℕ) (a b : Tree) → Claim a → Claim b → (m : ℕ) → lifted 8 (own a) (levels a) ≤ m → lifted 8 (own b) (levels b) ≤ m → Stands 0 m (words (Op p prims.Cat (a_tree a (a_tree b no_tree)))) (Op 0 prims.Cat (a_tree (unplaced a) (a_tree (unplaced b) no_tree)))
 unfolding read_chain read_unary read_primary read_cat
 cat_stands p a b c d m le lf =
     let both = append_assoc (enclosed (leb (own a) 8) (words a)) (Printed.sym syms.Comma ∷ enclosed (leb (own b) 8) (words b)) (Printed.sym syms.CloseParen ∷ []) in
-    subst (λ (ks : List Word). Reads (chain_at 0 m) (Printed.key keys.Cat ∷ (Printed.sym syms.OpenParen ∷ ks)) (behind 0) unplaced (Applied 0 prims.Cat (a_tree (unplaced a) (a_tree (unplaced b) no_tree)))) (sym both)
+    subst (λ (ks : List Word). Reads (chain_at 0 m) (Printed.key keys.Cat ∷ (Printed.sym syms.OpenParen ∷ ks)) (behind 0) unplaced (Op 0 prims.Cat (a_tree (unplaced a) (a_tree (unplaced b) no_tree)))) (sym both)
     (reads_narrowed Every
-    (reads_second (symbol_code syms.Tilde ∷ []) _ (reads_second (2 ∷ []) _ (reads_second (3 ∷ []) _ (reads_second (1 ∷ []) _ (reads_second open_paren _ (reads_first (word_code keys.Cat ∷ []) _ (reads_then (reads_key keys.Cat) (λ q u. reads_then (reads_symbol syms.OpenParen) (λ o u. reads_then (inner_read a c m le) (λ x e. reads_then (reads_symbol syms.Comma) (λ k u. reads_then (inner_read b d m lf) (λ y i. reads_give (λ closed. Applied q prims.Cat (trees_of (x ∷ y ∷ []))) unplaced (Applied 0 prims.Cat (a_tree (unplaced a) (a_tree (unplaced b) no_tree))) (reads_symbol syms.CloseParen) (λ z u. ap (λ (z : Tree). Applied 0 prims.Cat (a_tree z (a_tree (unplaced y) no_tree))) e ∙ ap (λ (z : Tree). Applied 0 prims.Cat (a_tree (unplaced a) (a_tree z no_tree))) i)) refl) refl) refl) refl) refl) refl) (avoids _ _ refl)) (avoids _ _ refl)) (avoids _ _ refl)) (avoids _ _ refl)) (avoids _ _ refl)) refl)
+    (reads_second (symbol_code syms.Tilde ∷ []) _ (reads_second (2 ∷ []) _ (reads_second (3 ∷ []) _ (reads_second (1 ∷ []) _ (reads_second open_paren _ (reads_first (word_code keys.Cat ∷ []) _ (reads_then (reads_key keys.Cat) (λ q u. reads_then (reads_symbol syms.OpenParen) (λ o u. reads_then (inner_read a c m le) (λ x e. reads_then (reads_symbol syms.Comma) (λ k u. reads_then (inner_read b d m lf) (λ y i. reads_give (λ closed. Op q prims.Cat (trees_of (x ∷ y ∷ []))) unplaced (Op 0 prims.Cat (a_tree (unplaced a) (a_tree (unplaced b) no_tree))) (reads_symbol syms.CloseParen) (λ z u. ap (λ (z : Tree). Op 0 prims.Cat (a_tree z (a_tree (unplaced y) no_tree))) e ∙ ap (λ (z : Tree). Op 0 prims.Cat (a_tree (unplaced a) (a_tree z no_tree))) i)) refl) refl) refl) refl) refl) refl) (avoids _ _ refl)) (avoids _ _ refl)) (avoids _ _ refl)) (avoids _ _ refl)) (avoids _ _ refl)) refl)
 
-bits_stands : (p h l : ℕ) (a : Tree) → h < max_width → l < max_width → Claim a → (m : ℕ) → lifted 8 (own a) (levels a) ≤ m → Stands 0 m (words (Applied p (prims.Bits h l) (a_tree a no_tree))) (Applied 0 (prims.Bits h l) (a_tree (unplaced a) no_tree))
+bits_stands : (p h l : ℕ) (a : Tree) → h < max_width → l < max_width → Claim a → (m : ℕ) → lifted 8 (own a) (levels a) ≤ m → Stands 0 m (words (Op p (prims.Bits h l) (a_tree a no_tree))) (Op 0 (prims.Bits h l) (a_tree (unplaced a) no_tree))
 unfolding read_chain read_unary read_primary read_bits
 bits_stands p h l a hh hl c m le =
     reads_narrowed Every
-    (reads_second (symbol_code syms.Tilde ∷ []) _ (reads_second (2 ∷ []) _ (reads_second (3 ∷ []) _ (reads_second (1 ∷ []) _ (reads_second open_paren _ (reads_second (word_code keys.Cat ∷ []) _ (reads_first (word_code keys.Bits ∷ []) _ (reads_then (reads_key keys.Bits) (λ q u. reads_then (reads_symbol syms.OpenParen) (λ o u. reads_then (inner_read a c m le) (λ x e. reads_then (reads_symbol syms.Comma) (λ k u. reads_then (reads_index h hh) (λ i ei. reads_then (reads_symbol syms.Comma) (λ k u. reads_then (reads_index l hl) (λ j ej. reads_give (λ closed. Applied q (prims.Bits i.value j.value) (trees_of (x ∷ []))) unplaced (Applied 0 (prims.Bits h l) (a_tree (unplaced a) no_tree)) (reads_symbol syms.CloseParen) (λ z u. ap (λ (z : Tree). Applied 0 (prims.Bits i.value j.value) (a_tree z no_tree)) e ∙ ap (λ (z : ℕ). Applied 0 (prims.Bits z j.value) (a_tree (unplaced a) no_tree)) ei ∙ ap (λ (z : ℕ). Applied 0 (prims.Bits h z) (a_tree (unplaced a) no_tree)) ej)) refl) refl) refl) refl) refl) refl) refl) refl) (avoids _ _ refl)) (avoids _ _ refl)) (avoids _ _ refl)) (avoids _ _ refl)) (avoids _ _ refl)) (avoids _ _ refl)) refl
+    (reads_second (symbol_code syms.Tilde ∷ []) _ (reads_second (2 ∷ []) _ (reads_second (3 ∷ []) _ (reads_second (1 ∷ []) _ (reads_second open_paren _ (reads_second (word_code keys.Cat ∷ []) _ (reads_first (word_code keys.Bits ∷ []) _ (reads_then (reads_key keys.Bits) (λ q u. reads_then (reads_symbol syms.OpenParen) (λ o u. reads_then (inner_read a c m le) (λ x e. reads_then (reads_symbol syms.Comma) (λ k u. reads_then (reads_index h hh) (λ i ei. reads_then (reads_symbol syms.Comma) (λ k u. reads_then (reads_index l hl) (λ j ej. reads_give (λ closed. Op q (prims.Bits i.value j.value) (trees_of (x ∷ []))) unplaced (Op 0 (prims.Bits h l) (a_tree (unplaced a) no_tree)) (reads_symbol syms.CloseParen) (λ z u. ap (λ (z : Tree). Op 0 (prims.Bits i.value j.value) (a_tree z no_tree)) e ∙ ap (λ (z : ℕ). Op 0 (prims.Bits z j.value) (a_tree (unplaced a) no_tree)) ei ∙ ap (λ (z : ℕ). Op 0 (prims.Bits h z) (a_tree (unplaced a) no_tree)) ej)) refl) refl) refl) refl) refl) refl) refl) refl) (avoids _ _ refl)) (avoids _ _ refl)) (avoids _ _ refl)) (avoids _ _ refl)) (avoids _ _ refl)) (avoids _ _ refl)) refl
 
-ext_stands : (p n : ℕ) (a : Tree) → is_width n ≡ true → Claim a → (m : ℕ) → lifted 8 (own a) (levels a) ≤ m → Stands 0 m (words (Applied p (prims.Ext n) (a_tree a no_tree))) (Applied 0 (prims.Ext n) (a_tree (unplaced a) no_tree))
+ext_stands : (p n : ℕ) (a : Tree) → is_width n ≡ true → Claim a → (m : ℕ) → lifted 8 (own a) (levels a) ≤ m → Stands 0 m (words (Op p (prims.Ext n) (a_tree a no_tree))) (Op 0 (prims.Ext n) (a_tree (unplaced a) no_tree))
 unfolding read_chain read_unary read_primary read_ext
 ext_stands p n a hn c m le =
     reads_narrowed Every
-    (reads_second (symbol_code syms.Tilde ∷ []) _ (reads_second (2 ∷ []) _ (reads_second (3 ∷ []) _ (reads_second (1 ∷ []) _ (reads_second open_paren _ (reads_second (word_code keys.Cat ∷ []) _ (reads_second (word_code keys.Bits ∷ []) _ (reads_then (reads_key keys.Ext) (λ q u. reads_then (reads_symbol syms.OpenParen) (λ o u. reads_then (inner_read a c m le) (λ x e. reads_then (reads_symbol syms.Comma) (λ k u. reads_then (reads_width n hn) (λ i ei. reads_give (λ closed. Applied q (prims.Ext i.value) (trees_of (x ∷ []))) unplaced (Applied 0 (prims.Ext n) (a_tree (unplaced a) no_tree)) (reads_symbol syms.CloseParen) (λ z u. ap (λ (z : Tree). Applied 0 (prims.Ext i.value) (a_tree z no_tree)) e ∙ ap (λ (z : ℕ). Applied 0 (prims.Ext z) (a_tree (unplaced a) no_tree)) ei)) refl) refl) refl) refl) refl) (avoids _ _ refl)) (avoids _ _ refl)) (avoids _ _ refl)) (avoids _ _ refl)) (avoids _ _ refl)) (avoids _ _ refl)) (avoids _ _ refl)) refl
+    (reads_second (symbol_code syms.Tilde ∷ []) _ (reads_second (2 ∷ []) _ (reads_second (3 ∷ []) _ (reads_second (1 ∷ []) _ (reads_second open_paren _ (reads_second (word_code keys.Cat ∷ []) _ (reads_second (word_code keys.Bits ∷ []) _ (reads_then (reads_key keys.Ext) (λ q u. reads_then (reads_symbol syms.OpenParen) (λ o u. reads_then (inner_read a c m le) (λ x e. reads_then (reads_symbol syms.Comma) (λ k u. reads_then (reads_width n hn) (λ i ei. reads_give (λ closed. Op q (prims.Ext i.value) (trees_of (x ∷ []))) unplaced (Op 0 (prims.Ext n) (a_tree (unplaced a) no_tree)) (reads_symbol syms.CloseParen) (λ z u. ap (λ (z : Tree). Op 0 (prims.Ext i.value) (a_tree z no_tree)) e ∙ ap (λ (z : ℕ). Op 0 (prims.Ext z) (a_tree (unplaced a) no_tree)) ei)) refl) refl) refl) refl) refl) (avoids _ _ refl)) (avoids _ _ refl)) (avoids _ _ refl)) (avoids _ _ refl)) (avoids _ _ refl)) (avoids _ _ refl)) (avoids _ _ refl)) refl
 
 -- ---- if
 
-choice_read : (p : ℕ) (c a b : Tree) → Claim c → Claim a → Claim b → (m : ℕ) → levels c ≤ m → levels a ≤ m → levels b ≤ m → Reads (expr_at (suc m)) (words (Choice p c a b)) after_expr unplaced (Choice 0 (unplaced c) (unplaced a) (unplaced b))
+choice_read : (p : ℕ) (c a b : Tree) → Claim c → Claim a → Claim b → (m : ℕ) → levels c ≤ m → levels a ≤ m → levels b ≤ m → Reads (expr_at (suc m)) (words (If p c a b)) after_expr unplaced (If 0 (unplaced c) (unplaced a) (unplaced b))
 unfolding expr_at read_expr read_choice
 choice_read p c a b cc' ca cb m lc la lb =
-    reads_first (word_code keys.If ∷ []) _ (reads_then (reads_key keys.If) (λ q u. reads_then (whole c cc' m lc) (λ x e. reads_then (reads_key keys.Then) (λ k u. reads_then (whole a ca m la) (λ y i. reads_then (reads_key keys.Else) (λ k u. reads_give (λ z. Choice q x y z) unplaced (Choice 0 (unplaced c) (unplaced a) (unplaced b)) (whole b cb m lb) (λ z j. ap (λ (t : Tree). Choice 0 t (unplaced y) (unplaced z)) e ∙ ap (λ (t : Tree). Choice 0 (unplaced c) t (unplaced z)) i ∙ ap (Choice 0 (unplaced c) (unplaced a)) j)) refl) refl) refl) refl) refl) refl
+    reads_first (word_code keys.If ∷ []) _ (reads_then (reads_key keys.If) (λ q u. reads_then (whole c cc' m lc) (λ x e. reads_then (reads_key keys.Then) (λ k u. reads_then (whole a ca m la) (λ y i. reads_then (reads_key keys.Else) (λ k u. reads_give (λ z. If q x y z) unplaced (If 0 (unplaced c) (unplaced a) (unplaced b)) (whole b cb m lb) (λ z j. ap (λ (t : Tree). If 0 t (unplaced y) (unplaced z)) e ∙ ap (λ (t : Tree). If 0 (unplaced c) t (unplaced z)) i ∙ ap (If 0 (unplaced c) (unplaced a)) j)) refl) refl) refl) refl) refl) refl
 
 -- ---- let
 
@@ -218,10 +218,10 @@ binds_read (a_bind p x w t bs) h c m le =
     let a = all_bound (a_bind p x w t bs) c m le in
     list_reads (read_bind (expr_at m)) (bind_small m) after_list (Only (word_code keys.In ∷ [])) unplaced_bound refl refl refl (Printed.name x ∷ (written w ++ (Printed.sym syms.Assign ∷ words t))) (record { place = 0; name = x; width = w; value = unplaced t }) (bind_words bs) (bounds_in (unplaced_binds bs)) a.0 a.1
 
-binding_read : (p : ℕ) (bs : Binds) (t : Tree) → HasBinding bs → AllBound bs → Claim t → (m : ℕ) → most_bind bs ≤ m → levels t ≤ m → Reads (expr_at (suc m)) (words (Binding p bs t)) after_expr unplaced (Binding 0 (unplaced_binds bs) (unplaced t))
+binding_read : (p : ℕ) (bs : Binds) (t : Tree) → HasBinding bs → AllBound bs → Claim t → (m : ℕ) → most_bind bs ≤ m → levels t ≤ m → Reads (expr_at (suc m)) (words (Let p bs t)) after_expr unplaced (Let 0 (unplaced_binds bs) (unplaced t))
 unfolding expr_at read_expr read_binding
 binding_read p bs t h cs c m lb le =
-    reads_second (word_code keys.If ∷ []) _ (reads_first (word_code keys.Let ∷ []) _ (reads_then (reads_key keys.Let) (λ q u. reads_then (binds_read bs h cs m lb) (λ xs e. reads_then (reads_key keys.In) (λ k u. reads_give (λ z. Binding q (binds_of xs) z) unplaced (Binding 0 (unplaced_binds bs) (unplaced t)) (whole t c m le) (λ z j. ap (λ (b : Binds). Binding 0 b (unplaced z)) (unplaced_bounds xs ∙ ap binds_of e ∙ binds_back (unplaced_binds bs)) ∙ ap (Binding 0 (unplaced_binds bs)) j)) refl) refl) refl) refl) (avoids _ _ refl)
+    reads_second (word_code keys.If ∷ []) _ (reads_first (word_code keys.Let ∷ []) _ (reads_then (reads_key keys.Let) (λ q u. reads_then (binds_read bs h cs m lb) (λ xs e. reads_then (reads_key keys.In) (λ k u. reads_give (λ z. Let q (binds_of xs) z) unplaced (Let 0 (unplaced_binds bs) (unplaced t)) (whole t c m le) (λ z j. ap (λ (b : Binds). Let 0 b (unplaced z)) (unplaced_bounds xs ∙ ap binds_of e ∙ binds_back (unplaced_binds bs)) ∙ ap (Let 0 (unplaced_binds bs)) j)) refl) refl) refl) refl) (avoids _ _ refl)
 
 -- ---- case
 
@@ -250,22 +250,22 @@ unfolding read_label read_literal read_sized_literal
 label_read (Number p n) h = reads_first (2 ∷ []) _ (reads_give (λ x. Number x.place x.value) unplaced (Number 0 n) (reads_number n) (λ x e. ap (Number 0) e)) refl
 label_read (Sized p w n) h = reads_second (2 ∷ []) _ (reads_give (λ x. Sized x.place x.width x.value) unplaced (Sized 0 w n) (reads_sized w n h.0) (λ x e. e)) (avoids _ _ refl)
 label_read (Variable p x) h = absurd h
-label_read (Choice p c a b) h = absurd h
-label_read (Binding p bs t) h = absurd h
+label_read (If p c a b) h = absurd h
+label_read (Let p bs t) h = absurd h
 label_read (Cases p e arms) h = absurd h
-label_read (Applied p o ts) h = absurd h
-label_read (Called p f ts) h = absurd h
+label_read (Op p o ts) h = absurd h
+label_read (Call p f ts) h = absurd h
 
 -- a labelled arm, or the default
 first_label : (l : Tree) (ks : List Word) → IsLabel l → (q : Reading Terminal ArmList) {p : Reading Terminal ArmList} {F : Set} {v : Arms} → Reads p (words l ++ ks) F arms_shown v → Reads (read_either (comes (2 ∷ 3 ∷ [])) p q) (words l ++ ks) F arms_shown v
 first_label (Number p n) ks h q a = reads_first (2 ∷ 3 ∷ []) _ a refl
 first_label (Sized p w n) ks h q a = reads_first (2 ∷ 3 ∷ []) _ a refl
 first_label (Variable p x) ks h q a = absurd h
-first_label (Choice p c a b) ks h q s = absurd h
-first_label (Binding p bs t) ks h q a = absurd h
+first_label (If p c a b) ks h q s = absurd h
+first_label (Let p bs t) ks h q a = absurd h
 first_label (Cases p e arms) ks h q a = absurd h
-first_label (Applied p o ts) ks h q a = absurd h
-first_label (Called p f ts) ks h q a = absurd h
+first_label (Op p o ts) ks h q a = absurd h
+first_label (Call p f ts) ks h q a = absurd h
 
 abbrev after_arms : Set
 after_arms = Only (symbol_code syms.CloseBrace ∷ [])
@@ -296,43 +296,43 @@ cases_read p e arms c cs m le la =
 
 -- ---- all expressions
 
-choice_claim : (p : ℕ) (c a b : Tree) → Claim c → Claim a → Claim b → Claim (Choice p c a b)
-choice_claim p c a b cc' ca cb = whole_claim (Choice p c a b) refl (omega arith) (avoids _ _ refl) (λ m le. choice_read p c a b cc' ca cb m (omega arith) (omega arith) (omega arith))
+choice_claim : (p : ℕ) (c a b : Tree) → Claim c → Claim a → Claim b → Claim (If p c a b)
+choice_claim p c a b cc' ca cb = whole_claim (If p c a b) refl (omega arith) (avoids _ _ refl) (λ m le. choice_read p c a b cc' ca cb m (omega arith) (omega arith) (omega arith))
 
-binding_claim : (p : ℕ) (bs : Binds) (t : Tree) → HasBinding bs → AllBound bs → Claim t → Claim (Binding p bs t)
-binding_claim p bs t h cs c = whole_claim (Binding p bs t) refl (omega arith) (avoids _ _ refl) (λ m le. binding_read p bs t h cs c m (omega arith) (omega arith))
+binding_claim : (p : ℕ) (bs : Binds) (t : Tree) → HasBinding bs → AllBound bs → Claim t → Claim (Let p bs t)
+binding_claim p bs t h cs c = whole_claim (Let p bs t) refl (omega arith) (avoids _ _ refl) (λ m le. binding_read p bs t h cs c m (omega arith) (omega arith))
 
 cases_claim : (p : ℕ) (e : Tree) (arms : Arms) → Claim e → AllArms arms → Claim (Cases p e arms)
 cases_claim p e arms c cs = whole_claim (Cases p e arms) refl (omega arith) (avoids _ _ refl) (λ m le. cases_read p e arms c cs m (omega arith) (omega arith))
 
-binary_claim : (p : ℕ) (o : Primitive) (ts : Trees) → Between o → count ts ≡ operands o → OfBinary (is_binary o) (LeftShallow ts) → AllClaim ts → Claim (Applied p o ts)
+binary_claim : (p : ℕ) (o : Primitive) (ts : Trees) → Between o → count ts ≡ operands o → OfBinary (is_binary o) (LeftShallow ts) → AllClaim ts → Claim (Op p o ts)
 binary_claim p o no_tree s n l c = absurd (omega (arith, s.two, n))
 binary_claim p o (a_tree a no_tree) s n l c = absurd (omega (arith, s.two, n))
 binary_claim p o (a_tree a (a_tree b no_tree)) s n l c = between_claim p o a b s (subst (λ (x : Bool). OfBinary x (depth a < 100)) s.binary l) c.0 c.1.0
 binary_claim p o (a_tree a (a_tree b (a_tree d ts))) s n l c = absurd (omega (arith, s.two, n))
 
-not_claim : (p : ℕ) (ts : Trees) → count ts ≡ 1 → AllClaim ts → Claim (Applied p prims.Not ts)
+not_claim : (p : ℕ) (ts : Trees) → count ts ≡ 1 → AllClaim ts → Claim (Op p prims.Not ts)
 not_claim p no_tree n c = absurd (omega (arith, n))
-not_claim p (a_tree a no_tree) n c = primary_claim (Applied p prims.Not (a_tree a no_tree)) refl (omega arith) (avoids _ _ refl) (plain_first _ _ refl refl refl) (λ m le. not_stands p a c.0 m (omega arith))
+not_claim p (a_tree a no_tree) n c = primary_claim (Op p prims.Not (a_tree a no_tree)) refl (omega arith) (avoids _ _ refl) (plain_first _ _ refl refl refl) (λ m le. not_stands p a c.0 m (omega arith))
 not_claim p (a_tree a (a_tree b ts)) n c = absurd (omega (arith, n))
 
-cat_claim : (p : ℕ) (ts : Trees) → count ts ≡ 2 → AllClaim ts → Claim (Applied p prims.Cat ts)
+cat_claim : (p : ℕ) (ts : Trees) → count ts ≡ 2 → AllClaim ts → Claim (Op p prims.Cat ts)
 cat_claim p no_tree n c = absurd (omega (arith, n))
 cat_claim p (a_tree a no_tree) n c = absurd (omega (arith, n))
-cat_claim p (a_tree a (a_tree b no_tree)) n c = primary_claim (Applied p prims.Cat (a_tree a (a_tree b no_tree))) refl (omega arith) (avoids _ _ refl) (plain_first _ _ refl refl refl) (λ m le. cat_stands p a b c.0 c.1.0 m (omega arith) (omega arith))
+cat_claim p (a_tree a (a_tree b no_tree)) n c = primary_claim (Op p prims.Cat (a_tree a (a_tree b no_tree))) refl (omega arith) (avoids _ _ refl) (plain_first _ _ refl refl refl) (λ m le. cat_stands p a b c.0 c.1.0 m (omega arith) (omega arith))
 cat_claim p (a_tree a (a_tree b (a_tree d ts))) n c = absurd (omega (arith, n))
 
-bits_claim : (p h l : ℕ) (ts : Trees) → count ts ≡ 1 → h < max_width → l < max_width → AllClaim ts → Claim (Applied p (prims.Bits h l) ts)
+bits_claim : (p h l : ℕ) (ts : Trees) → count ts ≡ 1 → h < max_width → l < max_width → AllClaim ts → Claim (Op p (prims.Bits h l) ts)
 bits_claim p h l no_tree n hh hl c = absurd (omega (arith, n))
-bits_claim p h l (a_tree a no_tree) n hh hl c = primary_claim (Applied p (prims.Bits h l) (a_tree a no_tree)) refl (omega arith) (avoids _ _ refl) (plain_first _ _ refl refl refl) (λ m le. bits_stands p h l a hh hl c.0 m (omega arith))
+bits_claim p h l (a_tree a no_tree) n hh hl c = primary_claim (Op p (prims.Bits h l) (a_tree a no_tree)) refl (omega arith) (avoids _ _ refl) (plain_first _ _ refl refl refl) (λ m le. bits_stands p h l a hh hl c.0 m (omega arith))
 bits_claim p h l (a_tree a (a_tree b ts)) n hh hl c = absurd (omega (arith, n))
 
-ext_claim : (p x : ℕ) (ts : Trees) → count ts ≡ 1 → is_width x ≡ true → AllClaim ts → Claim (Applied p (prims.Ext x) ts)
+ext_claim : (p x : ℕ) (ts : Trees) → count ts ≡ 1 → is_width x ≡ true → AllClaim ts → Claim (Op p (prims.Ext x) ts)
 ext_claim p x no_tree n h c = absurd (omega (arith, n))
-ext_claim p x (a_tree a no_tree) n h c = primary_claim (Applied p (prims.Ext x) (a_tree a no_tree)) refl (omega arith) (avoids _ _ refl) (plain_first _ _ refl refl refl) (λ m le. ext_stands p x a h c.0 m (omega arith))
+ext_claim p x (a_tree a no_tree) n h c = primary_claim (Op p (prims.Ext x) (a_tree a no_tree)) refl (omega arith) (avoids _ _ refl) (plain_first _ _ refl refl refl) (λ m le. ext_stands p x a h c.0 m (omega arith))
 ext_claim p x (a_tree a (a_tree b ts)) n h c = absurd (omega (arith, n))
 
-applied_claim : (p : ℕ) (o : Primitive) (ts : Trees) → count ts ≡ operands o → InRange o → OfBinary (is_binary o) (LeftShallow ts) → AllClaim ts → Claim (Applied p o ts)
+applied_claim : (p : ℕ) (o : Primitive) (ts : Trees) → count ts ≡ operands o → InRange o → OfBinary (is_binary o) (LeftShallow ts) → AllClaim ts → Claim (Op p o ts)
 applied_claim p prims.Mul ts n r l c = binary_claim p prims.Mul ts between_mul n l c
 applied_claim p prims.Add ts n r l c = binary_claim p prims.Add ts between_add n l c
 applied_claim p prims.Sub ts n r l c = binary_claim p prims.Sub ts between_sub n l c
@@ -357,11 +357,11 @@ mutual
   claim (Number p n) f s = number_claim p n
   claim (Sized p w n) f s = sized_claim p w n f.0
   claim (Variable p x) f s = variable_claim p x
-  claim (Choice p c a b) f s = choice_claim p c a b (claim c f.0 s.0) (claim a f.1 s.1) (claim b f.2 s.2)
-  claim (Binding p bs t) f s = binding_claim p bs t f.0 (bound_claims bs f.1 s.0) (claim t f.2 s.1)
+  claim (If p c a b) f s = choice_claim p c a b (claim c f.0 s.0) (claim a f.1 s.1) (claim b f.2 s.2)
+  claim (Let p bs t) f s = binding_claim p bs t f.0 (bound_claims bs f.1 s.0) (claim t f.2 s.1)
   claim (Cases p e arms) f s = cases_claim p e arms (claim e f.0 s.0) (arm_claims arms f.1 s.1)
-  claim (Applied p o ts) f s = applied_claim p o ts f.0 f.1 s.0 (claims ts f.2 s.1)
-  claim (Called p x ts) f s = call_claim p x ts (claims ts f.1 s)
+  claim (Op p o ts) f s = applied_claim p o ts f.0 f.1 s.0 (claims ts f.2 s.1)
+  claim (Call p x ts) f s = call_claim p x ts (claims ts f.1 s)
 
   claims : (ts : Trees) → AreFormed ts → AreShallow ts → AllClaim ts
   claims no_tree f s = tt

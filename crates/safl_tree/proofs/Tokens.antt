@@ -12,7 +12,7 @@ use Rattle.safl_word.specs.Words.{max_width}
 use Rattle.safl_word.specs.Tokens.{IsToken}
 use Rattle.safl_word.specs.Spacing.{Spaced, AreSpaced, spaced_text, spaced_tokens}
 use Rattle.safl_word.proofs.SpacingLemmas.{number_token, size_token}
-use Rattle.safl_tree.specs.Tree.{Tree, Number, Sized, Variable, Choice, Binding, Cases, Applied, Called, Trees, no_tree, a_tree, Binds, no_bind, a_bind, Arms, default_arm, an_arm, Parameter, Definition}
+use Rattle.safl_tree.specs.Tree.{Tree, Number, Sized, Variable, If, Let, Cases, Op, Call, Trees, no_tree, a_tree, Binds, no_bind, a_bind, Arms, default_arm, an_arm, Parameter, Definition}
 use Rattle.safl_tree.specs.Terminals.{terminals}
 use Rattle.safl_tree.specs.Grammar.{is_width}
 use Rattle.safl_tree.specs.Printable.{own, left_place, right_place, InRange, IsLabel, FitsWritten, IsFormed, AreFormed, AreFormedBinds, AreFormedArms, AreFormedParameters, IsFormedDefinition, AreFormedDefinitions}
@@ -90,22 +90,22 @@ labels : (l : Tree) → IsLabel l → Genuine (words l)
 labels (Number p n) h = (number_token n h, tt)
 labels (Sized p w n) h = (size_token w n (width_small w h.0) h.1, tt)
 labels (Variable p x) h = absurd h
-labels (Choice p c a b) h = absurd h
-labels (Binding p bs t) h = absurd h
+labels (If p c a b) h = absurd h
+labels (Let p bs t) h = absurd h
 labels (Cases p e arms) h = absurd h
-labels (Applied p o ts) h = absurd h
-labels (Called p f ts) h = absurd h
+labels (Op p o ts) h = absurd h
+labels (Call p f ts) h = absurd h
 
 mutual
   genuine : (t : Tree) → IsFormed t → Genuine (words t)
   genuine (Number p n) f = (number_token n f, tt)
   genuine (Sized p w n) f = (size_token w n (width_small w f.0) f.1, tt)
   genuine (Variable p x) f = (f, tt)
-  genuine (Choice p c a b) f = (refl, joins (words c) _ (genuine c f.0) (refl, joins (words a) _ (genuine a f.1) (refl, genuine b f.2)))
-  genuine (Binding p bs t) f = (refl, joins (separated (Printed.sym syms.Comma) (bind_words bs)) _ (comma_separates (bind_words bs) (genuine_binds bs f.1)) (refl, genuine t f.2))
+  genuine (If p c a b) f = (refl, joins (words c) _ (genuine c f.0) (refl, joins (words a) _ (genuine a f.1) (refl, genuine b f.2)))
+  genuine (Let p bs t) f = (refl, joins (separated (Printed.sym syms.Comma) (bind_words bs)) _ (comma_separates (bind_words bs) (genuine_binds bs f.1)) (refl, genuine t f.2))
   genuine (Cases p e arms) f = (refl, joins (words e) _ (genuine e f.0) (refl, joins (arm_words arms) _ (genuine_arms arms f.1) (refl, tt)))
-  genuine (Applied p o ts) f = applies o (part_words (left_place o) (right_place o) ts) f.1 (genuine_parts (left_place o) (right_place o) ts f.2)
-  genuine (Called p x ts) f = (f.0, (refl, joins (separated (Printed.sym syms.Comma) (part_words 8 8 ts)) _ (comma_separates (part_words 8 8 ts) (genuine_parts 8 8 ts f.1)) (refl, tt)))
+  genuine (Op p o ts) f = applies o (part_words (left_place o) (right_place o) ts) f.1 (genuine_parts (left_place o) (right_place o) ts f.2)
+  genuine (Call p x ts) f = (f.0, (refl, joins (separated (Printed.sym syms.Comma) (part_words 8 8 ts)) _ (comma_separates (part_words 8 8 ts) (genuine_parts 8 8 ts f.1)) (refl, tt)))
 
   genuine_parts : (k right : ℕ) (ts : Trees) → AreFormed ts → AllGenuine (part_words k right ts)
   genuine_parts k right no_tree f = tt

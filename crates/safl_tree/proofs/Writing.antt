@@ -8,9 +8,10 @@ use Rattle.safl_tree.specs.declared.tree.Expr.{Expr}
 use Rattle.safl_tree.specs.declared.tree.Bind.{Bind}
 use Rattle.safl_tree.specs.declared.tree.Arm.{Arm}
 use Rattle.safl_tree.specs.declared.tree.Node.{Node}
-use Rattle.safl_tree.specs.declared.tree.Node.TheVariants.{If, Op, Call, Let, Case}
-use Rattle.safl_tree.specs.Tree.{Tree, Choice, Binding, Cases, Applied, Called, Labelled, trees_of, binds_of, arms_of}
-use Rattle.safl_tree.specs.Shown.{shows_node, shows, shows_all, shows_bounds, shows_labelled}
+use Rattle.safl_tree.specs.declared.tree.Node.TheVariants as nodes
+use Rattle.safl_tree.specs.declared.tree.Node.TheVariants.{Case}
+use Rattle.safl_tree.specs.Tree.{Tree, If, Let, Cases, Op, Call, Labelled, trees_of, binds_of, arms_of}
+use Rattle.safl_tree.specs.Shown.{shown_node, shown_tree, shown_trees, shown_bounds, shown_labelled}
 use Rattle.safl_tree.specs.Printed
 use Rattle.safl_tree.specs.Printed.{Word, spaced, separated, words, arm_words, labelled_words, Writes}
 use Rattle.safl_tree.proofs.Lists.{drop_at}
@@ -100,17 +101,17 @@ case_split e t arms = ap (λ (l : List Word). words e ++ (Printed.sym syms.OpenB
 -- ---- the words of a node
 
 module _ (n : Node) (p : ℕ) where
-  pub choice_words : (c a b : Box Expr Global) (x y z : Expr) → n ≡ If c a b → x ≡ c.value → y ≡ a.value → z ≡ b.value → words (Choice 0 (shows x) (shows y) (shows z)) ≡ words (shows_node n p)
-  choice_words c a b x y z is i j k = ap (λ (e : Expr). words (Choice 0 (shows e) (shows y) (shows z))) i ∙ ap (λ (e : Expr). words (Choice 0 (shows c.value) (shows e) (shows z))) j ∙ ap (λ (e : Expr). words (Choice 0 (shows c.value) (shows a.value) (shows e))) k ∙ ap (λ (m : Node). words (shows_node m p)) (sym is)
+  pub choice_words : (c a b : Box Expr Global) (x y z : Expr) → n ≡ nodes.If c a b → x ≡ c.value → y ≡ a.value → z ≡ b.value → words (If 0 (shown_tree x) (shown_tree y) (shown_tree z)) ≡ words (shown_node n p)
+  choice_words c a b x y z is i j k = ap (λ (e : Expr). words (If 0 (shown_tree e) (shown_tree y) (shown_tree z))) i ∙ ap (λ (e : Expr). words (If 0 (shown_tree c.value) (shown_tree e) (shown_tree z))) j ∙ ap (λ (e : Expr). words (If 0 (shown_tree c.value) (shown_tree a.value) (shown_tree e))) k ∙ ap (λ (m : Node). words (shown_node m p)) (sym is)
 
-  pub let_words : (v : Vec Bind Global) (b : Box Expr Global) (bs : List Bind) (x : Expr) → n ≡ Let v b → bs ≡ v.items → x ≡ b.value → words (Binding 0 (binds_of (shows_bounds bs)) (shows x)) ≡ words (shows_node n p)
-  let_words v b bs x is i j = ap (λ (l : List Bind). words (Binding 0 (binds_of (shows_bounds l)) (shows x))) i ∙ ap (λ (e : Expr). words (Binding 0 (binds_of (shows_bounds v.items)) (shows e))) j ∙ ap words (sym (let_shows v b p)) ∙ ap (λ (m : Node). words (shows_node m p)) (sym is)
+  pub let_words : (v : Vec Bind Global) (b : Box Expr Global) (bs : List Bind) (x : Expr) → n ≡ nodes.Let v b → bs ≡ v.items → x ≡ b.value → words (Let 0 (binds_of (shown_bounds bs)) (shown_tree x)) ≡ words (shown_node n p)
+  let_words v b bs x is i j = ap (λ (l : List Bind). words (Let 0 (binds_of (shown_bounds l)) (shown_tree x))) i ∙ ap (λ (e : Expr). words (Let 0 (binds_of (shown_bounds v.items)) (shown_tree e))) j ∙ ap words (sym (let_shows v b p)) ∙ ap (λ (m : Node). words (shown_node m p)) (sym is)
 
-  pub case_words : (s : Box Expr Global) (v : Vec Arm Global) (o : Box Expr Global) (x : Expr) (arms : List Arm) (y : Expr) → n ≡ Case s v o → x ≡ s.value → arms ≡ v.items → y ≡ o.value → words (Cases 0 (shows x) (arms_of (shows_labelled arms) (shows y))) ≡ words (shows_node n p)
-  case_words s v o x arms y is i j k = ap (λ (e : Expr). words (Cases 0 (shows e) (arms_of (shows_labelled arms) (shows y)))) i ∙ ap (λ (l : List Arm). words (Cases 0 (shows s.value) (arms_of (shows_labelled l) (shows y)))) j ∙ ap (λ (e : Expr). words (Cases 0 (shows s.value) (arms_of (shows_labelled v.items) (shows e)))) k ∙ ap words (sym (case_shows s v o p)) ∙ ap (λ (m : Node). words (shows_node m p)) (sym is)
+  pub case_words : (s : Box Expr Global) (v : Vec Arm Global) (o : Box Expr Global) (x : Expr) (arms : List Arm) (y : Expr) → n ≡ Case s v o → x ≡ s.value → arms ≡ v.items → y ≡ o.value → words (Cases 0 (shown_tree x) (arms_of (shown_labelled arms) (shown_tree y))) ≡ words (shown_node n p)
+  case_words s v o x arms y is i j k = ap (λ (e : Expr). words (Cases 0 (shown_tree e) (arms_of (shown_labelled arms) (shown_tree y)))) i ∙ ap (λ (l : List Arm). words (Cases 0 (shown_tree s.value) (arms_of (shown_labelled l) (shown_tree y)))) j ∙ ap (λ (e : Expr). words (Cases 0 (shown_tree s.value) (arms_of (shown_labelled v.items) (shown_tree e)))) k ∙ ap words (sym (case_shows s v o p)) ∙ ap (λ (m : Node). words (shown_node m p)) (sym is)
 
-  pub op_words : (o : Primitive) (v : Vec Expr Global) (es : List Expr) → n ≡ Op o v → es ≡ v.items → words (Applied 0 o (trees_of (shows_all es))) ≡ words (shows_node n p)
-  op_words o v es is i = ap (λ (l : List Expr). words (Applied 0 o (trees_of (shows_all l)))) i ∙ ap words (sym (op_shows o v p)) ∙ ap (λ (m : Node). words (shows_node m p)) (sym is)
+  pub op_words : (o : Primitive) (v : Vec Expr Global) (es : List Expr) → n ≡ nodes.Op o v → es ≡ v.items → words (Op 0 o (trees_of (shown_trees es))) ≡ words (shown_node n p)
+  op_words o v es is i = ap (λ (l : List Expr). words (Op 0 o (trees_of (shown_trees l)))) i ∙ ap words (sym (op_shows o v p)) ∙ ap (λ (m : Node). words (shown_node m p)) (sym is)
 
-  pub call_words : (f : List ℕ) (v : Vec Expr Global) (es : List Expr) → n ≡ Call f v → es ≡ v.items → words (Called 0 f (trees_of (shows_all es))) ≡ words (shows_node n p)
-  call_words f v es is i = ap (λ (l : List Expr). words (Called 0 f (trees_of (shows_all l)))) i ∙ ap words (sym (call_shows f v p)) ∙ ap (λ (m : Node). words (shows_node m p)) (sym is)
+  pub call_words : (f : List ℕ) (v : Vec Expr Global) (es : List Expr) → n ≡ nodes.Call f v → es ≡ v.items → words (Call 0 f (trees_of (shown_trees es))) ≡ words (shown_node n p)
+  call_words f v es is i = ap (λ (l : List Expr). words (Call 0 f (trees_of (shown_trees l)))) i ∙ ap words (sym (call_shows f v p)) ∙ ap (λ (m : Node). words (shown_node m p)) (sym is)

@@ -8,7 +8,7 @@ use Rattle.safl_word.specs.declared.token.Sym.{Sym}
 use Rattle.safl_word.specs.declared.token.Sym.TheVariants as syms
 use Rattle.safl_word.specs.declared.primitive.Primitive.{Primitive}
 use Rattle.safl_word.specs.declared.primitive.Primitive.TheVariants as prims
-use Rattle.safl_tree.specs.Tree.{Tree, Number, Sized, Variable, Choice, Binding, Cases, Applied, Called, Bound, Labelled, Parameter, Definition, trees_of, binds_of, arms_of, place_of, placed, depth}
+use Rattle.safl_tree.specs.Tree.{Tree, Number, Sized, Variable, If, Let, Cases, Op, Call, Bound, Labelled, Parameter, Definition, trees_of, binds_of, arms_of, place_of, placed, depth}
 use Rattle.safl_tree.specs.Terminals.{Terminal, word_code, symbol_code, comes, marked, NameAt, name, NumberAt, number, SizedAt, sized, operator}
 
 -- a key and a symbol, which give their place
@@ -71,10 +71,10 @@ exprs e = follows e (λ x. many (another e) (x ∷ []))
 
 -- called := name "(" [ exprs ] ")"; at a `)` right after the `(` no expression would begin
 abbrev pub no_arguments : NameAt → Syntax Terminal Tree
-no_arguments f = follows (symbol syms.CloseParen) (λ closed. nothing (Called f.place f.name (trees_of [])))
+no_arguments f = follows (symbol syms.CloseParen) (λ closed. nothing (Call f.place f.name (trees_of [])))
 
 abbrev pub arguments : Syntax Terminal Tree → NameAt → Syntax Terminal Tree
-arguments e f = follows (exprs e) (λ xs. follows (symbol syms.CloseParen) (λ closed. nothing (Called f.place f.name (trees_of xs))))
+arguments e f = follows (exprs e) (λ xs. follows (symbol syms.CloseParen) (λ closed. nothing (Call f.place f.name (trees_of xs))))
 
 abbrev pub call : Syntax Terminal Tree → NameAt → Syntax Terminal Tree
 call e f = follows (symbol syms.OpenParen) (λ opened. either (no_arguments f) (unless (comes (symbol_code syms.CloseParen ∷ [])) (arguments e f)))
@@ -88,15 +88,15 @@ parenthesised e = follows (symbol syms.OpenParen) (λ p. follows e (λ x. follow
 
 -- cat := "cat" "(" e "," e ")"
 abbrev pub cat : Syntax Terminal Tree → Syntax Terminal Tree
-cat e = follows (word keys.Cat) (λ p. follows (symbol syms.OpenParen) (λ opened. follows e (λ a. follows (symbol syms.Comma) (λ comma. follows e (λ b. follows (symbol syms.CloseParen) (λ closed. nothing (Applied p prims.Cat (trees_of (a ∷ b ∷ [])))))))))
+cat e = follows (word keys.Cat) (λ p. follows (symbol syms.OpenParen) (λ opened. follows e (λ a. follows (symbol syms.Comma) (λ comma. follows e (λ b. follows (symbol syms.CloseParen) (λ closed. nothing (Op p prims.Cat (trees_of (a ∷ b ∷ [])))))))))
 
 -- bits := "bits" "(" e "," index "," index ")"
 abbrev pub bits : Syntax Terminal Tree → Syntax Terminal Tree
-bits e = follows (word keys.Bits) (λ p. follows (symbol syms.OpenParen) (λ opened. follows e (λ a. follows (symbol syms.Comma) (λ comma. follows index (λ high. follows (symbol syms.Comma) (λ comma. follows index (λ low. follows (symbol syms.CloseParen) (λ closed. nothing (Applied p (prims.Bits high.value low.value) (trees_of (a ∷ [])))))))))))
+bits e = follows (word keys.Bits) (λ p. follows (symbol syms.OpenParen) (λ opened. follows e (λ a. follows (symbol syms.Comma) (λ comma. follows index (λ high. follows (symbol syms.Comma) (λ comma. follows index (λ low. follows (symbol syms.CloseParen) (λ closed. nothing (Op p (prims.Bits high.value low.value) (trees_of (a ∷ [])))))))))))
 
 -- ext := "ext" "(" e "," width ")"
 abbrev pub ext : Syntax Terminal Tree → Syntax Terminal Tree
-ext e = follows (word keys.Ext) (λ p. follows (symbol syms.OpenParen) (λ opened. follows e (λ a. follows (symbol syms.Comma) (λ comma. follows width (λ n. follows (symbol syms.CloseParen) (λ closed. nothing (Applied p (prims.Ext n.value) (trees_of (a ∷ [])))))))))
+ext e = follows (word keys.Ext) (λ p. follows (symbol syms.OpenParen) (λ opened. follows e (λ a. follows (symbol syms.Comma) (λ comma. follows width (λ n. follows (symbol syms.CloseParen) (λ closed. nothing (Op p (prims.Ext n.value) (trees_of (a ∷ [])))))))))
 
 -- primary := literal | sized_literal | called | variable | parenthesised | cat | bits | ext
 abbrev pub primary : Syntax Terminal Tree → Syntax Terminal Tree
@@ -106,14 +106,14 @@ primary e = either literal (either sized_literal (either (either (called e) vari
 
 -- unary := "~" u | primary
 abbrev pub inverted : Syntax Terminal Tree → Syntax Terminal Tree
-inverted u = follows (symbol syms.Tilde) (λ p. follows u (λ x. nothing (Applied p prims.Not (trees_of (x ∷ [])))))
+inverted u = follows (symbol syms.Tilde) (λ p. follows u (λ x. nothing (Op p prims.Not (trees_of (x ∷ [])))))
 
 abbrev pub unary : Syntax Terminal Tree → Syntax Terminal Tree → Syntax Terminal Tree
 unary u e = either (inverted u) (primary e)
 
 -- layer := sub { operator sub }, grouped to the left; of comparisons, sub [ operator sub ]
 abbrev pub joined : ℕ → Syntax Terminal Tree → Tree → Syntax Terminal Tree
-joined k sub a = follows (limited Deep (shallow a) (operator k)) (λ op. follows sub (λ b. nothing (Applied (place_of a) op (trees_of (a ∷ b ∷ [])))))
+joined k sub a = follows (limited Deep (shallow a) (operator k)) (λ op. follows sub (λ b. nothing (Op (place_of a) op (trees_of (a ∷ b ∷ [])))))
 
 abbrev pub chained : ℕ → Syntax Terminal Tree → Syntax Terminal Tree
 chained k sub = follows sub (many (joined k sub))
@@ -137,7 +137,7 @@ chain (suc k) u = layer k (chain k u)
 
 -- choice := "if" e "then" e "else" e
 abbrev pub choice : Syntax Terminal Tree → Syntax Terminal Tree
-choice e = follows (word keys.If) (λ p. follows e (λ c. follows (word keys.Then) (λ thens. follows e (λ a. follows (word keys.Else) (λ elses. follows e (λ b. nothing (Choice p c a b)))))))
+choice e = follows (word keys.If) (λ p. follows e (λ c. follows (word keys.Then) (λ thens. follows e (λ a. follows (word keys.Else) (λ elses. follows e (λ b. nothing (If p c a b)))))))
 
 -- bind := name [ ":" width ] "=" e
 abbrev pub written : Syntax Terminal (Option ℕ)
@@ -154,7 +154,7 @@ abbrev pub binds : Syntax Terminal Tree → Syntax Terminal (List Bound)
 binds e = follows (bind e) (λ b. many (another_bind e) (b ∷ []))
 
 abbrev pub binding : Syntax Terminal Tree → Syntax Terminal Tree
-binding e = follows (word keys.Let) (λ p. follows (binds e) (λ bs. follows (word keys.In) (λ inner. follows e (λ x. nothing (Binding p (binds_of bs) x)))))
+binding e = follows (word keys.Let) (λ p. follows (binds e) (λ bs. follows (word keys.In) (λ inner. follows e (λ x. nothing (Let p (binds_of bs) x)))))
 
 -- label := Num | Sized
 abbrev pub label : Syntax Terminal Tree

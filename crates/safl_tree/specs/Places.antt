@@ -1,6 +1,6 @@
 -- Programs with their places left out.
 use Rattle.std.specs.Prelude.{List, map}
-use Rattle.safl_tree.specs.Tree.{Tree, Number, Sized, Variable, Choice, Binding, Cases, Applied, Called, Trees, no_tree, a_tree, Binds, no_bind, a_bind, Arms, default_arm, an_arm, Parameter, Definition}
+use Rattle.safl_tree.specs.Tree.{Tree, Number, Sized, Variable, If, Let, Cases, Op, Call, Trees, no_tree, a_tree, Binds, no_bind, a_bind, Arms, default_arm, an_arm, Parameter, Definition}
 
 -- each place is 0
 abbrev mutual
@@ -8,11 +8,11 @@ abbrev mutual
   unplaced (Number p n) = Number 0 n
   unplaced (Sized p w n) = Sized 0 w n
   unplaced (Variable p x) = Variable 0 x
-  unplaced (Choice p c a b) = Choice 0 (unplaced c) (unplaced a) (unplaced b)
-  unplaced (Binding p bs t) = Binding 0 (unplaced_binds bs) (unplaced t)
+  unplaced (If p c a b) = If 0 (unplaced c) (unplaced a) (unplaced b)
+  unplaced (Let p bs t) = Let 0 (unplaced_binds bs) (unplaced t)
   unplaced (Cases p e arms) = Cases 0 (unplaced e) (unplaced_arms arms)
-  unplaced (Applied p o ts) = Applied 0 o (unplaced_trees ts)
-  unplaced (Called p f ts) = Called 0 f (unplaced_trees ts)
+  unplaced (Op p o ts) = Op 0 o (unplaced_trees ts)
+  unplaced (Call p f ts) = Call 0 f (unplaced_trees ts)
 
   pub unplaced_trees : Trees → Trees
   unplaced_trees no_tree = no_tree

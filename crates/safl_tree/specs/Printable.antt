@@ -4,7 +4,7 @@ use Rattle.safl_word.specs.declared.primitive.Primitive.{Primitive}
 use Rattle.safl_word.specs.declared.primitive.Primitive.TheVariants as prims
 use Rattle.safl_word.specs.Words.{max_width}
 use Rattle.safl_word.specs.Tokens.{IsName, value_bound}
-use Rattle.safl_tree.specs.Tree.{Tree, Number, Sized, Variable, Choice, Binding, Cases, Applied, Called, Trees, no_tree, a_tree, Binds, no_bind, a_bind, Arms, default_arm, an_arm, Parameter, Definition, depth}
+use Rattle.safl_tree.specs.Tree.{Tree, Number, Sized, Variable, If, Let, Cases, Op, Call, Trees, no_tree, a_tree, Binds, no_bind, a_bind, Arms, default_arm, an_arm, Parameter, Definition, depth}
 use Rattle.safl_tree.specs.Grammar.{is_width}
 
 -- ---- form
@@ -35,11 +35,11 @@ abbrev pub IsLabel : Tree → Type 0
 IsLabel (Number p n) = n < value_bound
 IsLabel (Sized p w n) = (is_width w ≡ true) × (n < value_bound)
 IsLabel (Variable p x) = ⊥
-IsLabel (Choice p c a b) = ⊥
-IsLabel (Binding p bs t) = ⊥
+IsLabel (If p c a b) = ⊥
+IsLabel (Let p bs t) = ⊥
 IsLabel (Cases p e arms) = ⊥
-IsLabel (Applied p o ts) = ⊥
-IsLabel (Called p f ts) = ⊥
+IsLabel (Op p o ts) = ⊥
+IsLabel (Call p f ts) = ⊥
 
 -- a width that is not written, or is in range
 abbrev pub FitsWritten : Option ℕ → Type 0
@@ -52,11 +52,11 @@ abbrev mutual
   IsFormed (Number p n) = n < value_bound
   IsFormed (Sized p w n) = (is_width w ≡ true) × (n < value_bound)
   IsFormed (Variable p x) = IsName x
-  IsFormed (Choice p c a b) = IsFormed c × IsFormed a × IsFormed b
-  IsFormed (Binding p bs t) = HasBinding bs × AreFormedBinds bs × IsFormed t
+  IsFormed (If p c a b) = IsFormed c × IsFormed a × IsFormed b
+  IsFormed (Let p bs t) = HasBinding bs × AreFormedBinds bs × IsFormed t
   IsFormed (Cases p e arms) = IsFormed e × AreFormedArms arms
-  IsFormed (Applied p o ts) = (count ts ≡ operands o) × InRange o × AreFormed ts
-  IsFormed (Called p f ts) = IsName f × AreFormed ts
+  IsFormed (Op p o ts) = (count ts ≡ operands o) × InRange o × AreFormed ts
+  IsFormed (Call p f ts) = IsName f × AreFormed ts
 
   pub AreFormed : Trees → Type 0
   AreFormed no_tree = Unit {0}
@@ -135,11 +135,11 @@ abbrev pub own : Tree → ℕ
 own (Number p n) = 0
 own (Sized p w n) = 0
 own (Variable p x) = 0
-own (Choice p c a b) = 8
-own (Binding p bs t) = 8
+own (If p c a b) = 8
+own (Let p bs t) = 8
 own (Cases p e arms) = 8
-own (Applied p o ts) = own_of o
-own (Called p f ts) = 0
+own (Op p o ts) = own_of o
+own (Call p f ts) = 0
 
 -- one level more, where an expression of so many layers stands in parentheses at a place of k layers
 abbrev pub lifted : ℕ → ℕ → ℕ → ℕ
@@ -151,11 +151,11 @@ abbrev mutual
   levels (Number p n) = 1
   levels (Sized p w n) = 1
   levels (Variable p x) = 1
-  levels (Choice p c a b) = 1 + max (levels c) (max (levels a) (levels b))
-  levels (Binding p bs t) = 1 + max (most_bind bs) (levels t)
+  levels (If p c a b) = 1 + max (levels c) (max (levels a) (levels b))
+  levels (Let p bs t) = 1 + max (most_bind bs) (levels t)
   levels (Cases p e arms) = 1 + max (levels e) (most_arm arms)
-  levels (Applied p o ts) = below_of o + most_operand (left_place o) (right_place o) ts
-  levels (Called p f ts) = 1 + most ts
+  levels (Op p o ts) = below_of o + most_operand (left_place o) (right_place o) ts
+  levels (Call p f ts) = 1 + most ts
 
   pub most : Trees → ℕ
   most no_tree = 0
@@ -189,11 +189,11 @@ abbrev mutual
   IsShallow (Number p n) = Unit {0}
   IsShallow (Sized p w n) = Unit {0}
   IsShallow (Variable p x) = Unit {0}
-  IsShallow (Choice p c a b) = IsShallow c × IsShallow a × IsShallow b
-  IsShallow (Binding p bs t) = AreShallowBinds bs × IsShallow t
+  IsShallow (If p c a b) = IsShallow c × IsShallow a × IsShallow b
+  IsShallow (Let p bs t) = AreShallowBinds bs × IsShallow t
   IsShallow (Cases p e arms) = IsShallow e × AreShallowArms arms
-  IsShallow (Applied p o ts) = OfBinary (is_binary o) (LeftShallow ts) × AreShallow ts
-  IsShallow (Called p f ts) = AreShallow ts
+  IsShallow (Op p o ts) = OfBinary (is_binary o) (LeftShallow ts) × AreShallow ts
+  IsShallow (Call p f ts) = AreShallow ts
 
   pub AreShallow : Trees → Type 0
   AreShallow no_tree = Unit {0}

@@ -9,7 +9,7 @@ use Rattle.safl_word.specs.declared.token.TokenKind.TheVariants as kinds
 use Rattle.safl_word.specs.declared.primitive.Primitive.{Primitive}
 use Rattle.safl_word.specs.declared.primitive.Primitive.TheVariants as prims
 use Rattle.safl_word.specs.Tokens.{key_text, sym_text}
-use Rattle.safl_tree.specs.Tree.{Tree, Number, Sized, Variable, Choice, Binding, Cases, Applied, Called, Trees, no_tree, a_tree, Binds, no_bind, a_bind, Arms, default_arm, an_arm, Labelled, Parameter, Definition}
+use Rattle.safl_tree.specs.Tree.{Tree, Number, Sized, Variable, If, Let, Cases, Op, Call, Trees, no_tree, a_tree, Binds, no_bind, a_bind, Arms, default_arm, an_arm, Labelled, Parameter, Definition}
 use Rattle.safl_tree.specs.Printable.{left_place, right_place, own}
 
 -- ---- tokens
@@ -89,11 +89,11 @@ abbrev mutual
   words (Number p n) = number n ∷ []
   words (Sized p w n) = sized w n ∷ []
   words (Variable p x) = name x ∷ []
-  words (Choice p c a b) = key keys.If ∷ (words c ++ (key keys.Then ∷ (words a ++ (key keys.Else ∷ words b))))
-  words (Binding p bs t) = key keys.Let ∷ (separated (sym syms.Comma) (bind_words bs) ++ (key keys.In ∷ words t))
+  words (If p c a b) = key keys.If ∷ (words c ++ (key keys.Then ∷ (words a ++ (key keys.Else ∷ words b))))
+  words (Let p bs t) = key keys.Let ∷ (separated (sym syms.Comma) (bind_words bs) ++ (key keys.In ∷ words t))
   words (Cases p e arms) = key keys.Case ∷ (words e ++ (sym syms.OpenBrace ∷ (arm_words arms ++ (sym syms.CloseBrace ∷ []))))
-  words (Applied p o ts) = applied o (part_words (left_place o) (right_place o) ts)
-  words (Called p f ts) = name f ∷ (sym syms.OpenParen ∷ (separated (sym syms.Comma) (part_words 8 8 ts) ++ (sym syms.CloseParen ∷ [])))
+  words (Op p o ts) = applied o (part_words (left_place o) (right_place o) ts)
+  words (Call p f ts) = name f ∷ (sym syms.OpenParen ∷ (separated (sym syms.Comma) (part_words 8 8 ts) ++ (sym syms.CloseParen ∷ [])))
 
   -- parts, the first at a place of so many layers, and the others at one of so many; in parentheses where the place has too few
   pub part_words : ℕ → ℕ → Trees → List (List Word)

@@ -8,7 +8,7 @@ use Rattle.safl_word.specs.declared.token.Key.TheVariants as keys
 use Rattle.safl_word.specs.declared.token.Sym.{Sym}
 use Rattle.safl_word.specs.declared.token.Sym.TheVariants as syms
 use Rattle.safl_word.specs.declared.primitive.Primitive.TheVariants as prims
-use Rattle.safl_tree.specs.Tree.{Tree, Number, Sized, Variable, Choice, Binding, Cases, Applied, Called, Bound, Labelled, Parameter, Definition, trees_of, binds_of, arms_of, place_of, placed}
+use Rattle.safl_tree.specs.Tree.{Tree, Number, Sized, Variable, If, Let, Cases, Op, Call, Bound, Labelled, Parameter, Definition, trees_of, binds_of, arms_of, place_of, placed}
 use Rattle.safl_tree.specs.Terminals.{Terminal, word_code, symbol_code, comes, marked, NameAt, name, NumberAt, number, sized, operators, operator}
 use Rattle.safl_tree.specs.Grammar.{shallow, fits_width, fits_sized, fits_index, ArmList}
 
@@ -58,10 +58,10 @@ read_exprs e = read_follows e (λ x. read_many (comes comma) (read_another e) (x
 
 -- called := name "(" [ exprs ] ")"; at a `)` right after the `(` no expression would begin
 unfoldable pub read_no_arguments : NameAt → Reading Terminal Tree
-read_no_arguments f = read_follows (read_symbol syms.CloseParen) (λ closed. read_nothing (Called f.place f.name (trees_of [])))
+read_no_arguments f = read_follows (read_symbol syms.CloseParen) (λ closed. read_nothing (Call f.place f.name (trees_of [])))
 
 unfoldable pub read_arguments : Reading Terminal Tree → NameAt → Reading Terminal Tree
-read_arguments e f = read_follows (read_exprs e) (λ xs. read_follows (read_symbol syms.CloseParen) (λ closed. read_nothing (Called f.place f.name (trees_of xs))))
+read_arguments e f = read_follows (read_exprs e) (λ xs. read_follows (read_symbol syms.CloseParen) (λ closed. read_nothing (Call f.place f.name (trees_of xs))))
 
 unfoldable pub read_call : Reading Terminal Tree → NameAt → Reading Terminal Tree
 read_call e f = read_follows (read_symbol syms.OpenParen) (λ opened. read_either (comes close_paren) (read_no_arguments f) (read_arguments e f))
@@ -76,15 +76,15 @@ read_parenthesised e = read_follows (read_symbol syms.OpenParen) (λ p. read_fol
 
 -- cat := "cat" "(" e "," e ")"
 unfoldable pub read_cat : Reading Terminal Tree → Reading Terminal Tree
-read_cat e = read_follows (read_word keys.Cat) (λ p. read_follows (read_symbol syms.OpenParen) (λ opened. read_follows e (λ a. read_follows (read_symbol syms.Comma) (λ sep. read_follows e (λ b. read_follows (read_symbol syms.CloseParen) (λ closed. read_nothing (Applied p prims.Cat (trees_of (a ∷ b ∷ [])))))))))
+read_cat e = read_follows (read_word keys.Cat) (λ p. read_follows (read_symbol syms.OpenParen) (λ opened. read_follows e (λ a. read_follows (read_symbol syms.Comma) (λ sep. read_follows e (λ b. read_follows (read_symbol syms.CloseParen) (λ closed. read_nothing (Op p prims.Cat (trees_of (a ∷ b ∷ [])))))))))
 
 -- bits := "bits" "(" e "," index "," index ")"
 unfoldable pub read_bits : Reading Terminal Tree → Reading Terminal Tree
-read_bits e = read_follows (read_word keys.Bits) (λ p. read_follows (read_symbol syms.OpenParen) (λ opened. read_follows e (λ a. read_follows (read_symbol syms.Comma) (λ sep. read_follows read_index (λ high. read_follows (read_symbol syms.Comma) (λ sep. read_follows read_index (λ low. read_follows (read_symbol syms.CloseParen) (λ closed. read_nothing (Applied p (prims.Bits high.value low.value) (trees_of (a ∷ [])))))))))))
+read_bits e = read_follows (read_word keys.Bits) (λ p. read_follows (read_symbol syms.OpenParen) (λ opened. read_follows e (λ a. read_follows (read_symbol syms.Comma) (λ sep. read_follows read_index (λ high. read_follows (read_symbol syms.Comma) (λ sep. read_follows read_index (λ low. read_follows (read_symbol syms.CloseParen) (λ closed. read_nothing (Op p (prims.Bits high.value low.value) (trees_of (a ∷ [])))))))))))
 
 -- ext := "ext" "(" e "," width ")"
 unfoldable pub read_ext : Reading Terminal Tree → Reading Terminal Tree
-read_ext e = read_follows (read_word keys.Ext) (λ p. read_follows (read_symbol syms.OpenParen) (λ opened. read_follows e (λ a. read_follows (read_symbol syms.Comma) (λ sep. read_follows read_width (λ n. read_follows (read_symbol syms.CloseParen) (λ closed. read_nothing (Applied p (prims.Ext n.value) (trees_of (a ∷ [])))))))))
+read_ext e = read_follows (read_word keys.Ext) (λ p. read_follows (read_symbol syms.OpenParen) (λ opened. read_follows e (λ a. read_follows (read_symbol syms.Comma) (λ sep. read_follows read_width (λ n. read_follows (read_symbol syms.CloseParen) (λ closed. read_nothing (Op p (prims.Ext n.value) (trees_of (a ∷ [])))))))))
 
 -- primary := literal | sized_literal | called | variable | parenthesised | cat | bits | ext
 unfoldable pub read_primary : Reading Terminal Tree → Reading Terminal Tree
@@ -94,14 +94,14 @@ read_primary e = read_either (comes (2 ∷ [])) read_literal (read_either (comes
 
 -- unary := "~" u | primary
 unfoldable pub read_inverted : Reading Terminal Tree → Reading Terminal Tree
-read_inverted u = read_follows (read_symbol syms.Tilde) (λ p. read_follows u (λ x. read_nothing (Applied p prims.Not (trees_of (x ∷ [])))))
+read_inverted u = read_follows (read_symbol syms.Tilde) (λ p. read_follows u (λ x. read_nothing (Op p prims.Not (trees_of (x ∷ [])))))
 
 unfoldable pub read_unary : Reading Terminal Tree → Reading Terminal Tree → Reading Terminal Tree
 read_unary u e = read_either (comes (symbol_code syms.Tilde ∷ [])) (read_inverted u) (read_primary e)
 
 -- layer := sub { operator sub }, grouped to the left; of comparisons, sub [ operator sub ]
 unfoldable pub read_joined : ℕ → Reading Terminal Tree → Tree → Reading Terminal Tree
-read_joined k sub a = read_follows (read_limited Deep (shallow a) (operator k)) (λ op. read_follows sub (λ b. read_nothing (Applied (place_of a) op (trees_of (a ∷ b ∷ [])))))
+read_joined k sub a = read_follows (read_limited Deep (shallow a) (operator k)) (λ op. read_follows sub (λ b. read_nothing (Op (place_of a) op (trees_of (a ∷ b ∷ [])))))
 
 unfoldable pub read_chained : ℕ → Reading Terminal Tree → Reading Terminal Tree
 read_chained k sub = read_follows sub (read_many (comes (operators k)) (read_joined k sub))
@@ -125,7 +125,7 @@ read_chain (suc k) u = read_layer k (read_chain k u)
 
 -- choice := "if" e "then" e "else" e
 unfoldable pub read_choice : Reading Terminal Tree → Reading Terminal Tree
-read_choice e = read_follows (read_word keys.If) (λ p. read_follows e (λ c. read_follows (read_word keys.Then) (λ thens. read_follows e (λ a. read_follows (read_word keys.Else) (λ elses. read_follows e (λ b. read_nothing (Choice p c a b)))))))
+read_choice e = read_follows (read_word keys.If) (λ p. read_follows e (λ c. read_follows (read_word keys.Then) (λ thens. read_follows e (λ a. read_follows (read_word keys.Else) (λ elses. read_follows e (λ b. read_nothing (If p c a b)))))))
 
 -- bind := name [ ":" width ] "=" e
 unfoldable pub read_written : Reading Terminal (Option ℕ)
@@ -142,7 +142,7 @@ unfoldable pub read_binds : Reading Terminal Tree → Reading Terminal (List Bou
 read_binds e = read_follows (read_bind e) (λ b. read_many (comes comma) (read_another_bind e) (b ∷ []))
 
 unfoldable pub read_binding : Reading Terminal Tree → Reading Terminal Tree
-read_binding e = read_follows (read_word keys.Let) (λ p. read_follows (read_binds e) (λ bs. read_follows (read_word keys.In) (λ inner. read_follows e (λ x. read_nothing (Binding p (binds_of bs) x)))))
+read_binding e = read_follows (read_word keys.Let) (λ p. read_follows (read_binds e) (λ bs. read_follows (read_word keys.In) (λ inner. read_follows e (λ x. read_nothing (Let p (binds_of bs) x)))))
 
 -- label := Num | Sized
 unfoldable pub read_label : Reading Terminal Tree

@@ -3,8 +3,8 @@ use Rattle.std.specs.Prelude.{ℕ, ◌+◌, ◌*◌}
 use Rattle.safl_tree.specs.declared.dismantle.At.{At}
 use Rattle.safl_tree.specs.declared.tree.Bind.{Bind}
 use Rattle.safl_tree.specs.declared.tree.Arm.{Arm}
-use Rattle.safl_tree.specs.Shown.{shows}
-use Rattle.safl_tree.specs.Tree.{Tree, Number, Sized, Variable, Choice, Binding, Cases, Applied, Called, Trees, no_tree, a_tree, Binds, no_bind, a_bind, Arms, default_arm, an_arm}
+use Rattle.safl_tree.specs.Shown.{shown_tree}
+use Rattle.safl_tree.specs.Tree.{Tree, Number, Sized, Variable, If, Let, Cases, Op, Call, Trees, no_tree, a_tree, Binds, no_bind, a_bind, Arms, default_arm, an_arm}
 
 -- an operator and a call count for two, so that they are no leaves without parts, and a label counts twice
 abbrev mutual
@@ -12,11 +12,11 @@ abbrev mutual
   size (Number p n) = 1
   size (Sized p w n) = 1
   size (Variable p x) = 1
-  size (Choice p c a b) = 1 + (size c + (size a + size b))
-  size (Binding p bs t) = 1 + (size_of_binds bs + size t)
+  size (If p c a b) = 1 + (size c + (size a + size b))
+  size (Let p bs t) = 1 + (size_of_binds bs + size t)
   size (Cases p e arms) = 1 + (size e + size_of_arms arms)
-  size (Applied p o ts) = 2 + size_of_trees ts
-  size (Called p f ts) = 2 + size_of_trees ts
+  size (Op p o ts) = 2 + size_of_trees ts
+  size (Call p f ts) = 2 + size_of_trees ts
 
   pub size_of_trees : Trees → ℕ
   size_of_trees no_tree = 0
@@ -31,14 +31,14 @@ abbrev mutual
   size_of_arms (an_arm l t arms) = 2 * size l + size t + size_of_arms arms
 
 abbrev pub bind_size : Bind → ℕ
-bind_size b = size (shows b.value)
+bind_size b = size (shown_tree b.value)
 
 abbrev pub arm_size : Arm → ℕ
-arm_size a = 2 * size (shows a.label) + size (shows a.value)
+arm_size a = 2 * size (shown_tree a.label) + size (shown_tree a.value)
 
 -- what is left to do, where so much is below and so much above: a step down leaves their sum, and a step up makes it less
 abbrev pub work : ℕ → ℕ → ℕ
 work below above = (below + above) * (below + above) + below
 
 abbrev pub work_at : At → ℕ
-work_at a = work (size (shows a.here)) (size (shows a.above))
+work_at a = work (size (shown_tree a.here)) (size (shown_tree a.above))

@@ -8,11 +8,11 @@ mutual
     Number : (place value : ℕ) → Tree
     Sized : (place width value : ℕ) → Tree
     Variable : (place : ℕ) → (name : List ℕ) → Tree
-    Choice : (place : ℕ) → (condition first second : Tree) → Tree
-    Binding : (place : ℕ) → Binds → Tree → Tree
+    If : (place : ℕ) → (condition first second : Tree) → Tree
+    Let : (place : ℕ) → Binds → Tree → Tree
     Cases : (place : ℕ) → Tree → Arms → Tree
-    Applied : (place : ℕ) → Primitive → Trees → Tree
-    Called : (place : ℕ) → (name : List ℕ) → Trees → Tree
+    Op : (place : ℕ) → Primitive → Trees → Tree
+    Call : (place : ℕ) → (name : List ℕ) → Trees → Tree
 
   pub data Trees : Type 0 where
     no_tree : Trees
@@ -70,22 +70,22 @@ abbrev pub place_of : Tree → ℕ
 place_of (Number p n) = p
 place_of (Sized p w n) = p
 place_of (Variable p x) = p
-place_of (Choice p c a b) = p
-place_of (Binding p bs t) = p
+place_of (If p c a b) = p
+place_of (Let p bs t) = p
 place_of (Cases p e arms) = p
-place_of (Applied p o ts) = p
-place_of (Called p f ts) = p
+place_of (Op p o ts) = p
+place_of (Call p f ts) = p
 
 -- the same at another place: an expression in parentheses has that of the `(`
 abbrev pub placed : ℕ → Tree → Tree
 placed q (Number p n) = Number q n
 placed q (Sized p w n) = Sized q w n
 placed q (Variable p x) = Variable q x
-placed q (Choice p c a b) = Choice q c a b
-placed q (Binding p bs t) = Binding q bs t
+placed q (If p c a b) = If q c a b
+placed q (Let p bs t) = Let q bs t
 placed q (Cases p e arms) = Cases q e arms
-placed q (Applied p o ts) = Applied q o ts
-placed q (Called p f ts) = Called q f ts
+placed q (Op p o ts) = Op q o ts
+placed q (Call p f ts) = Call q f ts
 
 -- A literal, a variable and a call without arguments have depth 1, any other expression one more than its deepest part.
 abbrev mutual
@@ -93,11 +93,11 @@ abbrev mutual
   depth (Number p n) = 1
   depth (Sized p w n) = 1
   depth (Variable p x) = 1
-  depth (Choice p c a b) = 1 + max (depth c) (max (depth a) (depth b))
-  depth (Binding p bs t) = 1 + max (deepest_bind bs) (depth t)
+  depth (If p c a b) = 1 + max (depth c) (max (depth a) (depth b))
+  depth (Let p bs t) = 1 + max (deepest_bind bs) (depth t)
   depth (Cases p e arms) = 1 + max (depth e) (deepest_arm arms)
-  depth (Applied p o ts) = 1 + deepest ts
-  depth (Called p f ts) = 1 + deepest ts
+  depth (Op p o ts) = 1 + deepest ts
+  depth (Call p f ts) = 1 + deepest ts
 
   pub deepest : Trees → ℕ
   deepest no_tree = 0

@@ -2,7 +2,7 @@
 
 ghost use Rattle.std.specs.Prelude.{◌≤◌, ◌↔◌, IsTrue, max};
 ghost use Rattle.safl_tree.specs.Tree.{trees_of, binds_of, arms_of, depth, deepest, deepest_bind, deepest_arm};
-ghost use Rattle.safl_tree.specs.Shown.{shows, shows_all, shows_bounds, shows_labelled};
+ghost use Rattle.safl_tree.specs.Shown.{shown_tree, shown_trees, shown_bounds, shown_labelled};
 
 use crate::tree::{Arm, Bind, Expr, Node};
 
@@ -10,7 +10,7 @@ use crate::tree::{Arm, Bind, Expr, Node};
 /// deeper is looked at.
 #[cycle(within)]
 pub fn is_within(e: &Expr, levels: u32) -> bool
-    ensures { IsTrue result ↔ depth (shows e.now) ≤ levels }
+    ensures { IsTrue result ↔ depth (shown_tree e.now) ≤ levels }
 {
     if levels == 0 {
         return false;
@@ -20,7 +20,7 @@ pub fn is_within(e: &Expr, levels: u32) -> bool
         Node::Num(_) | Node::Sized(_, _) | Node::Var(_) => true,
         Node::If(condition, first, second) => is_choice_within(condition, first, second, below),
         Node::Let(binds, body) => is_let_within(binds, body, below),
-        Node::Case(value, arms, other) => is_case_within(value, arms, other, below),
+        Node::Case(scrutinee, arms, default) => is_case_within(scrutinee, arms, default, below),
         Node::Op(_, operands) => are_within(operands, below),
         Node::Call(_, arguments) => are_within(arguments, below),
     }
@@ -28,7 +28,7 @@ pub fn is_within(e: &Expr, levels: u32) -> bool
 
 #[cycle(within)]
 fn is_choice_within(condition: &Expr, first: &Expr, second: &Expr, levels: u32) -> bool
-    ensures { IsTrue result ↔ max (depth (shows condition.now)) (max (depth (shows first.now)) (depth (shows second.now))) ≤ levels }
+    ensures { IsTrue result ↔ max (depth (shown_tree condition.now)) (max (depth (shown_tree first.now)) (depth (shown_tree second.now))) ≤ levels }
 {
     is_within(condition, levels) && is_within(first, levels) && is_within(second, levels)
 }
@@ -36,7 +36,7 @@ fn is_choice_within(condition: &Expr, first: &Expr, second: &Expr, levels: u32) 
 // The bindings of a let and its body.
 #[cycle(within)]
 fn is_let_within(binds: &[Bind], body: &Expr, levels: u32) -> bool
-    ensures { IsTrue result ↔ max (deepest_bind (binds_of (shows_bounds binds.now))) (depth (shows body.now)) ≤ levels }
+    ensures { IsTrue result ↔ max (deepest_bind (binds_of (shown_bounds binds.now))) (depth (shown_tree body.now)) ≤ levels }
 {
     for bind in binds {
         if !is_within(&bind.value, levels) {
@@ -47,16 +47,16 @@ fn is_let_within(binds: &[Bind], body: &Expr, levels: u32) -> bool
 }
 
 #[cycle(within)]
-fn is_case_within(value: &Expr, arms: &[Arm], other: &Expr, levels: u32) -> bool
-    ensures { IsTrue result ↔ max (depth (shows value.now)) (deepest_arm (arms_of (shows_labelled arms.now) (shows other.now))) ≤ levels }
+fn is_case_within(scrutinee: &Expr, arms: &[Arm], default: &Expr, levels: u32) -> bool
+    ensures { IsTrue result ↔ max (depth (shown_tree scrutinee.now)) (deepest_arm (arms_of (shown_labelled arms.now) (shown_tree default.now))) ≤ levels }
 {
-    is_within(value, levels) && are_arms_within(arms, other, levels)
+    is_within(scrutinee, levels) && are_arms_within(arms, default, levels)
 }
 
 // Each arm stands for an if, whose test is two deep.
 #[cycle(within)]
-fn are_arms_within(arms: &[Arm], other: &Expr, levels: u32) -> bool
-    ensures { IsTrue result ↔ deepest_arm (arms_of (shows_labelled arms.now) (shows other.now)) ≤ levels }
+fn are_arms_within(arms: &[Arm], default: &Expr, levels: u32) -> bool
+    ensures { IsTrue result ↔ deepest_arm (arms_of (shown_labelled arms.now) (shown_tree default.now)) ≤ levels }
 {
     let mut left = levels;
     for arm in arms {
@@ -68,13 +68,13 @@ fn are_arms_within(arms: &[Arm], other: &Expr, levels: u32) -> bool
             return false;
         }
     }
-    is_within(other, left)
+    is_within(default, left)
 }
 
 // Operands or arguments.
 #[cycle(within)]
 fn are_within(es: &[Expr], levels: u32) -> bool
-    ensures { IsTrue result ↔ deepest (trees_of (shows_all es.now)) ≤ levels }
+    ensures { IsTrue result ↔ deepest (trees_of (shown_trees es.now)) ≤ levels }
 {
     for e in es {
         if !is_within(e, levels) {

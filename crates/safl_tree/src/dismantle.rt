@@ -3,7 +3,7 @@
 
 ghost use Rattle.std.specs.Prelude.{◌≡◌, ◌+◌, ◌<◌, ◌≤◌, IfSome, vec_len, vec_capacity};
 ghost use Rattle.std.specs.List.{sum_by};
-ghost use Rattle.safl_tree.specs.Shown.{shows};
+ghost use Rattle.safl_tree.specs.Shown.{shown_tree};
 ghost use Rattle.safl_tree.specs.Sizes.{size, bind_size, arm_size, work, work_at};
 
 use crate::tree::{Arm, Bind, Expr, Node};
@@ -48,7 +48,7 @@ fn step(at: At) -> Option<At>
 }
 
 fn leaf() -> Expr
-    ensures { size (shows result) ≡ 1 }
+    ensures { size (shown_tree result) ≡ 1 }
 {
     unplaced(Node::Num(0))
 }
@@ -60,7 +60,7 @@ fn unplaced(node: Node) -> Expr
 }
 
 fn enter_if(mut condition: Box<Expr>, first: Box<Expr>, second: Box<Expr>, above: Expr) -> At
-    ensures { work_at result < work (1 + (size (shows condition.value) + (size (shows first.value) + size (shows second.value)))) (size (shows above)) }
+    ensures { work_at result < work (1 + (size (shown_tree condition.value) + (size (shown_tree first.value) + size (shown_tree second.value)))) (size (shown_tree above)) }
 {
     let here = Box::replace(&mut condition, above);
     At {
@@ -70,7 +70,7 @@ fn enter_if(mut condition: Box<Expr>, first: Box<Expr>, second: Box<Expr>, above
 }
 
 fn enter_let(binds: Vec<Bind>, mut body: Box<Expr>, above: Expr) -> At
-    ensures { work_at result < work (1 + (sum_by bind_size binds.items + size (shows body.value))) (size (shows above)) }
+    ensures { work_at result < work (1 + (sum_by bind_size binds.items + size (shown_tree body.value))) (size (shown_tree above)) }
 {
     let here = Box::replace(&mut body, above);
     At {
@@ -80,7 +80,7 @@ fn enter_let(binds: Vec<Bind>, mut body: Box<Expr>, above: Expr) -> At
 }
 
 fn enter_case(mut scrutinee: Box<Expr>, arms: Vec<Arm>, default: Box<Expr>, above: Expr) -> At
-    ensures { work_at result < work (1 + (size (shows scrutinee.value) + (sum_by arm_size arms.items + size (shows default.value)))) (size (shows above)) }
+    ensures { work_at result < work (1 + (size (shown_tree scrutinee.value) + (sum_by arm_size arms.items + size (shown_tree default.value)))) (size (shown_tree above)) }
 {
     let here = Box::replace(&mut scrutinee, above);
     At {
@@ -91,7 +91,7 @@ fn enter_case(mut scrutinee: Box<Expr>, arms: Vec<Arm>, default: Box<Expr>, abov
 
 // Operands or arguments: where there are none, the way goes up.
 fn enter_parts(mut es: Vec<Expr>, above: Expr) -> Option<At>
-    ensures { IfSome result (λ next. work_at next < work (2 + sum_by (λ e. size (shows e)) es.items) (size (shows above))) }
+    ensures { IfSome result (λ next. work_at next < work (2 + sum_by (λ e. size (shown_tree e)) es.items) (size (shown_tree above))) }
 {
     if es.is_empty() {
         es.destroy_empty();
@@ -107,15 +107,15 @@ fn enter_parts(mut es: Vec<Expr>, above: Expr) -> Option<At>
 // Takes the first of several expressions, and puts another in its place.
 fn replace_first(es: &mut Vec<Expr>, e: Expr) -> Expr
     requires { 0 < vec_len es.old }
-    ensures sum { size (shows result) + sum_by (λ x. size (shows x)) es.new.items ≡ sum_by (λ x. size (shows x)) es.old.items + size (shows e) }
-    ensures least { size (shows result) ≤ sum_by (λ x. size (shows x)) es.old.items }
+    ensures sum { size (shown_tree result) + sum_by (λ x. size (shown_tree x)) es.new.items ≡ sum_by (λ x. size (shown_tree x)) es.old.items + size (shown_tree e) }
+    ensures least { size (shown_tree result) ≤ sum_by (λ x. size (shown_tree x)) es.old.items }
 {
     replace(&mut es[0], e)
 }
 
 // The next part of what is above, if that is no leaf.
 fn leave(above: Expr) -> Option<At>
-    ensures { IfSome result (λ next. size (shows next.here) + size (shows next.above) ≤ size (shows above)) }
+    ensures { IfSome result (λ next. size (shown_tree next.here) + size (shown_tree next.above) ≤ size (shown_tree above)) }
 {
     match above.into_node() {
         Node::Num(_) => None,
@@ -136,7 +136,7 @@ fn leave(above: Expr) -> Option<At>
 }
 
 fn leave_let(mut binds: Vec<Bind>, link: Box<Expr>) -> At
-    ensures { size (shows result.here) + size (shows result.above) ≤ 1 + (sum_by bind_size binds.items + size (shows link.value)) }
+    ensures { size (shown_tree result.here) + size (shown_tree result.above) ≤ 1 + (sum_by bind_size binds.items + size (shown_tree link.value)) }
 {
     match binds.pop() {
         Some(bind) => At {
@@ -154,7 +154,7 @@ fn leave_let(mut binds: Vec<Bind>, link: Box<Expr>) -> At
 }
 
 fn leave_case(link: Box<Expr>, mut arms: Vec<Arm>, default: Box<Expr>) -> At
-    ensures { size (shows result.here) + size (shows result.above) ≤ 1 + (size (shows link.value) + (sum_by arm_size arms.items + size (shows default.value))) }
+    ensures { size (shown_tree result.here) + size (shown_tree result.above) ≤ 1 + (size (shown_tree link.value) + (sum_by arm_size arms.items + size (shown_tree default.value))) }
 {
     match arms.pop() {
         Some(arm) => {
@@ -177,7 +177,7 @@ fn leave_case(link: Box<Expr>, mut arms: Vec<Arm>, default: Box<Expr>) -> At
 // The label of an arm, or its value if the label is a leaf.
 fn next_of(arms: &mut Vec<Arm>, arm: Arm) -> Expr
     requires { vec_len arms.old < vec_capacity arms.old }
-    ensures { size (shows result) + sum_by arm_size arms.new.items ≤ arm_size arm + sum_by arm_size arms.old.items }
+    ensures { size (shown_tree result) + sum_by arm_size arms.new.items ≤ arm_size arm + sum_by arm_size arms.old.items }
 {
     let Arm { label, value } = arm;
     match discard_leaf(label) {
@@ -197,7 +197,7 @@ fn next_of(arms: &mut Vec<Arm>, arm: Arm) -> Expr
 
 // None if the expression is a leaf.
 fn discard_leaf(e: Expr) -> Option<Expr>
-    ensures { IfSome result (λ x. (size (shows x) ≡ size (shows e)) × (2 ≤ size (shows x))) }
+    ensures { IfSome result (λ x. (size (shown_tree x) ≡ size (shown_tree e)) × (2 ≤ size (shown_tree x))) }
 {
     match e.into_node() {
         Node::Num(_) => None,
@@ -209,7 +209,7 @@ fn discard_leaf(e: Expr) -> Option<Expr>
 
 // The last operand or argument is next; the first one is what is above.
 fn leave_parts(mut es: Vec<Expr>) -> Option<At>
-    ensures { IfSome result (λ next. size (shows next.here) + size (shows next.above) ≤ 2 + sum_by (λ e. size (shows e)) es.items) }
+    ensures { IfSome result (λ next. size (shown_tree next.here) + size (shown_tree next.above) ≤ 2 + sum_by (λ e. size (shown_tree e)) es.items) }
 {
     match es.pop() {
         Some(e) => {

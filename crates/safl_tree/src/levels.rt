@@ -2,7 +2,7 @@
 
 ghost use Rattle.std.specs.Prelude.{◌≡◌, ◌↔◌, true, IsTrue};
 ghost use Rattle.safl_tree.specs.Tree.{trees_of, binds_of, arms_of};
-ghost use Rattle.safl_tree.specs.Shown.{shows, shows_all, shows_bounds, shows_labelled, shows_program};
+ghost use Rattle.safl_tree.specs.Shown.{shown_tree, shown_trees, shown_bounds, shown_labelled, shown_program};
 ghost use Rattle.safl_tree.specs.Printable.{is_binary, AllKeepLevels};
 ghost use Rattle.safl_tree.specs.Keeps.{Keeps, PartKeeps, PartsKeep, OperandsKeep, BindingsKeep, ArmsKeep};
 
@@ -22,7 +22,7 @@ const LEFT_DEPTH: u16 = 99;
 /// most 99.
 #[tactic(auto, using(crate::proofs::Depths::keeps_levels))]
 pub fn levels_ok(p: &Program) -> bool
-    ensures { IsTrue result ↔ AllKeepLevels (shows_program p.now) }
+    ensures { IsTrue result ↔ AllKeepLevels (shown_program p.now) }
 {
     for def in &p.defs {
         if !keeps(&def.body, LEVELS, DEPTH) {
@@ -35,7 +35,7 @@ pub fn levels_ok(p: &Program) -> bool
 // Within so many levels, its own counted, and of at most this depth.
 #[cycle(keeps)]
 fn keeps(e: &Expr, levels: u16, depth: u16) -> bool
-    ensures { IsTrue result ↔ Keeps levels depth (shows e.now) }
+    ensures { IsTrue result ↔ Keeps levels depth (shown_tree e.now) }
 {
     if depth == 0 {
         return false;
@@ -45,7 +45,8 @@ fn keeps(e: &Expr, levels: u16, depth: u16) -> bool
         Node::Num(_) | Node::Sized(..) | Node::Var(_) => levels > 0,
         Node::If(c, a, b) => levels > 0 && choice_keeps(c, a, b, levels - 1, depth),
         Node::Let(bs, body) => levels > 0 && bindings_keep(bs, body, levels - 1, depth),
-        Node::Case(s, arms, other) => levels > 0 && cases_keep(s, arms, other, levels - 1, depth),
+        Node::Case(scrutinee, arms, default) => levels > 0
+            && cases_keep(scrutinee, arms, default, levels - 1, depth),
         Node::Op(p, es) => operands_keep(*p, es, levels, depth),
         Node::Call(_, es) => levels > 0 && parts_keep(es, 8, levels - 1, depth),
     }
@@ -53,7 +54,7 @@ fn keeps(e: &Expr, levels: u16, depth: u16) -> bool
 
 #[cycle(keeps)]
 fn choice_keeps(c: &Expr, a: &Expr, b: &Expr, levels: u16, depth: u16) -> bool
-    ensures { IsTrue result ↔ (Keeps levels depth (shows c.now) × Keeps levels depth (shows a.now) × Keeps levels depth (shows b.now)) }
+    ensures { IsTrue result ↔ (Keeps levels depth (shown_tree c.now) × Keeps levels depth (shown_tree a.now) × Keeps levels depth (shown_tree b.now)) }
 {
     keeps(c, levels, depth) && keeps(a, levels, depth) && keeps(b, levels, depth)
 }
@@ -61,7 +62,7 @@ fn choice_keeps(c: &Expr, a: &Expr, b: &Expr, levels: u16, depth: u16) -> bool
 // The bindings of a let and its body.
 #[cycle(keeps)]
 fn bindings_keep(bs: &[Bind], body: &Expr, levels: u16, depth: u16) -> bool
-    ensures { IsTrue result ↔ (BindingsKeep levels depth (binds_of (shows_bounds bs.now)) × Keeps levels depth (shows body.now)) }
+    ensures { IsTrue result ↔ (BindingsKeep levels depth (binds_of (shown_bounds bs.now)) × Keeps levels depth (shown_tree body.now)) }
 {
     for b in bs {
         if !keeps(&b.value, levels, depth) {
@@ -72,16 +73,16 @@ fn bindings_keep(bs: &[Bind], body: &Expr, levels: u16, depth: u16) -> bool
 }
 
 #[cycle(keeps)]
-fn cases_keep(s: &Expr, arms: &[Arm], other: &Expr, levels: u16, depth: u16) -> bool
-    ensures { IsTrue result ↔ (Keeps levels depth (shows s.now) × ArmsKeep levels depth (arms_of (shows_labelled arms.now) (shows other.now))) }
+fn cases_keep(scrutinee: &Expr, arms: &[Arm], default: &Expr, levels: u16, depth: u16) -> bool
+    ensures { IsTrue result ↔ (Keeps levels depth (shown_tree scrutinee.now) × ArmsKeep levels depth (arms_of (shown_labelled arms.now) (shown_tree default.now))) }
 {
-    keeps(s, levels, depth) && arms_keep(arms, other, levels, depth)
+    keeps(scrutinee, levels, depth) && arms_keep(arms, default, levels, depth)
 }
 
 // Each arm is one level below the one before it, and stands for an if, whose test has depth 2.
 #[cycle(keeps)]
-fn arms_keep(arms: &[Arm], other: &Expr, levels: u16, depth: u16) -> bool
-    ensures { IsTrue result ↔ ArmsKeep levels depth (arms_of (shows_labelled arms.now) (shows other.now)) }
+fn arms_keep(arms: &[Arm], default: &Expr, levels: u16, depth: u16) -> bool
+    ensures { IsTrue result ↔ ArmsKeep levels depth (arms_of (shown_labelled arms.now) (shown_tree default.now)) }
 {
     let mut left = levels;
     let mut under = depth;
@@ -95,13 +96,13 @@ fn arms_keep(arms: &[Arm], other: &Expr, levels: u16, depth: u16) -> bool
             return false;
         }
     }
-    left > 0 && keeps(other, left - 1, under)
+    left > 0 && keeps(default, left - 1, under)
 }
 
 // The operands of an operator: those of one between them are at its level.
 #[cycle(keeps)]
 fn operands_keep(p: Primitive, es: &[Expr], levels: u16, depth: u16) -> bool
-    ensures { IsTrue result ↔ OperandsKeep p levels depth (trees_of (shows_all es.now)) }
+    ensures { IsTrue result ↔ OperandsKeep p levels depth (trees_of (shown_trees es.now)) }
 {
     if is_binary(p) {
         binary_keeps(p, es, levels, depth)
@@ -113,7 +114,7 @@ fn operands_keep(p: Primitive, es: &[Expr], levels: u16, depth: u16) -> bool
 #[cycle(keeps)]
 fn binary_keeps(p: Primitive, es: &[Expr], levels: u16, depth: u16) -> bool
     requires { is_binary p ≡ true }
-    ensures { IsTrue result ↔ OperandsKeep p levels depth (trees_of (shows_all es.now)) }
+    ensures { IsTrue result ↔ OperandsKeep p levels depth (trees_of (shown_trees es.now)) }
 {
     match es {
         [] => true,
@@ -126,7 +127,7 @@ fn binary_keeps(p: Primitive, es: &[Expr], levels: u16, depth: u16) -> bool
 
 #[cycle(keeps)]
 fn parts_keep(es: &[Expr], place: u8, levels: u16, depth: u16) -> bool
-    ensures { IsTrue result ↔ PartsKeep place levels depth (trees_of (shows_all es.now)) }
+    ensures { IsTrue result ↔ PartsKeep place levels depth (trees_of (shown_trees es.now)) }
 {
     for e in es {
         if !part_keeps(e, place, levels, depth) {
@@ -139,7 +140,7 @@ fn parts_keep(es: &[Expr], place: u8, levels: u16, depth: u16) -> bool
 // One level is for its parentheses, where the place has too few layers.
 #[cycle(keeps)]
 fn part_keeps(e: &Expr, place: u8, levels: u16, depth: u16) -> bool
-    ensures { IsTrue result ↔ PartKeeps place levels depth (shows e.now) }
+    ensures { IsTrue result ↔ PartKeeps place levels depth (shown_tree e.now) }
 {
     if own(e) <= place {
         keeps(e, levels, depth)

@@ -17,6 +17,3 @@ pub use crate::levels::levels_ok;
 pub use crate::name::Name;
 pub use crate::print_program::print;
 pub use crate::tree::{Arm, Bind, Def, Expr, Node, Param, Program};
-
-#[cfg(test)]
-mod tests;

@@ -3,7 +3,7 @@
 
 ghost use Rattle.std.specs.Prelude.{◌≡◌};
 ghost use Rattle.safl_tree.specs.Printable.{is_binary, right_place, left_place, own};
-ghost use Rattle.safl_tree.specs.Shown.{shows};
+ghost use Rattle.safl_tree.specs.Shown.{shown_tree};
 
 use crate::{Expr, Node};
 use safl_word::Primitive;
@@ -58,7 +58,7 @@ pub(crate) fn left_place(p: Primitive) -> u8
 
 /// The layers that an expression takes without parentheses.
 pub(crate) fn own(e: &Expr) -> u8
-    ensures { result ≡ own (shows e.now) }
+    ensures { result ≡ own (shown_tree e.now) }
 {
     match &e.node {
         Node::Num(_) | Node::Sized(..) | Node::Var(_) | Node::Call(..) => 0,

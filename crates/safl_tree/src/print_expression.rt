@@ -1,9 +1,9 @@
 //! Expressions as tokens.
 
 ghost use Rattle.std.specs.Prelude.{◌≡◌, ◌∷◌, ◌++◌, [], OnOk, nat_le};
-ghost use Rattle.safl_tree.specs.Tree.{Applied, Called, trees_of, binds_of};
+ghost use Rattle.safl_tree.specs.Tree.{Op, Call, trees_of, binds_of};
 ghost use Rattle.safl_tree.specs.Printable.{own};
-ghost use Rattle.safl_tree.specs.Shown.{shows, shows_all, shows_bounds, shows_labelled};
+ghost use Rattle.safl_tree.specs.Shown.{shown_tree, shown_trees, shown_bounds, shown_labelled};
 ghost use Rattle.safl_tree.specs.Printed.{Writes, words, separated, enclosed, part_words, bind_words, bound_words, labelled_words, sym};
 ghost use Rattle.safl_word.specs.declared.token.Sym.TheVariants as syms;
 ghost use Rattle.safl_word.specs.declared.primitive.Primitive.TheVariants as prims;
@@ -16,7 +16,7 @@ use safl_word::{Key, NoMemory, Primitive, Raw, Sym};
 /// Writes an expression, without parentheses around it.
 #[cycle(print)]
 pub(crate) fn push_expr(e: &Expr, out: &mut Vec<u8>) -> Result<(), NoMemory>
-    ensures { OnOk result (Writes out.old.items out.new.items (words (shows e.now))) }
+    ensures { OnOk result (Writes out.old.items out.new.items (words (shown_tree e.now))) }
 {
     match &e.node {
         Node::Num(n) => push_number(*n, out),
@@ -36,14 +36,14 @@ pub(crate) fn push_expr(e: &Expr, out: &mut Vec<u8>) -> Result<(), NoMemory>
             push_key(Key::In, out)?;
             push_expr(body, out)
         }
-        Node::Case(s, arms, other) => {
+        Node::Case(scrutinee, arms, default) => {
             push_key(Key::Case, out)?;
-            push_expr(s, out)?;
+            push_expr(scrutinee, out)?;
             push_sym(Sym::OpenBrace, out)?;
             push_arms(arms, out)?;
             push_key(Key::Default, out)?;
             push_sym(Sym::Arrow, out)?;
-            push_expr(other, out)?;
+            push_expr(default, out)?;
             push_sym(Sym::CloseBrace, out)
         }
         Node::Op(p, es) => push_operation(*p, es, out),
@@ -53,7 +53,7 @@ pub(crate) fn push_expr(e: &Expr, out: &mut Vec<u8>) -> Result<(), NoMemory>
 
 #[cycle(print)]
 fn push_bindings(bs: &[Bind], out: &mut Vec<u8>) -> Result<(), NoMemory>
-    ensures { OnOk result (Writes out.old.items out.new.items (separated (sym syms.Comma) (bind_words (binds_of (shows_bounds bs.now))))) }
+    ensures { OnOk result (Writes out.old.items out.new.items (separated (sym syms.Comma) (bind_words (binds_of (shown_bounds bs.now))))) }
 {
     if let [first, rest @ ..] = bs {
         push_binding(first, out)?;
@@ -67,7 +67,7 @@ fn push_bindings(bs: &[Bind], out: &mut Vec<u8>) -> Result<(), NoMemory>
 
 #[cycle(print)]
 fn push_binding(b: &Bind, out: &mut Vec<u8>) -> Result<(), NoMemory>
-    ensures { OnOk result (Writes out.old.items out.new.items (bound_words b.now.name b.now.width (words (shows b.now.value)))) }
+    ensures { OnOk result (Writes out.old.items out.new.items (bound_words b.now.name b.now.width (words (shown_tree b.now.value)))) }
 {
     push_name(&b.name, out)?;
     if let Some(width) = b.width {
@@ -81,7 +81,7 @@ fn push_binding(b: &Bind, out: &mut Vec<u8>) -> Result<(), NoMemory>
 // Writes the labelled arms of a case.
 #[cycle(print)]
 fn push_arms(arms: &[Arm], out: &mut Vec<u8>) -> Result<(), NoMemory>
-    ensures { OnOk result (Writes out.old.items out.new.items (labelled_words (shows_labelled arms.now))) }
+    ensures { OnOk result (Writes out.old.items out.new.items (labelled_words (shown_labelled arms.now))) }
 {
     for arm in arms {
         push_expr(&arm.label, out)?;
@@ -94,7 +94,7 @@ fn push_arms(arms: &[Arm], out: &mut Vec<u8>) -> Result<(), NoMemory>
 
 #[cycle(print)]
 fn push_call(f: &Name, es: &[Expr], out: &mut Vec<u8>) -> Result<(), NoMemory>
-    ensures { OnOk result (Writes out.old.items out.new.items (words (Called 0 f.now (trees_of (shows_all es.now))))) }
+    ensures { OnOk result (Writes out.old.items out.new.items (words (Call 0 f.now (trees_of (shown_trees es.now))))) }
 {
     push_name(f, out)?;
     push_sym(Sym::OpenParen, out)?;
@@ -104,7 +104,7 @@ fn push_call(f: &Name, es: &[Expr], out: &mut Vec<u8>) -> Result<(), NoMemory>
 
 #[cycle(print)]
 fn push_operation(p: Primitive, es: &[Expr], out: &mut Vec<u8>) -> Result<(), NoMemory>
-    ensures { OnOk result (Writes out.old.items out.new.items (words (Applied 0 p (trees_of (shows_all es.now))))) }
+    ensures { OnOk result (Writes out.old.items out.new.items (words (Op 0 p (trees_of (shown_trees es.now))))) }
 {
     match p {
         Primitive::Not => {
@@ -125,7 +125,7 @@ fn push_operation(p: Primitive, es: &[Expr], out: &mut Vec<u8>) -> Result<(), No
 
 #[cycle(print)]
 fn push_bits(high: u8, low: u8, es: &[Expr], out: &mut Vec<u8>) -> Result<(), NoMemory>
-    ensures { OnOk result (Writes out.old.items out.new.items (words (Applied 0 (prims.Bits high low) (trees_of (shows_all es.now))))) }
+    ensures { OnOk result (Writes out.old.items out.new.items (words (Op 0 (prims.Bits high low) (trees_of (shown_trees es.now))))) }
 {
     push_key(Key::Bits, out)?;
     push_sym(Sym::OpenParen, out)?;
@@ -139,7 +139,7 @@ fn push_bits(high: u8, low: u8, es: &[Expr], out: &mut Vec<u8>) -> Result<(), No
 
 #[cycle(print)]
 fn push_ext(width: u8, es: &[Expr], out: &mut Vec<u8>) -> Result<(), NoMemory>
-    ensures { OnOk result (Writes out.old.items out.new.items (words (Applied 0 (prims.Ext width) (trees_of (shows_all es.now))))) }
+    ensures { OnOk result (Writes out.old.items out.new.items (words (Op 0 (prims.Ext width) (trees_of (shown_trees es.now))))) }
 {
     push_key(Key::Ext, out)?;
     push_sym(Sym::OpenParen, out)?;
@@ -158,7 +158,7 @@ fn push_parts(
     between: Sym,
     out: &mut Vec<u8>,
 ) -> Result<(), NoMemory>
-    ensures { OnOk result (Writes out.old.items out.new.items (separated (sym between) (part_words left right (trees_of (shows_all es.now))))) }
+    ensures { OnOk result (Writes out.old.items out.new.items (separated (sym between) (part_words left right (trees_of (shown_trees es.now))))) }
 {
     if let [first, rest @ ..] = es {
         push_part(first, left, out)?;
@@ -173,7 +173,7 @@ fn push_parts(
 // Writes an expression at a place, in parentheses where it takes more layers.
 #[cycle(print)]
 fn push_part(e: &Expr, place: u8, out: &mut Vec<u8>) -> Result<(), NoMemory>
-    ensures { OnOk result (Writes out.old.items out.new.items (enclosed (nat_le (own (shows e.now)) place) (words (shows e.now)))) }
+    ensures { OnOk result (Writes out.old.items out.new.items (enclosed (nat_le (own (shown_tree e.now)) place) (words (shown_tree e.now)))) }
 {
     if own(e) <= place {
         push_expr(e, out)

@@ -3,7 +3,7 @@
 ghost use Rattle.std.specs.Prelude.{◌≡◌, [], ◌∷◌, ◌++◌, IfOk, OnOk};
 ghost use Rattle.safl_word.specs.declared.token.Sym.TheVariants as syms;
 ghost use Rattle.safl_tree.specs.Printable.{IsPrintable};
-ghost use Rattle.safl_tree.specs.Shown.{shows_params, shows_def, shows_program};
+ghost use Rattle.safl_tree.specs.Shown.{shown_parameters, shown_definition, shown_program};
 ghost use Rattle.safl_tree.specs.Printed.{Writes, sym, name, number, separated, param_words, one_words, line, printed};
 ghost use Rattle.safl_tree.specs.Laws.{SpelledBy};
 
@@ -16,9 +16,9 @@ use std::alloc::Global;
 /// The text of a program, with least parentheses: a space follows each token, and a line feed each definition. It is
 /// read as the program, places aside.
 pub fn print(alloc: Global, p: &Program) -> Result<Vec<u8>, NoMemory>
-    requires { IsPrintable (shows_program p.now) }
-    ensures text { IfOk result (λ text. text.items ≡ printed (shows_program p.now)) }
-    ensures spells { IfOk result (λ text. SpelledBy text.items (shows_program p.now)) }
+    requires { IsPrintable (shown_program p.now) }
+    ensures text { IfOk result (λ text. text.items ≡ printed (shown_program p.now)) }
+    ensures spells { IfOk result (λ text. SpelledBy text.items (shown_program p.now)) }
 {
     let mut out = Vec::new(alloc);
     for def in &p.defs {
@@ -28,7 +28,7 @@ pub fn print(alloc: Global, p: &Program) -> Result<Vec<u8>, NoMemory>
 }
 
 fn push_def(def: &Def, out: &mut Vec<u8>) -> Result<(), NoMemory>
-    ensures { OnOk result (out.new.items ≡ out.old.items ++ line (shows_def def.now)) }
+    ensures { OnOk result (out.new.items ≡ out.old.items ++ line (shown_definition def.now)) }
 {
     let opening = if def.joined { Key::And } else { Key::Fun };
     out.extend_from_slice(opening.text().as_bytes())?;
@@ -39,7 +39,7 @@ fn push_def(def: &Def, out: &mut Vec<u8>) -> Result<(), NoMemory>
 
 // Writes a definition behind its `fun` or `and`.
 fn push_one(def: &Def, out: &mut Vec<u8>) -> Result<(), NoMemory>
-    ensures { OnOk result (Writes out.old.items out.new.items (one_words (shows_def def.now))) }
+    ensures { OnOk result (Writes out.old.items out.new.items (one_words (shown_definition def.now))) }
 {
     push_name(&def.name, out)?;
     push_sym(Sym::OpenParen, out)?;
@@ -52,7 +52,7 @@ fn push_one(def: &Def, out: &mut Vec<u8>) -> Result<(), NoMemory>
 }
 
 fn push_params(params: &[Param], out: &mut Vec<u8>) -> Result<(), NoMemory>
-    ensures { OnOk result (Writes out.old.items out.new.items (separated (sym syms.Comma) (param_words (shows_params params.now)))) }
+    ensures { OnOk result (Writes out.old.items out.new.items (separated (sym syms.Comma) (param_words (shown_parameters params.now)))) }
 {
     if let [first, rest @ ..] = params {
         push_param(first, out)?;

@@ -4,8 +4,9 @@ use Rattle.std.specs.Prelude.{Result, Ok, ◌&&◌, cond}
 use Rattle.std.proofs.lemmas.Bool.{eq-eqb, lt-ltb}
 use Rattle.safl_word.specs.declared.fault.Fault.{Fault}
 use Rattle.safl_word.specs.declared.primitive.Primitive.{Primitive}
-use Rattle.safl_term.specs.Terms.{Term, Const, Var, If, Op, Call, Loop, Terms, Cons}
-use Rattle.safl_typing.specs.Rewriting.{Expression, Number, Sized, Variable, Choice, Binding, Applied, Called, Expressions, no_expression, an_expression, Bindings, no_binding, a_binding, Shape, Alike, Comparing, Shifting, Resizing, shape, takes_width, flexible, all_flexible, count}
+use Rattle.safl_term.specs.Terms as terms
+use Rattle.safl_term.specs.Terms.{Term, Const, Var, Loop, Terms, Cons}
+use Rattle.safl_typing.specs.Rewriting.{Expression, Number, Sized, Variable, If, Let, Op, Call, Expressions, no_expression, an_expression, Bindings, no_binding, a_binding, Shape, Alike, Comparing, Shifting, Resizing, shape, takes_width, flexible, all_flexible, count}
 use Rattle.safl_typing.specs.Heads.{Slot, Head, Known, Callee, Member, Above, Unknown, callee, sites, sites_bound}
 use Rattle.safl_typing.specs.Typing.{At, word, widths_of, slots, Keeps, AreAll, AllRigid, RigidOr, Shifts, Suits, Calls, Has, HaveAll, HaveBound}
 use Rattle.safl_typing.specs.Walk.{after, unless, needs, Typed, TypedAlike, TypedAll, Wanted, Any, Exactly, is_any, is_known, wanted_by, settle, number, sized, variable, branches, alike, operated, arguments, called, all_any, amounts, exactly, check, check_all, check_alike, check_shift, check_bound}
@@ -61,7 +62,7 @@ variable_met p m o i w t h e q = rw e (settle_met p m false w w (Var i) t h refl
 
 branches_met : (m : Wanted) (fa fb : Bool) (w : ℕ) (first second : Wanted → Result Typed Fault) (x y z : Term) → Met m (fa && fb) w
     → ((v : Wanted) → Met v fa w → first v ≡ Ok (typed w y)) → ((v : Wanted) → Met v fb w → second v ≡ Ok (typed w z))
-    → branches (is_any m && fa) m first second x ≡ Ok (typed w (If x y z))
+    → branches (is_any m && fa) m first second x ≡ Ok (typed w (terms.If x y z))
 branches_met Any true fb w first second x y z h f g = after_gives _ _ (typed w z) _ (g Any h) (after_gives _ _ (typed w y) _ (f (Exactly w) refl) refl)
 branches_met Any false fb w first second x y z h f g = after_gives _ _ (typed w y) _ (f Any refl) (after_gives _ _ (typed w z) _ (g (Exactly w) refl) refl)
 branches_met (Exactly v) fa fb w first second x y z h f g = after_gives _ _ (typed w y) _ (f (Exactly v) h) (after_gives _ _ (typed w z) _ (g (Exactly w) refl) refl)
@@ -75,15 +76,15 @@ alike_met (Exactly v) fe fs w first others x us h f g = after_gives _ _ (typed w
 
 operated_met : (sh : Shape) (p : ℕ) (m : Wanted) (o : Primitive) (es : Expressions) (ws : List ℕ) (us : Terms) (w : ℕ) (t : Term)
     (same : Wanted → Result TypedAlike Fault) (shift : Result TypedAlike Fault) (all : Result TypedAll Fault)
-    → Suits sh o es ws w → Met m (takes_width sh && all_flexible es) w → t ≡ Op o us
+    → Suits sh o es ws w → Met m (takes_width sh && all_flexible es) w → t ≡ terms.Op o us
     → ((v : Wanted) (u : ℕ) → AreAll u ws → Met v (all_flexible es) u → same v ≡ Ok (typed_alike u us))
     → (Shifts w es ws → shift ≡ Ok (typed_alike w us))
     → (AllRigid es → all ≡ Ok (typed_all ws us))
     → operated sh p m o same shift all ≡ Ok (typed w t)
 operated_met Alike p m o es ws us w t same shift all s h q f g k = after_gives _ _ (typed_alike w us) _ (f m w s h) cc
-operated_met Comparing p m o es ws us w t same shift all s h q f g k = after_gives _ _ (typed_alike s.1 us) _ (f Any s.1 s.2 s.3) (settle_met p m false 1 w (Op o us) t h (sym s.0) (sym q))
-operated_met Shifting p m o es ws us w t same shift all s h q f g k = after_gives _ _ (typed_alike w us) _ (g s) (settle_met p m false w w (Op o us) t h refl (sym q))
-operated_met Resizing p m o es ws us w t same shift all s h q f g k = after_gives _ _ (typed_all ws us) _ (k s.0) (rw s.1 (settle_met p m false w w (Op o us) t h refl (sym q)))
+operated_met Comparing p m o es ws us w t same shift all s h q f g k = after_gives _ _ (typed_alike s.1 us) _ (f Any s.1 s.2 s.3) (settle_met p m false 1 w (terms.Op o us) t h (sym s.0) (sym q))
+operated_met Shifting p m o es ws us w t same shift all s h q f g k = after_gives _ _ (typed_alike w us) _ (g s) (settle_met p m false w w (terms.Op o us) t h refl (sym q))
+operated_met Resizing p m o es ws us w t same shift all s h q f g k = after_gives _ _ (typed_all ws us) _ (k s.0) (rw s.1 (settle_met p m false w w (terms.Op o us) t h refl (sym q)))
 
 pub length_widths : (ps : List Slot) → length (widths_of ps) ≡ length ps
 length_widths [] = refl
@@ -103,7 +104,7 @@ called_met (Member i h) tail lo first mid p m n args ws us w t q e en met ea =
     unless_gives _ _ _ (needs_gives _ _ q.0)
     (arguments_met p m h n _ (λ us. Loop i us) ws us w t en q.2 q.3 q.4 met (subst (λ (l : List ℕ). args first l ≡ Ok (typed_all ws us)) q.2 (ea first (e ∙ sym q.1))))
 called_met (Above i h) tail lo first mid p m n args ws us w t q e en met ea =
-    arguments_met p m h n _ (λ us. Call i first us) ws us w t en q.1 q.2 (q.3 ∙ ap (λ (z : ℕ). Call i z us) (sym e)) met (subst (λ (l : List ℕ). args (suc first) l ≡ Ok (typed_all ws us)) q.1 (ea (suc first) (ap (λ (z : ℕ). suc z) e ∙ sym q.0)))
+    arguments_met p m h n _ (λ us. terms.Call i first us) ws us w t en q.1 q.2 (q.3 ∙ ap (λ (z : ℕ). terms.Call i z us) (sym e)) met (subst (λ (l : List ℕ). args (suc first) l ≡ Ok (typed_all ws us)) q.1 (ea (suc first) (ap (λ (z : ℕ). suc z) e ∙ sym q.0)))
 called_met Unknown tail lo first mid p m n args ws us w t q e en met ea = absurd q
 
 -- as many expressions as widths
@@ -155,28 +156,28 @@ mutual
   has_checks k s tail lo hi first m (Number p n) w t at h met = number_met p n m w t met h.1.fits h.2
   has_checks k s tail lo hi first m (Sized p v n) w t at h met = sized_met p v n m w t met h.1 h.2.fits h.3
   has_checks k s tail lo hi first m (Variable p x) w t at (l, i, e, q) met = variable_met p m _ i w t met e q
-  has_checks k s tail lo hi first m (Choice p c a b) w t at (mid, n, x, y, z, hc, ha, hb, q) met =
+  has_checks k s tail lo hi first m (If p c a b) w t at (mid, n, x, y, z, hc, ha, hb, q) met =
       let ec = has_sites k s _ lo mid c 1 x hc in
       let ea = has_sites k s tail mid n a w y ha in
-      subst (λ (u : Term). check k s tail first m (Choice p c a b) ≡ Ok (typed w u)) (sym q)
+      subst (λ (u : Term). check k s tail first m (If p c a b) ≡ Ok (typed w u)) (sym q)
       (unless_gives _ _ _ (needs_gives _ _ (known_met m _ w met))
       (after_gives _ _ (typed 1 x) _ (has_checks k s _ lo mid first (Exactly 1) c 1 x at hc refl)
       (branches_met m (flexible a) (flexible b) w _ _ x y z met
       (λ v g. has_checks k s tail mid n (first + sites k c) v a w y (omega (arith, ec, at)) ha g)
       (λ v g. has_checks k s tail n hi (first + sites k c + sites k a) v b w z (omega (arith, ec, ea, at)) hb g))))
-  has_checks k s tail lo hi first m (Binding p bs b) w t at (mid, ws, us, y, d, hs, hb, q) met =
+  has_checks k s tail lo hi first m (Let p bs b) w t at (mid, ws, us, y, d, hs, hb, q) met =
       let es = have_sites_bound k s lo mid bs ws us hs in
-      subst (λ (u : Term). check k s tail first m (Binding p bs b) ≡ Ok (typed w u)) (sym q)
+      subst (λ (u : Term). check k s tail first m (Let p bs b) ≡ Ok (typed w u)) (sym q)
       (unless_gives _ _ _ (needs_gives _ _ (known_met m _ w met))
       (unless_gives _ _ _ (bound_differ bs d)
       (after_gives _ _ (typed_all ws us) _ (have_checks_bound k s lo mid first bs ws us at hs)
       (after_gives _ _ (typed w y) _ (has_checks k (s ++ slots bs ws) tail mid hi (first + sites_bound k bs) m b w y (omega (arith, es, at)) hb met) refl))))
-  has_checks k s tail lo hi first m (Applied p o es) w t at (ws, us, hs, su, q) met =
+  has_checks k s tail lo hi first m (Op p o es) w t at (ws, us, hs, su, q) met =
       operated_met (shape o) p m o es ws us w t _ _ _ su met q
       (λ v u all g. have_checks_alike k s lo hi first p v u es ws us at hs all g)
       (λ g. have_checks_shift k s lo hi first p w es ws us at hs g)
       (λ g. have_checks k s lo hi first (all_any es) es ws us at hs (met_any es ws g (have_many k s lo hi es ws us hs)))
-  has_checks k s tail lo hi first m (Called p f es) w t at (mid, ws, us, hs, q) met =
+  has_checks k s tail lo hi first m (Call p f es) w t at (mid, ws, us, hs, q) met =
       let many = have_many k s mid hi es ws us hs in
       called_met (callee k f) tail lo first mid p m (count es) _ ws us w t q at (many_length es ws many) met
       (λ i e. have_checks k s mid hi i (exactly ws) es ws us e hs (met_exactly es ws many))

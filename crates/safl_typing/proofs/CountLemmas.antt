@@ -5,22 +5,22 @@ use Rattle.safl_typing.specs.declared.expression.Expression as code
 use Rattle.safl_typing.specs.Rewriting.{flexible, all_flexible}
 use Rattle.safl_typing.specs.Heads.{Known, sites, sites_in, sites_bound}
 use Rattle.safl_typing.specs.declared.expression.Bound.{Bound}
-use Rattle.safl_typing.specs.Plain.{plain, plain_all, plain_bindings}
+use Rattle.safl_typing.specs.Plain.{shown_expression, shown_expressions, shown_bindings}
 
 -- where an element is flexible, the rest decides; where it is not, all are not flexible
-flexible_cons : (e : code.Expression) (es : List code.Expression) (b : Bool) → flexible (plain e) ≡ b → all_flexible (plain_all (e ∷ es)) ≡ b && all_flexible (plain_all es)
-flexible_cons e es b q = ap (λ (z : Bool). z && all_flexible (plain_all es)) q
+flexible_cons : (e : code.Expression) (es : List code.Expression) (b : Bool) → flexible (shown_expression e) ≡ b → all_flexible (shown_expressions (e ∷ es)) ≡ b && all_flexible (shown_expressions es)
+flexible_cons e es b q = ap (λ (z : Bool). z && all_flexible (shown_expressions es)) q
 
 front : (es : List code.Expression) (i : ℕ) (e : code.Expression) → i < length es → e ≡ get_or es i e → drop i es ≡ e ∷ drop (i + 1) es
 front es i e lt is =
     let s : suc i ≡ i + 1 = omega arith in
     drop-cons es i e lt ∙ ap (λ (z : code.Expression). z ∷ drop (suc i) es) (sym is) ∙ ap (λ (j : ℕ). e ∷ drop j es) s
 
-pub flexible_next : (es : List code.Expression) (i : ℕ) (e : code.Expression) → i < length es → e ≡ get_or es i e → flexible (plain e) ≡ true → all_flexible (plain_all es) ≡ all_flexible (plain_all (drop i es)) → all_flexible (plain_all es) ≡ all_flexible (plain_all (drop (i + 1) es))
-flexible_next es i e lt is q h = h ∙ ap (λ (l : List code.Expression). all_flexible (plain_all l)) (front es i e lt is) ∙ flexible_cons e (drop (i + 1) es) true q
+pub flexible_next : (es : List code.Expression) (i : ℕ) (e : code.Expression) → i < length es → e ≡ get_or es i e → flexible (shown_expression e) ≡ true → all_flexible (shown_expressions es) ≡ all_flexible (shown_expressions (drop i es)) → all_flexible (shown_expressions es) ≡ all_flexible (shown_expressions (drop (i + 1) es))
+flexible_next es i e lt is q h = h ∙ ap (λ (l : List code.Expression). all_flexible (shown_expressions l)) (front es i e lt is) ∙ flexible_cons e (drop (i + 1) es) true q
 
-pub flexible_not : (es : List code.Expression) (i : ℕ) (e : code.Expression) → i < length es → e ≡ get_or es i e → flexible (plain e) ≡ false → all_flexible (plain_all es) ≡ all_flexible (plain_all (drop i es)) → all_flexible (plain_all es) ≡ false
-flexible_not es i e lt is q h = h ∙ ap (λ (l : List code.Expression). all_flexible (plain_all l)) (front es i e lt is) ∙ flexible_cons e (drop (i + 1) es) false q
+pub flexible_not : (es : List code.Expression) (i : ℕ) (e : code.Expression) → i < length es → e ≡ get_or es i e → flexible (shown_expression e) ≡ false → all_flexible (shown_expressions es) ≡ all_flexible (shown_expressions (drop i es)) → all_flexible (shown_expressions es) ≡ false
+flexible_not es i e lt is q h = h ∙ ap (λ (l : List code.Expression). all_flexible (shown_expressions l)) (front es i e lt is) ∙ flexible_cons e (drop (i + 1) es) false q
 
 upto : (es : List code.Expression) (i : ℕ) (e : code.Expression) → i < length es → e ≡ get_or es i e → take (i + 1) es ≡ take i es ++ e ∷ []
 upto [] i e lt is = absurd (omega (arith, lt))
@@ -46,20 +46,20 @@ and_false false b e = refl
 
 -- ---- sites
 
-sites_end : (k : Known) (xs : List code.Expression) (x : code.Expression) → sites_in k (plain_all (xs ++ x ∷ [])) ≡ sites_in k (plain_all xs) + sites k (plain x)
+sites_end : (k : Known) (xs : List code.Expression) (x : code.Expression) → sites_in k (shown_expressions (xs ++ x ∷ [])) ≡ sites_in k (shown_expressions xs) + sites k (shown_expression x)
 sites_end k [] x = omega arith
 sites_end k (y ∷ ys) x = omega (arith, sites_end k ys x)
 
-pub sites_next : (k : Known) (es : List code.Expression) (i : ℕ) (e : code.Expression) (counted total next : ℕ) → i < length es → e ≡ get_or es i e → total ≡ min 4001 (counted + sites_in k (plain_all (take i es))) → next ≡ min 4001 (total + sites k (plain e)) → next ≡ min 4001 (counted + sites_in k (plain_all (take (i + 1) es)))
+pub sites_next : (k : Known) (es : List code.Expression) (i : ℕ) (e : code.Expression) (counted total next : ℕ) → i < length es → e ≡ get_or es i e → total ≡ min 4001 (counted + sites_in k (shown_expressions (take i es))) → next ≡ min 4001 (total + sites k (shown_expression e)) → next ≡ min 4001 (counted + sites_in k (shown_expressions (take (i + 1) es)))
 sites_next k es i e counted total next lt is h q =
-    let s : sites_in k (plain_all (take (i + 1) es)) ≡ sites_in k (plain_all (take i es)) + sites k (plain e) = ap (λ (l : List code.Expression). sites_in k (plain_all l)) (upto es i e lt is) ∙ sites_end k (take i es) e in
+    let s : sites_in k (shown_expressions (take (i + 1) es)) ≡ sites_in k (shown_expressions (take i es)) + sites k (shown_expression e) = ap (λ (l : List code.Expression). sites_in k (shown_expressions l)) (upto es i e lt is) ∙ sites_end k (take i es) e in
     omega (arith, h, q, s)
 
-bound_sites_end : (k : Known) (xs : List Bound) (x : Bound) → sites_bound k (plain_bindings (xs ++ x ∷ [])) ≡ sites_bound k (plain_bindings xs) + sites k (plain x.value)
+bound_sites_end : (k : Known) (xs : List Bound) (x : Bound) → sites_bound k (shown_bindings (xs ++ x ∷ [])) ≡ sites_bound k (shown_bindings xs) + sites k (shown_expression x.value)
 bound_sites_end k [] x = omega arith
 bound_sites_end k (y ∷ ys) x = omega (arith, bound_sites_end k ys x)
 
-pub bound_sites_next : (k : Known) (es : List Bound) (i : ℕ) (e : Bound) (counted total next : ℕ) → i < length es → e ≡ get_or es i e → total ≡ min 4001 (counted + sites_bound k (plain_bindings (take i es))) → next ≡ min 4001 (total + sites k (plain e.value)) → next ≡ min 4001 (counted + sites_bound k (plain_bindings (take (i + 1) es)))
+pub bound_sites_next : (k : Known) (es : List Bound) (i : ℕ) (e : Bound) (counted total next : ℕ) → i < length es → e ≡ get_or es i e → total ≡ min 4001 (counted + sites_bound k (shown_bindings (take i es))) → next ≡ min 4001 (total + sites k (shown_expression e.value)) → next ≡ min 4001 (counted + sites_bound k (shown_bindings (take (i + 1) es)))
 bound_sites_next k es i e counted total next lt is h q =
-    let s : sites_bound k (plain_bindings (take (i + 1) es)) ≡ sites_bound k (plain_bindings (take i es)) + sites k (plain e.value) = ap (λ (l : List Bound). sites_bound k (plain_bindings l)) (bound_upto es i e lt is) ∙ bound_sites_end k (take i es) e in
+    let s : sites_bound k (shown_bindings (take (i + 1) es)) ≡ sites_bound k (shown_bindings (take i es)) + sites k (shown_expression e.value) = ap (λ (l : List Bound). sites_bound k (shown_bindings l)) (bound_upto es i e lt is) ∙ bound_sites_end k (take i es) e in
     omega (arith, h, q, s)

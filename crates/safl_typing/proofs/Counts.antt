@@ -1,7 +1,7 @@
 -- The sites of an expression are as many as it has calls of functions of other groups.
 use Rattle.std.proofs.Common.{◌≡◌, ℕ, ◌+◌, List, [], ◌∷◌, Bool, arith}
 use Rattle.safl_term.specs.Terms.{Term, Terms}
-use Rattle.safl_typing.specs.Rewriting.{Expression, Number, Sized, Variable, Choice, Binding, Applied, Called, Expressions, no_expression, an_expression, Bindings, no_binding, a_binding}
+use Rattle.safl_typing.specs.Rewriting.{Expression, Number, Sized, Variable, If, Let, Op, Call, Expressions, no_expression, an_expression, Bindings, no_binding, a_binding}
 use Rattle.safl_typing.specs.Heads.{Slot, Known, Callee, Member, Above, Unknown, callee, is_site, sites, sites_in, sites_bound}
 use Rattle.safl_typing.specs.Typing.{Has, HaveAll, HaveBound, Calls}
 
@@ -15,12 +15,12 @@ mutual
   has_sites k s tail lo hi (Number p n) w t h = omega (arith, h.0)
   has_sites k s tail lo hi (Sized p v n) w t h = omega (arith, h.0)
   has_sites k s tail lo hi (Variable p x) w t h = omega (arith, h.0)
-  has_sites k s tail lo hi (Choice p c a b) w t (m, n, x, y, z, hc, ha, hb, q) =
+  has_sites k s tail lo hi (If p c a b) w t (m, n, x, y, z, hc, ha, hb, q) =
       omega (arith, has_sites k s _ lo m c 1 x hc, has_sites k s tail m n a w y ha, has_sites k s tail n hi b w z hb)
-  has_sites k s tail lo hi (Binding p bs b) w t (m, ws, us, y, d, hs, hb, q) =
+  has_sites k s tail lo hi (Let p bs b) w t (m, ws, us, y, d, hs, hb, q) =
       omega (arith, have_sites_bound k s lo m bs ws us hs, has_sites k _ tail m hi b w y hb)
-  has_sites k s tail lo hi (Applied p o es) w t (ws, us, hs, su, q) = have_sites k s lo hi es ws us hs
-  has_sites k s tail lo hi (Called p f es) w t (m, ws, us, hs, q) =
+  has_sites k s tail lo hi (Op p o es) w t (ws, us, hs, su, q) = have_sites k s lo hi es ws us hs
+  has_sites k s tail lo hi (Call p f es) w t (m, ws, us, hs, q) =
       omega (arith, have_sites k s m hi es ws us hs, called_sites (callee k f) tail lo m ws us w t q)
 
   pub have_sites : (k : Known) (s : List Slot) (lo hi : ℕ) (es : Expressions) (ws : List ℕ) (us : Terms) → HaveAll k s lo hi es ws us → hi ≡ lo + sites_in k es

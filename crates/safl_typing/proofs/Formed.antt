@@ -27,22 +27,22 @@ label_range : (l : Tree) → IsLabel l → IsInRange (rewritten l)
 label_range (source.Number p n) h = tt
 label_range (source.Sized p w n) h = width_wide w h.0
 label_range (source.Variable p x) h = absurd h
-label_range (source.Choice p c a b) h = absurd h
-label_range (source.Binding p bs t) h = absurd h
+label_range (source.If p c a b) h = absurd h
+label_range (source.Let p bs t) h = absurd h
 label_range (source.Cases p e arms) h = absurd h
-label_range (source.Applied p o ts) h = absurd h
-label_range (source.Called p f ts) h = absurd h
+label_range (source.Op p o ts) h = absurd h
+label_range (source.Call p f ts) h = absurd h
 
 mutual
   pub formed_range : (t : Tree) → IsFormed t → IsInRange (rewritten t)
   formed_range (source.Number p n) h = tt
   formed_range (source.Sized p w n) h = width_wide w h.0
   formed_range (source.Variable p x) h = tt
-  formed_range (source.Choice p c a b) h = (formed_range c h.0, formed_range a h.1, formed_range b h.2)
-  formed_range (source.Binding p bs t) h = (binds_range bs h.1, formed_range t h.2)
+  formed_range (source.If p c a b) h = (formed_range c h.0, formed_range a h.1, formed_range b h.2)
+  formed_range (source.Let p bs t) h = (binds_range bs h.1, formed_range t h.2)
   formed_range (source.Cases p e arms) h = (((λ v q. absurd cc), formed_range e h.0, tt), arms_range p arms h.1)
-  formed_range (source.Applied p o ts) h = all_range ts h.2
-  formed_range (source.Called p f ts) h = all_range ts h.1
+  formed_range (source.Op p o ts) h = all_range ts h.2
+  formed_range (source.Call p f ts) h = all_range ts h.1
 
   all_range : (ts : Trees) → AreFormed ts → AreInRange (rewritten_all ts)
   all_range source.no_tree h = tt

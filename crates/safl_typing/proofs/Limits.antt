@@ -2,11 +2,12 @@
 use Rattle.std.proofs.Common.{◌≡◌, ℕ, suc, ◌≤◌, List, length, map, Option, Some, None, refl, sym, ap, ◌∙◌, subst, ⊎_elim}
 use Rattle.std.proofs.lemmas.Option.{slice_get_past, slice_get_cases}
 use Rattle.safl_word.specs.declared.fault.Fault.{Fault}
-use Rattle.safl_typing.specs.Rewriting.{Expression, Number, Sized, Variable, Choice, Binding, Applied, Called, Expressions, no_expression, an_expression, Bindings, no_binding, a_binding}
+use Rattle.safl_typing.specs.Rewriting.{Expression, Number, Sized, Variable, If, Let, Op, Call, Expressions, no_expression, an_expression, Bindings, no_binding, a_binding}
 use Rattle.safl_typing.specs.Typing.{names}
 use Rattle.safl_term.specs.Sizes.{max_bindings}
 use Rattle.safl_typing.specs.Forms.{HasShortLets, HaveShortLets, HaveShortBound}
-use Rattle.safl_typing.specs.Walk.{or_else, or_place, excess, limit, long_let, long_let_in, long_let_bound, placed}
+use Rattle.safl_term.specs.Readiness.{or_else}
+use Rattle.safl_typing.specs.Walk.{or_place, excess, limit, long_let, long_let_in, long_let_bound, placed}
 use Rattle.safl_typing.proofs.Names.{some_none}
 
 pub both_none : (a b : Option Fault) → a ≡ None → b ≡ None → or_else a b ≡ None
@@ -45,11 +46,11 @@ mutual
   short_lets (Number p n) h = refl
   short_lets (Sized p w n) h = refl
   short_lets (Variable p x) h = refl
-  short_lets (Choice p c a b) h = place_none _ _ (short_lets c h.0) (place_none _ _ (short_lets a h.1) (short_lets b h.2))
-  short_lets (Binding p bs b) h =
+  short_lets (If p c a b) h = place_none _ _ (short_lets c h.0) (place_none _ _ (short_lets a h.1) (short_lets b h.2))
+  short_lets (Let p bs b) h =
       place_none _ _ (excess_none max_bindings (map (λ x. x.place) (placed bs)) (subst (λ (n : ℕ). n ≤ max_bindings) (sym (places_length bs)) h.0)) (place_none _ _ (short_lets_bound bs h.1) (short_lets b h.2))
-  short_lets (Applied p o es) h = short_lets_in es h
-  short_lets (Called p f es) h = short_lets_in es h
+  short_lets (Op p o es) h = short_lets_in es h
+  short_lets (Call p f es) h = short_lets_in es h
 
   short_lets_in : (es : Expressions) → HaveShortLets es → long_let_in es ≡ None
   short_lets_in no_expression h = refl
@@ -64,16 +65,16 @@ mutual
   no_long_let (Number p n) h = tt
   no_long_let (Sized p w n) h = tt
   no_long_let (Variable p x) h = tt
-  no_long_let (Choice p c a b) h =
+  no_long_let (If p c a b) h =
       let q = none_places (long_let c) _ h in
       let r = none_places (long_let a) _ q.1 in
       (no_long_let c q.0, no_long_let a r.0, no_long_let b r.1)
-  no_long_let (Binding p bs b) h =
+  no_long_let (Let p bs b) h =
       let q = none_places (excess max_bindings (map (λ x. x.place) (placed bs))) _ h in
       let r = none_places (long_let_bound bs) _ q.1 in
       (subst (λ (n : ℕ). n ≤ max_bindings) (places_length bs) (none_excess max_bindings _ q.0), no_long_bound bs r.0, no_long_let b r.1)
-  no_long_let (Applied p o es) h = no_long_in es h
-  no_long_let (Called p f es) h = no_long_in es h
+  no_long_let (Op p o es) h = no_long_in es h
+  no_long_let (Call p f es) h = no_long_in es h
 
   no_long_in : (es : Expressions) → long_let_in es ≡ None → HaveShortLets es
   no_long_in no_expression h = tt

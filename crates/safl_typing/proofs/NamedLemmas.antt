@@ -10,7 +10,7 @@ use Rattle.std.proofs.lemmas.Slice.Eq.{bytes_eq-Decides}
 use Rattle.indexmap.specs.IndexMap.{insert_entry}
 use Rattle.safl_typing.specs.declared.heads.Head as code
 use Rattle.safl_typing.specs.Heads.{Head, Numbered, first_head}
-use Rattle.safl_typing.specs.PlainHeads.{plain_head, plain_heads, numbered, with_number}
+use Rattle.safl_typing.specs.PlainHeads.{shown_head, shown_heads, numbered, with_number}
 use Rattle.safl_typing.specs.Named.{name_of, has_name, last_named, before_it, kept, KeepsNames}
 
 -- ---- a table with one more name
@@ -123,12 +123,12 @@ module _ (in_unit : ℕ → Bool) (f : List ℕ) (hs : List code.Head) where
   passes h = in_unit h.unit && bytes_eq h.name f
 
   abbrev from : ℕ → Option Numbered
-  from n = first_head passes n (plain_heads (drop n hs))
+  from n = first_head passes n (shown_heads (drop n hs))
 
   from_step : (n : ℕ) (h : code.Head) → n < length hs → slice_get hs n ≡ Some h
-      → from n ≡ cond (in_unit h.unit && bytes_eq h.name f) (Some (record { number = n; head = plain_head h })) (from (suc n))
+      → from n ≡ cond (in_unit h.unit && bytes_eq h.name f) (Some (record { number = n; head = shown_head h })) (from (suc n))
   from_step n h lt at =
-      ap (λ (l : List code.Head). first_head passes n (plain_heads l)) (drop-cons hs n h lt ∙ ap (λ (z : code.Head). z ∷ drop (suc n) hs) (get_or_from_slice_get hs n h h at))
+      ap (λ (l : List code.Head). first_head passes n (shown_heads l)) (drop-cons hs n h lt ∙ ap (λ (z : code.Head). z ∷ drop (suc n) hs) (get_or_from_slice_get hs n h h at))
 
   skip : (n : ℕ) → n ≤ length hs → from (bound (last_named hs f n)) ≡ from n
   skip zero le = refl
@@ -141,7 +141,7 @@ module _ (in_unit : ℕ → Bool) (f : List ℕ) (hs : List code.Head) where
       by rest h false at e =
           ap (λ (o : Option ℕ). from (bound o)) (ap (λ (o : Option code.Head). cond (has_name f o) (Some n) (last_named hs f n)) at ∙ ap (λ (b : Bool). cond b (Some n) (last_named hs f n)) e)
           ∙ rest ∙ from_step n h (omega (arith, le)) at
-          ∙ ap (λ (b : Bool). cond b (Some (record { number = n; head = plain_head h })) (from (suc n))) (and_false (in_unit h.unit) (bytes_eq h.name f) (nat_list_eq_equiv.symm h.name f ∙ e))
+          ∙ ap (λ (b : Bool). cond b (Some (record { number = n; head = shown_head h })) (from (suc n))) (and_false (in_unit h.unit) (bytes_eq h.name f) (nat_list_eq_equiv.symm h.name f ∙ e))
 
   -- the first function that passes, of those from here on
   pub record IsSought (at found : Option ℕ) : Type 0 where
@@ -153,7 +153,7 @@ module _ (in_unit : ℕ → Bool) (f : List ℕ) (hs : List code.Head) where
   sought_begins at e = subst (λ (o : Option ℕ). IsSought o None) (sym e) (record {
     named = last_is hs f (length hs) (omega arith);
     within = tt;
-    first = sym (skip (length hs) (omega arith) ∙ ap (λ (l : List code.Head). first_head passes (length hs) (plain_heads l)) (drop_all (length hs) hs (omega arith)));
+    first = sym (skip (length hs) (omega arith) ∙ ap (λ (l : List code.Head). first_head passes (length hs) (shown_heads l)) (drop_all (length hs) hs (omega arith)));
   })
 
   found_within : (b : Bool) (m : ℕ) (found : Option ℕ) → m < length hs → IfSome found (λ n. n < length hs) → IfSome (cond b (Some m) found) (λ n. n < length hs)
@@ -161,7 +161,7 @@ module _ (in_unit : ℕ → Bool) (f : List ℕ) (hs : List code.Head) where
   found_within false m found lt h = h
 
   found_first : (b : Bool) (m : ℕ) (h : code.Head) (found : Option ℕ) → slice_get hs m ≡ Some h
-      → numbered hs (cond b (Some m) found) ≡ cond b (Some (record { number = m; head = plain_head h })) (numbered hs found)
+      → numbered hs (cond b (Some m) found) ≡ cond b (Some (record { number = m; head = shown_head h })) (numbered hs found)
   found_first true m h found at = ap (λ (o : Option code.Head). with_number m o) at
   found_first false m h found at = refl
 
@@ -182,8 +182,8 @@ module _ (in_unit : ℕ → Bool) (f : List ℕ) (hs : List code.Head) where
         subst (λ (o : Option ℕ). IsSought o (cond b (Some m) found)) (sym next_is) (record {
           named = further (last_named hs f m) (last_is hs f m le);
           within = found_within b m found sought.named.0 sought.within;
-          first = found_first b m h found at ∙ ap (λ (o : Option Numbered). cond b (Some (record { number = m; head = plain_head h })) o) sought.first
-              ∙ sym (skip m le ∙ from_step m h sought.named.0 at ∙ ap (λ (c : Bool). cond c (Some (record { number = m; head = plain_head h })) (from (suc m))) (tested ∙ u));
+          first = found_first b m h found at ∙ ap (λ (o : Option Numbered). cond b (Some (record { number = m; head = shown_head h })) o) sought.first
+              ∙ sym (skip m le ∙ from_step m h sought.named.0 at ∙ ap (λ (c : Bool). cond c (Some (record { number = m; head = shown_head h })) (from (suc m))) (tested ∙ u));
         })
 
   pub sought_more : (at found next new : Option ℕ) (m : ℕ) (h : code.Head) (b : Bool) → IsSought at found → at ≡ Some m → slice_get hs m ≡ Some h → next ≡ before_it hs m → in_unit h.unit ≡ b → new ≡ cond b (Some m) found → IsSought next new

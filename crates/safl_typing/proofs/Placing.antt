@@ -8,9 +8,9 @@ use Rattle.safl_term.specs.declared.checked.Site.{Site}
 use Rattle.safl_term.specs.Program.{Program}
 use Rattle.safl_term.specs.Sizes as sizes
 use Rattle.safl_term.specs.Terms.{Term, Terms}
-use Rattle.safl_term.specs.Tree.{tree}
+use Rattle.safl_term.specs.Tree.{shown_term}
 use Rattle.safl_tree.specs.Tree.{Definition}
-use Rattle.safl_typing.specs.Rewriting.{Expression, rewritten, Number, Sized, Variable, Choice, Binding, Applied, Called, Expressions, no_expression, an_expression, Bindings, no_binding, a_binding}
+use Rattle.safl_typing.specs.Rewriting.{Expression, rewritten, Number, Sized, Variable, If, Let, Op, Call, Expressions, no_expression, an_expression, Bindings, no_binding, a_binding}
 use Rattle.safl_typing.specs.Heads.{Slot, Head, Known, Callee, Member, Above, Unknown, callee, unit_of, params_of, head_of, heads_from}
 use Rattle.safl_typing.specs.Typing.{slots, Calls, Has, HaveAll, HaveBound}
 use Rattle.safl_typing.specs.Forms.{FunctionForm, shown_function, sites_of, sites_of_all, all_sites, nodes_of, IsFunctionOf, AreFunctionsOf}
@@ -36,7 +36,7 @@ pub record At (C : Program) (all : List Head) (n u lo hi : ℕ) (ds : List Defin
   pub from : lo ≤ first
   pub until : end ≤ hi
   pub next : option_map_or (λ (f : Function). f.first_site) (slice_get fs (suc i)) hi ≡ end
-  pub noted : Noted C first (sites_of (n + i) (tree function.body))
+  pub noted : Noted C first (sites_of (n + i) (shown_term function.body))
 
 pub next_first : (all : List Head) (n u w lo hi : ℕ) (ds : List Definition) (fs : List Function) → AreShown all n u w lo hi ds fs → option_map_or (λ (f : Function). f.first_site) (slice_get fs 0) hi ≡ lo
 next_first all n u w lo hi [] [] h = sym h
@@ -51,7 +51,7 @@ place_at C all n u w lo hi (d ∷ ds) [] i lt h noted = absurd h
 place_at C all n u w lo hi (d ∷ ds) (f ∷ fs) zero lt (m, is, j, rest) noted =
     let k : Known = record { heads = all; unit = unit_of n u d } in
     let e : n ≡ n + 0 = omega arith in
-    let p = noted_parts C lo m (sites_of n (tree f.body)) (all_sites (suc n) (map shown_function fs)) (has_length n k (params_of d) true lo m (rewritten d.body) d.width (tree f.body) is.body) noted in
+    let p = noted_parts C lo m (sites_of n (shown_term f.body)) (all_sites (suc n) (map shown_function fs)) (has_length n k (params_of d) true lo m (rewritten d.body) d.width (shown_term f.body) is.body) noted in
     record {
       def = d;
       function = f;
@@ -65,13 +65,13 @@ place_at C all n u w lo hi (d ∷ ds) (f ∷ fs) zero lt (m, is, j, rest) noted 
       from = omega arith;
       until = functions_rise all (suc n) (unit_of n u d) d.width m hi ds (map shown_function fs) rest;
       next = next_first all (suc n) (unit_of n u d) d.width m hi ds fs rest;
-      noted = subst (λ (g : ℕ). Noted C lo (sites_of g (tree f.body))) e p.0;
+      noted = subst (λ (g : ℕ). Noted C lo (sites_of g (shown_term f.body))) e p.0;
     }
 place_at C all n u w lo hi (d ∷ ds) (f ∷ fs) (suc i) lt (m, is, j, rest) noted =
     let k : Known = record { heads = all; unit = unit_of n u d } in
     let e : suc n + i ≡ n + suc i = omega arith in
-    let l = has_length n k (params_of d) true lo m (rewritten d.body) d.width (tree f.body) is.body in
-    let p = noted_parts C lo m (sites_of n (tree f.body)) (all_sites (suc n) (map shown_function fs)) l noted in
+    let l = has_length n k (params_of d) true lo m (rewritten d.body) d.width (shown_term f.body) is.body in
+    let p = noted_parts C lo m (sites_of n (shown_term f.body)) (all_sites (suc n) (map shown_function fs)) l noted in
     let a = place_at C all (suc n) (unit_of n u d) d.width m hi ds fs i (omega (arith, lt)) rest p.1 in
     record {
       def = a.def;
@@ -86,7 +86,7 @@ place_at C all n u w lo hi (d ∷ ds) (f ∷ fs) (suc i) lt (m, is, j, rest) not
       from = omega (arith, a.from, l);
       until = a.until;
       next = a.next;
-      noted = subst (λ (g : ℕ). Noted C a.first (sites_of g (tree a.function.body))) e a.noted;
+      noted = subst (λ (g : ℕ). Noted C a.first (sites_of g (shown_term a.function.body))) e a.noted;
     }
 
 unit_here : (b : Bool) (n u : ℕ) (d w : ℕ) (P : Type 0) → (b ≡ true → d ≡ w) → ((cond b u n ≡ u) × (d ≡ w) → P) → (cond b u n ≡ n → P) → P
@@ -128,14 +128,14 @@ sites_length all n u w lo hi (d ∷ ds) (f ∷ fs) (m, is, j, rest) =
     let k : Known = record { heads = all; unit = unit_of n u d } in
     omega (arith, append_length (sites_of n f.body) (all_sites (suc n) fs), has_length n k (params_of d) true lo m (rewritten d.body) d.width f.body is.body, sites_length all (suc n) (unit_of n u d) d.width m hi ds fs rest)
 
-pub nodes_same : (all : List Head) (n u w lo hi : ℕ) (ds : List Definition) (fs : List Function) → AreShown all n u w lo hi ds fs → sum_by (λ (f : Function). sizes.nodes (tree f.body)) fs ≡ nodes_of ds
+pub nodes_same : (all : List Head) (n u w lo hi : ℕ) (ds : List Definition) (fs : List Function) → AreShown all n u w lo hi ds fs → sum_by (λ (f : Function). sizes.nodes (shown_term f.body)) fs ≡ nodes_of ds
 nodes_same all n u w lo hi [] [] h = refl
 nodes_same all n u w lo hi [] (f ∷ fs) h = absurd h
 nodes_same all n u w lo hi (d ∷ ds) [] h = absurd h
 nodes_same all n u w lo hi (d ∷ ds) (f ∷ fs) (m, is, j, rest) =
     let k : Known = record { heads = all; unit = unit_of n u d } in
-    sum_by-cons (λ (f : Function). sizes.nodes (tree f.body)) f fs
-    ∙ omega (arith, has_nodes k (params_of d) true lo m (rewritten d.body) d.width (tree f.body) is.body, nodes_same all (suc n) (unit_of n u d) d.width m hi ds fs rest)
+    sum_by-cons (λ (f : Function). sizes.nodes (shown_term f.body)) f fs
+    ∙ omega (arith, has_nodes k (params_of d) true lo m (rewritten d.body) d.width (shown_term f.body) is.body, nodes_same all (suc n) (unit_of n u d) d.width m hi ds fs rest)
 
 pub heads_length : (n u : ℕ) (ds : List Definition) → length (heads_from n u ds) ≡ length ds
 heads_length n u [] = refl
@@ -174,14 +174,14 @@ module _ (C : Program) (g : ℕ) (k : Known) (within : g < C.functions) (ag : Ag
     has_good s tail lo hi (Number p n) w t h = subst (λ (z : Term). AllGood C (sites_of g z)) (sym h.2) tt
     has_good s tail lo hi (Sized p v n) w t h = subst (λ (z : Term). AllGood C (sites_of g z)) (sym h.3) tt
     has_good s tail lo hi (Variable p x) w t (l, i, e, q) = subst (λ (z : Term). AllGood C (sites_of g z)) (sym q) tt
-    has_good s tail lo hi (Choice p c a b) w t (m, n, x, y, z, hc, ha, hb, q) =
+    has_good s tail lo hi (If p c a b) w t (m, n, x, y, z, hc, ha, hb, q) =
         subst (λ (u : Term). AllGood C (sites_of g u)) (sym q)
         (good_append C (sites_of g x) _ (has_good s _ lo m c 1 x hc) (good_append C (sites_of g y) _ (has_good s tail m n a w y ha) (has_good s tail n hi b w z hb)))
-    has_good s tail lo hi (Binding p bs b) w t (m, ws, us, y, d, hs, hb, q) =
+    has_good s tail lo hi (Let p bs b) w t (m, ws, us, y, d, hs, hb, q) =
         subst (λ (u : Term). AllGood C (sites_of g u)) (sym q)
         (good_append C (sites_of_all g us) _ (bound_good s lo m bs ws us hs) (has_good (s ++ slots bs ws) tail m hi b w y hb))
-    has_good s tail lo hi (Applied p o es) w t (ws, us, hs, su, q) = subst (λ (u : Term). AllGood C (sites_of g u)) (sym q) (have_good s lo hi es ws us hs)
-    has_good s tail lo hi (Called p f es) w t (m, ws, us, hs, q) = called_good (callee k f) tail lo m ws us w t (callee_at k f) q (have_good s m hi es ws us hs)
+    has_good s tail lo hi (Op p o es) w t (ws, us, hs, su, q) = subst (λ (u : Term). AllGood C (sites_of g u)) (sym q) (have_good s lo hi es ws us hs)
+    has_good s tail lo hi (Call p f es) w t (m, ws, us, hs, q) = called_good (callee k f) tail lo m ws us w t (callee_at k f) q (have_good s m hi es ws us hs)
 
     have_good : (s : List Slot) (lo hi : ℕ) (es : Expressions) (ws : List ℕ) (us : Terms) → HaveAll k s lo hi es ws us → AllGood C (sites_of_all g us)
     have_good s lo hi no_expression [] us h = subst (λ (z : Terms). AllGood C (sites_of_all g z)) (sym h.1) tt
@@ -198,12 +198,12 @@ module _ (C : Program) (g : ℕ) (k : Known) (within : g < C.functions) (ag : Ag
         subst (λ (z : Terms). AllGood C (sites_of_all g z)) (sym q) (good_append C (sites_of g t) _ (has_good s _ lo m e w t he) (bound_good s m hi bs ws ts hs))
 
 -- the sites of all functions are good where those of each are
-pub all_good : (C : Program) (n : ℕ) (fs : List Function) → ((i : ℕ) (f : Function) → slice_get fs i ≡ Some f → AllGood C (sites_of (n + i) (tree f.body))) → AllGood C (all_sites n (map shown_function fs))
+pub all_good : (C : Program) (n : ℕ) (fs : List Function) → ((i : ℕ) (f : Function) → slice_get fs i ≡ Some f → AllGood C (sites_of (n + i) (shown_term f.body))) → AllGood C (all_sites n (map shown_function fs))
 all_good C n [] h = tt
 all_good C n (f ∷ fs) h =
     let e : n + 0 ≡ n = omega arith in
-    good_append C (sites_of n (tree f.body)) _ (subst (λ (g : ℕ). AllGood C (sites_of g (tree f.body))) e (h 0 f refl))
-    (all_good C (suc n) fs (λ i x q. let r : n + suc i ≡ suc n + i = omega arith in subst (λ (g : ℕ). AllGood C (sites_of g (tree x.body))) r (h (suc i) x q)))
+    good_append C (sites_of n (shown_term f.body)) _ (subst (λ (g : ℕ). AllGood C (sites_of g (shown_term f.body))) e (h 0 f refl))
+    (all_good C (suc n) fs (λ i x q. let r : n + suc i ≡ suc n + i = omega arith in subst (λ (g : ℕ). AllGood C (sites_of g (shown_term x.body))) r (h (suc i) x q)))
 
 -- a program that has these sites notes them
 pub noted_from : (C : Program) (n : ℕ) (xs : List Site) → ((i : ℕ) (x : Site) → slice_get xs i ≡ Some x → (C.caller (n + i) ≡ x.caller) × (C.callee (n + i) ≡ x.callee)) → Noted C n xs

@@ -12,7 +12,7 @@ use Rattle.safl_term.specs.declared.checked.Parameter as code
 use Rattle.safl_term.specs.declared.checked.Site.{Site}
 use Rattle.safl_term.specs.Program.{arity}
 use Rattle.safl_term.specs.Terms as plain
-use Rattle.safl_term.specs.Tree.{tree}
+use Rattle.safl_term.specs.Tree.{shown_term}
 use Rattle.safl_term.specs.WellFormed.{Spans, HasWidth, IsNumbered, IsWellFormed}
 use Rattle.safl_term.specs.Checked as checked
 use Rattle.safl_term.specs.Checked.{CheckedProgram, of_function, of_site, main_of, program_of, name_of, first_site_of, IsWithinLimits, AreNamed, HasWordWidths, BodyHasSlots, IsChecked}
@@ -134,7 +134,7 @@ pub record HasFields (c : CheckedProgram) (ds : List Definition) (i : ℕ) (h : 
   pub unit : (program_of c).unit i ≡ h.unit
   pub result : (program_of c).result i ≡ h.def.width
   pub params : (program_of c).params i ≡ widths_of (params_of h.def)
-  pub body : (program_of c).body i ≡ tree h.function.body
+  pub body : (program_of c).body i ≡ shown_term h.function.body
   pub name : name_of c i ≡ h.def.name
   pub param_names : checked.param_names c i ≡ param_names h.def
   pub first : first_site_of c i ≡ h.first
@@ -147,7 +147,7 @@ fields c ds i h =
       unit = field_of (λ (f : Function). f.unit) 0 c i h.function h.stands ∙ h.is.unit;
       result = field_of (λ (f : Function). f.width) 0 c i h.function h.stands ∙ h.is.width;
       params = field_of (λ (f : Function). map (λ p. p.width) f.params.items) [] c i h.function h.stands ∙ (widths_shown h.function.params.items ∙ ap (λ (l : List Slot). widths_of l) h.is.params);
-      body = field_of (λ (f : Function). tree f.body) (plain.Const no_word) c i h.function h.stands;
+      body = field_of (λ (f : Function). shown_term f.body) (plain.Const no_word) c i h.function h.stands;
       name = field_of (λ (f : Function). string_bytes f.name) [] c i h.function h.stands ∙ h.is.name;
       param_names = field_of (λ (f : Function). map (λ p. string_bytes p.name) f.params.items) [] c i h.function h.stands ∙ (names_shown h.function.params.items ∙ (ap (λ (l : List Slot). map (λ (p : Slot). p.name) l) h.is.params ∙ names_of_slots h.def));
       first = field_of (λ (f : Function). f.first_site) (suc (length c.sites)) c i h.function h.stands ∙ h.is.first_site;
@@ -218,17 +218,17 @@ module _ (c : CheckedProgram) (ds : List Definition) (b : IsBased c ds) (shallow
       let f = fields c ds i h in
       let z : 0 + i ≡ i = omega arith in
       subst (λ (t : plain.Term). Spans (program_of c) i true h.first h.end t) (sym f.body)
-      (has_spans (program_of c) i (record { heads = heads ds; unit = h.unit }) (agrees c ds b) f.unit (params_of h.def) true h.first h.end (rewritten h.def.body) h.def.width (tree h.function.body) h.is.body (subst (λ (g : ℕ). Noted (program_of c) h.first (sites_of g (tree h.function.body))) z h.noted))
+      (has_spans (program_of c) i (record { heads = heads ds; unit = h.unit }) (agrees c ds b) f.unit (params_of h.def) true h.first h.end (rewritten h.def.body) h.def.width (shown_term h.function.body) h.is.body (subst (λ (g : ℕ). Noted (program_of c) h.first (sites_of g (shown_term h.function.body))) z h.noted))
 
   body_width : (i : ℕ) (h : Here c ds i) → HasWidth (program_of c) ((program_of c).params i) ((program_of c).body i) ((program_of c).result i)
   body_width i h =
       let f = fields c ds i h in
       let d : IsFormedDefinition h.def = formed_at ds i h.def b.formed h.defined in
-      let w : HasWidth (program_of c) (widths_of (params_of h.def)) (tree h.function.body) h.def.width =
-      has_width (program_of c) (record { heads = heads ds; unit = h.unit }) (params_of h.def) true h.first h.end (rewritten h.def.body) h.def.width (tree h.function.body) (agrees c ds b) (heads_wide 0 0 ds b.formed) (params_wide h.def.params d.1) (formed_full h.def.body d.3) h.is.body in
+      let w : HasWidth (program_of c) (widths_of (params_of h.def)) (shown_term h.function.body) h.def.width =
+      has_width (program_of c) (record { heads = heads ds; unit = h.unit }) (params_of h.def) true h.first h.end (rewritten h.def.body) h.def.width (shown_term h.function.body) (agrees c ds b) (heads_wide 0 0 ds b.formed) (params_wide h.def.params d.1) (formed_full h.def.body d.3) h.is.body in
       subst (λ (l : List ℕ). HasWidth (program_of c) l ((program_of c).body i) ((program_of c).result i)) (sym f.params)
       (subst (λ (t : plain.Term). HasWidth (program_of c) (widths_of (params_of h.def)) t ((program_of c).result i)) (sym f.body)
-      (subst (λ (n : ℕ). HasWidth (program_of c) (widths_of (params_of h.def)) (tree h.function.body) n) (sym f.result) w))
+      (subst (λ (n : ℕ). HasWidth (program_of c) (widths_of (params_of h.def)) (shown_term h.function.body) n) (sym f.result) w))
 
   -- an interval for each body
   abbrev pub BodyAt : ℕ → Type 0
@@ -236,7 +236,7 @@ module _ (c : CheckedProgram) (ds : List Definition) (b : IsBased c ds) (shallow
 
   past_spans : (i : ℕ) → slice_get c.functions i ≡ None → Spans (program_of c) i true 1 1 ((program_of c).body i)
   unfolding program_of
-  past_spans i e = subst (λ (t : plain.Term). Spans (program_of c) i true 1 1 t) (sym (field_past (λ (f : Function). tree f.body) (plain.Const no_word) c i e)) refl
+  past_spans i e = subst (λ (t : plain.Term). Spans (program_of c) i true 1 1 t) (sym (field_past (λ (f : Function). shown_term f.body) (plain.Const no_word) c i e)) refl
 
   body_at : (i : ℕ) → BodyAt i
   body_at i = ⊎_elim
@@ -254,8 +254,8 @@ module _ (c : CheckedProgram) (ds : List Definition) (b : IsBased c ds) (shallow
       let h = here c ds i b l in
       let q : h.function ≡ f = some_is h.function f (sym h.stands ∙ e) in
       let z : i ≡ 0 + i = omega arith in
-      subst (λ (g : ℕ). AllGood (program_of c) (sites_of g (tree f.body))) z (subst (λ (z : Function). AllGood (program_of c) (sites_of i (tree z.body))) q
-      (has_good (program_of c) i (record { heads = heads ds; unit = h.unit }) l (agrees c ds b) (fields c ds i h).unit (params_of h.def) true h.first h.end (rewritten h.def.body) h.def.width (tree h.function.body) h.is.body))))
+      subst (λ (g : ℕ). AllGood (program_of c) (sites_of g (shown_term f.body))) z (subst (λ (z : Function). AllGood (program_of c) (sites_of i (shown_term z.body))) q
+      (has_good (program_of c) i (record { heads = heads ds; unit = h.unit }) l (agrees c ds b) (fields c ds i h).unit (params_of h.def) true h.first h.end (rewritten h.def.body) h.def.width (shown_term h.function.body) h.is.body))))
 
   site_good : (k : ℕ) → 0 < k → k ≤ length c.sites → ((program_of c).caller k < length c.functions) × ((program_of c).callee k < length c.functions) × ((program_of c).unit ((program_of c).callee k) < (program_of c).unit ((program_of c).caller k))
   unfolding program_of
@@ -303,20 +303,20 @@ module _ (c : CheckedProgram) (ds : List Definition) (b : IsBased c ds) (shallow
 
   past_body : (i : ℕ) → slice_get c.functions i ≡ None → (program_of c).body i ≡ plain.Const no_word
   unfolding program_of
-  past_body i e = field_past (λ (f : Function). tree f.body) (plain.Const no_word) c i e
+  past_body i e = field_past (λ (f : Function). shown_term f.body) (plain.Const no_word) c i e
 
   short_lets : (i : ℕ) → sizes.HasShortLets ((program_of c).body i)
   short_lets i = ⊎_elim
       (λ q. let h = here c ds i b q.2 in
       subst (λ (t : plain.Term). sizes.HasShortLets t) (sym (fields c ds i h).body)
-      (has_short (record { heads = heads ds; unit = h.unit }) (params_of h.def) true h.first h.end (rewritten h.def.body) h.def.width (tree h.function.body) h.is.body h.is.short_lets (formed_bindings h.def.body (formed_at ds i h.def b.formed h.defined).3)))
+      (has_short (record { heads = heads ds; unit = h.unit }) (params_of h.def) true h.first h.end (rewritten h.def.body) h.def.width (shown_term h.function.body) h.is.body h.is.short_lets (formed_bindings h.def.body (formed_at ds i h.def b.formed h.defined).3)))
       (λ e. subst (λ (t : plain.Term). sizes.HasShortLets t) (sym (past_body i e)) tt)
       (there c.functions i)
 
   few_levels : (i : ℕ) → sizes.depth ((program_of c).body i) ≤ max_depth
   few_levels i = ⊎_elim
       (λ q. let h = here c ds i b q.2 in
-      let e = has_depth (record { heads = heads ds; unit = h.unit }) (params_of h.def) true h.first h.end (rewritten h.def.body) h.def.width (tree h.function.body) h.is.body in
+      let e = has_depth (record { heads = heads ds; unit = h.unit }) (params_of h.def) true h.first h.end (rewritten h.def.body) h.def.width (shown_term h.function.body) h.is.body in
       omega (arith, ap (λ (t : plain.Term). sizes.depth t) (fields c ds i h).body, e, rewritten_deep h.def.body (formed_at ds i h.def b.formed h.defined).3, shallow_at ds i h.def shallow h.defined))
       (λ e. omega (arith, ap (λ (t : plain.Term). sizes.depth t) (past_body i e)))
       (there c.functions i)

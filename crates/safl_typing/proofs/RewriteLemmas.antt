@@ -6,13 +6,14 @@ use Rattle.safl_tree.specs.declared.tree.Expr.{Expr}
 use Rattle.safl_tree.specs.declared.tree.Bind.{Bind}
 use Rattle.safl_tree.specs.declared.tree.Arm.{Arm}
 use Rattle.safl_tree.specs.declared.tree.Node.{Node}
-use Rattle.safl_tree.specs.declared.tree.Node.TheVariants.{Op, Call, Let, Case}
+use Rattle.safl_tree.specs.declared.tree.Node.TheVariants as nodes
+use Rattle.safl_tree.specs.declared.tree.Node.TheVariants.{Case}
 use Rattle.safl_tree.specs.Tree.{Tree, trees_of, binds_of, arms_of, place_of}
-use Rattle.safl_tree.specs.Shown.{shows, shows_node, shows_all, shows_bounds, shows_labelled}
+use Rattle.safl_tree.specs.Shown.{shown_tree, shown_node, shown_trees, shown_bounds, shown_labelled}
 use Rattle.safl_typing.specs.declared.expression.Bound.{Bound}
 use Rattle.safl_typing.specs.declared.expression.Expression as code
-use Rattle.safl_typing.specs.Rewriting.{Expression, Choice, Binding, Applied, Called, Expressions, no_expression, an_expression, Bindings, no_binding, a_binding, rewritten, rewritten_all, rewritten_binds, rewritten_arms, scrutinee, test_at}
-use Rattle.safl_typing.specs.Plain.{plain, plain_all, plain_bindings}
+use Rattle.safl_typing.specs.Rewriting.{Expression, If, Let, Op, Call, Expressions, no_expression, an_expression, Bindings, no_binding, a_binding, rewritten, rewritten_all, rewritten_binds, rewritten_arms, scrutinee, test_at}
+use Rattle.safl_typing.specs.Plain.{shown_expression, shown_expressions, shown_bindings}
 use Rattle.safl_tree.proofs.ShownTrees.{op_shows, call_shows, let_shows, case_shows, shown_place}
 
 -- one more at the end
@@ -20,100 +21,100 @@ abbrev pub more : Expressions → Expression → Expressions
 more no_expression x = an_expression x no_expression
 more (an_expression y ys) x = an_expression y (more ys x)
 
-pub plain_end : (xs : List code.Expression) (x : code.Expression) → plain_all (xs ++ x ∷ []) ≡ more (plain_all xs) (plain x)
-plain_end [] x = refl
-plain_end (y ∷ ys) x = ap (an_expression (plain y)) (plain_end ys x)
+pub shown_end : (xs : List code.Expression) (x : code.Expression) → shown_expressions (xs ++ x ∷ []) ≡ more (shown_expressions xs) (shown_expression x)
+shown_end [] x = refl
+shown_end (y ∷ ys) x = ap (an_expression (shown_expression y)) (shown_end ys x)
 
-all_next : (es : List Expr) (i : ℕ) (e : Expr) → slice_get es i ≡ Some e → rewritten_all (trees_of (shows_all (take (suc i) es))) ≡ more (rewritten_all (trees_of (shows_all (take i es)))) (rewritten (shows e))
+all_next : (es : List Expr) (i : ℕ) (e : Expr) → slice_get es i ≡ Some e → rewritten_all (trees_of (shown_trees (take (suc i) es))) ≡ more (rewritten_all (trees_of (shown_trees (take i es)))) (rewritten (shown_tree e))
 all_next [] i e h = absurd (cc)
-all_next (y ∷ ys) zero e h = let g : y ≡ e = cc in ap (λ (z : Expr). an_expression (rewritten (shows z)) no_expression) g
-all_next (y ∷ ys) (suc i) e h = ap (an_expression (rewritten (shows y))) (all_next ys i e h)
+all_next (y ∷ ys) zero e h = let g : y ≡ e = cc in ap (λ (z : Expr). an_expression (rewritten (shown_tree z)) no_expression) g
+all_next (y ∷ ys) (suc i) e h = ap (an_expression (rewritten (shown_tree y))) (all_next ys i e h)
 
-pub all_more : (es : List Expr) (i : ℕ) (e : Expr) → slice_get es i ≡ Some e → rewritten_all (trees_of (shows_all (take (i + 1) es))) ≡ more (rewritten_all (trees_of (shows_all (take i es)))) (rewritten (shows e))
-all_more es i e h = ap (λ (k : ℕ). rewritten_all (trees_of (shows_all (take k es)))) (add-one i) ∙ all_next es i e h
+pub all_more : (es : List Expr) (i : ℕ) (e : Expr) → slice_get es i ≡ Some e → rewritten_all (trees_of (shown_trees (take (i + 1) es))) ≡ more (rewritten_all (trees_of (shown_trees (take i es)))) (rewritten (shown_tree e))
+all_more es i e h = ap (λ (k : ℕ). rewritten_all (trees_of (shown_trees (take k es)))) (add-one i) ∙ all_next es i e h
 
 -- one more binding at the end
 abbrev pub more_bound : Bindings → Bindings → Bindings
 more_bound no_binding x = x
 more_bound (a_binding p n w e bs) x = a_binding p n w e (more_bound bs x)
 
-abbrev pub plain_bind : Bound → Bindings
-plain_bind b = a_binding b.place b.name b.width (plain b.value) no_binding
+abbrev pub shown_binding : Bound → Bindings
+shown_binding b = a_binding b.place b.name b.width (shown_expression b.value) no_binding
 
 abbrev pub shown_bind : Bind → Bindings
-shown_bind b = a_binding b.place b.name b.width (rewritten (shows b.value)) no_binding
+shown_bind b = a_binding b.place b.name b.width (rewritten (shown_tree b.value)) no_binding
 
-bound_end : (xs : List Bound) (x : Bound) → plain_bindings (xs ++ x ∷ []) ≡ more_bound (plain_bindings xs) (plain_bind x)
+bound_end : (xs : List Bound) (x : Bound) → shown_bindings (xs ++ x ∷ []) ≡ more_bound (shown_bindings xs) (shown_binding x)
 bound_end [] x = refl
-bound_end (y ∷ ys) x = ap (a_binding y.place y.name y.width (plain y.value)) (bound_end ys x)
+bound_end (y ∷ ys) x = ap (a_binding y.place y.name y.width (shown_expression y.value)) (bound_end ys x)
 
-binds_next : (bs : List Bind) (i : ℕ) (b : Bind) → slice_get bs i ≡ Some b → rewritten_binds (binds_of (shows_bounds (take (suc i) bs))) ≡ more_bound (rewritten_binds (binds_of (shows_bounds (take i bs)))) (shown_bind b)
+binds_next : (bs : List Bind) (i : ℕ) (b : Bind) → slice_get bs i ≡ Some b → rewritten_binds (binds_of (shown_bounds (take (suc i) bs))) ≡ more_bound (rewritten_binds (binds_of (shown_bounds (take i bs)))) (shown_bind b)
 binds_next [] i b h = absurd (cc)
 binds_next (y ∷ ys) zero b h = let g : y ≡ b = cc in ap shown_bind g
-binds_next (y ∷ ys) (suc i) b h = ap (a_binding y.place y.name y.width (rewritten (shows y.value))) (binds_next ys i b h)
+binds_next (y ∷ ys) (suc i) b h = ap (a_binding y.place y.name y.width (rewritten (shown_tree y.value))) (binds_next ys i b h)
 
-binds_more : (bs : List Bind) (i : ℕ) (b : Bind) → slice_get bs i ≡ Some b → rewritten_binds (binds_of (shows_bounds (take (i + 1) bs))) ≡ more_bound (rewritten_binds (binds_of (shows_bounds (take i bs)))) (shown_bind b)
-binds_more bs i b h = ap (λ (k : ℕ). rewritten_binds (binds_of (shows_bounds (take k bs)))) (add-one i) ∙ binds_next bs i b h
+binds_more : (bs : List Bind) (i : ℕ) (b : Bind) → slice_get bs i ≡ Some b → rewritten_binds (binds_of (shown_bounds (take (i + 1) bs))) ≡ more_bound (rewritten_binds (binds_of (shown_bounds (take i bs)))) (shown_bind b)
+binds_more bs i b h = ap (λ (k : ℕ). rewritten_binds (binds_of (shown_bounds (take k bs)))) (add-one i) ∙ binds_next bs i b h
 
 -- ---- the kinds of expressions that have lists
 
 pub let_rewrites : (n : Node) (p : ℕ) (binds : Vec Bind Global) (body : Box Expr Global) (bs : List Bound) (b : code.Expression) (xs : List Bind) (e : Expr)
-    → n ≡ Let binds body → xs ≡ binds.items → e ≡ body.value → plain_bindings bs ≡ rewritten_binds (binds_of (shows_bounds xs)) → plain b ≡ rewritten (shows e)
-    → Binding p (plain_bindings bs) (plain b) ≡ rewritten (shows_node n p)
+    → n ≡ nodes.Let binds body → xs ≡ binds.items → e ≡ body.value → shown_bindings bs ≡ rewritten_binds (binds_of (shown_bounds xs)) → shown_expression b ≡ rewritten (shown_tree e)
+    → Let p (shown_bindings bs) (shown_expression b) ≡ rewritten (shown_node n p)
 let_rewrites n p binds body bs b xs e is x v hs h =
-    let k : plain_bindings bs ≡ rewritten_binds (binds_of (shows_bounds binds.items)) = hs ∙ ap (λ (l : List Bind). rewritten_binds (binds_of (shows_bounds l))) x in
-    let w : plain b ≡ rewritten (shows body.value) = h ∙ ap (λ (z : Expr). rewritten (shows z)) v in
-    ap (λ (z : Bindings). Binding p z (plain b)) k ∙ ap (λ (z : Expression). Binding p (rewritten_binds (binds_of (shows_bounds binds.items))) z) w
-    ∙ sym (ap (λ (z : Node). rewritten (shows_node z p)) is ∙ ap rewritten (let_shows binds body p))
+    let k : shown_bindings bs ≡ rewritten_binds (binds_of (shown_bounds binds.items)) = hs ∙ ap (λ (l : List Bind). rewritten_binds (binds_of (shown_bounds l))) x in
+    let w : shown_expression b ≡ rewritten (shown_tree body.value) = h ∙ ap (λ (z : Expr). rewritten (shown_tree z)) v in
+    ap (λ (z : Bindings). Let p z (shown_expression b)) k ∙ ap (λ (z : Expression). Let p (rewritten_binds (binds_of (shown_bounds binds.items))) z) w
+    ∙ sym (ap (λ (z : Node). rewritten (shown_node z p)) is ∙ ap rewritten (let_shows binds body p))
 
 pub case_rewrites : (n : Node) (p : ℕ) (looked_at : Box Expr Global) (arms : Vec Arm Global) (other : Box Expr Global) (v b : code.Expression) (xs : List Arm) (e : Expr)
-    → n ≡ Case looked_at arms other → xs ≡ arms.items → e ≡ looked_at.value → plain v ≡ rewritten (shows e) → plain b ≡ rewritten_arms p (arms_of (shows_labelled xs) (shows other.value))
-    → Binding p (a_binding p scrutinee None (plain v) no_binding) (plain b) ≡ rewritten (shows_node n p)
+    → n ≡ Case looked_at arms other → xs ≡ arms.items → e ≡ looked_at.value → shown_expression v ≡ rewritten (shown_tree e) → shown_expression b ≡ rewritten_arms p (arms_of (shown_labelled xs) (shown_tree other.value))
+    → Let p (a_binding p scrutinee None (shown_expression v) no_binding) (shown_expression b) ≡ rewritten (shown_node n p)
 case_rewrites n p looked_at arms other v b xs e is x y h k =
-    let w : plain v ≡ rewritten (shows looked_at.value) = h ∙ ap (λ (z : Expr). rewritten (shows z)) y in
-    let g : plain b ≡ rewritten_arms p (arms_of (shows_labelled arms.items) (shows other.value)) = k ∙ ap (λ (l : List Arm). rewritten_arms p (arms_of (shows_labelled l) (shows other.value))) x in
-    ap (λ (z : Expression). Binding p (a_binding p scrutinee None z no_binding) (plain b)) w ∙ ap (λ (z : Expression). Binding p (a_binding p scrutinee None (rewritten (shows looked_at.value)) no_binding) z) g
-    ∙ sym (ap (λ (z : Node). rewritten (shows_node z p)) is ∙ ap rewritten (case_shows looked_at arms other p))
+    let w : shown_expression v ≡ rewritten (shown_tree looked_at.value) = h ∙ ap (λ (z : Expr). rewritten (shown_tree z)) y in
+    let g : shown_expression b ≡ rewritten_arms p (arms_of (shown_labelled arms.items) (shown_tree other.value)) = k ∙ ap (λ (l : List Arm). rewritten_arms p (arms_of (shown_labelled l) (shown_tree other.value))) x in
+    ap (λ (z : Expression). Let p (a_binding p scrutinee None z no_binding) (shown_expression b)) w ∙ ap (λ (z : Expression). Let p (a_binding p scrutinee None (rewritten (shown_tree looked_at.value)) no_binding) z) g
+    ∙ sym (ap (λ (z : Node). rewritten (shown_node z p)) is ∙ ap rewritten (case_shows looked_at arms other p))
 
 pub op_rewrites : (n : Node) (p : ℕ) (o : Primitive) (es : Vec Expr Global) (all : Vec code.Expression Global) (xs : List Expr)
-    → n ≡ Op o es → xs ≡ es.items → plain_all all.items ≡ rewritten_all (trees_of (shows_all xs)) → Applied p o (plain_all all.items) ≡ rewritten (shows_node n p)
+    → n ≡ nodes.Op o es → xs ≡ es.items → shown_expressions all.items ≡ rewritten_all (trees_of (shown_trees xs)) → Op p o (shown_expressions all.items) ≡ rewritten (shown_node n p)
 op_rewrites n p o es all xs is x h =
-    ap (Applied p o) (h ∙ ap (λ (l : List Expr). rewritten_all (trees_of (shows_all l))) x)
-    ∙ sym (ap (λ (z : Node). rewritten (shows_node z p)) is ∙ ap rewritten (op_shows o es p))
+    ap (Op p o) (h ∙ ap (λ (l : List Expr). rewritten_all (trees_of (shown_trees l))) x)
+    ∙ sym (ap (λ (z : Node). rewritten (shown_node z p)) is ∙ ap rewritten (op_shows o es p))
 
 pub call_rewrites : (n : Node) (p : ℕ) (f g : List ℕ) (es : Vec Expr Global) (all : Vec code.Expression Global) (xs : List Expr)
-    → n ≡ Call f es → g ≡ f → xs ≡ es.items → plain_all all.items ≡ rewritten_all (trees_of (shows_all xs)) → Called p g (plain_all all.items) ≡ rewritten (shows_node n p)
+    → n ≡ nodes.Call f es → g ≡ f → xs ≡ es.items → shown_expressions all.items ≡ rewritten_all (trees_of (shown_trees xs)) → Call p g (shown_expressions all.items) ≡ rewritten (shown_node n p)
 call_rewrites n p f g es all xs is i x h =
-    ap (λ (z : List ℕ). Called p z (plain_all all.items)) i ∙ ap (Called p f) (h ∙ ap (λ (l : List Expr). rewritten_all (trees_of (shows_all l))) x)
-    ∙ sym (ap (λ (z : Node). rewritten (shows_node z p)) is ∙ ap rewritten (call_shows f es p))
+    ap (λ (z : List ℕ). Call p z (shown_expressions all.items)) i ∙ ap (Call p f) (h ∙ ap (λ (l : List Expr). rewritten_all (trees_of (shown_trees l))) x)
+    ∙ sym (ap (λ (z : Node). rewritten (shown_node z p)) is ∙ ap rewritten (call_shows f es p))
 
 pub arm_rewrites : (p : ℕ) (a : Arm) (label value rest : code.Expression) (arms : List Arm) (t : Tree)
-    → plain label ≡ rewritten (shows a.label) → plain value ≡ rewritten (shows a.value) → plain rest ≡ rewritten_arms p (arms_of (shows_labelled arms) t)
-    → Choice p (test_at a.label.place (plain label)) (plain value) (plain rest) ≡ rewritten_arms p (arms_of (shows_labelled (a ∷ arms)) t)
+    → shown_expression label ≡ rewritten (shown_tree a.label) → shown_expression value ≡ rewritten (shown_tree a.value) → shown_expression rest ≡ rewritten_arms p (arms_of (shown_labelled arms) t)
+    → If p (test_at a.label.place (shown_expression label)) (shown_expression value) (shown_expression rest) ≡ rewritten_arms p (arms_of (shown_labelled (a ∷ arms)) t)
 arm_rewrites p a label value rest arms t l v r =
-    ap (λ (z : Expression). Choice p (test_at a.label.place z) (plain value) (plain rest)) l
-    ∙ ap (λ (k : ℕ). Choice p (test_at k (rewritten (shows a.label))) (plain value) (plain rest)) (sym (shown_place a.label.node a.label.place))
-    ∙ ap (λ (z : Expression). Choice p (test_at (place_of (shows a.label)) (rewritten (shows a.label))) z (plain rest)) v
-    ∙ ap (λ (z : Expression). Choice p (test_at (place_of (shows a.label)) (rewritten (shows a.label))) (rewritten (shows a.value)) z) r
+    ap (λ (z : Expression). If p (test_at a.label.place z) (shown_expression value) (shown_expression rest)) l
+    ∙ ap (λ (k : ℕ). If p (test_at k (rewritten (shown_tree a.label))) (shown_expression value) (shown_expression rest)) (sym (shown_place a.label.node a.label.place))
+    ∙ ap (λ (z : Expression). If p (test_at (place_of (shown_tree a.label)) (rewritten (shown_tree a.label))) z (shown_expression rest)) v
+    ∙ ap (λ (z : Expression). If p (test_at (place_of (shown_tree a.label)) (rewritten (shown_tree a.label))) (rewritten (shown_tree a.value)) z) r
 
 -- ---- loops
 
 pub all_push : (es : List Expr) (i : ℕ) (e : Expr) (xs ys : List code.Expression) (x : code.Expression) → i < length es → e ≡ get_or es i e → ys ≡ xs ++ x ∷ []
-    → plain_all xs ≡ rewritten_all (trees_of (shows_all (take i es))) → plain x ≡ rewritten (shows e) → plain_all ys ≡ rewritten_all (trees_of (shows_all (take (i + 1) es)))
+    → shown_expressions xs ≡ rewritten_all (trees_of (shown_trees (take i es))) → shown_expression x ≡ rewritten (shown_tree e) → shown_expressions ys ≡ rewritten_all (trees_of (shown_trees (take (i + 1) es)))
 all_push es i e xs ys x lt is q h r =
-    ap plain_all q ∙ plain_end xs x ∙ ap (λ (z : Expressions). more z (plain x)) h ∙ ap (more (rewritten_all (trees_of (shows_all (take i es))))) r ∙ sym (all_more es i e (slice_get_read es (length es) i e refl lt is))
+    ap shown_expressions q ∙ shown_end xs x ∙ ap (λ (z : Expressions). more z (shown_expression x)) h ∙ ap (more (rewritten_all (trees_of (shown_trees (take i es))))) r ∙ sym (all_more es i e (slice_get_read es (length es) i e refl lt is))
 
 pub binds_push : (bs : List Bind) (i : ℕ) (b : Bind) (xs ys : List Bound) (x : Bound) (name : List ℕ) → i < length bs → b ≡ get_or bs i b → ys ≡ xs ++ x ∷ []
-    → plain_bindings xs ≡ rewritten_binds (binds_of (shows_bounds (take i bs))) → x.place ≡ b.place → x.name ≡ b.name → x.width ≡ b.width → plain x.value ≡ rewritten (shows b.value)
-    → plain_bindings ys ≡ rewritten_binds (binds_of (shows_bounds (take (i + 1) bs)))
+    → shown_bindings xs ≡ rewritten_binds (binds_of (shown_bounds (take i bs))) → x.place ≡ b.place → x.name ≡ b.name → x.width ≡ b.width → shown_expression x.value ≡ rewritten (shown_tree b.value)
+    → shown_bindings ys ≡ rewritten_binds (binds_of (shown_bounds (take (i + 1) bs)))
 binds_push bs i b xs ys x name lt is q h ep en ew r =
-    let s : plain_bind x ≡ shown_bind b = cc in
-    ap plain_bindings q ∙ bound_end xs x ∙ ap (λ (z : Bindings). more_bound z (plain_bind x)) h ∙ ap (more_bound (rewritten_binds (binds_of (shows_bounds (take i bs))))) s ∙ sym (binds_more bs i b (slice_get_read bs (length bs) i b refl lt is))
+    let s : shown_binding x ≡ shown_bind b = cc in
+    ap shown_bindings q ∙ bound_end xs x ∙ ap (λ (z : Bindings). more_bound z (shown_binding x)) h ∙ ap (more_bound (rewritten_binds (binds_of (shown_bounds (take i bs))))) s ∙ sym (binds_more bs i b (slice_get_read bs (length bs) i b refl lt is))
 
 pub arms_front : (p : ℕ) (arms : List Arm) (done : ℕ) (a : Arm) (label value rest : code.Expression) (condition body : Expression) (t : Tree) → done < length arms → a ≡ get_or arms (length arms - 1 - done) a
-    → condition ≡ test_at a.label.place (plain label) → plain label ≡ rewritten (shows a.label) → plain value ≡ rewritten (shows a.value)
-    → plain rest ≡ rewritten_arms p (arms_of (shows_labelled (drop (length arms - done) arms)) t) → body ≡ Choice p condition (plain value) (plain rest)
-    → body ≡ rewritten_arms p (arms_of (shows_labelled (drop (length arms - (done + 1)) arms)) t)
+    → condition ≡ test_at a.label.place (shown_expression label) → shown_expression label ≡ rewritten (shown_tree a.label) → shown_expression value ≡ rewritten (shown_tree a.value)
+    → shown_expression rest ≡ rewritten_arms p (arms_of (shown_labelled (drop (length arms - done) arms)) t) → body ≡ If p condition (shown_expression value) (shown_expression rest)
+    → body ≡ rewritten_arms p (arms_of (shown_labelled (drop (length arms - (done + 1)) arms)) t)
 arms_front p arms done a label value rest condition body t lt is k l v r b =
     let i : ℕ = length arms - 1 - done in
     let e : length arms - (done + 1) ≡ i = omega arith in
@@ -121,8 +122,8 @@ arms_front p arms done a label value rest condition body t lt is k l v r b =
     let d : drop i arms ≡ get_or arms i a ∷ drop (suc i) arms = drop-cons arms i a (omega (arith, lt)) in
     let f : drop (length arms - (done + 1)) arms ≡ a ∷ drop (length arms - done) arms =
     ap (λ (j : ℕ). drop j arms) e ∙ d ∙ ap (λ (z : Arm). z ∷ drop (suc i) arms) (sym is) ∙ ap (λ (j : ℕ). a ∷ drop j arms) s in
-    b ∙ ap (λ (z : Expression). Choice p z (plain value) (plain rest)) k ∙ arm_rewrites p a label value rest (drop (length arms - done) arms) t l v r
-    ∙ sym (ap (λ (z : List Arm). rewritten_arms p (arms_of (shows_labelled z) t)) f)
+    b ∙ ap (λ (z : Expression). If p z (shown_expression value) (shown_expression rest)) k ∙ arm_rewrites p a label value rest (drop (length arms - done) arms) t l v r
+    ∙ sym (ap (λ (z : List Arm). rewritten_arms p (arms_of (shown_labelled z) t)) f)
 
-pub arms_whole : (p : ℕ) (arms : List Arm) (done : ℕ) (t : Tree) → length arms ≤ done → rewritten_arms p (arms_of (shows_labelled (drop (length arms - done) arms)) t) ≡ rewritten_arms p (arms_of (shows_labelled arms) t)
-arms_whole p arms done t le = let e : length arms - done ≡ 0 = omega (arith, le) in ap (λ (j : ℕ). rewritten_arms p (arms_of (shows_labelled (drop j arms)) t)) e
+pub arms_whole : (p : ℕ) (arms : List Arm) (done : ℕ) (t : Tree) → length arms ≤ done → rewritten_arms p (arms_of (shown_labelled (drop (length arms - done) arms)) t) ≡ rewritten_arms p (arms_of (shown_labelled arms) t)
+arms_whole p arms done t le = let e : length arms - done ≡ 0 = omega (arith, le) in ap (λ (j : ℕ). rewritten_arms p (arms_of (shown_labelled (drop j arms)) t)) e

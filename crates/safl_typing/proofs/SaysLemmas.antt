@@ -10,8 +10,8 @@ use Rattle.safl_typing.specs.declared.typed.CheckErr.TheVariants as errors
 use Rattle.safl_typing.specs.Heads.{Slot}
 use Rattle.safl_typing.specs.Typing.{slots}
 use Rattle.safl_typing.specs.Walk.{Typed, after}
-use Rattle.safl_typing.specs.Plain.{plain_bindings}
-use Rattle.safl_typing.specs.PlainHeads.{plain_slot, plain_slots}
+use Rattle.safl_typing.specs.Plain.{shown_bindings}
+use Rattle.safl_typing.specs.PlainHeads.{shown_slot, shown_slots}
 use Rattle.safl_typing.specs.PlainTyped.{Refuses}
 
 pub same_term : (w : ℕ) (t u : Term) → t ≡ u → ◌≡◌ {A = Result Typed Fault} (Ok (record { width = w; term = t })) (Ok (record { width = w; term = u }))
@@ -19,22 +19,22 @@ same_term w t u e = rw e refl
 
 -- ---- slots
 
-pub slots_append : (a b : List code.Slot) → plain_slots (a ++ b) ≡ plain_slots a ++ plain_slots b
+pub slots_append : (a b : List code.Slot) → shown_slots (a ++ b) ≡ shown_slots a ++ shown_slots b
 slots_append [] b = refl
-slots_append (s ∷ a) b = ap (λ (l : List Slot). plain_slot s ∷ l) (slots_append a b)
+slots_append (s ∷ a) b = ap (λ (l : List Slot). shown_slot s ∷ l) (slots_append a b)
 
 pub slots_more : (all more end : List code.Slot) (bound : List Bound) (b : Bound) (bs : List Bound) (widths : List ℕ) (w : ℕ) (ws : List ℕ) (name bytes : List ℕ)
     → bound ≡ b ∷ bs → widths ≡ w ∷ ws → name ≡ bytes → bytes ≡ b.name → more ≡ all ++ record { name = name; width = w } ∷ []
-    → plain_slots end ≡ plain_slots more ++ slots (plain_bindings bs) ws
-    → plain_slots end ≡ plain_slots all ++ slots (plain_bindings bound) widths
+    → shown_slots end ≡ shown_slots more ++ slots (shown_bindings bs) ws
+    → shown_slots end ≡ shown_slots all ++ slots (shown_bindings bound) widths
 slots_more all more end bound b bs widths w ws name bytes eb ew en ey em h =
-    let rest : List Slot = slots (plain_bindings bs) ws in
-    h ∙ ap (λ (l : List code.Slot). plain_slots l ++ rest) em
+    let rest : List Slot = slots (shown_bindings bs) ws in
+    h ∙ ap (λ (l : List code.Slot). shown_slots l ++ rest) em
     ∙ ap (λ (l : List Slot). l ++ rest) (slots_append all (record { name = name; width = w } ∷ []))
-    ∙ append_assoc (plain_slots all) (record { name = name; width = w } ∷ []) rest
-    ∙ ap (λ (x : List ℕ). plain_slots all ++ record { name = x; width = w } ∷ rest) (en ∙ ey)
-    ∙ sym (ap (λ (l : List Bound). plain_slots all ++ slots (plain_bindings l) (w ∷ ws)) eb)
-    ∙ sym (ap (λ (l : List ℕ). plain_slots all ++ slots (plain_bindings bound) l) ew)
+    ∙ append_assoc (shown_slots all) (record { name = name; width = w } ∷ []) rest
+    ∙ ap (λ (x : List ℕ). shown_slots all ++ record { name = x; width = w } ∷ rest) (en ∙ ey)
+    ∙ sym (ap (λ (l : List Bound). shown_slots all ++ slots (shown_bindings l) (w ∷ ws)) eb)
+    ∙ sym (ap (λ (l : List ℕ). shown_slots all ++ slots (shown_bindings bound) l) ew)
 
 -- ---- faults
 

@@ -6,7 +6,7 @@ use Rattle.safl_term.specs.Terms.{Term, Terms}
 use Rattle.safl_tree.specs.Tree as source
 use Rattle.safl_tree.specs.Tree.{Tree, Trees, Binds, Arms, place_of}
 use Rattle.safl_tree.specs.Printable.{IsLabel, HasBinding, IsFormed, AreFormed, AreFormedBinds, AreFormedArms}
-use Rattle.safl_typing.specs.Rewriting.{Expression, Number, Sized, Variable, Choice, Binding, Applied, Called, Expressions, no_expression, an_expression, Bindings, no_binding, a_binding, rewritten, rewritten_all, rewritten_binds, rewritten_arms}
+use Rattle.safl_typing.specs.Rewriting.{Expression, Number, Sized, Variable, If, Let, Op, Call, Expressions, no_expression, an_expression, Bindings, no_binding, a_binding, rewritten, rewritten_all, rewritten_binds, rewritten_arms}
 use Rattle.safl_typing.specs.Heads.{Slot, Known, Callee, Member, Above, Unknown, callee}
 use Rattle.safl_typing.specs.Typing.{names, Calls, Has, HaveAll, HaveBound}
 use Rattle.safl_typing.specs.Forms.{HasShortLets, HaveShortLets, HaveShortBound}
@@ -19,10 +19,10 @@ abbrev mutual
   deep (Number p n) = 1
   deep (Sized p w n) = 1
   deep (Variable p x) = 1
-  deep (Choice p c a b) = 1 + max (deep c) (max (deep a) (deep b))
-  deep (Binding p bs b) = 1 + max (deep_bound bs) (deep b)
-  deep (Applied p o es) = 1 + deep_in es
-  deep (Called p f es) = 1 + deep_in es
+  deep (If p c a b) = 1 + max (deep c) (max (deep a) (deep b))
+  deep (Let p bs b) = 1 + max (deep_bound bs) (deep b)
+  deep (Op p o es) = 1 + deep_in es
+  deep (Call p f es) = 1 + deep_in es
 
   pub deep_in : Expressions → ℕ
   deep_in no_expression = 0
@@ -36,22 +36,22 @@ label_deep : (l : Tree) → IsLabel l → deep (rewritten l) ≡ 1
 label_deep (source.Number p n) h = refl
 label_deep (source.Sized p w n) h = refl
 label_deep (source.Variable p x) h = absurd h
-label_deep (source.Choice p c a b) h = absurd h
-label_deep (source.Binding p bs t) h = absurd h
+label_deep (source.If p c a b) h = absurd h
+label_deep (source.Let p bs t) h = absurd h
 label_deep (source.Cases p e arms) h = absurd h
-label_deep (source.Applied p o ts) h = absurd h
-label_deep (source.Called p f ts) h = absurd h
+label_deep (source.Op p o ts) h = absurd h
+label_deep (source.Call p f ts) h = absurd h
 
 mutual
   pub rewritten_deep : (t : Tree) → IsFormed t → deep (rewritten t) ≤ source.depth t
   rewritten_deep (source.Number p n) h = omega arith
   rewritten_deep (source.Sized p w n) h = omega arith
   rewritten_deep (source.Variable p x) h = omega arith
-  rewritten_deep (source.Choice p c a b) h = omega (arith, rewritten_deep c h.0, rewritten_deep a h.1, rewritten_deep b h.2)
-  rewritten_deep (source.Binding p bs t) h = omega (arith, binds_deep bs h.1, rewritten_deep t h.2)
+  rewritten_deep (source.If p c a b) h = omega (arith, rewritten_deep c h.0, rewritten_deep a h.1, rewritten_deep b h.2)
+  rewritten_deep (source.Let p bs t) h = omega (arith, binds_deep bs h.1, rewritten_deep t h.2)
   rewritten_deep (source.Cases p e arms) h = omega (arith, rewritten_deep e h.0, arms_deep p arms h.1)
-  rewritten_deep (source.Applied p o ts) h = omega (arith, all_deep ts h.2)
-  rewritten_deep (source.Called p f ts) h = omega (arith, all_deep ts h.1)
+  rewritten_deep (source.Op p o ts) h = omega (arith, all_deep ts h.2)
+  rewritten_deep (source.Call p f ts) h = omega (arith, all_deep ts h.1)
 
   all_deep : (ts : Trees) → AreFormed ts → deep_in (rewritten_all ts) ≤ source.deepest ts
   all_deep source.no_tree h = omega arith
@@ -71,10 +71,10 @@ abbrev mutual
   HasBindings (Number p n) = Unit {0}
   HasBindings (Sized p w n) = Unit {0}
   HasBindings (Variable p x) = Unit {0}
-  HasBindings (Choice p c a b) = HasBindings c × HasBindings a × HasBindings b
-  HasBindings (Binding p bs b) = (1 ≤ length (names bs)) × HaveBindingsBound bs × HasBindings b
-  HasBindings (Applied p o es) = HaveBindings es
-  HasBindings (Called p f es) = HaveBindings es
+  HasBindings (If p c a b) = HasBindings c × HasBindings a × HasBindings b
+  HasBindings (Let p bs b) = (1 ≤ length (names bs)) × HaveBindingsBound bs × HasBindings b
+  HasBindings (Op p o es) = HaveBindings es
+  HasBindings (Call p f es) = HaveBindings es
 
   pub HaveBindings : Expressions → Type 0
   HaveBindings no_expression = Unit {0}
@@ -88,11 +88,11 @@ label_bindings : (l : Tree) → IsLabel l → HasBindings (rewritten l)
 label_bindings (source.Number p n) h = tt
 label_bindings (source.Sized p w n) h = tt
 label_bindings (source.Variable p x) h = absurd h
-label_bindings (source.Choice p c a b) h = absurd h
-label_bindings (source.Binding p bs t) h = absurd h
+label_bindings (source.If p c a b) h = absurd h
+label_bindings (source.Let p bs t) h = absurd h
 label_bindings (source.Cases p e arms) h = absurd h
-label_bindings (source.Applied p o ts) h = absurd h
-label_bindings (source.Called p f ts) h = absurd h
+label_bindings (source.Op p o ts) h = absurd h
+label_bindings (source.Call p f ts) h = absurd h
 
 some_binding : (bs : Binds) → HasBinding bs → 1 ≤ length (names (rewritten_binds bs))
 some_binding source.no_bind h = absurd h
@@ -103,11 +103,11 @@ mutual
   formed_bindings (source.Number p n) h = tt
   formed_bindings (source.Sized p w n) h = tt
   formed_bindings (source.Variable p x) h = tt
-  formed_bindings (source.Choice p c a b) h = (formed_bindings c h.0, formed_bindings a h.1, formed_bindings b h.2)
-  formed_bindings (source.Binding p bs t) h = (some_binding bs h.0, binds_bindings bs h.1, formed_bindings t h.2)
+  formed_bindings (source.If p c a b) h = (formed_bindings c h.0, formed_bindings a h.1, formed_bindings b h.2)
+  formed_bindings (source.Let p bs t) h = (some_binding bs h.0, binds_bindings bs h.1, formed_bindings t h.2)
   formed_bindings (source.Cases p e arms) h = (omega arith, (formed_bindings e h.0, tt), arms_bindings p arms h.1)
-  formed_bindings (source.Applied p o ts) h = all_bindings ts h.2
-  formed_bindings (source.Called p f ts) h = all_bindings ts h.1
+  formed_bindings (source.Op p o ts) h = all_bindings ts h.2
+  formed_bindings (source.Call p f ts) h = all_bindings ts h.1
 
   all_bindings : (ts : Trees) → AreFormed ts → HaveBindings (rewritten_all ts)
   all_bindings source.no_tree h = tt
@@ -133,13 +133,13 @@ mutual
   has_depth k s tail lo hi (Number p n) w t h = ap (λ (z : Term). sizes.depth z) h.2
   has_depth k s tail lo hi (Sized p v n) w t h = ap (λ (z : Term). sizes.depth z) h.3
   has_depth k s tail lo hi (Variable p x) w t (l, i, e, q) = ap (λ (z : Term). sizes.depth z) q
-  has_depth k s tail lo hi (Choice p c a b) w t (m, n, x, y, z, hc, ha, hb, q) =
+  has_depth k s tail lo hi (If p c a b) w t (m, n, x, y, z, hc, ha, hb, q) =
       omega (arith, ap (λ (z : Term). sizes.depth z) q, has_depth k s _ lo m c 1 x hc, has_depth k s tail m n a w y ha, has_depth k s tail n hi b w z hb)
-  has_depth k s tail lo hi (Binding p bs b) w t (m, ws, us, y, d, hs, hb, q) =
+  has_depth k s tail lo hi (Let p bs b) w t (m, ws, us, y, d, hs, hb, q) =
       omega (arith, ap (λ (z : Term). sizes.depth z) q, bound_depth k s lo m bs ws us hs, has_depth k _ tail m hi b w y hb)
-  has_depth k s tail lo hi (Applied p o es) w t (ws, us, hs, suits, q) =
+  has_depth k s tail lo hi (Op p o es) w t (ws, us, hs, suits, q) =
       omega (arith, ap (λ (z : Term). sizes.depth z) q, all_depth k s lo hi es ws us hs)
-  has_depth k s tail lo hi (Called p f es) w t (m, ws, us, hs, calls) =
+  has_depth k s tail lo hi (Call p f es) w t (m, ws, us, hs, calls) =
       omega (arith, called_depth (callee k f) tail lo m ws us w t calls, all_depth k s m hi es ws us hs)
 
   all_depth : (k : Known) (s : List Slot) (lo hi : ℕ) (es : Expressions) (ws : List ℕ) (us : Terms) → HaveAll k s lo hi es ws us → sizes.deepest us ≡ deep_in es
@@ -172,13 +172,13 @@ mutual
   has_short k s tail lo hi (Number p n) w t h l b = subst (λ (z : Term). sizes.HasShortLets z) (sym h.2) tt
   has_short k s tail lo hi (Sized p v n) w t h l b = subst (λ (z : Term). sizes.HasShortLets z) (sym h.3) tt
   has_short k s tail lo hi (Variable p x) w t (j, i, e, q) l b = subst (λ (z : Term). sizes.HasShortLets z) (sym q) tt
-  has_short k s tail lo hi (Choice p c a d) w t (m, n, x, y, z, hc, ha, hd, q) l b =
+  has_short k s tail lo hi (If p c a d) w t (m, n, x, y, z, hc, ha, hd, q) l b =
       subst (λ (z : Term). sizes.HasShortLets z) (sym q) (has_short k s _ lo m c 1 x hc l.0 b.0, has_short k s tail m n a w y ha l.1 b.1, has_short k s tail n hi d w z hd l.2 b.2)
-  has_short k s tail lo hi (Binding p bs d) w t (m, ws, us, y, differ, hs, hd, q) l b =
+  has_short k s tail lo hi (Let p bs d) w t (m, ws, us, y, differ, hs, hd, q) l b =
       let e = bound_count k s lo m bs ws us hs in
       subst (λ (z : Term). sizes.HasShortLets z) (sym q) (omega (arith, e, b.0), omega (arith, e, l.0), bound_short k s lo m bs ws us hs l.1 b.1, has_short k _ tail m hi d w y hd l.2 b.2)
-  has_short k s tail lo hi (Applied p o es) w t (ws, us, hs, suits, q) l b = subst (λ (z : Term). sizes.HasShortLets z) (sym q) (all_short k s lo hi es ws us hs l b)
-  has_short k s tail lo hi (Called p f es) w t (m, ws, us, hs, calls) l b = called_short (callee k f) tail lo m ws us w t calls (all_short k s m hi es ws us hs l b)
+  has_short k s tail lo hi (Op p o es) w t (ws, us, hs, suits, q) l b = subst (λ (z : Term). sizes.HasShortLets z) (sym q) (all_short k s lo hi es ws us hs l b)
+  has_short k s tail lo hi (Call p f es) w t (m, ws, us, hs, calls) l b = called_short (callee k f) tail lo m ws us w t calls (all_short k s m hi es ws us hs l b)
 
   all_short : (k : Known) (s : List Slot) (lo hi : ℕ) (es : Expressions) (ws : List ℕ) (us : Terms) → HaveAll k s lo hi es ws us → HaveShortLets es → HaveBindings es → sizes.HaveShortLets us
   all_short k s lo hi no_expression [] us h l b = subst (λ (z : Terms). sizes.HaveShortLets z) (sym h.1) tt

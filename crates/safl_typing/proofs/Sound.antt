@@ -7,8 +7,9 @@ use Rattle.safl_word.specs.declared.fault.Rule.TheVariants as rules
 use Rattle.safl_word.specs.declared.primitive.Primitive.{Primitive}
 use Rattle.safl_word.specs.Primitives.{result_width}
 use Rattle.safl_word.specs.Words.{IsWord}
-use Rattle.safl_term.specs.Terms.{Term, Const, Var, If, Op, Call, Loop, Terms, Nil, Cons}
-use Rattle.safl_typing.specs.Rewriting.{Expression, Number, Sized, Variable, Choice, Binding, Applied, Called, Expressions, no_expression, an_expression, Bindings, no_binding, a_binding, Shape, Alike, Comparing, Shifting, Resizing, shape, takes_width, flexible, all_flexible, count}
+use Rattle.safl_term.specs.Terms as terms
+use Rattle.safl_term.specs.Terms.{Term, Const, Var, Loop, Terms, Nil, Cons}
+use Rattle.safl_typing.specs.Rewriting.{Expression, Number, Sized, Variable, If, Let, Op, Call, Expressions, no_expression, an_expression, Bindings, no_binding, a_binding, Shape, Alike, Comparing, Shifting, Resizing, shape, takes_width, flexible, all_flexible, count}
 use Rattle.safl_typing.specs.Heads.{Slot, Known, Callee, Member, Above, Unknown, callee, is_site, sites, sites_in, sites_bound}
 use Rattle.safl_typing.specs.Typing.{At, innermost, word, widths_of, slots, Keeps, AreAll, AllRigid, RigidOr, Shifts, Suits, Calls, Has, HaveAll, HaveBound}
 use Rattle.safl_typing.specs.Walk.{after, unless, needs, fault_with, Typed, TypedAlike, TypedAll, Wanted, Any, Exactly, is_any, wanted_by, settle, number, sized, variable, branches, alike, resized, operated, called, all_any, amounts, exactly, check, check_all, check_alike, check_shift, check_bound}
@@ -119,7 +120,7 @@ pub record IsSoundIf (A B : ℕ → Term → Type 0) (m : Wanted) (is_flexible :
   pub second : Term
   pub has_first : A r.width first
   pub has_second : B r.width second
-  pub is : r.term ≡ If x first second
+  pub is : r.term ≡ terms.If x first second
   pub met : Met m is_flexible r.width
   pub wide : IsWide r.width
 
@@ -191,7 +192,7 @@ alike_sound A B (Exactly v) fe fs first others r e w f g =
 
 -- an operator with its operands
 abbrev pub HasOperands : (P : List ℕ → Terms → Type 0) → Shape → Primitive → Expressions → ℕ → Term → Type 0
-HasOperands P sh o es w t = (ws : List ℕ) × (us : Terms) × P ws us × Suits sh o es ws w × (t ≡ Op o us)
+HasOperands P sh o es w t = (ws : List ℕ) × (us : Terms) × P ws us × Suits sh o es ws w × (t ≡ terms.Op o us)
 
 rigid_any : (es : Expressions) (ws : List ℕ) → MetAll (all_any es) es ws → AllRigid es
 rigid_any no_expression ws h = tt
@@ -202,7 +203,7 @@ resized_sound : (P : List ℕ → Terms → Type 0) (p : ℕ) (m : Wanted) (o : 
     → resized p m o found r.terms ≡ Ok x → result_width o r.widths ≡ found → IsSoundAll P (all_any es) es r → IsSound (HasOperands P Resizing o es) m false x
 resized_sound P p m o es r None x e q s = err_ok _ x e
 resized_sound P p m o es r (Some w) x e q s =
-    settled (HasOperands P Resizing o es) p m w (Op o r.terms) x e (r.widths, r.terms, s.have, (rigid_any es r.widths s.met, q), refl) (table_wide o r.widths w s.wide q)
+    settled (HasOperands P Resizing o es) p m w (terms.Op o r.terms) x e (r.widths, r.terms, s.have, (rigid_any es r.widths s.met, q), refl) (table_wide o r.widths w s.wide q)
 
 operated_sound : (P : List ℕ → Terms → Type 0) (sh : Shape) (p : ℕ) (m : Wanted) (o : Primitive) (es : Expressions) (x : Typed)
     (same : Wanted → Result TypedAlike Fault) (shift : Result TypedAlike Fault) (all : Result TypedAll Fault)
@@ -219,11 +220,11 @@ operated_sound P Alike p m o es x same shift all e w f g h =
 operated_sound P Comparing p m o es x same shift all e w f g h =
     let q = after_ok (same Any) _ x e in
     let s = f Any q.0 tt q.1 in
-    settled (HasOperands P Comparing o es) p m 1 (Op o q.0.terms) x q.2 (s.widths, q.0.terms, s.have, (refl, q.0.width, s.all, s.met), refl) one_wide
+    settled (HasOperands P Comparing o es) p m 1 (terms.Op o q.0.terms) x q.2 (s.widths, q.0.terms, s.have, (refl, q.0.width, s.all, s.met), refl) one_wide
 operated_sound P Shifting p m o es x same shift all e w f g h =
     let q = after_ok shift _ x e in
     let s = g q.0 q.1 in
-    settled (HasOperands P Shifting o es) p m q.0.width (Op o q.0.terms) x q.2 (s.widths, q.0.terms, s.have, s.shifts, refl) s.wide
+    settled (HasOperands P Shifting o es) p m q.0.width (terms.Op o q.0.terms) x q.2 (s.widths, q.0.terms, s.have, s.shifts, refl) s.wide
 operated_sound P Resizing p m o es x same shift all e w f g h =
     let q = after_ok all _ x e in
     resized_sound P p m o es q.0 (result_width o q.0.widths) x q.2 refl (h q.0 q.1)
@@ -286,7 +287,7 @@ called_sound P (Above i h) tail lo p m es args x e w f =
     let lw : length (widths_of h.params) ≡ count es = length_widths h.params ∙ l in
     let q = after_ok (args (suc lo) (widths_of h.params)) _ x n.1 in
     let s = f (suc lo) (widths_of h.params) q.0 (omega arith) (wanted_exactly es (widths_of h.params) lw (wide_widths h.params w.params)) q.1 in
-    settled (HasCall P (Above i h) tail lo) p m h.width (Call i lo q.0.terms) x q.2
+    settled (HasCall P (Above i h) tail lo) p m h.width (terms.Call i lo q.0.terms) x q.2
     (suc lo, q.0.widths, q.0.terms, s.have, (refl, same_exactly es (widths_of h.params) q.0.widths lw s.many s.met, refl, refl)) w.width
 called_sound P Unknown tail lo p m es args x e w f = err_ok _ x e
 
@@ -303,7 +304,7 @@ mutual
   checks_has k s tail lo hi m (Number p n) x at wh ws wi wm e = number_sound _ p n m x e wm (λ w q. (omega (arith, at), q, refl))
   checks_has k s tail lo hi m (Sized p v n) x at wh ws wi wm e = sized_sound _ p v n m x e wi (λ q. (omega (arith, at), refl, q, refl))
   checks_has k s tail lo hi m (Variable p y) x at wh ws wi wm e = variable_sound _ p m (innermost y 0 s) x e (λ a q. innermost_wide y 0 s a ws q) (λ a q. (omega (arith, at), a.slot, q, refl))
-  checks_has k s tail lo hi m (Choice p c a b) x at wh ws wi wm e =
+  checks_has k s tail lo hi m (If p c a b) x at wh ws wi wm e =
       let end : hi ≡ lo + sites k c + sites k a + sites k b = omega (arith, at) in
       let u = unless_ok _ _ x e in
       let q = after_ok _ _ x u.1 in
@@ -312,7 +313,7 @@ mutual
       (λ v y g h. checks_has k s tail (lo + sites k c) (lo + sites k c + sites k a) v a y refl wh ws wi.1 g h)
       (λ v y g h. checks_has k s tail (lo + sites k c + sites k a) hi v b y end wh ws wi.2 g h) in
       record { has = (lo + sites k c, lo + sites k c + sites k a, q.0.term, r.first, r.second, subst (λ (n : ℕ). Has k s false lo (lo + sites k c) c n q.0.term) (sym sc.met) sc.has, r.has_first, r.has_second, r.is); met = r.met; wide = r.wide }
-  checks_has k s tail lo hi m (Binding p bs b) x at wh ws wi wm e =
+  checks_has k s tail lo hi m (Let p bs b) x at wh ws wi wm e =
       let end : hi ≡ lo + sites_bound k bs + sites k b = omega (arith, at) in
       let u = unless_ok _ _ x e in
       let d = unless_ok _ _ x u.1 in
@@ -320,14 +321,14 @@ mutual
       let sb = checks_have_bound k s lo (lo + sites_bound k bs) bs q.0 refl wh ws wi.0 q.1 in
       let y = after_ok _ _ x q.2 in
       let sy = checks_has k (s ++ slots bs q.0.widths) tail (lo + sites_bound k bs) hi m b y.0 end wh (wide_append s (slots bs q.0.widths) ws (wide_slots bs q.0.widths sb.wide)) wi.1 wm y.1 in
-      subst (λ (z : Typed). IsSound (Has k s tail lo hi (Binding p bs b)) m (flexible b) z) (ok_is _ x y.2)
+      subst (λ (z : Typed). IsSound (Has k s tail lo hi (Let p bs b)) m (flexible b) z) (ok_is _ x y.2)
       (record { has = (lo + sites_bound k bs, q.0.widths, q.0.terms, y.0.term, differ_bound bs d.0, sb.have, sy.has, refl); met = sy.met; wide = sy.wide })
-  checks_has k s tail lo hi m (Applied p o es) x at wh ws wi wm e =
+  checks_has k s tail lo hi m (Op p o es) x at wh ws wi wm e =
       operated_sound (HaveAll k s lo hi es) (shape o) p m o es x _ _ _ e wm
       (λ v r g h. checks_have_alike k s lo hi p v es r at wh ws wi g h)
       (λ r h. checks_have_shift k s lo hi p es r at wh ws wi h)
       (λ r h. checks_have k s lo hi (all_any es) es r at wh ws wi (wanted_any es) h)
-  checks_has k s tail lo hi m (Called p f es) x at wh ws wi wm e =
+  checks_has k s tail lo hi m (Call p f es) x at wh ws wi wm e =
       called_sound (λ i. HaveAll k s i hi es) (callee k f) tail lo p m es _ x e (callee_wide k f wh)
       (λ i ps r q g h. checks_have k s i hi (exactly ps) es r (omega (arith, at, q)) wh ws wi g h)
 

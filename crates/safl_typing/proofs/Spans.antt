@@ -5,7 +5,7 @@ use Rattle.safl_term.specs.Terms.{Term, Terms}
 use Rattle.safl_term.specs.Program.{Program}
 use Rattle.safl_term.specs.Sizes as sizes
 use Rattle.safl_term.specs.WellFormed.{Spans, SpansAll}
-use Rattle.safl_typing.specs.Rewriting.{Expression, Number, Sized, Variable, Choice, Binding, Applied, Called, Expressions, no_expression, an_expression, Bindings, no_binding, a_binding, nodes, nodes_in, nodes_bound}
+use Rattle.safl_typing.specs.Rewriting.{Expression, Number, Sized, Variable, If, Let, Op, Call, Expressions, no_expression, an_expression, Bindings, no_binding, a_binding, nodes, nodes_in, nodes_bound}
 use Rattle.safl_typing.specs.Heads.{Slot, Known, Callee, Member, Above, Unknown, callee}
 use Rattle.safl_typing.specs.Typing.{slots, Calls, Has, HaveAll, HaveBound}
 use Rattle.safl_typing.specs.Forms.{sites_of, sites_of_all}
@@ -23,12 +23,12 @@ mutual
   has_nodes k s tail lo hi (Number p n) w t h = ap (λ (z : Term). sizes.nodes z) h.2
   has_nodes k s tail lo hi (Sized p v n) w t h = ap (λ (z : Term). sizes.nodes z) h.3
   has_nodes k s tail lo hi (Variable p x) w t (l, i, e, q) = ap (λ (z : Term). sizes.nodes z) q
-  has_nodes k s tail lo hi (Choice p c a b) w t (m, n, x, y, z, hc, ha, hb, q) =
+  has_nodes k s tail lo hi (If p c a b) w t (m, n, x, y, z, hc, ha, hb, q) =
       omega (arith, ap (λ (z : Term). sizes.nodes z) q, has_nodes k s _ lo m c 1 x hc, has_nodes k s tail m n a w y ha, has_nodes k s tail n hi b w z hb)
-  has_nodes k s tail lo hi (Binding p bs b) w t (m, ws, us, y, d, hs, hb, q) =
+  has_nodes k s tail lo hi (Let p bs b) w t (m, ws, us, y, d, hs, hb, q) =
       omega (arith, ap (λ (z : Term). sizes.nodes z) q, bound_nodes k s lo m bs ws us hs, has_nodes k _ tail m hi b w y hb)
-  has_nodes k s tail lo hi (Applied p o es) w t (ws, us, hs, su, q) = omega (arith, ap (λ (z : Term). sizes.nodes z) q, have_nodes k s lo hi es ws us hs)
-  has_nodes k s tail lo hi (Called p f es) w t (m, ws, us, hs, q) = omega (arith, called_nodes (callee k f) tail lo m ws us w t q, have_nodes k s m hi es ws us hs)
+  has_nodes k s tail lo hi (Op p o es) w t (ws, us, hs, su, q) = omega (arith, ap (λ (z : Term). sizes.nodes z) q, have_nodes k s lo hi es ws us hs)
+  has_nodes k s tail lo hi (Call p f es) w t (m, ws, us, hs, q) = omega (arith, called_nodes (callee k f) tail lo m ws us w t q, have_nodes k s m hi es ws us hs)
 
   have_nodes : (k : Known) (s : List Slot) (lo hi : ℕ) (es : Expressions) (ws : List ℕ) (us : Terms) → HaveAll k s lo hi es ws us → sizes.nodes_in us ≡ nodes_in es
   have_nodes k s lo hi no_expression [] us h = ap (λ (z : Terms). sizes.nodes_in z) h.1
@@ -59,12 +59,12 @@ mutual
   has_length g k s tail lo hi (Number p n) w t h = omega (arith, ap (λ (z : Term). length (sites_of g z)) h.2, h.0)
   has_length g k s tail lo hi (Sized p v n) w t h = omega (arith, ap (λ (z : Term). length (sites_of g z)) h.3, h.0)
   has_length g k s tail lo hi (Variable p x) w t (l, i, e, q) = omega (arith, ap (λ (z : Term). length (sites_of g z)) q, l)
-  has_length g k s tail lo hi (Choice p c a b) w t (m, n, x, y, z, hc, ha, hb, q) =
+  has_length g k s tail lo hi (If p c a b) w t (m, n, x, y, z, hc, ha, hb, q) =
       omega (arith, ap (λ (z : Term). length (sites_of g z)) q, append_length (sites_of g x) (sites_of g y ++ sites_of g z), append_length (sites_of g y) (sites_of g z), has_length g k s _ lo m c 1 x hc, has_length g k s tail m n a w y ha, has_length g k s tail n hi b w z hb)
-  has_length g k s tail lo hi (Binding p bs b) w t (m, ws, us, y, d, hs, hb, q) =
+  has_length g k s tail lo hi (Let p bs b) w t (m, ws, us, y, d, hs, hb, q) =
       omega (arith, ap (λ (z : Term). length (sites_of g z)) q, append_length (sites_of_all g us) (sites_of g y), bound_length g k s lo m bs ws us hs, has_length g k _ tail m hi b w y hb)
-  has_length g k s tail lo hi (Applied p o es) w t (ws, us, hs, su, q) = omega (arith, ap (λ (z : Term). length (sites_of g z)) q, have_length g k s lo hi es ws us hs)
-  has_length g k s tail lo hi (Called p f es) w t (m, ws, us, hs, q) = omega (arith, called_length g (callee k f) tail lo m ws us w t q, have_length g k s m hi es ws us hs)
+  has_length g k s tail lo hi (Op p o es) w t (ws, us, hs, su, q) = omega (arith, ap (λ (z : Term). length (sites_of g z)) q, have_length g k s lo hi es ws us hs)
+  has_length g k s tail lo hi (Call p f es) w t (m, ws, us, hs, q) = omega (arith, called_length g (callee k f) tail lo m ws us w t q, have_length g k s m hi es ws us hs)
 
   pub have_length : (g : ℕ) (k : Known) (s : List Slot) (lo hi : ℕ) (es : Expressions) (ws : List ℕ) (us : Terms) → HaveAll k s lo hi es ws us → hi ≡ lo + length (sites_of_all g us)
   have_length g k s lo hi no_expression [] us h = omega (arith, ap (λ (z : Terms). length (sites_of_all g z)) h.1, h.0)
@@ -109,18 +109,18 @@ module _ (C : Program) (g : ℕ) (k : Known) (ag : Agrees C k.heads) (own : C.un
     has_spans s tail lo hi (Number p n) w t h noted = subst (λ (z : Term). Spans C g tail lo hi z) (sym h.2) h.0
     has_spans s tail lo hi (Sized p v n) w t h noted = subst (λ (z : Term). Spans C g tail lo hi z) (sym h.3) h.0
     has_spans s tail lo hi (Variable p x) w t (l, i, e, q) noted = subst (λ (z : Term). Spans C g tail lo hi z) (sym q) l
-    has_spans s tail lo hi (Choice p c a b) w t (m, n, x, y, z, hc, ha, hb, q) noted =
+    has_spans s tail lo hi (If p c a b) w t (m, n, x, y, z, hc, ha, hb, q) noted =
         let n0 = noted_parts C lo m (sites_of g x) (sites_of g y ++ sites_of g z) (has_length g k s _ lo m c 1 x hc) (subst (λ (u : Term). Noted C lo (sites_of g u)) q noted) in
         let n1 = noted_parts C m n (sites_of g y) (sites_of g z) (has_length g k s tail m n a w y ha) n0.1 in
         subst (λ (u : Term). Spans C g tail lo hi u) (sym q)
         (m, n, has_spans s _ lo m c 1 x hc n0.0, has_spans s tail m n a w y ha n1.0, has_spans s tail n hi b w z hb n1.1)
-    has_spans s tail lo hi (Binding p bs b) w t (m, ws, us, y, d, hs, hb, q) noted =
+    has_spans s tail lo hi (Let p bs b) w t (m, ws, us, y, d, hs, hb, q) noted =
         let n0 = noted_parts C lo m (sites_of_all g us) (sites_of g y) (bound_length g k s lo m bs ws us hs) (subst (λ (u : Term). Noted C lo (sites_of g u)) q noted) in
         subst (λ (u : Term). Spans C g tail lo hi u) (sym q)
         (m, bound_spans s lo m bs ws us hs n0.0, has_spans (s ++ slots bs ws) tail m hi b w y hb n0.1)
-    has_spans s tail lo hi (Applied p o es) w t (ws, us, hs, su, q) noted =
+    has_spans s tail lo hi (Op p o es) w t (ws, us, hs, su, q) noted =
         subst (λ (u : Term). Spans C g tail lo hi u) (sym q) (have_spans s lo hi es ws us hs (subst (λ (u : Term). Noted C lo (sites_of g u)) q noted))
-    has_spans s tail lo hi (Called p f es) w t (m, ws, us, hs, q) noted =
+    has_spans s tail lo hi (Call p f es) w t (m, ws, us, hs, q) noted =
         called_spans (callee k f) tail lo m hi ws us w t (callee_at k f) q noted (λ n. have_spans s m hi es ws us hs n)
 
     pub have_spans : (s : List Slot) (lo hi : ℕ) (es : Expressions) (ws : List ℕ) (us : Terms) → HaveAll k s lo hi es ws us → Noted C lo (sites_of_all g us) → SpansAll C g lo hi us

@@ -14,8 +14,8 @@ use Rattle.safl_word.specs.Words.{IsWord}
 use Rattle.safl_typing.specs.declared.heads.Slot as code
 use Rattle.safl_typing.specs.Heads.{Slot}
 use Rattle.safl_typing.specs.Typing.{At, later, innermost, word}
-use Rattle.safl_typing.specs.PlainHeads.{plain_slot, plain_slots}
-use Rattle.safl_typing.specs.PlainTyped.{HasWidthOfWord, HasWideWanted, plain_wanted, Says, with_slot, at_slot}
+use Rattle.safl_typing.specs.PlainHeads.{shown_slot, shown_slots}
+use Rattle.safl_typing.specs.PlainTyped.{HasWidthOfWord, HasWideWanted, shown_wanted, Says, with_slot, at_slot}
 
 pub not_fits : (w n : ℕ) → HasWidthOfWord w → (IsWord (word w n) → ⊥) → nat_lt n (2 ^ w) ≡ false
 not_fits w n h f = false_from_ne_true _ (λ e. f (record { some = h.0; bounded = h.1; fits = ltb-true n (2 ^ w) e }))
@@ -40,26 +40,26 @@ innermost_end x i (u ∷ vs) v =
     ap (λ (o : Option At). later o first) (innermost_end x (suc i) vs v) ∙ later_again (last (suc i + length vs)) (innermost x (suc i) vs) first
     ∙ ap (λ (n : ℕ). later (last n) (later (innermost x (suc i) vs) first)) e
 
-pub upto : (ss : List code.Slot) (i : ℕ) (s : code.Slot) → i < length ss → s ≡ get_or ss i s → (plain_slots (take (i + 1) ss) ≡ plain_slots (take i ss) ++ plain_slot s ∷ []) × (length (plain_slots (take i ss)) ≡ i)
+pub upto : (ss : List code.Slot) (i : ℕ) (s : code.Slot) → i < length ss → s ≡ get_or ss i s → (shown_slots (take (i + 1) ss) ≡ shown_slots (take i ss) ++ shown_slot s ∷ []) × (length (shown_slots (take i ss)) ≡ i)
 upto [] i s lt is = absurd (omega (arith, lt))
-upto (y ∷ ys) zero s lt is = (ap (λ (z : code.Slot). plain_slot z ∷ []) (sym is), refl)
+upto (y ∷ ys) zero s lt is = (ap (λ (z : code.Slot). shown_slot z ∷ []) (sym is), refl)
 upto (y ∷ ys) (suc i) s lt is =
     let e : suc i + 1 ≡ suc (i + 1) = omega arith in
     let r = upto ys i s (omega (arith, lt)) is in
-    (ap (λ (j : ℕ). plain_slots (take j (y ∷ ys))) e ∙ ap (λ (l : List Slot). plain_slot y ∷ l) r.0, ap (λ (n : ℕ). suc n) r.1)
+    (ap (λ (j : ℕ). shown_slots (take j (y ∷ ys))) e ∙ ap (λ (l : List Slot). shown_slot y ∷ l) r.0, ap (λ (n : ℕ). suc n) r.1)
 
 innermost_next : (x : List ℕ) (ss : List code.Slot) (i : ℕ) (s : code.Slot) (b : Bool) → i < length ss → s ≡ get_or ss i s → bytes_eq s.name x ≡ b
-    → innermost x 0 (plain_slots (take (i + 1) ss)) ≡ later (cond b (Some (record { slot = i; width = s.width })) None) (innermost x 0 (plain_slots (take i ss)))
+    → innermost x 0 (shown_slots (take (i + 1) ss)) ≡ later (cond b (Some (record { slot = i; width = s.width })) None) (innermost x 0 (shown_slots (take i ss)))
 innermost_next x ss i s b lt is q =
     let r = upto ss i s lt is in
-    let n : 0 + length (plain_slots (take i ss)) ≡ i = omega (arith, r.1) in
-    ap (λ (l : List Slot). innermost x 0 l) r.0 ∙ innermost_end x 0 (plain_slots (take i ss)) (plain_slot s)
-    ∙ ap (λ (k : ℕ). later (cond (bytes_eq s.name x) (Some (record { slot = k; width = s.width })) None) (innermost x 0 (plain_slots (take i ss)))) n
-    ∙ ap (λ (c : Bool). later (cond c (Some (record { slot = i; width = s.width })) None) (innermost x 0 (plain_slots (take i ss)))) q
+    let n : 0 + length (shown_slots (take i ss)) ≡ i = omega (arith, r.1) in
+    ap (λ (l : List Slot). innermost x 0 l) r.0 ∙ innermost_end x 0 (shown_slots (take i ss)) (shown_slot s)
+    ∙ ap (λ (k : ℕ). later (cond (bytes_eq s.name x) (Some (record { slot = k; width = s.width })) None) (innermost x 0 (shown_slots (take i ss)))) n
+    ∙ ap (λ (c : Bool). later (cond c (Some (record { slot = i; width = s.width })) None) (innermost x 0 (shown_slots (take i ss)))) q
 
 -- what is found among the slots before i
 abbrev pub IsFound : List ℕ → List code.Slot → ℕ → Option ℕ → Type 0
-IsFound x ss i found = IfSome found (λ n. n < length ss) × (at_slot ss found ≡ innermost x 0 (plain_slots (take i ss)))
+IsFound x ss i found = IfSome found (λ n. n < length ss) × (at_slot ss found ≡ innermost x 0 (shown_slots (take i ss)))
 
 pub slot_then : (x : List ℕ) (ss : List code.Slot) (i : ℕ) (s : code.Slot) (found : Option ℕ) → i < length ss → s ≡ get_or ss i s → bytes_eq s.name x ≡ true → found ≡ Some i → IsFound x ss (i + 1) found
 slot_then x ss i s found lt is q e = subst (λ (o : Option ℕ). IsFound x ss (i + 1) o) (sym e)
@@ -74,11 +74,11 @@ name_is x y u v r b e t p q = sym (ap (λ (z : List ℕ). bytes_eq z v) p) ∙ s
 
 -- ---- numbers that do not fit
 
-pub number_refused : (p n w : ℕ) (m : code_wanted.Wanted) (r : CheckErr) → HasWideWanted m → m ≡ wants.Exactly w → (IsWord (word w n) → ⊥) → r ≡ errors.Refused (fault rules.E13 p) → Says (Err r) (number p n (plain_wanted m))
+pub number_refused : (p n w : ℕ) (m : code_wanted.Wanted) (r : CheckErr) → HasWideWanted m → m ≡ wants.Exactly w → (IsWord (word w n) → ⊥) → r ≡ errors.Refused (fault rules.E13 p) → Says (Err r) (number p n (shown_wanted m))
 number_refused p n w m r h e f q =
     let wide : HasWidthOfWord w = subst HasWideWanted e h in
-    subst (λ (z : CheckErr). Says (Err z) (number p n (plain_wanted m))) (sym q)
-    (subst (λ (z : code_wanted.Wanted). number p n (plain_wanted z) ≡ Err (fault rules.E13 p)) (sym e) (rw (not_fits w n wide f) refl))
+    subst (λ (z : CheckErr). Says (Err z) (number p n (shown_wanted m))) (sym q)
+    (subst (λ (z : code_wanted.Wanted). number p n (shown_wanted z) ≡ Err (fault rules.E13 p)) (sym e) (rw (not_fits w n wide f) refl))
 
-pub sized_refused : (p w n : ℕ) (m : code_wanted.Wanted) (r : CheckErr) → HasWidthOfWord w → (IsWord (word w n) → ⊥) → r ≡ errors.Refused (fault rules.E13 p) → Says (Err r) (sized p w n (plain_wanted m))
-sized_refused p w n m r h f q = subst (λ (z : CheckErr). Says (Err z) (sized p w n (plain_wanted m))) (sym q) (rw (not_fits w n h f) refl)
+pub sized_refused : (p w n : ℕ) (m : code_wanted.Wanted) (r : CheckErr) → HasWidthOfWord w → (IsWord (word w n) → ⊥) → r ≡ errors.Refused (fault rules.E13 p) → Says (Err r) (sized p w n (shown_wanted m))
+sized_refused p w n m r h f q = subst (λ (z : CheckErr). Says (Err z) (sized p w n (shown_wanted m))) (sym q) (rw (not_fits w n h f) refl)

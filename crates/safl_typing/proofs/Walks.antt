@@ -15,7 +15,8 @@ use Rattle.safl_typing.specs.Heads.{Slot, Head, Known, sites, unit_of, params_of
 use Rattle.safl_typing.specs.Typing.{Differ, Has}
 use Rattle.safl_term.specs.Sizes.{max_bindings}
 use Rattle.safl_typing.specs.Forms.{FunctionForm, Form, all_sites, max_functions, max_params, max_sites, max_nodes, nodes_of, param_names, IsFunctionOf, AreFunctionsOf, IsLast, function_names, IsFormOf}
-use Rattle.safl_typing.specs.Walk.{after, unless, needs, or_else, fault, fault_with, excess, limit, long_let, limits_from, limits, placed_params, head_fault, joined_faults, group_fault, function, functions_from, main_fault, Exactly, outcome}
+use Rattle.safl_term.specs.Readiness.{or_else}
+use Rattle.safl_typing.specs.Walk.{after, unless, needs, fault, fault_with, excess, limit, long_let, limits_from, limits, placed_params, head_fault, joined_faults, group_fault, function, functions_from, main_fault, Exactly, outcome}
 use Rattle.safl_typing.proofs.Counts.{has_sites}
 use Rattle.safl_typing.proofs.Names.{some_none, Apart, in_order, differ_repeat, repeat_differ, unseen, not_seen, differ_rest, apart_more, differ_first}
 use Rattle.safl_typing.proofs.Complete.{typed, after_gives, unless_gives, needs_gives, has_checks}

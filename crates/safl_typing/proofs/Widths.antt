@@ -14,7 +14,7 @@ use Rattle.safl_tree.specs.Tree as source
 use Rattle.safl_tree.specs.Tree.{Tree, Trees, Binds, Arms, place_of}
 use Rattle.safl_tree.specs.Printable as printable
 use Rattle.safl_tree.specs.Printable.{operands, IsLabel, IsFormed, AreFormed, AreFormedBinds, AreFormedArms}
-use Rattle.safl_typing.specs.Rewriting.{Expression, Number, Sized, Variable, Choice, Binding, Applied, Called, Expressions, no_expression, an_expression, Bindings, no_binding, a_binding, shape, count, rewritten, rewritten_all, rewritten_binds, rewritten_arms}
+use Rattle.safl_typing.specs.Rewriting.{Expression, Number, Sized, Variable, If, Let, Op, Call, Expressions, no_expression, an_expression, Bindings, no_binding, a_binding, shape, count, rewritten, rewritten_all, rewritten_binds, rewritten_arms}
 use Rattle.safl_typing.specs.Heads.{Slot, Head, Known, Numbered, first_head, Callee, Member, Above, Unknown, member_or, callee}
 use Rattle.safl_typing.specs.Typing.{At, later, innermost, widths_of, slots, AreAll, Shifts, Suits, Calls, Has, HaveAll, HaveBound}
 use Rattle.safl_typing.specs.Ranges.{IsWide, AreWide, WideSlots, WideHeads}
@@ -29,10 +29,10 @@ abbrev mutual
   IsFull (Number p n) = Unit {0}
   IsFull (Sized p w n) = Unit {0}
   IsFull (Variable p x) = Unit {0}
-  IsFull (Choice p c a b) = IsFull c × IsFull a × IsFull b
-  IsFull (Binding p bs b) = BoundFull bs × IsFull b
-  IsFull (Applied p o es) = (count es ≡ operands o) × AreFull es
-  IsFull (Called p f es) = AreFull es
+  IsFull (If p c a b) = IsFull c × IsFull a × IsFull b
+  IsFull (Let p bs b) = BoundFull bs × IsFull b
+  IsFull (Op p o es) = (count es ≡ operands o) × AreFull es
+  IsFull (Call p f es) = AreFull es
 
   pub AreFull : Expressions → Type 0
   AreFull no_expression = Unit {0}
@@ -50,22 +50,22 @@ label_full : (l : Tree) → IsLabel l → IsFull (rewritten l)
 label_full (source.Number p n) h = tt
 label_full (source.Sized p w n) h = tt
 label_full (source.Variable p x) h = absurd h
-label_full (source.Choice p c a b) h = absurd h
-label_full (source.Binding p bs t) h = absurd h
+label_full (source.If p c a b) h = absurd h
+label_full (source.Let p bs t) h = absurd h
 label_full (source.Cases p e arms) h = absurd h
-label_full (source.Applied p o ts) h = absurd h
-label_full (source.Called p f ts) h = absurd h
+label_full (source.Op p o ts) h = absurd h
+label_full (source.Call p f ts) h = absurd h
 
 mutual
   pub formed_full : (t : Tree) → IsFormed t → IsFull (rewritten t)
   formed_full (source.Number p n) h = tt
   formed_full (source.Sized p w n) h = tt
   formed_full (source.Variable p x) h = tt
-  formed_full (source.Choice p c a b) h = (formed_full c h.0, formed_full a h.1, formed_full b h.2)
-  formed_full (source.Binding p bs t) h = (binds_full bs h.1, formed_full t h.2)
+  formed_full (source.If p c a b) h = (formed_full c h.0, formed_full a h.1, formed_full b h.2)
+  formed_full (source.Let p bs t) h = (binds_full bs h.1, formed_full t h.2)
   formed_full (source.Cases p e arms) h = ((formed_full e h.0, tt), arms_full p arms h.1)
-  formed_full (source.Applied p o ts) h = (count_same ts ∙ h.0, all_full ts h.2)
-  formed_full (source.Called p f ts) h = all_full ts h.1
+  formed_full (source.Op p o ts) h = (count_same ts ∙ h.0, all_full ts h.2)
+  formed_full (source.Call p f ts) h = all_full ts h.1
 
   all_full : (ts : Trees) → AreFormed ts → AreFull (rewritten_all ts)
   all_full source.no_tree h = tt
@@ -144,13 +144,13 @@ mutual
   has_wide k s tail lo hi (Number p n) w t wh ws full h = record { some = h.1.some; bounded = h.1.bounded }
   has_wide k s tail lo hi (Sized p v n) w t wh ws full h = subst IsWide h.1 (record { some = h.2.some; bounded = h.2.bounded })
   has_wide k s tail lo hi (Variable p x) w t wh ws full (l, i, e, q) = innermost_wide x 0 s _ ws e
-  has_wide k s tail lo hi (Choice p c a b) w t wh ws full (m, n, x, y, z, hc, ha, hb, q) = has_wide k s tail m n a w y wh ws full.1 ha
-  has_wide k s tail lo hi (Binding p bs b) w t wh ws full (m, vs, us, y, d, hs, hb, q) =
+  has_wide k s tail lo hi (If p c a b) w t wh ws full (m, n, x, y, z, hc, ha, hb, q) = has_wide k s tail m n a w y wh ws full.1 ha
+  has_wide k s tail lo hi (Let p bs b) w t wh ws full (m, vs, us, y, d, hs, hb, q) =
       has_wide k (s ++ slots bs vs) tail m hi b w y wh (wide_append s (slots bs vs) ws (wide_slots bs vs (bound_wide k s lo m bs vs us wh ws full.0 hs))) full.1 hb
-  has_wide k s tail lo hi (Applied p o es) w t wh ws full (vs, us, hs, su, q) =
+  has_wide k s tail lo hi (Op p o es) w t wh ws full (vs, us, hs, su, q) =
       let wide = have_wide k s lo hi es vs us wh ws full.1 hs in
       table_wide o vs w wide (suits_row o es vs w su (sym (many_length es vs (have_many k s lo hi es vs us hs)) ∙ full.0) wide)
-  has_wide k s tail lo hi (Called p f es) w t wh ws full (m, vs, us, hs, q) = called_wide (callee k f) tail lo m vs us w t (callee_wide k f wh) q
+  has_wide k s tail lo hi (Call p f es) w t wh ws full (m, vs, us, hs, q) = called_wide (callee k f) tail lo m vs us w t (callee_wide k f wh) q
 
   pub have_wide : (k : Known) (s : List Slot) (lo hi : ℕ) (es : Expressions) (vs : List ℕ) (us : Terms) → WideHeads k.heads → WideSlots s → AreFull es → HaveAll k s lo hi es vs us → AreWide vs
   have_wide k s lo hi no_expression [] us wh ws full h = tt
@@ -266,19 +266,19 @@ mutual
   has_width C k s tail lo hi (Variable p x) w t ag wh wide full (l, i, e, q) =
       let r = innermost_at x 0 s _ e in
       subst (λ (z : Term). HasWidth C (widths_of s) z w) (sym q) (subst (λ (z : ℕ). slice_get (widths_of s) z ≡ Some w) (omega (arith, r.slot)) r.width)
-  has_width C k s tail lo hi (Choice p c a b) w t ag wh wide full (m, n, x, y, z, hc, ha, hb, q) =
+  has_width C k s tail lo hi (If p c a b) w t ag wh wide full (m, n, x, y, z, hc, ha, hb, q) =
       subst (λ (u : Term). HasWidth C (widths_of s) u w) (sym q)
       (has_width C k s _ lo m c 1 x ag wh wide full.0 hc, has_width C k s tail m n a w y ag wh wide full.1 ha, has_width C k s tail n hi b w z ag wh wide full.2 hb)
-  has_width C k s tail lo hi (Binding p bs b) w t ag wh wide full (m, ws, us, y, d, hs, hb, q) =
+  has_width C k s tail lo hi (Let p bs b) w t ag wh wide full (m, ws, us, y, d, hs, hb, q) =
       subst (λ (u : Term). HasWidth C (widths_of s) u w) (sym q) (
         ws,
         bound_widths C k s lo m bs ws us ag wh wide full.0 hs,
         subst (λ (l : List ℕ). HasWidth C l y w) (widths_append s (slots bs ws) ∙ ap (λ (l : List ℕ). widths_of s ++ l) (widths_back k s lo m bs ws us hs)) (has_width C k (s ++ slots bs ws) tail m hi b w y ag wh (wide_append s (slots bs ws) wide (wide_slots bs ws (bound_wide k s lo m bs ws us wh wide full.0 hs))) full.1 hb),
       )
-  has_width C k s tail lo hi (Applied p o es) w t ag wh wide full (ws, us, hs, su, q) =
+  has_width C k s tail lo hi (Op p o es) w t ag wh wide full (ws, us, hs, su, q) =
       subst (λ (u : Term). HasWidth C (widths_of s) u w) (sym q)
       (ws, have_widths C k s lo hi es ws us ag wh wide full.1 hs, suits_row o es ws w su (sym (many_length es ws (have_many k s lo hi es ws us hs)) ∙ full.0) (have_wide k s lo hi es ws us wh wide full.1 hs))
-  has_width C k s tail lo hi (Called p f es) w t ag wh wide full (m, ws, us, hs, q) =
+  has_width C k s tail lo hi (Call p f es) w t ag wh wide full (m, ws, us, hs, q) =
       called_width C k (callee k f) (widths_of s) tail lo m ws us w t ag (callee_at k f) q (have_widths C k s m hi es ws us ag wh wide full hs)
 
   pub have_widths : (C : Program) (k : Known) (s : List Slot) (lo hi : ℕ) (es : Expressions) (ws : List ℕ) (us : Terms) → Agrees C k.heads → WideHeads k.heads → WideSlots s → AreFull es → HaveAll k s lo hi es ws us → HaveWidths C (widths_of s) us ws

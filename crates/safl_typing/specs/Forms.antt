@@ -6,11 +6,12 @@ use Rattle.safl_term.specs.declared.checked.Site.{Site}
 use Rattle.safl_term.specs.declared.checked.Function.{Function}
 use Rattle.safl_term.specs.declared.checked.Parameter as code
 use Rattle.safl_term.specs.Checked.{CheckedProgram}
-use Rattle.safl_term.specs.Terms.{Term, Const, Var, If, Let, Op, Call, Loop, Terms, Nil, Cons}
+use Rattle.safl_term.specs.Terms as terms
+use Rattle.safl_term.specs.Terms.{Term, Const, Var, Loop, Terms, Nil, Cons}
 use Rattle.safl_term.specs.Sizes.{max_bindings, max_depth}
-use Rattle.safl_term.specs.Tree.{tree}
+use Rattle.safl_term.specs.Tree.{shown_term}
 use Rattle.safl_tree.specs.Tree.{Definition, depth}
-use Rattle.safl_typing.specs.Rewriting.{Expression, Number, Sized, Variable, Choice, Binding, Applied, Called, Expressions, no_expression, an_expression, Bindings, no_binding, a_binding, rewritten, nodes}
+use Rattle.safl_typing.specs.Rewriting.{Expression, Number, Sized, Variable, If, Let, Op, Call, Expressions, no_expression, an_expression, Bindings, no_binding, a_binding, rewritten, nodes}
 use Rattle.safl_typing.specs.Heads.{Slot, Head, unit_of, params_of, heads}
 use Rattle.safl_typing.specs.Typing.{Differ, names, Has}
 
@@ -32,7 +33,7 @@ abbrev pub shown_param : code.Parameter → Slot
 shown_param p = record { name = string_bytes p.name; width = p.width }
 
 abbrev pub shown_function : Function → FunctionForm
-shown_function f = record { name = string_bytes f.name; params = map shown_param f.params.items; width = f.width; unit = f.unit; first_site = f.first_site; body = tree f.body }
+shown_function f = record { name = string_bytes f.name; params = map shown_param f.params.items; width = f.width; unit = f.unit; first_site = f.first_site; body = shown_term f.body }
 
 abbrev pub shown : CheckedProgram → Form
 shown c = record { functions = map shown_function c.functions; sites = c.sites }
@@ -42,10 +43,10 @@ abbrev mutual
   pub sites_of : ℕ → Term → List Site
   sites_of g (Const w) = []
   sites_of g (Var i) = []
-  sites_of g (If c a b) = sites_of g c ++ (sites_of g a ++ sites_of g b)
-  sites_of g (Let ts b) = sites_of_all g ts ++ sites_of g b
-  sites_of g (Op o ts) = sites_of_all g ts
-  sites_of g (Call f i ts) = record { caller = g; callee = f } ∷ sites_of_all g ts
+  sites_of g (terms.If c a b) = sites_of g c ++ (sites_of g a ++ sites_of g b)
+  sites_of g (terms.Let ts b) = sites_of_all g ts ++ sites_of g b
+  sites_of g (terms.Op o ts) = sites_of_all g ts
+  sites_of g (terms.Call f i ts) = record { caller = g; callee = f } ∷ sites_of_all g ts
   sites_of g (Loop h ts) = sites_of_all g ts
 
   pub sites_of_all : ℕ → Terms → List Site
@@ -77,10 +78,10 @@ abbrev mutual
   HasShortLets (Number p n) = Unit {0}
   HasShortLets (Sized p w n) = Unit {0}
   HasShortLets (Variable p x) = Unit {0}
-  HasShortLets (Choice p c a b) = HasShortLets c × HasShortLets a × HasShortLets b
-  HasShortLets (Binding p bs b) = (length (names bs) ≤ max_bindings) × HaveShortBound bs × HasShortLets b
-  HasShortLets (Applied p o es) = HaveShortLets es
-  HasShortLets (Called p f es) = HaveShortLets es
+  HasShortLets (If p c a b) = HasShortLets c × HasShortLets a × HasShortLets b
+  HasShortLets (Let p bs b) = (length (names bs) ≤ max_bindings) × HaveShortBound bs × HasShortLets b
+  HasShortLets (Op p o es) = HaveShortLets es
+  HasShortLets (Call p f es) = HaveShortLets es
 
   pub HaveShortLets : Expressions → Type 0
   HaveShortLets no_expression = Unit {0}

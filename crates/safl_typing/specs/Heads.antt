@@ -2,7 +2,7 @@
 use Rattle.std.specs.Prelude.{ℕ, suc, ◌+◌, List, [], ◌∷◌, map, Option, Some, None, Bool, ◌&&◌, ◌==◌, nat_lt, if◌then◌else◌}
 use Rattle.std.specs.Str.{bytes_eq}
 use Rattle.safl_tree.specs.Tree.{Definition, Parameter}
-use Rattle.safl_typing.specs.Rewriting.{Expression, Number, Sized, Variable, Choice, Binding, Applied, Called, Expressions, no_expression, an_expression, Bindings, no_binding, a_binding}
+use Rattle.safl_typing.specs.Rewriting.{Expression, Number, Sized, Variable, If, Let, Op, Call, Expressions, no_expression, an_expression, Bindings, no_binding, a_binding}
 
 -- a name with its width: a parameter or a binding
 pub record Slot : Type 0 where
@@ -78,10 +78,10 @@ abbrev mutual
   sites k (Number p n) = 0
   sites k (Sized p w n) = 0
   sites k (Variable p x) = 0
-  sites k (Choice p c a b) = sites k c + (sites k a + sites k b)
-  sites k (Binding p bs b) = sites_bound k bs + sites k b
-  sites k (Applied p o es) = sites_in k es
-  sites k (Called p f es) = is_site (callee k f) + sites_in k es
+  sites k (If p c a b) = sites k c + (sites k a + sites k b)
+  sites k (Let p bs b) = sites_bound k bs + sites k b
+  sites k (Op p o es) = sites_in k es
+  sites k (Call p f es) = is_site (callee k f) + sites_in k es
 
   pub sites_in : Known → Expressions → ℕ
   sites_in k no_expression = 0

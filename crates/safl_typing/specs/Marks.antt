@@ -5,9 +5,9 @@ use Rattle.safl_typing.specs.declared.expression.Marks.{Marks}
 use Rattle.safl_typing.specs.declared.expression.Expression as code
 use Rattle.safl_typing.specs.declared.expression.Expression.{Row_of-Expression, end_of-Expression, more_of-Expression, Row_of-Bound, end_of-Bound, more_of-Bound}
 use Rattle.safl_typing.specs.declared.expression.Expression.TheVariants as codes
-use Rattle.safl_typing.specs.Rewriting.{Expression, Choice, Binding, Applied, Called, flexible}
+use Rattle.safl_typing.specs.Rewriting.{Expression, If, Let, Op, Call, flexible}
 use Rattle.safl_typing.specs.Heads.{Known, sites}
-use Rattle.safl_typing.specs.Plain.{plain, plain_row, plain_bound}
+use Rattle.safl_typing.specs.Plain.{shown_expression, shown_row, shown_bound}
 
 -- the marks say whether an expression takes any width, and how many sites it has, up to 4,001
 pub record IsMarkOf (k : Known) (e : Expression) (m : Marks) : Type 0 where
@@ -20,10 +20,10 @@ abbrev mutual
   IsMarked k (codes.Number p n) = Unit {0}
   IsMarked k (codes.Sized p w n) = Unit {0}
   IsMarked k (codes.Variable p x) = Unit {0}
-  IsMarked k (codes.Choice' p m q1 c q2 a q3 b) = IsMarkOf k (Choice p (plain c) (plain a) (plain b)) m × IsMarked k c × IsMarked k a × IsMarked k b
-  IsMarked k (codes.Binding' p m s row q b) = IsMarkOf k (Binding p (plain_bound row) (plain b)) m × RowBound k row × IsMarked k b
-  IsMarked k (codes.Applied' p m o s row) = IsMarkOf k (Applied p o (plain_row row)) m × RowMarked k row
-  IsMarked k (codes.Called' p m f s row) = IsMarkOf k (Called p f (plain_row row)) m × RowMarked k row
+  IsMarked k (codes.If' p m q1 c q2 a q3 b) = IsMarkOf k (If p (shown_expression c) (shown_expression a) (shown_expression b)) m × IsMarked k c × IsMarked k a × IsMarked k b
+  IsMarked k (codes.Let' p m s row q b) = IsMarkOf k (Let p (shown_bound row) (shown_expression b)) m × RowBound k row × IsMarked k b
+  IsMarked k (codes.Op' p m o s row) = IsMarkOf k (Op p o (shown_row row)) m × RowMarked k row
+  IsMarked k (codes.Call' p m f s row) = IsMarkOf k (Call p f (shown_row row)) m × RowMarked k row
 
   pub RowMarked : Known → {n : _} → Row_of-Expression n → Type 0
   RowMarked k end_of-Expression = Unit {0}

@@ -7,9 +7,9 @@ use Rattle.safl_typing.specs.declared.scope.Scope.{Scope}
 use Rattle.safl_typing.specs.Rewriting.{Expression, Expressions, Bindings, nodes, nodes_in, nodes_bound}
 use Rattle.safl_typing.specs.Heads.{Slot, sites, sites_in, sites_bound}
 use Rattle.safl_typing.specs.Ranges.{WideSlots, WideHeads, IsInRange, AreInRange, BoundInRange}
-use Rattle.safl_typing.specs.Plain.{plain_all}
-use Rattle.safl_typing.specs.PlainHeads.{plain_heads, known}
-use Rattle.safl_typing.specs.PlainScope.{plain_scope}
+use Rattle.safl_typing.specs.Plain.{shown_expressions}
+use Rattle.safl_typing.specs.PlainHeads.{shown_heads, known}
+use Rattle.safl_typing.specs.PlainScope.{shown_scope}
 
 -- each function's parameters can be counted
 abbrev pub CountParams : List code_head.Head → Type 0
@@ -18,7 +18,7 @@ CountParams (h ∷ hs) = (length h.params.items < 2 ^ 32) × CountParams hs
 
 -- with these heads and slots, of a part that has so many sites and nodes
 pub record MayWalk (hs : List code_head.Head) (ss : List Slot) (lo : ℕ) (Range : Type 0) (sites nodes : ℕ) : Type 0 where
-  pub heads : WideHeads (plain_heads hs)
+  pub heads : WideHeads (shown_heads hs)
   pub counted : length hs < 2 ^ 32
   pub params : CountParams hs
   pub slots : WideSlots ss
@@ -34,7 +34,7 @@ MayCheckAll hs unit ss lo es = MayWalk hs ss lo (AreInRange es) (sites_in (known
 
 -- the same of expressions of the code, in this context and scope
 abbrev pub MayWalkAll : Context → Scope → ℕ → List code.Expression → Type 0
-MayWalkAll c s lo es = MayCheckAll c.heads.now c.unit (plain_scope s) lo (plain_all es)
+MayWalkAll c s lo es = MayCheckAll c.heads.now c.unit (shown_scope s) lo (shown_expressions es)
 
 abbrev pub MayBind : List code_head.Head → ℕ → List Slot → ℕ → Bindings → Type 0
 MayBind hs unit ss lo bs = MayWalk hs ss lo (BoundInRange bs) (sites_bound (known hs unit) bs) (nodes_bound bs)

@@ -4,31 +4,31 @@ use Rattle.safl_typing.specs.declared.expression.Bound.{Bound}
 use Rattle.safl_typing.specs.declared.expression.Expression as code
 use Rattle.safl_typing.specs.declared.expression.Expression.{Row_of-Expression, end_of-Expression, more_of-Expression, Row_of-Bound, end_of-Bound, more_of-Bound}
 use Rattle.safl_typing.specs.declared.expression.Expression.TheVariants as codes
-use Rattle.safl_typing.specs.Rewriting.{Expression, Number, Sized, Variable, Choice, Binding, Applied, Called, Expressions, no_expression, an_expression, Bindings, no_binding, a_binding}
+use Rattle.safl_typing.specs.Rewriting.{Expression, Number, Sized, Variable, If, Let, Op, Call, Expressions, no_expression, an_expression, Bindings, no_binding, a_binding}
 
 abbrev mutual
-  pub plain : code.Expression → Expression
-  plain (codes.Number p n) = Number p n
-  plain (codes.Sized p w n) = Sized p w n
-  plain (codes.Variable p x) = Variable p x
-  plain (codes.Choice' p m q1 c q2 a q3 b) = Choice p (plain c) (plain a) (plain b)
-  plain (codes.Binding' p m s row q b) = Binding p (plain_bound row) (plain b)
-  plain (codes.Applied' p m o s row) = Applied p o (plain_row row)
-  plain (codes.Called' p m f s row) = Called p f (plain_row row)
+  pub shown_expression : code.Expression → Expression
+  shown_expression (codes.Number p n) = Number p n
+  shown_expression (codes.Sized p w n) = Sized p w n
+  shown_expression (codes.Variable p x) = Variable p x
+  shown_expression (codes.If' p m q1 c q2 a q3 b) = If p (shown_expression c) (shown_expression a) (shown_expression b)
+  shown_expression (codes.Let' p m s row q b) = Let p (shown_bound row) (shown_expression b)
+  shown_expression (codes.Op' p m o s row) = Op p o (shown_row row)
+  shown_expression (codes.Call' p m f s row) = Call p f (shown_row row)
 
-  pub plain_row : {m : _} → Row_of-Expression m → Expressions
-  plain_row end_of-Expression = no_expression
-  plain_row (more_of-Expression e row) = an_expression (plain e) (plain_row row)
+  pub shown_row : {m : _} → Row_of-Expression m → Expressions
+  shown_row end_of-Expression = no_expression
+  shown_row (more_of-Expression e row) = an_expression (shown_expression e) (shown_row row)
 
-  pub plain_bound : {m : _} → Row_of-Bound m → Bindings
-  plain_bound end_of-Bound = no_binding
-  plain_bound (more_of-Bound p x w e row) = a_binding p x w (plain e) (plain_bound row)
+  pub shown_bound : {m : _} → Row_of-Bound m → Bindings
+  shown_bound end_of-Bound = no_binding
+  shown_bound (more_of-Bound p x w e row) = a_binding p x w (shown_expression e) (shown_bound row)
 
 -- the same of lists
-abbrev pub plain_all : List code.Expression → Expressions
-plain_all [] = no_expression
-plain_all (e ∷ es) = an_expression (plain e) (plain_all es)
+abbrev pub shown_expressions : List code.Expression → Expressions
+shown_expressions [] = no_expression
+shown_expressions (e ∷ es) = an_expression (shown_expression e) (shown_expressions es)
 
-abbrev pub plain_bindings : List Bound → Bindings
-plain_bindings [] = no_binding
-plain_bindings (b ∷ bs) = a_binding b.place b.name b.width (plain b.value) (plain_bindings bs)
+abbrev pub shown_bindings : List Bound → Bindings
+shown_bindings [] = no_binding
+shown_bindings (b ∷ bs) = a_binding b.place b.name b.width (shown_expression b.value) (shown_bindings bs)

@@ -8,15 +8,15 @@ use Rattle.safl_typing.specs.declared.scope.Scope.TheVariants as scopes
 use Rattle.safl_typing.specs.declared.scope.Variable.{Variable}
 use Rattle.safl_typing.specs.Heads.{Slot}
 use Rattle.safl_typing.specs.Typing.{At}
-use Rattle.safl_typing.specs.PlainHeads.{plain_slots}
+use Rattle.safl_typing.specs.PlainHeads.{shown_slots}
 
-abbrev pub plain_scope : Scope → List Slot
-plain_scope (scopes.Params slots) = plain_slots slots.now
-plain_scope (scopes.Let' q around slots) = plain_scope around ++ plain_slots slots.now
+abbrev pub shown_scope : Scope → List Slot
+shown_scope (scopes.Params slots) = shown_slots slots.now
+shown_scope (scopes.Let' q around slots) = shown_scope around ++ shown_slots slots.now
 
 -- the lets of these terms name their slots, which come after the variables of the scope
 abbrev pub HaveSlotsAfter : Scope → List Term → Type 0
-HaveSlotsAfter s ts = AllByRecursion (HasSlots (length (plain_scope s))) ts
+HaveSlotsAfter s ts = AllByRecursion (HasSlots (length (shown_scope s))) ts
 
 abbrev pub found_at : Option Variable → Option At
 found_at None = None

@@ -2,7 +2,7 @@
 use Rattle.std.specs.Prelude.{◌≡◌, ℕ, ◌≤◌, List, Option, Some, None, Bool, if◌then◌else◌, slice_get, Result, Ok, Err}
 use Rattle.safl_word.specs.Words.{max_width}
 use Rattle.safl_word.specs.declared.fault.Fault.{Fault}
-use Rattle.safl_term.specs.Tree.{tree, forest}
+use Rattle.safl_term.specs.Tree.{shown_term, shown_terms}
 use Rattle.safl_typing.specs.declared.heads.Slot as code_slot
 use Rattle.safl_typing.specs.declared.typed.CheckErr.{CheckErr}
 use Rattle.safl_typing.specs.declared.typed.CheckErr.TheVariants as errors
@@ -17,9 +17,9 @@ use Rattle.safl_typing.specs.Rewriting.{Expressions, Shape, Alike, Comparing, Sh
 use Rattle.safl_typing.specs.Typing.{At}
 use Rattle.safl_typing.specs.Walk.{Wanted, Any, Exactly, Typed, TypedAll, TypedAlike, all_any, amounts}
 
-abbrev pub plain_wanted : code_wanted.Wanted → Wanted
-plain_wanted wants.Any = Any
-plain_wanted (wants.Exactly w) = Exactly w
+abbrev pub shown_wanted : code_wanted.Wanted → Wanted
+shown_wanted wants.Any = Any
+shown_wanted (wants.Exactly w) = Exactly w
 
 -- a width that a word may have
 abbrev pub HasWidthOfWord : ℕ → Type 0
@@ -33,14 +33,14 @@ abbrev pub HasWideWritten : Option ℕ → Type 0
 HasWideWritten None = Unit {0}
 HasWideWritten (Some w) = HasWidthOfWord w
 
-abbrev pub plain_typed : code_typed.Typed → Typed
-plain_typed t = record { width = t.width; term = tree t.term }
+abbrev pub shown_typed : code_typed.Typed → Typed
+shown_typed t = record { width = t.width; term = shown_term t.term }
 
-abbrev pub plain_all_typed : code_all.TypedAll → TypedAll
-plain_all_typed t = record { widths = t.widths.items; terms = forest t.terms.items }
+abbrev pub shown_all_typed : code_all.TypedAll → TypedAll
+shown_all_typed t = record { widths = t.widths.items; terms = shown_terms t.terms.items }
 
-abbrev pub plain_alike : code_alike.TypedAlike → TypedAlike
-plain_alike t = record { width = t.width; terms = forest t.terms.items }
+abbrev pub shown_alike : code_alike.TypedAlike → TypedAlike
+shown_alike t = record { width = t.width; terms = shown_terms t.terms.items }
 
 -- the fault of the code is that of the walk; the walk itself finds nothing too deep, and out of memory says nothing
 abbrev pub Refuses : {A : Type 0} → CheckErr → Result A Fault → Type 0
@@ -50,24 +50,24 @@ Refuses errors.NoMemory r = Unit {0}
 
 -- the result of the code is that of the walk
 abbrev pub Says : Result code_typed.Typed CheckErr → Result Typed Fault → Type 0
-Says (Ok x) r = r ≡ Ok (plain_typed x)
+Says (Ok x) r = r ≡ Ok (shown_typed x)
 Says (Err e) r = Refuses e r
 
 -- the same of several
 abbrev pub SaysAll : Result code_all.TypedAll CheckErr → Result TypedAll Fault → Type 0
-SaysAll (Ok x) r = r ≡ Ok (plain_all_typed x)
+SaysAll (Ok x) r = r ≡ Ok (shown_all_typed x)
 SaysAll (Err e) r = Refuses e r
 
 -- and of several of one width
 abbrev pub SaysAlike : Result code_alike.TypedAlike CheckErr → Result TypedAlike Fault → Type 0
-SaysAlike (Ok x) r = r ≡ Ok (plain_alike x)
+SaysAlike (Ok x) r = r ≡ Ok (shown_alike x)
 SaysAlike (Err e) r = Refuses e r
 
-abbrev pub plain_shape : code_shape.Shape → Shape
-plain_shape shapes.Alike = Alike
-plain_shape shapes.Comparing = Comparing
-plain_shape shapes.Shifting = Shifting
-plain_shape shapes.Resizing = Resizing
+abbrev pub shown_shape : code_shape.Shape → Shape
+shown_shape shapes.Alike = Alike
+shown_shape shapes.Comparing = Comparing
+shown_shape shapes.Shifting = Shifting
+shown_shape shapes.Resizing = Resizing
 
 abbrev pub with_slot : ℕ → Option code_slot.Slot → Option At
 with_slot i None = None

@@ -1,7 +1,7 @@
 -- Widths that a word may have: of slots, heads and what is written in an expression.
 use Rattle.std.specs.Prelude.{◌≡◌, ℕ, ◌≤◌, List, [], ◌∷◌, Some}
 use Rattle.safl_word.specs.Words.{max_width}
-use Rattle.safl_typing.specs.Rewriting.{Expression, Number, Sized, Variable, Choice, Binding, Applied, Called, Expressions, no_expression, an_expression, Bindings, no_binding, a_binding}
+use Rattle.safl_typing.specs.Rewriting.{Expression, Number, Sized, Variable, If, Let, Op, Call, Expressions, no_expression, an_expression, Bindings, no_binding, a_binding}
 use Rattle.safl_typing.specs.Heads.{Slot, Head}
 
 pub record IsWide (w : ℕ) : Type 0 where
@@ -30,10 +30,10 @@ abbrev mutual
   IsInRange (Number p n) = Unit {0}
   IsInRange (Sized p w n) = IsWide w
   IsInRange (Variable p x) = Unit {0}
-  IsInRange (Choice p c a b) = IsInRange c × IsInRange a × IsInRange b
-  IsInRange (Binding p bs b) = BoundInRange bs × IsInRange b
-  IsInRange (Applied p o es) = AreInRange es
-  IsInRange (Called p f es) = AreInRange es
+  IsInRange (If p c a b) = IsInRange c × IsInRange a × IsInRange b
+  IsInRange (Let p bs b) = BoundInRange bs × IsInRange b
+  IsInRange (Op p o es) = AreInRange es
+  IsInRange (Call p f es) = AreInRange es
 
   pub AreInRange : Expressions → Type 0
   AreInRange no_expression = Unit {0}

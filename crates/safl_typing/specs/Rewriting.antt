@@ -11,10 +11,10 @@ mutual
     Number : (place value : ℕ) → Expression
     Sized : (place width value : ℕ) → Expression
     Variable : (place : ℕ) → (name : List ℕ) → Expression
-    Choice : (place : ℕ) → (condition first second : Expression) → Expression
-    Binding : (place : ℕ) → Bindings → Expression → Expression
-    Applied : (place : ℕ) → Primitive → Expressions → Expression
-    Called : (place : ℕ) → (name : List ℕ) → Expressions → Expression
+    If : (place : ℕ) → (condition first second : Expression) → Expression
+    Let : (place : ℕ) → Bindings → Expression → Expression
+    Op : (place : ℕ) → Primitive → Expressions → Expression
+    Call : (place : ℕ) → (name : List ℕ) → Expressions → Expression
 
   pub data Expressions : Type 0 where
     no_expression : Expressions
@@ -31,7 +31,7 @@ scrutinee = codes "$case"
 
 -- whether the scrutinee is the label: the test and its variable have the label's place
 abbrev pub test_at : ℕ → Expression → Expression
-test_at p l = Applied p prims.Eq (an_expression (Variable p scrutinee) (an_expression l no_expression))
+test_at p l = Op p prims.Eq (an_expression (Variable p scrutinee) (an_expression l no_expression))
 
 -- A case of e is a let of its scrutinee over an if for each labelled arm, in order, and then the default; the let and
 -- the ifs have the place of the `case`
@@ -40,11 +40,11 @@ abbrev mutual
   rewritten (source.Number p n) = Number p n
   rewritten (source.Sized p w n) = Sized p w n
   rewritten (source.Variable p x) = Variable p x
-  rewritten (source.Choice p c a b) = Choice p (rewritten c) (rewritten a) (rewritten b)
-  rewritten (source.Binding p bs t) = Binding p (rewritten_binds bs) (rewritten t)
-  rewritten (source.Cases p e arms) = Binding p (a_binding p scrutinee None (rewritten e) no_binding) (rewritten_arms p arms)
-  rewritten (source.Applied p o ts) = Applied p o (rewritten_all ts)
-  rewritten (source.Called p f ts) = Called p f (rewritten_all ts)
+  rewritten (source.If p c a b) = If p (rewritten c) (rewritten a) (rewritten b)
+  rewritten (source.Let p bs t) = Let p (rewritten_binds bs) (rewritten t)
+  rewritten (source.Cases p e arms) = Let p (a_binding p scrutinee None (rewritten e) no_binding) (rewritten_arms p arms)
+  rewritten (source.Op p o ts) = Op p o (rewritten_all ts)
+  rewritten (source.Call p f ts) = Call p f (rewritten_all ts)
 
   pub rewritten_all : Trees → Expressions
   rewritten_all source.no_tree = no_expression
@@ -56,7 +56,7 @@ abbrev mutual
 
   pub rewritten_arms : ℕ → Arms → Expression
   rewritten_arms p (source.default_arm t) = rewritten t
-  rewritten_arms p (source.an_arm l t arms) = Choice p (test_at (place_of l) (rewritten l)) (rewritten t) (rewritten_arms p arms)
+  rewritten_arms p (source.an_arm l t arms) = If p (test_at (place_of l) (rewritten l)) (rewritten t) (rewritten_arms p arms)
 
 -- what an operator asks of the widths of its operands: that all are alike, and that the result is (`+ - * & | ^ ~`), or
 -- is one bit (a comparison); that the result has the first one's (a shift); or a row of the table (`cat`, `bits`, `ext`)
@@ -99,10 +99,10 @@ abbrev mutual
   flexible (Number p n) = true
   flexible (Sized p w n) = false
   flexible (Variable p x) = false
-  flexible (Choice p c a b) = flexible a && flexible b
-  flexible (Binding p bs b) = flexible b
-  flexible (Applied p o ts) = takes_width (shape o) && all_flexible ts
-  flexible (Called p f ts) = false
+  flexible (If p c a b) = flexible a && flexible b
+  flexible (Let p bs b) = flexible b
+  flexible (Op p o ts) = takes_width (shape o) && all_flexible ts
+  flexible (Call p f ts) = false
 
   pub all_flexible : Expressions → Bool
   all_flexible no_expression = true
@@ -118,10 +118,10 @@ abbrev mutual
   nodes (Number p n) = 1
   nodes (Sized p w n) = 1
   nodes (Variable p x) = 1
-  nodes (Choice p c a b) = 1 + (nodes c + (nodes a + nodes b))
-  nodes (Binding p bs b) = 1 + (nodes_bound bs + nodes b)
-  nodes (Applied p o es) = 1 + nodes_in es
-  nodes (Called p f es) = 1 + nodes_in es
+  nodes (If p c a b) = 1 + (nodes c + (nodes a + nodes b))
+  nodes (Let p bs b) = 1 + (nodes_bound bs + nodes b)
+  nodes (Op p o es) = 1 + nodes_in es
+  nodes (Call p f es) = 1 + nodes_in es
 
   pub nodes_in : Expressions → ℕ
   nodes_in no_expression = 0

@@ -4,8 +4,9 @@ use Rattle.std.specs.Str.{bytes_eq}
 use Rattle.safl_word.specs.Words.{Word, IsWord}
 use Rattle.safl_word.specs.declared.primitive.Primitive.{Primitive}
 use Rattle.safl_word.specs.Primitives.{result_width}
-use Rattle.safl_term.specs.Terms.{Term, Const, Var, If, Let, Op, Call, Loop, Terms, Nil, Cons}
-use Rattle.safl_typing.specs.Rewriting.{Expression, Number, Sized, Variable, Choice, Binding, Applied, Called, Expressions, no_expression, an_expression, Bindings, no_binding, a_binding, Shape, Alike, Comparing, Shifting, Resizing, shape, flexible, all_flexible}
+use Rattle.safl_term.specs.Terms as terms
+use Rattle.safl_term.specs.Terms.{Term, Const, Var, Loop, Terms, Nil, Cons}
+use Rattle.safl_typing.specs.Rewriting.{Expression, Number, Sized, Variable, If, Let, Op, Call, Expressions, no_expression, an_expression, Bindings, no_binding, a_binding, Shape, Alike, Comparing, Shifting, Resizing, shape, flexible, all_flexible}
 use Rattle.safl_typing.specs.Heads.{Slot, Known, Callee, Member, Above, Unknown, callee}
 
 -- a slot's number and width
@@ -79,7 +80,7 @@ widths_of ps = map (λ p. p.width) ps
 -- where it names a function of an earlier group, it has a site, which stands before those of the arguments
 abbrev pub Calls : Callee → Bool → ℕ → ℕ → List ℕ → Terms → ℕ → Term → Type 0
 Calls (Member i h) tail lo m ws us w t = (tail ≡ true) × (m ≡ lo) × (ws ≡ widths_of h.params) × (h.width ≡ w) × (t ≡ Loop i us)
-Calls (Above i h) tail lo m ws us w t = (m ≡ suc lo) × (ws ≡ widths_of h.params) × (h.width ≡ w) × (t ≡ Call i lo us)
+Calls (Above i h) tail lo m ws us w t = (m ≡ suc lo) × (ws ≡ widths_of h.params) × (h.width ≡ w) × (t ≡ terms.Call i lo us)
 Calls Unknown tail lo m ws us w t = ⊥
 
 -- In a body that sees k, where the slots are s, the expression has width w and term t, and its sites are those from lo up
@@ -90,10 +91,10 @@ abbrev mutual
   Has k s tail lo hi (Number p n) w t = (lo ≡ hi) × IsWord (word w n) × (t ≡ Const (word w n))
   Has k s tail lo hi (Sized p v n) w t = (lo ≡ hi) × (v ≡ w) × IsWord (word v n) × (t ≡ Const (word v n))
   Has k s tail lo hi (Variable p x) w t = (lo ≡ hi) × (i : ℕ) × (innermost x 0 s ≡ Some (record { slot = i; width = w })) × (t ≡ Var i)
-  Has k s tail lo hi (Choice p c a b) w t = (m : ℕ) × (n : ℕ) × (x : Term) × (y : Term) × (z : Term) × Has k s false lo m c 1 x × Has k s tail m n a w y × Has k s tail n hi b w z × (t ≡ If x y z)
-  Has k s tail lo hi (Binding p bs b) w t = (m : ℕ) × (ws : List ℕ) × (us : Terms) × (y : Term) × Differ (names bs) × HaveBound k s lo m bs ws us × Has k (s ++ slots bs ws) tail m hi b w y × (t ≡ Let us y)
-  Has k s tail lo hi (Applied p o es) w t = (ws : List ℕ) × (us : Terms) × HaveAll k s lo hi es ws us × Suits (shape o) o es ws w × (t ≡ Op o us)
-  Has k s tail lo hi (Called p f es) w t = (m : ℕ) × (ws : List ℕ) × (us : Terms) × HaveAll k s m hi es ws us × Calls (callee k f) tail lo m ws us w t
+  Has k s tail lo hi (If p c a b) w t = (m : ℕ) × (n : ℕ) × (x : Term) × (y : Term) × (z : Term) × Has k s false lo m c 1 x × Has k s tail m n a w y × Has k s tail n hi b w z × (t ≡ terms.If x y z)
+  Has k s tail lo hi (Let p bs b) w t = (m : ℕ) × (ws : List ℕ) × (us : Terms) × (y : Term) × Differ (names bs) × HaveBound k s lo m bs ws us × Has k (s ++ slots bs ws) tail m hi b w y × (t ≡ terms.Let us y)
+  Has k s tail lo hi (Op p o es) w t = (ws : List ℕ) × (us : Terms) × HaveAll k s lo hi es ws us × Suits (shape o) o es ws w × (t ≡ terms.Op o us)
+  Has k s tail lo hi (Call p f es) w t = (m : ℕ) × (ws : List ℕ) × (us : Terms) × HaveAll k s m hi es ws us × Calls (callee k f) tail lo m ws us w t
 
   -- operands or arguments with their widths and terms
   pub HaveAll : Known → List Slot → ℕ → ℕ → Expressions → List ℕ → Terms → Type 0

@@ -8,9 +8,11 @@ use Rattle.safl_word.specs.declared.fault.Rule.TheVariants as rules
 use Rattle.safl_word.specs.declared.fault.Fault.{Fault}
 use Rattle.safl_word.specs.declared.primitive.Primitive.{Primitive}
 use Rattle.safl_word.specs.Primitives.{result_width}
-use Rattle.safl_term.specs.Terms.{Term, Const, Var, If, Let, Op, Call, Loop, Terms, Nil, Cons}
+use Rattle.safl_term.specs.Readiness.{or_else}
+use Rattle.safl_term.specs.Terms as terms
+use Rattle.safl_term.specs.Terms.{Term, Const, Var, Loop, Terms, Nil, Cons}
 use Rattle.safl_tree.specs.Tree.{Definition}
-use Rattle.safl_typing.specs.Rewriting.{Expression, Number, Sized, Variable, Choice, Binding, Applied, Called, Expressions, no_expression, an_expression, Bindings, no_binding, a_binding, Shape, Alike, Comparing, Shifting, Resizing, shape, flexible, count, rewritten, nodes}
+use Rattle.safl_typing.specs.Rewriting.{Expression, Number, Sized, Variable, If, Let, Op, Call, Expressions, no_expression, an_expression, Bindings, no_binding, a_binding, Shape, Alike, Comparing, Shifting, Resizing, shape, flexible, count, rewritten, nodes}
 use Rattle.safl_typing.specs.Heads.{Slot, Head, Known, Callee, Member, Above, Unknown, callee, sites, sites_bound, unit_of, params_of, heads}
 use Rattle.safl_typing.specs.Typing.{At, innermost, slots, word, widths_of}
 use Rattle.safl_term.specs.Sizes.{max_bindings}
@@ -33,11 +35,6 @@ after (Ok a) rest = rest a
 abbrev pub unless : {A : Type 0} → Option Fault → Result A Fault → Result A Fault
 unless (Some f) rest = Err f
 unless None rest = rest
-
--- the first of two faults
-abbrev pub or_else : Option Fault → Option Fault → Option Fault
-or_else (Some f) g = Some f
-or_else None g = g
 
 -- the fault, where the test fails
 abbrev pub needs : Bool → Fault → Option Fault
@@ -96,8 +93,8 @@ variable p m (Some a) = settle p m a.width (Var a.slot)
 
 -- two branches: where no width is expected, the first rigid one gives it
 abbrev pub branches : Bool → Wanted → (Wanted → Result Typed Fault) → (Wanted → Result Typed Fault) → Term → Result Typed Fault
-branches true m first second x = after (second m) (λ z. after (first (Exactly z.width)) (λ y. Ok (record { width = z.width; term = If x y.term z.term })))
-branches false m first second x = after (first m) (λ y. after (second (Exactly y.width)) (λ z. Ok (record { width = y.width; term = If x y.term z.term })))
+branches true m first second x = after (second m) (λ z. after (first (Exactly z.width)) (λ y. Ok (record { width = z.width; term = terms.If x y.term z.term })))
+branches false m first second x = after (first m) (λ y. after (second (Exactly y.width)) (λ z. Ok (record { width = y.width; term = terms.If x y.term z.term })))
 
 -- operands of one width: an operand, and those that follow it
 abbrev pub alike : Bool → Wanted → (Wanted → Result Typed Fault) → (Wanted → Result TypedAlike Fault) → Result TypedAlike Fault
@@ -107,13 +104,13 @@ alike false m first others = after (first m) (λ x. after (others (Exactly x.wid
 -- a width where the table has one
 abbrev pub resized : ℕ → Wanted → Primitive → Option ℕ → Terms → Result Typed Fault
 resized p m o None us = Err (fault rules.E05 p)
-resized p m o (Some w) us = settle p m w (Op o us)
+resized p m o (Some w) us = settle p m w (terms.Op o us)
 
 -- an operator, by what it asks of its operands
 abbrev pub operated : Shape → ℕ → Wanted → Primitive → (Wanted → Result TypedAlike Fault) → Result TypedAlike Fault → Result TypedAll Fault → Result Typed Fault
-operated Alike p m o alike shift all = after (alike m) (λ r. Ok (record { width = r.width; term = Op o r.terms }))
-operated Comparing p m o alike shift all = after (alike Any) (λ r. settle p m 1 (Op o r.terms))
-operated Shifting p m o alike shift all = after shift (λ r. settle p m r.width (Op o r.terms))
+operated Alike p m o alike shift all = after (alike m) (λ r. Ok (record { width = r.width; term = terms.Op o r.terms }))
+operated Comparing p m o alike shift all = after (alike Any) (λ r. settle p m 1 (terms.Op o r.terms))
+operated Shifting p m o alike shift all = after shift (λ r. settle p m r.width (terms.Op o r.terms))
 operated Resizing p m o alike shift all = after all (λ r. resized p m o (result_width o r.widths) r.terms)
 
 -- a call: its callee, the number of its arguments, and then they, each at its parameter's width
@@ -124,7 +121,7 @@ arguments p m h n args call =
 
 abbrev pub called : Callee → Bool → ℕ → ℕ → Wanted → ℕ → (ℕ → List ℕ → Result TypedAll Fault) → Result Typed Fault
 called (Member i h) tail lo p m n args = unless (needs tail (fault rules.E10 p)) (arguments p m h n (args lo (widths_of h.params)) (λ us. Loop i us))
-called (Above i h) tail lo p m n args = arguments p m h n (args (suc lo) (widths_of h.params)) (λ us. Call i lo us)
+called (Above i h) tail lo p m n args = arguments p m h n (args (suc lo) (widths_of h.params)) (λ us. terms.Call i lo us)
 called Unknown tail lo p m n args = Err (fault rules.E09 p)
 
 -- a name with its place
@@ -160,18 +157,18 @@ abbrev mutual
   check k s tail lo m (Number p n) = number p n m
   check k s tail lo m (Sized p v n) = sized p v n m
   check k s tail lo m (Variable p x) = variable p m (innermost x 0 s)
-  check k s tail lo m (Choice p c a b) =
+  check k s tail lo m (If p c a b) =
       unless (needs (is_known m (flexible a && flexible b)) (fault rules.E14 p))
       (after (check k s false lo (Exactly 1) c)
       (λ x. branches (is_any m && flexible a) m (λ v. check k s tail (lo + sites k c) v a) (λ v. check k s tail (lo + sites k c + sites k a) v b) x.term))
-  check k s tail lo m (Binding p bs b) =
+  check k s tail lo m (Let p bs b) =
       unless (needs (is_known m (flexible b)) (fault rules.E14 p))
       (unless (repeated [] (placed bs))
       (after (check_bound k s lo bs)
       (λ r. after (check k (s ++ slots bs r.widths) tail (lo + sites_bound k bs) m b)
-      (λ y. Ok (record { width = y.width; term = Let r.terms y.term })))))
-  check k s tail lo m (Applied p o es) = operated (shape o) p m o (λ v. check_alike k s lo p v es) (check_shift k s lo p es) (check_all k s lo (all_any es) es)
-  check k s tail lo m (Called p f es) = called (callee k f) tail lo p m (count es) (λ first ws. check_all k s first (exactly ws) es)
+      (λ y. Ok (record { width = y.width; term = terms.Let r.terms y.term })))))
+  check k s tail lo m (Op p o es) = operated (shape o) p m o (λ v. check_alike k s lo p v es) (check_shift k s lo p es) (check_all k s lo (all_any es) es)
+  check k s tail lo m (Call p f es) = called (callee k f) tail lo p m (count es) (λ first ws. check_all k s first (exactly ws) es)
 
   -- several in order, each as it is wanted
   pub check_all : Known → List Slot → ℕ → List Wanted → Expressions → Result TypedAll Fault
@@ -221,10 +218,10 @@ abbrev mutual
   long_let (Number p n) = None
   long_let (Sized p w n) = None
   long_let (Variable p x) = None
-  long_let (Choice p c a b) = or_place (long_let c) (or_place (long_let a) (long_let b))
-  long_let (Binding p bs b) = or_place (excess max_bindings (map (λ x. x.place) (placed bs))) (or_place (long_let_bound bs) (long_let b))
-  long_let (Applied p o es) = long_let_in es
-  long_let (Called p f es) = long_let_in es
+  long_let (If p c a b) = or_place (long_let c) (or_place (long_let a) (long_let b))
+  long_let (Let p bs b) = or_place (excess max_bindings (map (λ x. x.place) (placed bs))) (or_place (long_let_bound bs) (long_let b))
+  long_let (Op p o es) = long_let_in es
+  long_let (Call p f es) = long_let_in es
 
   pub long_let_in : Expressions → Option ℕ
   long_let_in no_expression = None

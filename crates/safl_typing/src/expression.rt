@@ -19,10 +19,10 @@ pub enum Expression {
     Number(u32, Raw),
     Sized(u32, u8, Raw),
     Variable(u32, Name),
-    Choice(u32, Marks, Box<Expression>, Box<Expression>, Box<Expression>),
-    Binding(u32, Marks, Vec<Bound>, Box<Expression>),
-    Applied(u32, Marks, Primitive, Vec<Expression>),
-    Called(u32, Marks, Name, Vec<Expression>),
+    If(u32, Marks, Box<Expression>, Box<Expression>, Box<Expression>),
+    Let(u32, Marks, Vec<Bound>, Box<Expression>),
+    Op(u32, Marks, Primitive, Vec<Expression>),
+    Call(u32, Marks, Name, Vec<Expression>),
 }
 
 /// A binding's place, its name, its width in bits where one is written, and its value.

@@ -3,7 +3,7 @@
 ghost use Rattle.std.specs.Prelude.{◌≡◌, ◌<◌, IfSome, ◌==◌, ◌&&◌, nat_lt, length};
 ghost use Rattle.std.specs.Str.{bytes_eq};
 ghost use Rattle.safl_typing.specs.Heads.{first_head, callee};
-ghost use Rattle.safl_typing.specs.PlainHeads.{plain_heads, plain_callee, numbered, known, IsOneOf};
+ghost use Rattle.safl_typing.specs.PlainHeads.{shown_heads, shown_callee, numbered, known, IsOneOf};
 
 use indexmap::IndexMap;
 use safl_tree::Name;
@@ -100,7 +100,7 @@ pub enum Callee {
 /// The function that a call in a body of this group names.
 pub fn find_callee(heads: &Heads, unit: u32, name: &Name) -> Callee
     ensures one { IsOneOf heads.now result }
-    ensures found { plain_callee heads.now result ≡ callee (known heads.now unit) name.now }
+    ensures found { shown_callee heads.now result ≡ callee (known heads.now unit) name.now }
 {
     if let Some(member) = find_member(heads, unit, name) {
         return Callee::Member(member);
@@ -114,7 +114,7 @@ pub fn find_callee(heads: &Heads, unit: u32, name: &Name) -> Callee
 // The first member of the group with this name.
 fn find_member(heads: &Heads, unit: u32, name: &Name) -> Option<usize>
     ensures within { IfSome result (λ n. n < length heads.now) }
-    ensures found { numbered heads.now result ≡ first_head (λ h. h.unit == unit && bytes_eq h.name name.now) 0 (plain_heads heads.now) }
+    ensures found { numbered heads.now result ≡ first_head (λ h. h.unit == unit && bytes_eq h.name name.now) 0 (shown_heads heads.now) }
 {
     let mut found = None;
     let mut at = heads.last(name);
@@ -130,7 +130,7 @@ fn find_member(heads: &Heads, unit: u32, name: &Name) -> Option<usize>
 // The first function of an earlier group with this name.
 fn find_above(heads: &Heads, unit: u32, name: &Name) -> Option<usize>
     ensures within { IfSome result (λ n. n < length heads.now) }
-    ensures found { numbered heads.now result ≡ first_head (λ h. nat_lt h.unit unit && bytes_eq h.name name.now) 0 (plain_heads heads.now) }
+    ensures found { numbered heads.now result ≡ first_head (λ h. nat_lt h.unit unit && bytes_eq h.name name.now) 0 (shown_heads heads.now) }
 {
     let mut found = None;
     let mut at = heads.last(name);

@@ -1,9 +1,9 @@
 //! What an expression is marked with: whether it takes any width, and how many call sites it has.
 
 ghost use Rattle.std.specs.Prelude.{◌≡◌, ℕ, ◌+◌, ◌≤◌, ◌&&◌, List, min};
-ghost use Rattle.safl_typing.specs.Rewriting.{Choice, Binding, Applied, Called, flexible, all_flexible, shape, takes_width};
+ghost use Rattle.safl_typing.specs.Rewriting.{If, Let, Op, Call, flexible, all_flexible, shape, takes_width};
 ghost use Rattle.safl_typing.specs.Heads.{Known, callee, is_site, sites, sites_in, sites_bound};
-ghost use Rattle.safl_typing.specs.Plain.{plain, plain_all, plain_bindings};
+ghost use Rattle.safl_typing.specs.Plain.{shown_expression, shown_expressions, shown_bindings};
 ghost use Rattle.safl_typing.specs.Marks.{IsMarkOf, IsMarked, AreMarked, BoundMarked};
 
 use crate::expression::{Bound, Expression, Marks};
@@ -13,16 +13,16 @@ use safl_word::Primitive;
 
 /// The marks of an expression.
 pub fn marks_of(e: &Expression) -> Marks
-    ensures { (k : Known) → IsMarked k e.now → IsMarkOf k (plain e.now) result }
+    ensures { (k : Known) → IsMarked k e.now → IsMarkOf k (shown_expression e.now) result }
 {
     match e {
         Expression::Number(_, _) => unmarked(true),
         Expression::Sized(_, _, _) => unmarked(false),
         Expression::Variable(_, _) => unmarked(false),
-        Expression::Choice(_, marks, _, _, _) => *marks,
-        Expression::Binding(_, marks, _, _) => *marks,
-        Expression::Applied(_, marks, _, _) => *marks,
-        Expression::Called(_, marks, _, _) => *marks,
+        Expression::If(_, marks, _, _, _) => *marks,
+        Expression::Let(_, marks, _, _) => *marks,
+        Expression::Op(_, marks, _, _) => *marks,
+        Expression::Call(_, marks, _, _) => *marks,
     }
 }
 
@@ -36,21 +36,21 @@ fn unmarked(flexible: bool) -> Marks
 
 /// Whether an expression takes any width: a number, or what is made of flexible parts alone.
 pub fn is_flexible(e: &Expression) -> bool
-    ensures { (k : Known) → IsMarked k e.now → result ≡ flexible (plain e.now) }
+    ensures { (k : Known) → IsMarked k e.now → result ≡ flexible (shown_expression e.now) }
 {
     marks_of(e).flexible
 }
 
 /// Whether two branches are both flexible.
 pub fn are_both_flexible(first: &Expression, second: &Expression) -> bool
-    ensures { (k : Known) → IsMarked k first.now → IsMarked k second.now → result ≡ (flexible (plain first.now) && flexible (plain second.now)) }
+    ensures { (k : Known) → IsMarked k first.now → IsMarked k second.now → result ≡ (flexible (shown_expression first.now) && flexible (shown_expression second.now)) }
 {
     is_flexible(first) && is_flexible(second)
 }
 
 /// Adds the sites of an expression to those that were counted, up to 4,001.
 pub fn add_sites(counted: u32, e: &Expression) -> u32
-    ensures { (k : Known) → IsMarked k e.now → result ≡ min 4001 (counted + sites k (plain e.now)) }
+    ensures { (k : Known) → IsMarked k e.now → result ≡ min 4001 (counted + sites k (shown_expression e.now)) }
 {
     counted.saturating_add(marks_of(e).sites).min(SITES_COUNTED)
 }
@@ -58,7 +58,7 @@ pub fn add_sites(counted: u32, e: &Expression) -> u32
 /// Adds the sites of the values of bindings.
 pub fn add_bound_sites(counted: u32, bound: &[Bound]) -> u32
     requires { counted ≤ 4001 }
-    ensures { (k : Known) → BoundMarked k bound.now → result ≡ min 4001 (counted + sites_bound k (plain_bindings bound.now)) }
+    ensures { (k : Known) → BoundMarked k bound.now → result ≡ min 4001 (counted + sites_bound k (shown_bindings bound.now)) }
 {
     let mut total = counted;
     for b in bound {
@@ -70,7 +70,7 @@ pub fn add_bound_sites(counted: u32, bound: &[Bound]) -> u32
 // Adds the sites of operands or arguments.
 fn add_all_sites(counted: u32, es: &[Expression]) -> u32
     requires { counted ≤ 4001 }
-    ensures { (k : Known) → AreMarked k es.now → result ≡ min 4001 (counted + sites_in k (plain_all es.now)) }
+    ensures { (k : Known) → AreMarked k es.now → result ≡ min 4001 (counted + sites_in k (shown_expressions es.now)) }
 {
     let mut total = counted;
     for e in es {
@@ -80,7 +80,7 @@ fn add_all_sites(counted: u32, es: &[Expression]) -> u32
 }
 
 fn are_flexible(es: &[Expression]) -> bool
-    ensures { (k : Known) → AreMarked k es.now → result ≡ all_flexible (plain_all es.now) }
+    ensures { (k : Known) → AreMarked k es.now → result ≡ all_flexible (shown_expressions es.now) }
 {
     for e in es {
         if !is_flexible(e) {
@@ -92,7 +92,7 @@ fn are_flexible(es: &[Expression]) -> bool
 
 /// The marks of an if.
 pub fn marks_of_choice(condition: &Expression, first: &Expression, second: &Expression) -> Marks
-    ensures { (k : Known) (p : ℕ) → IsMarked k condition.now → IsMarked k first.now → IsMarked k second.now → IsMarkOf k (Choice p (plain condition.now) (plain first.now) (plain second.now)) result }
+    ensures { (k : Known) (p : ℕ) → IsMarked k condition.now → IsMarked k first.now → IsMarked k second.now → IsMarkOf k (If p (shown_expression condition.now) (shown_expression first.now) (shown_expression second.now)) result }
 {
     let flexible = are_both_flexible(first, second);
     let tested = add_sites(0, condition);
@@ -102,7 +102,7 @@ pub fn marks_of_choice(condition: &Expression, first: &Expression, second: &Expr
 
 /// The marks of a let.
 pub fn marks_of_binding(bound: &[Bound], body: &Expression) -> Marks
-    ensures { (k : Known) (p : ℕ) → BoundMarked k bound.now → IsMarked k body.now → IsMarkOf k (Binding p (plain_bindings bound.now) (plain body.now)) result }
+    ensures { (k : Known) (p : ℕ) → BoundMarked k bound.now → IsMarked k body.now → IsMarkOf k (Let p (shown_bindings bound.now) (shown_expression body.now)) result }
 {
     let flexible = is_flexible(body);
     let sites = add_sites(add_bound_sites(0, bound), body);
@@ -111,7 +111,7 @@ pub fn marks_of_binding(bound: &[Bound], body: &Expression) -> Marks
 
 /// The marks of an operator with its operands.
 pub fn marks_of_operation(operator: Primitive, operands: &[Expression]) -> Marks
-    ensures { (k : Known) (p : ℕ) → AreMarked k operands.now → IsMarkOf k (Applied p operator (plain_all operands.now)) result }
+    ensures { (k : Known) (p : ℕ) → AreMarked k operands.now → IsMarkOf k (Op p operator (shown_expressions operands.now)) result }
 {
     let flexible = has_operands_width(operator) && are_flexible(operands);
     let sites = add_all_sites(0, operands);
@@ -121,7 +121,7 @@ pub fn marks_of_operation(operator: Primitive, operands: &[Expression]) -> Marks
 /// The marks of a call, which is so many sites itself.
 pub fn marks_of_call(own: u32, arguments: &[Expression]) -> Marks
     requires { own ≤ 1 }
-    ensures { (k : Known) (p : ℕ) (f : List ℕ) → own ≡ is_site (callee k f) → AreMarked k arguments.now → IsMarkOf k (Called p f (plain_all arguments.now)) result }
+    ensures { (k : Known) (p : ℕ) (f : List ℕ) → own ≡ is_site (callee k f) → AreMarked k arguments.now → IsMarkOf k (Call p f (shown_expressions arguments.now)) result }
 {
     let sites = add_all_sites(own, arguments);
     Marks {

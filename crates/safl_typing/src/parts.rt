@@ -4,14 +4,14 @@ ghost use Rattle.std.specs.Prelude.{◌≡◌, ℕ, ◌+◌, ◌++◌, List, [],
 ghost use Rattle.std.specs.List.{AllByRecursion};
 ghost use Rattle.safl_term.specs.Slots.{HasSlots};
 ghost use Rattle.safl_term.specs.Terms.{Nil, Cons, If, Let, Op, Call, Loop};
-ghost use Rattle.safl_term.specs.Tree.{tree, forest};
+ghost use Rattle.safl_term.specs.Tree.{shown_term, shown_terms};
 ghost use Rattle.safl_typing.specs.Rewriting.{no_expression};
-ghost use Rattle.safl_typing.specs.Heads as plain_heads;
+ghost use Rattle.safl_typing.specs.Heads as shown_heads;
 ghost use Rattle.safl_typing.specs.Typing.{slots};
 ghost use Rattle.safl_typing.specs.Walk.{settle, check_alike};
-ghost use Rattle.safl_typing.specs.Plain.{plain_bindings};
-ghost use Rattle.safl_typing.specs.PlainHeads.{plain_slots};
-ghost use Rattle.safl_typing.specs.PlainTyped.{plain_wanted, plain_all_typed, Says, SaysAll, SaysAlike};
+ghost use Rattle.safl_typing.specs.Plain.{shown_bindings};
+ghost use Rattle.safl_typing.specs.PlainHeads.{shown_slots};
+ghost use Rattle.safl_typing.specs.PlainTyped.{shown_wanted, shown_all_typed, Says, SaysAll, SaysAlike};
 
 use crate::expression::Bound;
 use crate::heads::Slot;
@@ -37,7 +37,7 @@ pub struct TypedAlike {
 
 /// No expressions.
 pub fn none_typed(alloc: Global) -> TypedAll
-    ensures none { plain_all_typed result ≡ record { widths = []; terms = Nil } }
+    ensures none { shown_all_typed result ≡ record { widths = []; terms = Nil } }
     ensures slots { (n : ℕ) → AllByRecursion (HasSlots n) result.terms.items }
 {
     TypedAll {
@@ -48,7 +48,7 @@ pub fn none_typed(alloc: Global) -> TypedAll
 
 /// No operands: E14 where no width is expected.
 pub fn none_alike(alloc: Global, place: u32, wanted: Wanted) -> Result<TypedAlike, CheckErr>
-    ensures says { (k : plain_heads.Known) (s : List plain_heads.Slot) (site : ℕ) → SaysAlike result (check_alike k s site place (plain_wanted wanted) no_expression) }
+    ensures says { (k : shown_heads.Known) (s : List shown_heads.Slot) (site : ℕ) → SaysAlike result (check_alike k s site place (shown_wanted wanted) no_expression) }
     ensures slots { IfOk result (λ t. (n : ℕ) → AllByRecursion (HasSlots n) t.terms.items) }
 {
     match wanted {
@@ -62,7 +62,7 @@ pub fn none_alike(alloc: Global, place: u32, wanted: Wanted) -> Result<TypedAlik
 
 /// An expression, and those that follow it.
 pub fn put_first(first: Typed, rest: TypedAll) -> Result<TypedAll, CheckErr>
-    ensures says { SaysAll result (Ok (record { widths = first.width ∷ rest.widths.items; terms = Cons (tree first.term) (forest rest.terms.items) })) }
+    ensures says { SaysAll result (Ok (record { widths = first.width ∷ rest.widths.items; terms = Cons (shown_term first.term) (shown_terms rest.terms.items) })) }
     ensures slots { IfOk result (λ t. (n : ℕ) → HasSlots n first.term → AllByRecursion (HasSlots n) rest.terms.items → AllByRecursion (HasSlots n) t.terms.items) }
 {
     let mut all = rest;
@@ -73,7 +73,7 @@ pub fn put_first(first: Typed, rest: TypedAll) -> Result<TypedAll, CheckErr>
 
 /// An operand, and those that follow it.
 pub fn put_operand(width: u8, first: Term, rest: Vec<Term>) -> Result<TypedAlike, CheckErr>
-    ensures says { SaysAlike result (Ok (record { width = width; terms = Cons (tree first) (forest rest.items) })) }
+    ensures says { SaysAlike result (Ok (record { width = width; terms = Cons (shown_term first) (shown_terms rest.items) })) }
     ensures slots { IfOk result (λ t. (n : ℕ) → HasSlots n first → AllByRecursion (HasSlots n) rest.items → AllByRecursion (HasSlots n) t.terms.items) }
 {
     let mut terms = rest;
@@ -89,7 +89,7 @@ pub fn make_if(
     first: Term,
     second: Term,
 ) -> Result<Typed, CheckErr>
-    ensures says { Says result (Ok (record { width = width; term = If (tree test) (tree first) (tree second) })) }
+    ensures says { Says result (Ok (record { width = width; term = If (shown_term test) (shown_term first) (shown_term second) })) }
     ensures slots { IfOk result (λ t. (n : ℕ) → HasSlots n test → HasSlots n first → HasSlots n second → HasSlots n t.term) }
 {
     let test = Box::new(alloc, test)?;
@@ -107,7 +107,7 @@ pub fn make_let(
     bound: Vec<Term>,
     body: Term,
 ) -> Result<Typed, CheckErr>
-    ensures says { Says result (Ok (record { width = width; term = Let (forest bound.items) (tree body) })) }
+    ensures says { Says result (Ok (record { width = width; term = Let (shown_terms bound.items) (shown_term body) })) }
     ensures slots { IfOk result (λ t. AllByRecursion (HasSlots slot) bound.items → HasSlots (slot + length bound.items) body → HasSlots slot t.term) }
 {
     let body = Box::new(alloc, body)?;
@@ -118,7 +118,7 @@ pub fn make_let(
 /// An operator with its operands, which all have the width of the result.
 pub fn make_operation(width: u8, operator: Primitive, operands: Vec<Term>) -> Typed
     ensures width { result.width ≡ width }
-    ensures term { tree result.term ≡ Op operator (forest operands.items) }
+    ensures term { shown_term result.term ≡ Op operator (shown_terms operands.items) }
     ensures slots { (n : ℕ) → AllByRecursion (HasSlots n) operands.items → HasSlots n result.term }
 {
     let term = Term::Op(operator, operands);
@@ -133,7 +133,7 @@ pub fn settled_operation(
     operator: Primitive,
     operands: Vec<Term>,
 ) -> Result<Typed, CheckErr>
-    ensures says { Says result (settle place (plain_wanted wanted) width (Op operator (forest operands.items))) }
+    ensures says { Says result (settle place (shown_wanted wanted) width (Op operator (shown_terms operands.items))) }
     ensures slots { IfOk result (λ t. (n : ℕ) → AllByRecursion (HasSlots n) operands.items → HasSlots n t.term) }
 {
     settled(place, wanted, width, Term::Op(operator, operands))
@@ -148,7 +148,7 @@ pub fn settled_call(
     site: u32,
     arguments: Vec<Term>,
 ) -> Result<Typed, CheckErr>
-    ensures says { Says result (settle place (plain_wanted wanted) width (Call function site (forest arguments.items))) }
+    ensures says { Says result (settle place (shown_wanted wanted) width (Call function site (shown_terms arguments.items))) }
     ensures slots { IfOk result (λ t. (n : ℕ) → AllByRecursion (HasSlots n) arguments.items → HasSlots n t.term) }
 {
     settled(place, wanted, width, Term::Call(function, site, arguments))
@@ -162,7 +162,7 @@ pub fn settled_loop(
     function: u32,
     arguments: Vec<Term>,
 ) -> Result<Typed, CheckErr>
-    ensures says { Says result (settle place (plain_wanted wanted) width (Loop function (forest arguments.items))) }
+    ensures says { Says result (settle place (shown_wanted wanted) width (Loop function (shown_terms arguments.items))) }
     ensures slots { IfOk result (λ t. (n : ℕ) → AllByRecursion (HasSlots n) arguments.items → HasSlots n t.term) }
 {
     settled(place, wanted, width, Term::Loop(function, arguments))
@@ -170,7 +170,7 @@ pub fn settled_loop(
 
 /// The slots of a let's bindings.
 pub fn own_slots(alloc: Global, bound: &[Bound], widths: &[u8]) -> Result<Vec<Slot>, NoMemory>
-    ensures { IfOk result (λ own. plain_slots own.items ≡ slots (plain_bindings bound.now) widths.now) }
+    ensures { IfOk result (λ own. shown_slots own.items ≡ slots (shown_bindings bound.now) widths.now) }
 {
     let mut own = Vec::new(alloc);
     add_slots(alloc, &mut own, bound, widths)?;
@@ -184,7 +184,7 @@ fn add_slots(
     bound: &[Bound],
     widths: &[u8],
 ) -> Result<(), NoMemory>
-    ensures { OnOk result (plain_slots all.new.items ≡ plain_slots all.old.items ++ slots (plain_bindings bound.now) widths.now) }
+    ensures { OnOk result (shown_slots all.new.items ≡ shown_slots all.old.items ++ slots (shown_bindings bound.now) widths.now) }
 {
     let Some((first, rest)) = bound.split_first() else {
         return Ok(());

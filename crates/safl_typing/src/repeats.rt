@@ -4,7 +4,7 @@ ghost use Rattle.std.specs.Prelude.{◌≡◌, ◌≤◌, [], length};
 ghost use Rattle.std.specs.List.{list_any};
 ghost use Rattle.std.specs.Str.{bytes_eq};
 ghost use Rattle.safl_typing.specs.Walk.{repeated, placed};
-ghost use Rattle.safl_typing.specs.Plain.{plain_bindings};
+ghost use Rattle.safl_typing.specs.Plain.{shown_bindings};
 ghost use Rattle.safl_typing.specs.PlainNames.{earlier, twice_at};
 
 use crate::expression::Bound;
@@ -12,7 +12,7 @@ use safl_tree::Name;
 
 /// The place of the first binding whose name stands earlier in the let.
 pub fn find_repeated(bound: &[Bound]) -> Option<u32>
-    ensures { twice_at result ≡ repeated [] (placed (plain_bindings bound.now)) }
+    ensures { twice_at result ≡ repeated [] (placed (shown_bindings bound.now)) }
 {
     for i in 0..bound.len() {
         let name = &bound[i].name;

@@ -2,9 +2,9 @@
 
 ghost use Rattle.std.specs.Prelude.{◌≡◌, [], ◌∷◌, IfOk};
 ghost use Rattle.safl_tree.specs.Tree.{Tree, trees_of, binds_of, arms_of};
-ghost use Rattle.safl_tree.specs.Shown.{shows, shows_all, shows_bounds, shows_labelled};
+ghost use Rattle.safl_tree.specs.Shown.{shown_tree, shown_trees, shown_bounds, shown_labelled};
 ghost use Rattle.safl_typing.specs.Rewriting.{rewritten, rewritten_all, rewritten_binds, rewritten_arms};
-ghost use Rattle.safl_typing.specs.Plain.{plain, plain_all, plain_bindings};
+ghost use Rattle.safl_typing.specs.Plain.{shown_expression, shown_expressions, shown_bindings};
 ghost use Rattle.safl_typing.specs.PlainHeads.{known};
 ghost use Rattle.safl_typing.specs.Marks.{IsMarked, AreMarked, BoundMarked};
 
@@ -19,7 +19,7 @@ use std::alloc::Global;
 /// The expression in which each `case` is rewritten, of a body of this group. It recurses as deep as the expression is.
 #[cycle(rewriting)]
 pub fn rewrite(alloc: Global, heads: &Heads, unit: u32, e: &Expr) -> Result<Expression, NoMemory>
-    ensures rewritten { IfOk result (λ x. plain x ≡ rewritten (shows e.now)) }
+    ensures rewritten { IfOk result (λ x. shown_expression x ≡ rewritten (shown_tree e.now)) }
     ensures marked { IfOk result (IsMarked (known heads.now unit)) }
 {
     let place = e.place;
@@ -38,10 +38,10 @@ pub fn rewrite(alloc: Global, heads: &Heads, unit: u32, e: &Expr) -> Result<Expr
             let body = rewrite(alloc, heads, unit, body)?;
             bind(alloc, place, bound, body)
         }
-        Node::Case(looked_at, arms, other) => {
-            let value = rewrite(alloc, heads, unit, looked_at)?;
-            let other = rewrite(alloc, heads, unit, other)?;
-            let body = rewrite_arms(alloc, heads, unit, place, arms, other)?;
+        Node::Case(scrutinee, arms, default) => {
+            let value = rewrite(alloc, heads, unit, scrutinee)?;
+            let default = rewrite(alloc, heads, unit, default)?;
+            let body = rewrite_arms(alloc, heads, unit, place, arms, default)?;
             scrutinise(alloc, place, value, body)
         }
         Node::Op(operator, operands) => {
@@ -64,7 +64,7 @@ fn rewrite_all(
     unit: u32,
     es: &[Expr],
 ) -> Result<Vec<Expression>, NoMemory>
-    ensures rewritten { IfOk result (λ xs. plain_all xs.items ≡ rewritten_all (trees_of (shows_all es.now))) }
+    ensures rewritten { IfOk result (λ xs. shown_expressions xs.items ≡ rewritten_all (trees_of (shown_trees es.now))) }
     ensures marked { IfOk result (λ xs. AreMarked (known heads.now unit) xs.items) }
 {
     let mut all = Vec::new(alloc);
@@ -83,7 +83,7 @@ fn rewrite_binds(
     unit: u32,
     binds: &[Bind],
 ) -> Result<Vec<Bound>, NoMemory>
-    ensures rewritten { IfOk result (λ bs. plain_bindings bs.items ≡ rewritten_binds (binds_of (shows_bounds binds.now))) }
+    ensures rewritten { IfOk result (λ bs. shown_bindings bs.items ≡ rewritten_binds (binds_of (shown_bounds binds.now))) }
     ensures marked { IfOk result (λ bs. BoundMarked (known heads.now unit) bs.items) }
 {
     let mut all = Vec::new(alloc);
@@ -108,12 +108,12 @@ fn rewrite_arms(
     unit: u32,
     place: u32,
     arms: &[Arm],
-    other: Expression,
+    default: Expression,
 ) -> Result<Expression, NoMemory>
-    ensures rewritten { IfOk result (λ x. (t : Tree) → plain other ≡ rewritten t → plain x ≡ rewritten_arms place (arms_of (shows_labelled arms.now) t)) }
-    ensures marked { IfOk result (λ x. IsMarked (known heads.now unit) other → IsMarked (known heads.now unit) x) }
+    ensures rewritten { IfOk result (λ x. (t : Tree) → shown_expression default ≡ rewritten t → shown_expression x ≡ rewritten_arms place (arms_of (shown_labelled arms.now) t)) }
+    ensures marked { IfOk result (λ x. IsMarked (known heads.now unit) default → IsMarked (known heads.now unit) x) }
 {
-    let mut body = other;
+    let mut body = default;
     let count = arms.len();
     for done in 0..count {
         let arm = &arms[count - 1 - done];

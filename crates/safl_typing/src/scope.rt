@@ -2,8 +2,8 @@
 
 ghost use Rattle.std.specs.Prelude.{◌≡◌, ◌+◌, ◌<◌, ◌^◌, Some, IfSome, length};
 ghost use Rattle.safl_typing.specs.Typing.{innermost};
-ghost use Rattle.safl_typing.specs.PlainHeads.{plain_slots};
-ghost use Rattle.safl_typing.specs.PlainScope.{plain_scope, found_at, shifted};
+ghost use Rattle.safl_typing.specs.PlainHeads.{shown_slots};
+ghost use Rattle.safl_typing.specs.PlainScope.{shown_scope, found_at, shifted};
 ghost use Rattle.safl_typing.specs.PlainTyped.{at_slot};
 
 use crate::heads::Slot;
@@ -26,8 +26,8 @@ pub struct Variable {
 
 /// How many variables a scope has.
 pub fn count(scope: &Scope) -> u32
-    requires { length (plain_scope scope.now) < 2 ^ 32 }
-    ensures { result ≡ length (plain_scope scope.now) }
+    requires { length (shown_scope scope.now) < 2 ^ 32 }
+    ensures { result ≡ length (shown_scope scope.now) }
 {
     match scope {
         Scope::Params(slots) => slots.len() as u32,
@@ -37,8 +37,8 @@ pub fn count(scope: &Scope) -> u32
 
 /// The innermost variable of this name.
 pub fn find_variable(scope: &Scope, name: &Name) -> Option<Variable>
-    requires { length (plain_scope scope.now) < 2 ^ 32 }
-    ensures { found_at result ≡ innermost name.now 0 (plain_scope scope.now) }
+    requires { length (shown_scope scope.now) < 2 ^ 32 }
+    ensures { found_at result ≡ innermost name.now 0 (shown_scope scope.now) }
 {
     match scope {
         Scope::Params(slots) => {
@@ -69,7 +69,7 @@ fn variable_at(before: u32, slots: &[Slot], slot: usize) -> Variable
 // The last of these slots that has the name.
 fn find_slot(slots: &[Slot], name: &Name) -> Option<usize>
     ensures within { IfSome result (λ i. i < length slots.now) }
-    ensures found { at_slot slots.now result ≡ innermost name.now 0 (plain_slots slots.now) }
+    ensures found { at_slot slots.now result ≡ innermost name.now 0 (shown_slots slots.now) }
 {
     let mut found = None;
     for slot in 0..slots.len() {

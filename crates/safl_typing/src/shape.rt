@@ -2,7 +2,7 @@
 
 ghost use Rattle.std.specs.Prelude.{◌≡◌};
 ghost use Rattle.safl_typing.specs.Rewriting.{shape, takes_width};
-ghost use Rattle.safl_typing.specs.PlainTyped.{plain_shape};
+ghost use Rattle.safl_typing.specs.PlainTyped.{shown_shape};
 
 use safl_word::Primitive;
 
@@ -47,7 +47,7 @@ pub enum Shape {
 
 /// What an operator asks of its operands.
 pub fn shape_of(operator: Primitive) -> Shape
-    ensures { plain_shape result ≡ shape operator }
+    ensures { shown_shape result ≡ shape operator }
 {
     match operator {
         Primitive::Add => Shape::Alike,

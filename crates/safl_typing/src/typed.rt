@@ -2,12 +2,12 @@
 
 ghost use Rattle.std.specs.Prelude.{◌≡◌, ℕ, ◌<◌, ◌^◌, ◌&&◌, length, IfOk};
 ghost use Rattle.safl_term.specs.Slots.{HasSlots};
-ghost use Rattle.safl_term.specs.Tree.{tree};
+ghost use Rattle.safl_term.specs.Tree.{shown_term};
 ghost use Rattle.safl_typing.specs.Typing.{innermost};
 ghost use Rattle.safl_typing.specs.Walk.{fault, settle, number, sized, variable, is_known, is_any, wanted_by};
 ghost use Rattle.safl_typing.specs.declared.typed.CheckErr.TheVariants as errors;
-ghost use Rattle.safl_typing.specs.PlainScope.{plain_scope};
-ghost use Rattle.safl_typing.specs.PlainTyped.{plain_wanted, HasWideWanted, HasWidthOfWord, Says, operand_wanted};
+ghost use Rattle.safl_typing.specs.PlainScope.{shown_scope};
+ghost use Rattle.safl_typing.specs.PlainTyped.{shown_wanted, HasWideWanted, HasWidthOfWord, Says, operand_wanted};
 
 use crate::scope::{Scope, find_variable};
 use safl_term::Term;
@@ -70,7 +70,7 @@ pub fn refused(rule: Rule, place: u32) -> CheckErr
 
 /// Whether a width is expected, or the expression is rigid.
 pub fn has_width(wanted: Wanted, flexible: bool) -> bool
-    ensures { result ≡ is_known (plain_wanted wanted) flexible }
+    ensures { result ≡ is_known (shown_wanted wanted) flexible }
 {
     match wanted {
         Wanted::Any => !flexible,
@@ -80,7 +80,7 @@ pub fn has_width(wanted: Wanted, flexible: bool) -> bool
 
 /// Whether what follows an expression gives the width, and is looked at first.
 pub fn comes_later(wanted: Wanted, flexible: bool) -> bool
-    ensures { result ≡ (is_any (plain_wanted wanted) && flexible) }
+    ensures { result ≡ (is_any (shown_wanted wanted) && flexible) }
 {
     match wanted {
         Wanted::Any => flexible,
@@ -90,7 +90,7 @@ pub fn comes_later(wanted: Wanted, flexible: bool) -> bool
 
 /// A binding is expected at its written width, or else found.
 pub fn as_written(width: Option<u8>) -> Wanted
-    ensures { plain_wanted result ≡ wanted_by width }
+    ensures { shown_wanted result ≡ wanted_by width }
 {
     match width {
         Some(width) => Wanted::Exactly(width),
@@ -100,7 +100,7 @@ pub fn as_written(width: Option<u8>) -> Wanted
 
 /// An operand is found, but a flexible amount of a shift has the width of what is shifted.
 pub fn as_operand(shifted: Option<u8>, flexible: bool) -> Wanted
-    ensures { plain_wanted result ≡ operand_wanted shifted flexible }
+    ensures { shown_wanted result ≡ operand_wanted shifted flexible }
 {
     match shifted {
         Some(width) if flexible => Wanted::Exactly(width),
@@ -110,7 +110,7 @@ pub fn as_operand(shifted: Option<u8>, flexible: bool) -> Wanted
 
 /// An expression whose width was found: E12 where another is expected.
 pub fn settled(place: u32, wanted: Wanted, width: u8, term: Term) -> Result<Typed, CheckErr>
-    ensures says { Says result (settle place (plain_wanted wanted) width (tree term)) }
+    ensures says { Says result (settle place (shown_wanted wanted) width (shown_term term)) }
     ensures slots { IfOk result (λ t. (n : ℕ) → HasSlots n term → HasSlots n t.term) }
 {
     match wanted {
@@ -127,7 +127,7 @@ pub fn settled(place: u32, wanted: Wanted, width: u8, term: Term) -> Result<Type
 /// A number: E14 where no width is expected, E13 where it does not fit the expected one.
 pub fn typed_number(place: u32, value: Raw, wanted: Wanted) -> Result<Typed, CheckErr>
     requires { HasWideWanted wanted }
-    ensures says { Says result (number place value (plain_wanted wanted)) }
+    ensures says { Says result (number place value (shown_wanted wanted)) }
     ensures slots { IfOk result (λ t. (n : ℕ) → HasSlots n t.term) }
 {
     match wanted {
@@ -145,7 +145,7 @@ pub fn typed_number(place: u32, value: Raw, wanted: Wanted) -> Result<Typed, Che
 /// A sized number: E13 where the value does not fit the width.
 pub fn typed_sized(place: u32, width: u8, value: Raw, wanted: Wanted) -> Result<Typed, CheckErr>
     requires { HasWidthOfWord width }
-    ensures says { Says result (sized place width value (plain_wanted wanted)) }
+    ensures says { Says result (sized place width value (shown_wanted wanted)) }
     ensures slots { IfOk result (λ t. (n : ℕ) → HasSlots n t.term) }
 {
     match Word::new(width, value) {
@@ -161,8 +161,8 @@ pub fn typed_variable(
     name: &Name,
     wanted: Wanted,
 ) -> Result<Typed, CheckErr>
-    requires { length (plain_scope scope.now) < 2 ^ 32 }
-    ensures says { Says result (variable place (plain_wanted wanted) (innermost name.now 0 (plain_scope scope.now))) }
+    requires { length (shown_scope scope.now) < 2 ^ 32 }
+    ensures says { Says result (variable place (shown_wanted wanted) (innermost name.now 0 (shown_scope scope.now))) }
     ensures slots { IfOk result (λ t. (n : ℕ) → HasSlots n t.term) }
 {
     match find_variable(scope, name) {

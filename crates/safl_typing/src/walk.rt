@@ -2,19 +2,19 @@
 
 ghost use Rattle.std.specs.Prelude.{◌≡◌, ◌+◌, ◌<◌, ◌^◌, ◌&&◌, ◌==◌, Bool, IfOk, length};
 ghost use Rattle.safl_term.specs.Slots.{HasSlots};
-ghost use Rattle.safl_term.specs.Tree.{tree};
+ghost use Rattle.safl_term.specs.Tree.{shown_term};
 ghost use Rattle.safl_word.specs.declared.fault.Rule.TheVariants as rules;
 ghost use Rattle.safl_typing.specs.declared.typed.CheckErr.TheVariants as errors;
-ghost use Rattle.safl_typing.specs.Rewriting.{Choice, Binding, Applied, Called, flexible, count, nodes};
+ghost use Rattle.safl_typing.specs.Rewriting.{If, Let, Op, Call, flexible, count, nodes};
 ghost use Rattle.safl_typing.specs.Heads.{sites};
 ghost use Rattle.safl_typing.specs.Typing.{widths_of};
 ghost use Rattle.safl_typing.specs.Ranges.{IsInRange, WideSlots};
 ghost use Rattle.safl_typing.specs.Walk.{fault_with, unless, needs, is_any, branches, exactly, check, check_all, check_alike, check_shift, check_bound};
-ghost use Rattle.safl_typing.specs.Plain.{plain, plain_all, plain_bindings};
-ghost use Rattle.safl_typing.specs.PlainHeads.{plain_slots, plain_head};
+ghost use Rattle.safl_typing.specs.Plain.{shown_expression, shown_expressions, shown_bindings};
+ghost use Rattle.safl_typing.specs.PlainHeads.{shown_slots, shown_head};
 ghost use Rattle.safl_typing.specs.PlainContext.{seen};
-ghost use Rattle.safl_typing.specs.PlainScope.{plain_scope, HaveSlotsAfter};
-ghost use Rattle.safl_typing.specs.PlainTyped.{plain_wanted, HasWideWanted, HasWideWritten, Says, SaysAll, SaysAlike, operands_wanted};
+ghost use Rattle.safl_typing.specs.PlainScope.{shown_scope, HaveSlotsAfter};
+ghost use Rattle.safl_typing.specs.PlainTyped.{shown_wanted, HasWideWanted, HasWideWritten, Says, SaysAll, SaysAlike, operands_wanted};
 ghost use Rattle.safl_typing.specs.Marks.{IsMarked, AreMarked, BoundMarked};
 ghost use Rattle.safl_typing.specs.MayWalk.{MayWalk, MayCheck, MayWalkAll, MayBind};
 
@@ -64,11 +64,11 @@ pub fn check_expression(
     wanted: Wanted,
     e: &Expression,
 ) -> Result<Typed, CheckErr>
-    requires able { MayCheck context.now.heads.now context.now.unit (plain_scope scope.now) lo (plain e.now) }
+    requires able { MayCheck context.now.heads.now context.now.unit (shown_scope scope.now) lo (shown_expression e.now) }
     requires marked { IsMarked (seen context.now) e.now }
     requires wanted { HasWideWanted wanted }
-    ensures says { Says result (check (seen context.now) (plain_scope scope.now) tail lo (plain_wanted wanted) (plain e.now)) }
-    ensures slots { IfOk result (λ t. HasSlots (length (plain_scope scope.now)) t.term) }
+    ensures says { Says result (check (seen context.now) (shown_scope scope.now) tail lo (shown_wanted wanted) (shown_expression e.now)) }
+    ensures slots { IfOk result (λ t. HasSlots (length (shown_scope scope.now)) t.term) }
 {
     let position = Position {
         first_site: lo,
@@ -79,7 +79,7 @@ pub fn check_expression(
         Expression::Number(place, value) => typed_number(*place, *value, wanted),
         Expression::Sized(place, width, value) => typed_sized(*place, *width, *value, wanted),
         Expression::Variable(place, name) => typed_variable(*place, scope, name, wanted),
-        Expression::Choice(place, _, condition, first, second) => check_choice(
+        Expression::If(place, _, condition, first, second) => check_choice(
             context,
             scope,
             position,
@@ -87,13 +87,13 @@ pub fn check_expression(
             condition,
             Branches { first, second },
         ),
-        Expression::Binding(place, _, bound, body) => check_binding(
+        Expression::Let(place, _, bound, body) => check_binding(
             context, scope, position, *place, bound, body,
         ),
-        Expression::Applied(place, _, operator, operands) => check_applied(
+        Expression::Op(place, _, operator, operands) => check_applied(
             context, scope, position, *place, *operator, operands,
         ),
-        Expression::Called(place, _, name, arguments) => check_called(
+        Expression::Call(place, _, name, arguments) => check_called(
             context, scope, position, *place, name, arguments,
         ),
     }
@@ -109,11 +109,11 @@ fn check_choice(
     condition: &Expression,
     both: Branches,
 ) -> Result<Typed, CheckErr>
-    requires able { MayCheck context.now.heads.now context.now.unit (plain_scope scope.now) position.first_site (Choice place (plain condition.now) (plain both.first.now) (plain both.second.now)) }
+    requires able { MayCheck context.now.heads.now context.now.unit (shown_scope scope.now) position.first_site (If place (shown_expression condition.now) (shown_expression both.first.now) (shown_expression both.second.now)) }
     requires marked { IsMarked (seen context.now) condition.now × IsMarked (seen context.now) both.first.now × IsMarked (seen context.now) both.second.now }
     requires wanted { HasWideWanted position.wanted }
-    ensures says { Says result (check (seen context.now) (plain_scope scope.now) position.tail position.first_site (plain_wanted position.wanted) (Choice place (plain condition.now) (plain both.entry.first.now) (plain both.entry.second.now))) }
-    ensures slots { IfOk result (λ t. HasSlots (length (plain_scope scope.now)) t.term) }
+    ensures says { Says result (check (seen context.now) (shown_scope scope.now) position.tail position.first_site (shown_wanted position.wanted) (If place (shown_expression condition.now) (shown_expression both.entry.first.now) (shown_expression both.entry.second.now))) }
+    ensures slots { IfOk result (λ t. HasSlots (length (shown_scope scope.now)) t.term) }
 {
     let flexible = are_both_flexible(both.first, both.second);
     let known = has_width(position.wanted, flexible);
@@ -139,12 +139,12 @@ fn check_branches(
     test: Term,
     both: Branches,
 ) -> Result<Typed, CheckErr>
-    requires able { MayWalk context.now.heads.now (plain_scope scope.now) position.first_site (IsInRange (plain both.first.now) × IsInRange (plain both.second.now)) (sites (seen context.now) (plain both.first.now) + sites (seen context.now) (plain both.second.now)) (nodes (plain both.first.now) + nodes (plain both.second.now)) }
+    requires able { MayWalk context.now.heads.now (shown_scope scope.now) position.first_site (IsInRange (shown_expression both.first.now) × IsInRange (shown_expression both.second.now)) (sites (seen context.now) (shown_expression both.first.now) + sites (seen context.now) (shown_expression both.second.now)) (nodes (shown_expression both.first.now) + nodes (shown_expression both.second.now)) }
     requires marked { IsMarked (seen context.now) both.first.now × IsMarked (seen context.now) both.second.now }
-    requires slots { HasSlots (length (plain_scope scope.now)) test }
+    requires slots { HasSlots (length (shown_scope scope.now)) test }
     requires wanted { HasWideWanted position.wanted }
-    ensures says { Says result (branches (is_any (plain_wanted position.wanted) && flexible (plain both.entry.first.now)) (plain_wanted position.wanted) (λ v. check (seen context.now) (plain_scope scope.now) position.tail position.first_site v (plain both.entry.first.now)) (λ v. check (seen context.now) (plain_scope scope.now) position.tail (position.first_site + sites (seen context.now) (plain both.entry.first.now)) v (plain both.entry.second.now)) (tree test)) }
-    ensures slots { IfOk result (λ t. HasSlots (length (plain_scope scope.now)) t.term) }
+    ensures says { Says result (branches (is_any (shown_wanted position.wanted) && flexible (shown_expression both.entry.first.now)) (shown_wanted position.wanted) (λ v. check (seen context.now) (shown_scope scope.now) position.tail position.first_site v (shown_expression both.entry.first.now)) (λ v. check (seen context.now) (shown_scope scope.now) position.tail (position.first_site + sites (seen context.now) (shown_expression both.entry.first.now)) v (shown_expression both.entry.second.now)) (shown_term test)) }
+    ensures slots { IfOk result (λ t. HasSlots (length (shown_scope scope.now)) t.term) }
 {
     let Position {
         first_site,
@@ -176,11 +176,11 @@ fn check_binding(
     bound: &[Bound],
     body: &Expression,
 ) -> Result<Typed, CheckErr>
-    requires able { MayCheck context.now.heads.now context.now.unit (plain_scope scope.now) position.first_site (Binding place (plain_bindings bound.now) (plain body.now)) }
+    requires able { MayCheck context.now.heads.now context.now.unit (shown_scope scope.now) position.first_site (Let place (shown_bindings bound.now) (shown_expression body.now)) }
     requires marked { BoundMarked (seen context.now) bound.now × IsMarked (seen context.now) body.now }
     requires wanted { HasWideWanted position.wanted }
-    ensures says { Says result (check (seen context.now) (plain_scope scope.now) position.tail position.first_site (plain_wanted position.wanted) (Binding place (plain_bindings bound.now) (plain body.now))) }
-    ensures slots { IfOk result (λ t. HasSlots (length (plain_scope scope.now)) t.term) }
+    ensures says { Says result (check (seen context.now) (shown_scope scope.now) position.tail position.first_site (shown_wanted position.wanted) (Let place (shown_bindings bound.now) (shown_expression body.now))) }
+    ensures slots { IfOk result (λ t. HasSlots (length (shown_scope scope.now)) t.term) }
 {
     let flexible = is_flexible(body);
     let known = has_width(position.wanted, flexible);
@@ -212,9 +212,9 @@ fn check_bound(
     first_site: u32,
     bound: &[Bound],
 ) -> Result<TypedAll, CheckErr>
-    requires able { MayBind context.now.heads.now context.now.unit (plain_scope scope.now) first_site (plain_bindings bound.now) }
+    requires able { MayBind context.now.heads.now context.now.unit (shown_scope scope.now) first_site (shown_bindings bound.now) }
     requires marked { BoundMarked (seen context.now) bound.now }
-    ensures says { SaysAll result (check_bound (seen context.now) (plain_scope scope.now) first_site (plain_bindings bound.now)) }
+    ensures says { SaysAll result (check_bound (seen context.now) (shown_scope scope.now) first_site (shown_bindings bound.now)) }
     ensures slots { IfOk result (λ t. HaveSlotsAfter scope.now t.terms.items) }
 {
     let Some((first, rest)) = bound.split_first() else {
@@ -237,11 +237,11 @@ fn check_applied(
     operator: Primitive,
     operands: &[Expression],
 ) -> Result<Typed, CheckErr>
-    requires able { MayCheck context.now.heads.now context.now.unit (plain_scope scope.now) position.first_site (Applied place operator (plain_all operands.now)) }
+    requires able { MayCheck context.now.heads.now context.now.unit (shown_scope scope.now) position.first_site (Op place operator (shown_expressions operands.now)) }
     requires marked { AreMarked (seen context.now) operands.now }
     requires wanted { HasWideWanted position.wanted }
-    ensures says { Says result (check (seen context.now) (plain_scope scope.now) position.tail position.first_site (plain_wanted position.wanted) (Applied place operator (plain_all operands.now))) }
-    ensures slots { IfOk result (λ t. HasSlots (length (plain_scope scope.now)) t.term) }
+    ensures says { Says result (check (seen context.now) (shown_scope scope.now) position.tail position.first_site (shown_wanted position.wanted) (Op place operator (shown_expressions operands.now))) }
+    ensures slots { IfOk result (λ t. HasSlots (length (shown_scope scope.now)) t.term) }
 {
     match shape_of(operator) {
         Shape::Alike => {
@@ -293,7 +293,7 @@ fn check_alike(
     requires able { MayWalkAll context.now scope.now first_site operands.now }
     requires marked { AreMarked (seen context.now) operands.now }
     requires wanted { HasWideWanted wanted }
-    ensures says { SaysAlike result (check_alike (seen context.now) (plain_scope scope.now) first_site place (plain_wanted wanted) (plain_all operands.now)) }
+    ensures says { SaysAlike result (check_alike (seen context.now) (shown_scope scope.now) first_site place (shown_wanted wanted) (shown_expressions operands.now)) }
     ensures slots { IfOk result (λ t. HaveSlotsAfter scope.now t.terms.items) }
 {
     let Some((first, rest)) = operands.split_first() else {
@@ -325,7 +325,7 @@ fn check_shift(
 ) -> Result<TypedAlike, CheckErr>
     requires able { MayWalkAll context.now scope.now first_site operands.now }
     requires marked { AreMarked (seen context.now) operands.now }
-    ensures says { SaysAlike result (check_shift (seen context.now) (plain_scope scope.now) first_site place (plain_all operands.now)) }
+    ensures says { SaysAlike result (check_shift (seen context.now) (shown_scope scope.now) first_site place (shown_expressions operands.now)) }
     ensures slots { IfOk result (λ t. HaveSlotsAfter scope.now t.terms.items) }
 {
     let Some((first, rest)) = operands.split_first() else {
@@ -351,7 +351,7 @@ fn check_operands(
     requires able { MayWalkAll context.now scope.now first_site operands.now }
     requires marked { AreMarked (seen context.now) operands.now }
     requires shifted { HasWideWritten shifted }
-    ensures says { SaysAll result (check_all (seen context.now) (plain_scope scope.now) first_site (operands_wanted shifted (plain_all operands.now)) (plain_all operands.now)) }
+    ensures says { SaysAll result (check_all (seen context.now) (shown_scope scope.now) first_site (operands_wanted shifted (shown_expressions operands.now)) (shown_expressions operands.now)) }
     ensures slots { IfOk result (λ t. HaveSlotsAfter scope.now t.terms.items) }
 {
     let Some((first, rest)) = operands.split_first() else {
@@ -375,11 +375,11 @@ fn check_called(
     name: &Name,
     arguments: &[Expression],
 ) -> Result<Typed, CheckErr>
-    requires able { MayCheck context.now.heads.now context.now.unit (plain_scope scope.now) position.first_site (Called place name.now (plain_all arguments.now)) }
+    requires able { MayCheck context.now.heads.now context.now.unit (shown_scope scope.now) position.first_site (Call place name.now (shown_expressions arguments.now)) }
     requires marked { AreMarked (seen context.now) arguments.now }
     requires wanted { HasWideWanted position.wanted }
-    ensures says { Says result (check (seen context.now) (plain_scope scope.now) position.tail position.first_site (plain_wanted position.wanted) (Called place name.now (plain_all arguments.now))) }
-    ensures slots { IfOk result (λ t. HasSlots (length (plain_scope scope.now)) t.term) }
+    ensures says { Says result (check (seen context.now) (shown_scope scope.now) position.tail position.first_site (shown_wanted position.wanted) (Call place name.now (shown_expressions arguments.now))) }
+    ensures slots { IfOk result (λ t. HasSlots (length (shown_scope scope.now)) t.term) }
 {
     let Position {
         first_site,
@@ -417,9 +417,9 @@ fn check_counted(
 ) -> Result<TypedAll, CheckErr>
     requires able { MayWalkAll context.now scope.now first_site arguments.now }
     requires marked { AreMarked (seen context.now) arguments.now }
-    requires wide { WideSlots (plain_head head.now).params }
+    requires wide { WideSlots (shown_head head.now).params }
     requires counted { length head.now.params.items < 2 ^ 32 }
-    ensures says { SaysAll result (unless (needs (length (plain_head head.now).params == count (plain_all arguments.now)) (fault_with rules.E11 place (length (plain_head head.now).params) (count (plain_all arguments.now)))) (check_all (seen context.now) (plain_scope scope.now) first_site (exactly (widths_of (plain_head head.now).params)) (plain_all arguments.now))) }
+    ensures says { SaysAll result (unless (needs (length (shown_head head.now).params == count (shown_expressions arguments.now)) (fault_with rules.E11 place (length (shown_head head.now).params) (count (shown_expressions arguments.now)))) (check_all (seen context.now) (shown_scope scope.now) first_site (exactly (widths_of (shown_head head.now).params)) (shown_expressions arguments.now))) }
     ensures slots { IfOk result (λ t. HaveSlotsAfter scope.now t.terms.items) }
 {
     let same = are_as_many(&head.params, arguments);
@@ -440,8 +440,8 @@ fn check_arguments(
 ) -> Result<TypedAll, CheckErr>
     requires able { MayWalkAll context.now scope.now first_site arguments.now }
     requires marked { AreMarked (seen context.now) arguments.now }
-    requires params { WideSlots (plain_slots params.now) }
-    ensures says { SaysAll result (check_all (seen context.now) (plain_scope scope.now) first_site (exactly (widths_of (plain_slots params.now))) (plain_all arguments.now)) }
+    requires params { WideSlots (shown_slots params.now) }
+    ensures says { SaysAll result (check_all (seen context.now) (shown_scope scope.now) first_site (exactly (widths_of (shown_slots params.now))) (shown_expressions arguments.now)) }
     ensures slots { IfOk result (λ t. HaveSlotsAfter scope.now t.terms.items) }
 {
     let Some((first, rest)) = arguments.split_first() else {
@@ -459,7 +459,7 @@ fn check_arguments(
 
 // Whether a function has as many parameters as it is given arguments.
 fn are_as_many(params: &[Slot], arguments: &[Expression]) -> bool
-    ensures { result ≡ (length (plain_slots params.now) == count (plain_all arguments.now)) }
+    ensures { result ≡ (length (shown_slots params.now) == count (shown_expressions arguments.now)) }
 {
     params.len() == arguments.len()
 }
@@ -468,7 +468,7 @@ fn are_as_many(params: &[Slot], arguments: &[Expression]) -> bool
 fn wrong_count(place: u32, params: &[Slot], arguments: &[Expression]) -> CheckErr
     requires params { length params.now < 2 ^ 32 }
     requires arguments { length arguments.now < 2 ^ 32 }
-    ensures { result ≡ errors.Refused (fault_with rules.E11 place (length (plain_slots params.now)) (count (plain_all arguments.now))) }
+    ensures { result ≡ errors.Refused (fault_with rules.E11 place (length (shown_slots params.now)) (count (shown_expressions arguments.now))) }
 {
     CheckErr::Refused(Fault::with(
         Rule::E11,

@@ -8,8 +8,6 @@ pub mod numbers;
 pub mod operators;
 pub mod primitive;
 pub mod report;
-#[cfg(test)]
-mod tests;
 pub mod token;
 pub mod word;
 

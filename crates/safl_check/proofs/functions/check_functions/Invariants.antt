@@ -1,11 +1,11 @@
 use Rattle.std.specs.List.{All}
 use Rattle.safl_term.specs.Checked.{BodyHasSlots}
-use Rattle.safl_tree.specs.Shown.{shows_defs}
+use Rattle.safl_tree.specs.Shown.{shown_definitions}
 use Rattle.safl_check.proofs.Walked.{IsWalked}
 use Rattle.safl_check.proofs.functions.check_functions.Given as goal
 
 abbrev pub invariant-loop-number : goal.invariant-loop-number
 invariant-loop-number l = record {
-  walked : IsWalked (shows_defs l.defs) l.all_heads l.functions.items l.number l.first_site;
+  walked : IsWalked (shown_definitions l.defs) l.all_heads l.functions.items l.number l.first_site;
   slots : All BodyHasSlots l.functions.items;
 }

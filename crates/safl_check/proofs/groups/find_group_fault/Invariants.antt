@@ -1,9 +1,9 @@
 use Rattle.std.proofs.Common.{◌≡◌, drop}
-use Rattle.safl_tree.specs.Shown.{shows_defs}
+use Rattle.safl_tree.specs.Shown.{shown_definitions}
 use Rattle.safl_typing.specs.Walk.{joined_faults}
 use Rattle.safl_check.specs.Groups.{earlier, group_fault_at}
 use Rattle.safl_check.proofs.groups.find_group_fault.Given as goal
 
 -- the members that are left decide
 abbrev pub invariant-loop-member : goal.invariant-loop-member
-invariant-loop-member l = group_fault_at (shows_defs l.defs) l.number ≡ joined_faults (earlier (shows_defs l.defs) l.member) l.first.width (shows_defs (drop l.member l.defs))
+invariant-loop-member l = group_fault_at (shown_definitions l.defs) l.number ≡ joined_faults (earlier (shown_definitions l.defs) l.member) l.first.width (shown_definitions (drop l.member l.defs))

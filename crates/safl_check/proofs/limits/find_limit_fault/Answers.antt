@@ -1,5 +1,5 @@
 use Rattle.std.proofs.Common.{Some, None}
-use Rattle.safl_tree.specs.Shown.{shows_def, shows_defs}
+use Rattle.safl_tree.specs.Shown.{shown_definition, shown_definitions}
 use Rattle.safl_typing.specs.Heads.{heads}
 use Rattle.safl_typing.specs.Rewriting.{rewritten}
 use Rattle.safl_check.proofs.LimitLemmas.{body_at, lists_of, sites_of, list_stops, sum_stops, searched_next}
@@ -7,16 +7,16 @@ use Rattle.safl_check.proofs.limits.find_limit_fault.Goals as goal
 
 pub returns-in-Some : goal.returns-in-Some
 returns-in-Some c =
-    let all = heads (shows_defs c.args.defs.now) in
-    let body = rewritten (shows_def c.index-defs-number.result).body in
+    let all = heads (shown_definitions c.args.defs.now) in
+    let body = rewritten (shown_definition c.index-defs-number.result).body in
     let at = body_at c.args.defs.now c.loop-number.number c.index-defs-number.result c.loop-number-test.true c.index-defs-number.is in
     let lists = lists_of (Some c.in-Some.fault) c.index-defs-number.result c.deref.result.now c.in_ok-measures.measures.long_let body c.deref.ensures.value c.in_ok-measures.ensures.long_let c.in-Some.ensures in
     list_stops all c.args.defs.now c.loop-number.number c.loop-number.unit c.loop-number.sites c.loop-number.nodes c.index-defs-number.result body c.in-Some.fault c.loop-number.invariant at lists
 
 pub returns-in-Some-find_sum_fault : goal.returns-in-Some-find_sum_fault
 returns-in-Some-find_sum_fault c =
-    let all = heads (shows_defs c.args.defs.now) in
-    let body = rewritten (shows_def c.index-defs-number.result).body in
+    let all = heads (shown_definitions c.args.defs.now) in
+    let body = rewritten (shown_definition c.index-defs-number.result).body in
     let at = body_at c.args.defs.now c.loop-number.number c.index-defs-number.result c.loop-number-test.true c.index-defs-number.is in
     let lists = lists_of None c.index-defs-number.result c.deref.result.now c.in_ok-measures.measures.long_let body c.deref.ensures.value c.in_ok-measures.ensures.long_let c.in_default.ensures in
     let sites = sites_of c.args.all_heads.now all c.next_unit-unit.result c.loop-number.sites c.in_ok-measures.measures.sites body c.requires.heads c.in_ok-measures.ensures.sites in
@@ -25,8 +25,8 @@ returns-in-Some-find_sum_fault c =
 
 pub loop-number-preserved : goal.loop-number-preserved
 loop-number-preserved c =
-    let all = heads (shows_defs c.args.defs.now) in
-    let body = rewritten (shows_def c.index-defs-number.result).body in
+    let all = heads (shown_definitions c.args.defs.now) in
+    let body = rewritten (shown_definition c.index-defs-number.result).body in
     let at = body_at c.args.defs.now c.loop-number.number c.index-defs-number.result c.loop-number-test.true c.index-defs-number.is in
     let lists = lists_of None c.index-defs-number.result c.deref.result.now c.in_ok-measures.measures.long_let body c.deref.ensures.value c.in_ok-measures.ensures.long_let c.in_default.ensures in
     let sites = sites_of c.args.all_heads.now all c.next_unit-unit.result c.loop-number.sites c.in_ok-measures.measures.sites body c.requires.heads c.in_ok-measures.ensures.sites in

@@ -1,8 +1,8 @@
-use Rattle.safl_tree.specs.Shown.{shows_defs}
+use Rattle.safl_tree.specs.Shown.{shown_definitions}
 use Rattle.safl_typing.specs.Heads.{heads}
 use Rattle.safl_check.proofs.LimitLemmas.{IsSearched}
 use Rattle.safl_check.proofs.limits.find_limit_fault.Given as goal
 
 -- the rest decides, and the counts are within their limits
 abbrev pub invariant-loop-number : goal.invariant-loop-number
-invariant-loop-number l = IsSearched (heads (shows_defs l.defs)) l.defs l.number l.unit l.sites l.nodes
+invariant-loop-number l = IsSearched (heads (shown_definitions l.defs)) l.defs l.number l.unit l.sites l.nodes

@@ -1,4 +1,4 @@
-use Rattle.safl_tree.specs.Shown.{shows}
+use Rattle.safl_tree.specs.Shown.{shown_tree}
 use Rattle.safl_typing.specs.PlainHeads.{known}
 use Rattle.safl_typing.specs.Rewriting.{rewritten}
 use Rattle.safl_check.specs.Parts.{pending, total_nodes}
@@ -6,7 +6,7 @@ use Rattle.safl_check.proofs.PartLemmas.{IsMeasured}
 use Rattle.safl_check.proofs.nodes.measure.Given as goal
 
 abbrev pub invariant-loop-e : goal.invariant-loop-e
-invariant-loop-e l = IsMeasured (known l.heads l.unit) l.sites_before l.nodes_before (rewritten (shows l.body)) l.long_let l.sites l.nodes (pending l.stack.items)
+invariant-loop-e l = IsMeasured (known l.heads l.unit) l.sites_before l.nodes_before (rewritten (shown_tree l.body)) l.long_let l.sites l.nodes (pending l.stack.items)
 
 -- the nodes that are to come
 abbrev pub decreases-loop-e : goal.decreases-loop-e

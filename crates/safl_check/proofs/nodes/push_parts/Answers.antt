@@ -10,7 +10,7 @@ returns-in_ok-push-in-Let c = let_pushed c.push_values.result c.args.e.now.node 
     c.in_ok-push-in-Let.ensures.items c.deref-in-Let.ensures c.deref-in-Let-2.ensures.value c.push_values.ensures
 
 pub returns-in_ok-push-in-Case-2 : goal.returns-in_ok-push-in-Case-2
-returns-in_ok-push-in-Case-2 c = case_pushed c.args.e.now.node c.args.e.now.place c.in-Case.looked_at c.in-Case.arms c.in-Case.other _ c.args.stack.now.items _ _ c.push-in-Case-2.new.self.items _ _ c.in-Case.is
+returns-in_ok-push-in-Case-2 c = case_pushed c.args.e.now.node c.args.e.now.place c.in-Case.scrutinee c.in-Case.arms c.in-Case.default _ c.args.stack.now.items _ _ c.push-in-Case-2.new.self.items _ _ c.in-Case.is
     c.in_ok-push-in-Case.ensures.items c.deref-in-Case.ensures c.deref-in-Case-2.ensures.value c.in_ok-push_arms-in-Case.ensures c.in_ok-push-in-Case-2.ensures.items c.deref-in-Case-3.ensures
 
 pub returns-in-Op : goal.returns-in-Op

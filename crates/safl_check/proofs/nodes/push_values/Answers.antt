@@ -1,9 +1,9 @@
 use Rattle.std.proofs.Common.{refl}
-use Rattle.safl_tree.specs.Shown.{shows}
+use Rattle.safl_tree.specs.Shown.{shown_tree}
 use Rattle.safl_tree.specs.declared.tree.Bind.{Bind}
 use Rattle.safl_check.specs.Parts.{pending}
 use Rattle.safl_check.proofs.StackLemmas.{pushed}
 use Rattle.safl_check.proofs.nodes.push_values.Goals as goal
 
 pub loop-i-preserved : goal.loop-i-preserved
-loop-i-preserved c = pushed (λ (b : Bind). shows b.value) c.args.binds.now c.loop-i.i c.index-binds-i.result c.loop-i.stack.items c.push.new.self.items _ (pending c.args.stack.now.items) c.loop-i-test.true c.loop-i.auto.i c.index-binds-i.is c.in_ok-push.ensures.items refl c.loop-i.invariant
+loop-i-preserved c = pushed (λ (b : Bind). shown_tree b.value) c.args.binds.now c.loop-i.i c.index-binds-i.result c.loop-i.stack.items c.push.new.self.items _ (pending c.args.stack.now.items) c.loop-i-test.true c.loop-i.auto.i c.index-binds-i.is c.in_ok-push.ensures.items refl c.loop-i.invariant

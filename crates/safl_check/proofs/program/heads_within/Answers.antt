@@ -1,10 +1,10 @@
 use Rattle.std.proofs.Common.{sym, ◌∙◌}
-use Rattle.safl_tree.specs.Shown.{shows_defs}
+use Rattle.safl_tree.specs.Shown.{shown_definitions}
 use Rattle.safl_check.proofs.OutcomeLemmas.{count_first, limit_next, few}
 use Rattle.safl_check.proofs.program.heads_within.Goals as goal
 
 pub returns-in-Some-clause-refused : goal.returns-in-Some-clause-refused
-returns-in-Some-clause-refused c = count_first (shows_defs c.args.defs.now) c.in-Some.fault (sym c.in-Some.ensures)
+returns-in-Some-clause-refused c = count_first (shown_definitions c.args.defs.now) c.in-Some.fault (sym c.in-Some.ensures)
 
 pub heads_of-requires : goal.heads_of-requires
 heads_of-requires c = few c.args.defs.now (sym c.in_default.ensures)
@@ -13,4 +13,4 @@ pub find_limit_fault-requires-clause-few : goal.find_limit_fault-requires-clause
 find_limit_fault-requires-clause-few c = few c.args.defs.now (sym c.in_default.ensures)
 
 pub returns-in-Some-2-clause-refused : goal.returns-in-Some-2-clause-refused
-returns-in-Some-2-clause-refused c = limit_next (shows_defs c.args.defs.now) c.in-Some-2.fault (sym c.in_default.ensures) (sym c.in_ok-fault.ensures ∙ c.in-Some-2.is)
+returns-in-Some-2-clause-refused c = limit_next (shown_definitions c.args.defs.now) c.in-Some-2.fault (sym c.in_default.ensures) (sym c.in_ok-fault.ensures ∙ c.in-Some-2.is)

@@ -2,7 +2,7 @@ use Rattle.std.proofs.Common.{◌≡◌, ◌<◌, ◌+◌, ◌*◌, ◌≤◌, d
 use Rattle.safl_term.specs.Checked.{program_of}
 use Rattle.safl_term.specs.Fuel.{eval_all}
 use Rattle.safl_term.specs.Sizes.{nodes, nodes_in}
-use Rattle.safl_term.specs.Tree.{tree, forest}
+use Rattle.safl_term.specs.Tree.{shown_term, shown_terms}
 use Rattle.safl_interpreter.specs.Interpreting.{widths, applied}
 use Rattle.safl_interpreter.proofs.Steps.{after, call_size}
 use Rattle.safl_interpreter.proofs.evaluate.+evaluate.Given as goal
@@ -11,13 +11,13 @@ abbrev pub decreases-call : goal.decreases-call
 decreases-call l = call_size * l.left
 
 abbrev pub decreases-evaluate : goal.decreases-evaluate
-decreases-evaluate l = call_size * l.left + 3 * nodes (tree l.t.now)
+decreases-evaluate l = call_size * l.left + 3 * nodes (shown_term l.t.now)
 
 abbrev pub decreases-value : goal.decreases-value
-decreases-value l = call_size * l.left + 3 * nodes (tree l.t.now) + 1
+decreases-value l = call_size * l.left + 3 * nodes (shown_term l.t.now) + 1
 
 abbrev pub decreases-values : goal.decreases-values
-decreases-values l = call_size * l.left + 3 * nodes_in (forest l.ts.now) + 2
+decreases-values l = call_size * l.left + 3 * nodes_in (shown_terms l.ts.now) + 2
 
 abbrev pub invariant-call-loop-calls : goal.invariant-call-loop-calls
 invariant-call-loop-calls l = record {
@@ -33,5 +33,5 @@ decreases-call-loop-calls l = l.calls
 abbrev pub invariant-values-loop-t : goal.invariant-values-loop-t
 invariant-values-loop-t l = record {
   within : l.rest ≤ l.left;
-  same : eval_all (program_of l.c) (applied (program_of l.c)) (forest l.ts) l.left l.env ≡ after l.words.items (eval_all (program_of l.c) (applied (program_of l.c)) (forest (drop l.t-index l.ts)) l.rest l.env);
+  same : eval_all (program_of l.c) (applied (program_of l.c)) (shown_terms l.ts) l.left l.env ≡ after l.words.items (eval_all (program_of l.c) (applied (program_of l.c)) (shown_terms (drop l.t-index l.ts)) l.rest l.env);
 }

@@ -1,6 +1,6 @@
 use Rattle.std.proofs.Common.{◌≡◌, ◌+◌, min, sym, ap, ◌∙◌}
-use Rattle.safl_tree.specs.Tree.{Binding, binds_of, depth}
-use Rattle.safl_tree.specs.Shown.{shows, shows_bounds}
+use Rattle.safl_tree.specs.Tree.{Let, binds_of, depth}
+use Rattle.safl_tree.specs.Shown.{shown_tree, shown_bounds}
 use Rattle.safl_tree.proofs.ShownTrees.{let_shows}
 use Rattle.safl_parse.proofs.Rows.{cap_let}
 use Rattle.safl_parse.proofs.part.bound.Goals as goal
@@ -8,8 +8,8 @@ use Rattle.safl_parse.proofs.part.bound.Goals as goal
 pub invariant_of-result : goal.invariant_of-result
 invariant_of-result c =
     let e = c.in_ok-body.ensures.ok in
-    let k : c.args.body.depth ≡ min (depth (shows c.in_ok-body.body.value)) 100 = c.args.body.capped ∙ ap (λ x. min (depth (shows x)) 100) (sym e) in
+    let k : c.args.body.depth ≡ min (depth (shown_tree c.in_ok-body.body.value)) 100 = c.args.body.capped ∙ ap (λ x. min (depth (shown_tree x)) 100) (sym e) in
     record { capped = cap_let c.args.bindings.binds c.in_ok-body.body c.args.place c.args.bindings.depth c.args.body.depth c.above-depth.result c.args.bindings.capped k (c.above-depth.ensures ∙ ap (λ x. min (1 + x) 100) c.greater.ensures) }
 
 pub returns : goal.returns
-returns c = let_shows c.args.bindings.binds c.in_ok-body.body c.args.place ∙ ap (λ x. Binding c.args.place (binds_of (shows_bounds c.args.bindings.binds.items)) (shows x)) c.in_ok-body.ensures.ok
+returns c = let_shows c.args.bindings.binds c.in_ok-body.body c.args.place ∙ ap (λ x. Let c.args.place (binds_of (shown_bounds c.args.bindings.binds.items)) (shown_tree x)) c.in_ok-body.ensures.ok

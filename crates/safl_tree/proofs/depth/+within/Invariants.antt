@@ -1,18 +1,18 @@
 use Rattle.std.proofs.Common.{◌+◌, ◌*◌, ◌≤◌, drop, ◌↔◌}
 use Rattle.safl_tree.specs.Tree.{trees_of, binds_of, arms_of, deepest, deepest_bind, deepest_arm}
-use Rattle.safl_tree.specs.Shown.{shows, shows_all, shows_bounds, shows_labelled}
+use Rattle.safl_tree.specs.Shown.{shown_tree, shown_trees, shown_bounds, shown_labelled}
 use Rattle.safl_tree.proofs.depth.+within.Given as goal
 
 -- what is left is within the levels exactly where all is
 abbrev pub invariant-are_within-loop-e : goal.invariant-are_within-loop-e
-invariant-are_within-loop-e l = deepest (trees_of (shows_all (drop l.e-index l.es))) ≤ l.levels ↔ deepest (trees_of (shows_all l.es)) ≤ l.levels
+invariant-are_within-loop-e l = deepest (trees_of (shown_trees (drop l.e-index l.es))) ≤ l.levels ↔ deepest (trees_of (shown_trees l.es)) ≤ l.levels
 
 abbrev pub invariant-is_let_within-loop-bind : goal.invariant-is_let_within-loop-bind
-invariant-is_let_within-loop-bind l = deepest_bind (binds_of (shows_bounds (drop l.bind-index l.binds))) ≤ l.levels ↔ deepest_bind (binds_of (shows_bounds l.binds)) ≤ l.levels
+invariant-is_let_within-loop-bind l = deepest_bind (binds_of (shown_bounds (drop l.bind-index l.binds))) ≤ l.levels ↔ deepest_bind (binds_of (shown_bounds l.binds)) ≤ l.levels
 
 abbrev pub invariant-are_arms_within-loop-arm : goal.invariant-are_arms_within-loop-arm
 invariant-are_arms_within-loop-arm l = record {
-  within : deepest_arm (arms_of (shows_labelled (drop l.arm-index l.arms)) (shows l.other)) ≤ l.left ↔ deepest_arm (arms_of (shows_labelled l.arms) (shows l.other)) ≤ l.levels;
+  within : deepest_arm (arms_of (shown_labelled (drop l.arm-index l.arms)) (shown_tree l.default)) ≤ l.left ↔ deepest_arm (arms_of (shown_labelled l.arms) (shown_tree l.default)) ≤ l.levels;
   lower : l.left ≤ l.levels;
 }
 

@@ -4,18 +4,18 @@ use Rattle.safl_tree.specs.declared.tree.Expr.{Expr}
 use Rattle.safl_tree.specs.declared.tree.Bind.{Bind}
 use Rattle.safl_tree.specs.declared.tree.Arm.{Arm}
 use Rattle.safl_tree.specs.declared.tree.Node.{Node}
-use Rattle.safl_tree.specs.Shown.{shows, shows_node}
+use Rattle.safl_tree.specs.Shown.{shown_tree, shown_node}
 use Rattle.safl_tree.specs.Sizes.{size, bind_size, arm_size, work, work_at}
 use Rattle.safl_tree.proofs.Dismantling.{let_size, case_size, op_size, call_size, work_down, work_up, leaf_or_two, sum_last, less_of, at_most_of, less_in}
 use Rattle.safl_tree.proofs.dismantle.leave.Goals as goal
 
 pub returns-in-If : goal.returns-in-If
 returns-in-If c =
-    let inner = ap (λ (e : Expr). size (shows e)) c.into_inner.ensures in
-    let above = ap (λ (e : Expr). size (shows e)) c.unplaced.ensures in
+    let inner = ap (λ (e : Expr). size (shown_tree e)) c.into_inner.ensures in
+    let above = ap (λ (e : Expr). size (shown_tree e)) c.unplaced.ensures in
     let none = ap (sum_by arm_size) c.new-no_arms.ensures.items in
     let whole = case_size _ 0 c.in-If.link c.new-no_arms.result c.in-If.second refl in
-    let was = ap (λ (n : Node). size (shows_node n c.args.above.place)) (sym c.into_node.ensures ∙ c.in-If.is) in
+    let was = ap (λ (n : Node). size (shown_node n c.args.above.place)) (sym c.into_node.ensures ∙ c.in-If.is) in
     omega (arith, inner, above, none, whole, was)
 
 pub returns-in-Let : goal.returns-in-Let

@@ -1,19 +1,19 @@
 use Rattle.std.proofs.Common.{◌+◌, ◌*◌, ◌≤◌, drop, ◌↔◌}
 use Rattle.safl_tree.specs.Tree.{trees_of, binds_of, arms_of}
-use Rattle.safl_tree.specs.Shown.{shows, shows_all, shows_bounds, shows_labelled}
+use Rattle.safl_tree.specs.Shown.{shown_tree, shown_trees, shown_bounds, shown_labelled}
 use Rattle.safl_tree.specs.Keeps.{PartsKeep, BindingsKeep, ArmsKeep}
 use Rattle.safl_tree.proofs.levels.+keeps.Given as goal
 
 -- what is left keeps the limits exactly where all does
 abbrev pub invariant-parts_keep-loop-e : goal.invariant-parts_keep-loop-e
-invariant-parts_keep-loop-e l = PartsKeep l.place l.levels l.depth (trees_of (shows_all (drop l.e-index l.es))) ↔ PartsKeep l.place l.levels l.depth (trees_of (shows_all l.es))
+invariant-parts_keep-loop-e l = PartsKeep l.place l.levels l.depth (trees_of (shown_trees (drop l.e-index l.es))) ↔ PartsKeep l.place l.levels l.depth (trees_of (shown_trees l.es))
 
 abbrev pub invariant-bindings_keep-loop-b : goal.invariant-bindings_keep-loop-b
-invariant-bindings_keep-loop-b l = BindingsKeep l.levels l.depth (binds_of (shows_bounds (drop l.b-index l.bs))) ↔ BindingsKeep l.levels l.depth (binds_of (shows_bounds l.bs))
+invariant-bindings_keep-loop-b l = BindingsKeep l.levels l.depth (binds_of (shown_bounds (drop l.b-index l.bs))) ↔ BindingsKeep l.levels l.depth (binds_of (shown_bounds l.bs))
 
 abbrev pub invariant-arms_keep-loop-arm : goal.invariant-arms_keep-loop-arm
 invariant-arms_keep-loop-arm l = record {
-  keeps : ArmsKeep l.left l.under (arms_of (shows_labelled (drop l.arm-index l.arms)) (shows l.other)) ↔ ArmsKeep l.levels l.depth (arms_of (shows_labelled l.arms) (shows l.other));
+  keeps : ArmsKeep l.left l.under (arms_of (shown_labelled (drop l.arm-index l.arms)) (shown_tree l.default)) ↔ ArmsKeep l.levels l.depth (arms_of (shown_labelled l.arms) (shown_tree l.default));
   lower : l.under ≤ l.depth;
 }
 

@@ -1,17 +1,17 @@
 use Rattle.std.proofs.Common.{drop}
 use Rattle.safl_word.specs.declared.token.Sym.TheVariants as syms
 use Rattle.safl_tree.specs.Tree.{trees_of, binds_of}
-use Rattle.safl_tree.specs.Shown.{shows_all, shows_bounds, shows_labelled}
+use Rattle.safl_tree.specs.Shown.{shown_trees, shown_bounds, shown_labelled}
 use Rattle.safl_tree.specs.Printed.{sym, part_words, bind_words, labelled_words}
 use Rattle.safl_tree.proofs.Writing.{behind, Leaves}
 use Rattle.safl_tree.proofs.print_expression.+print.Given as goal
 
 -- with what is left the text is that of all
 abbrev pub invariant-push_arms-loop-arm : goal.invariant-push_arms-loop-arm
-invariant-push_arms-loop-arm l = Leaves l.out.items (labelled_words (shows_labelled (drop l.arm-index l.arms))) l.initial.out.items (labelled_words (shows_labelled l.arms))
+invariant-push_arms-loop-arm l = Leaves l.out.items (labelled_words (shown_labelled (drop l.arm-index l.arms))) l.initial.out.items (labelled_words (shown_labelled l.arms))
 
 abbrev pub invariant-push_bindings-loop-b : goal.invariant-push_bindings-loop-b
-invariant-push_bindings-loop-b l = Leaves l.out.items (behind (sym syms.Comma) (bind_words (binds_of (shows_bounds (drop l.b-index l.rest))))) l.initial.out.items (behind (sym syms.Comma) (bind_words (binds_of (shows_bounds l.rest))))
+invariant-push_bindings-loop-b l = Leaves l.out.items (behind (sym syms.Comma) (bind_words (binds_of (shown_bounds (drop l.b-index l.rest))))) l.initial.out.items (behind (sym syms.Comma) (bind_words (binds_of (shown_bounds l.rest))))
 
 abbrev pub invariant-push_parts-loop-e : goal.invariant-push_parts-loop-e
-invariant-push_parts-loop-e l = Leaves l.out.items (behind (sym l.between) (part_words l.right l.right (trees_of (shows_all (drop l.e-index l.rest))))) l.initial.out.items (behind (sym l.between) (part_words l.right l.right (trees_of (shows_all l.rest))))
+invariant-push_parts-loop-e l = Leaves l.out.items (behind (sym l.between) (part_words l.right l.right (trees_of (shown_trees (drop l.e-index l.rest))))) l.initial.out.items (behind (sym l.between) (part_words l.right l.right (trees_of (shown_trees l.rest))))

@@ -1,7 +1,7 @@
 use Rattle.std.proofs.Common.{◌-◌, List, [], ◌∷◌, length, take, drop, refl, sym, subst, arith}
 use Rattle.safl_word.specs.declared.token.Sym.TheVariants as syms
 use Rattle.safl_tree.specs.declared.tree.Param.{Param}
-use Rattle.safl_tree.specs.Shown.{shows_params}
+use Rattle.safl_tree.specs.Shown.{shown_parameters}
 use Rattle.safl_tree.specs.Printed
 use Rattle.safl_tree.specs.Printed.{separated, param_words, Writes}
 use Rattle.safl_tree.proofs.Writing.{items_end, by_first}
@@ -9,5 +9,5 @@ use Rattle.safl_tree.proofs.print_program.push_params.Goals as goal
 
 pub returns-after-loop-param : goal.returns-after-loop-param
 returns-after-loop-param c =
-    subst (λ (l : List Param). Writes c.args.out.now.items c.loop-param.out.items (separated (Printed.sym syms.Comma) (param_words (shows_params l)))) (sym (by_first c.args.params.now c.first-item.result (omega arith) c.first-item.is))
-    (items_end (λ (p : Param). Printed.name p.name ∷ (Printed.sym syms.Colon ∷ (Printed.number p.width ∷ []))) (λ (l : List Param). param_words (shows_params l)) refl (λ p l. refl) (Printed.sym syms.Comma) (take (length c.args.params.now - 1) (drop 1 c.args.params.now)) c.loop-param.param-index c.loop-param-test.false c.args.out.now.items c.push_param.new.out.items c.loop-param.out.items (Printed.name c.first-item.result.name ∷ (Printed.sym syms.Colon ∷ (Printed.number c.first-item.result.width ∷ []))) c.loop-param.invariant c.in_ok-push_param.ensures)
+    subst (λ (l : List Param). Writes c.args.out.now.items c.loop-param.out.items (separated (Printed.sym syms.Comma) (param_words (shown_parameters l)))) (sym (by_first c.args.params.now c.first-item.result (omega arith) c.first-item.is))
+    (items_end (λ (p : Param). Printed.name p.name ∷ (Printed.sym syms.Colon ∷ (Printed.number p.width ∷ []))) (λ (l : List Param). param_words (shown_parameters l)) refl (λ p l. refl) (Printed.sym syms.Comma) (take (length c.args.params.now - 1) (drop 1 c.args.params.now)) c.loop-param.param-index c.loop-param-test.false c.args.out.now.items c.push_param.new.out.items c.loop-param.out.items (Printed.name c.first-item.result.name ∷ (Printed.sym syms.Colon ∷ (Printed.number c.first-item.result.width ∷ []))) c.loop-param.invariant c.in_ok-push_param.ensures)

@@ -1,21 +1,21 @@
 use Rattle.std.proofs.Common.{◌∙◌, List, sym, ap, subst}
 use Rattle.safl_typing.specs.declared.expression.Bound.{Bound}
 use Rattle.safl_typing.specs.declared.expression.Expression as code
-use Rattle.safl_typing.specs.Rewriting.{Binding}
-use Rattle.safl_typing.specs.Plain.{plain, plain_bindings}
+use Rattle.safl_typing.specs.Rewriting.{Let}
+use Rattle.safl_typing.specs.Plain.{shown_expression, shown_bindings}
 use Rattle.safl_typing.specs.Marks.{IsMarkOf, IsMarked, BoundMarked}
-use Rattle.safl_typing.proofs.PlainLemmas.{plain-Binding}
+use Rattle.safl_typing.proofs.PlainLemmas.{shown_expression-Let}
 use Rattle.safl_typing.proofs.MarkLemmas.{binding_marked}
 use Rattle.safl_typing.proofs.make.bind.Goals as goal
 
 pub returns-clause-made : goal.returns-clause-made
-returns-clause-made c = plain-Binding c.args.place c.marks_of_binding-marks.result c.args.bound c.in_ok-body.body
-    ∙ ap (λ (z : code.Expression). Binding c.args.place (plain_bindings c.args.bound.items) (plain z)) c.in_ok-body.ensures.ok
+returns-clause-made c = shown_expression-Let c.args.place c.marks_of_binding-marks.result c.args.bound c.in_ok-body.body
+    ∙ ap (λ (z : code.Expression). Let c.args.place (shown_bindings c.args.bound.items) (shown_expression z)) c.in_ok-body.ensures.ok
 
 pub returns-clause-marked : goal.returns-clause-marked
 returns-clause-marked c = λ k hs hb.
     let m = c.marks_of_binding-marks.ensures k c.args.place (subst (BoundMarked k) (sym c.deref.ensures.value) hs) hb in
-    let on : List Bound → code.Expression → Type 0 = λ l y. IsMarkOf k (Binding c.args.place (plain_bindings l) (plain y)) c.marks_of_binding-marks.result in
+    let on : List Bound → code.Expression → Type 0 = λ l y. IsMarkOf k (Let c.args.place (shown_bindings l) (shown_expression y)) c.marks_of_binding-marks.result in
     let m1 = subst (λ (l : List Bound). on l c.args.body) c.deref.ensures.value m in
     let m2 = subst (on c.args.bound.items) (sym c.in_ok-body.ensures.ok) m1 in
     binding_marked k c.args.place c.marks_of_binding-marks.result c.args.bound c.in_ok-body.body m2 hs (subst (IsMarked k) (sym c.in_ok-body.ensures.ok) hb)

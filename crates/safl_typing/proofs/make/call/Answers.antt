@@ -1,18 +1,18 @@
 use Rattle.std.proofs.Common.{List, subst}
 use Rattle.safl_typing.specs.declared.expression.Expression as code
-use Rattle.safl_typing.specs.Rewriting.{Called}
-use Rattle.safl_typing.specs.Plain.{plain_all}
+use Rattle.safl_typing.specs.Rewriting.{Call}
+use Rattle.safl_typing.specs.Plain.{shown_expressions}
 use Rattle.safl_typing.specs.Marks.{IsMarkOf, AreMarked}
-use Rattle.safl_typing.proofs.PlainLemmas.{plain-Called}
+use Rattle.safl_typing.proofs.PlainLemmas.{shown_expression-Call}
 use Rattle.safl_typing.proofs.MarkLemmas.{called_marked}
 use Rattle.std.proofs.Common.{sym}
 use Rattle.safl_typing.proofs.make.call.Goals as goal
 
 pub returns-clause-made : goal.returns-clause-made
-returns-clause-made c = plain-Called c.args.place c.marks_of_call-marks.result c.args.name c.args.arguments
+returns-clause-made c = shown_expression-Call c.args.place c.marks_of_call-marks.result c.args.name c.args.arguments
 
 pub returns-clause-marked : goal.returns-clause-marked
 returns-clause-marked c = λ k e h.
     let m = c.marks_of_call-marks.ensures k c.args.place c.args.name e (subst (AreMarked k) (sym c.deref.ensures.value) h) in
     called_marked k c.args.place c.marks_of_call-marks.result c.args.name c.args.arguments
-    (subst (λ (l : List code.Expression). IsMarkOf k (Called c.args.place c.args.name (plain_all l)) c.marks_of_call-marks.result) c.deref.ensures.value m) h
+    (subst (λ (l : List code.Expression). IsMarkOf k (Call c.args.place c.args.name (shown_expressions l)) c.marks_of_call-marks.result) c.deref.ensures.value m) h

@@ -1,8 +1,8 @@
 use Rattle.std.proofs.Common.{◌≡◌, ◌+◌, take, min}
 use Rattle.safl_typing.specs.Heads.{Known, sites_in}
-use Rattle.safl_typing.specs.Plain.{plain_all}
+use Rattle.safl_typing.specs.Plain.{shown_expressions}
 use Rattle.safl_typing.specs.Marks.{AreMarked}
 use Rattle.safl_typing.proofs.marks.add_all_sites.Given as goal
 
 abbrev pub invariant-loop-e : goal.invariant-loop-e
-invariant-loop-e l = (k : Known) → AreMarked k l.es → l.total ≡ min 4001 (l.counted + sites_in k (plain_all (take l.e-index l.es)))
+invariant-loop-e l = (k : Known) → AreMarked k l.es → l.total ≡ min 4001 (l.counted + sites_in k (shown_expressions (take l.e-index l.es)))

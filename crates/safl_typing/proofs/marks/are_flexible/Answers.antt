@@ -2,7 +2,7 @@ use Rattle.std.proofs.Common.{◌∙◌, List, sym, ap}
 use Rattle.std.proofs.lemmas.List.{drop_all}
 use Rattle.safl_typing.specs.declared.expression.Expression as code
 use Rattle.safl_typing.specs.Rewriting.{all_flexible}
-use Rattle.safl_typing.specs.Plain.{plain_all}
+use Rattle.safl_typing.specs.Plain.{shown_expressions}
 use Rattle.safl_typing.proofs.CountLemmas.{flexible_next, flexible_not}
 use Rattle.safl_typing.proofs.MarkLemmas.{marked_at}
 use Rattle.safl_typing.proofs.marks.are_flexible.Goals as goal
@@ -18,4 +18,4 @@ loop-e-preserved c = λ k h.
     flexible_next c.args.es.now c.loop-e.e-index c.e-item.result c.loop-e-test.true c.e-item.is (sym (c.is_flexible.ensures k m) ∙ c.if-not-is_flexible.false) (c.loop-e.invariant k h)
 
 pub returns : goal.returns
-returns c = λ k h. sym (c.loop-e.invariant k h ∙ ap (λ (l : List code.Expression). all_flexible (plain_all l)) (drop_all c.loop-e.e-index c.args.es.now c.loop-e-test.false))
+returns c = λ k h. sym (c.loop-e.invariant k h ∙ ap (λ (l : List code.Expression). all_flexible (shown_expressions l)) (drop_all c.loop-e.e-index c.args.es.now c.loop-e-test.false))

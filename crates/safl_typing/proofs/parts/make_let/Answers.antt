@@ -3,14 +3,14 @@ use Rattle.safl_term.specs.Slots.{HasSlots}
 use Rattle.safl_term.proofs.SlotLemmas.{slots-Let}
 use Rattle.safl_term.specs.declared.term.Term as declared
 use Rattle.safl_term.specs.Terms.{Let}
-use Rattle.safl_term.specs.Tree.{tree, forest}
-use Rattle.safl_term.proofs.TreeLemmas.{tree-Let}
+use Rattle.safl_term.specs.Tree.{shown_term, shown_terms}
+use Rattle.safl_term.proofs.TreeLemmas.{shown_term-Let}
 use Rattle.safl_typing.proofs.SaysLemmas.{same_term}
 use Rattle.safl_typing.proofs.parts.make_let.Goals as goal
 
 pub returns-clause-says : goal.returns-clause-says
 returns-clause-says c =
-    let e = tree-Let c.args.slot c.args.bound c.in_ok-body.body ∙ ap (λ (z : declared.Term). Let (forest c.args.bound.items) (tree z)) c.in_ok-body.ensures.ok in
+    let e = shown_term-Let c.args.slot c.args.bound c.in_ok-body.body ∙ ap (λ (z : declared.Term). Let (shown_terms c.args.bound.items) (shown_term z)) c.in_ok-body.ensures.ok in
     same_term c.args.width _ _ (sym e)
 
 pub returns-clause-slots : goal.returns-clause-slots

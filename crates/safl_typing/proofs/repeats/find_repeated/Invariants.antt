@@ -1,9 +1,9 @@
 use Rattle.std.proofs.Common.{◌≡◌, [], drop}
 use Rattle.safl_typing.specs.Walk.{repeated, placed}
-use Rattle.safl_typing.specs.Plain.{plain_bindings}
+use Rattle.safl_typing.specs.Plain.{shown_bindings}
 use Rattle.safl_typing.specs.PlainNames.{earlier}
 use Rattle.safl_typing.proofs.repeats.find_repeated.Given as goal
 
 -- the rest decides
 abbrev pub invariant-loop-i : goal.invariant-loop-i
-invariant-loop-i l = repeated [] (placed (plain_bindings l.bound)) ≡ repeated (earlier l.bound l.i) (placed (plain_bindings (drop l.i l.bound)))
+invariant-loop-i l = repeated [] (placed (shown_bindings l.bound)) ≡ repeated (earlier l.bound l.i) (placed (shown_bindings (drop l.i l.bound)))

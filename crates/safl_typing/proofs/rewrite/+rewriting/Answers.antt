@@ -1,8 +1,8 @@
 use Rattle.std.proofs.Common.{◌≡◌, ap, ◌∙◌, List, refl, sym}
-use Rattle.safl_tree.specs.Shown.{shows}
+use Rattle.safl_tree.specs.Shown.{shown_tree}
 use Rattle.safl_tree.specs.declared.tree.Expr.{Expr}
 use Rattle.safl_typing.specs.Rewriting.{rewritten}
-use Rattle.safl_typing.specs.Plain.{plain}
+use Rattle.safl_typing.specs.Plain.{shown_expression}
 use Rattle.safl_typing.specs.PlainHeads.{known}
 use Rattle.safl_typing.specs.Heads.{callee, is_site}
 use Rattle.safl_typing.proofs.PlainLemmas.{ok_plain}
@@ -18,9 +18,9 @@ rewrite-returns-in_ok-body-in-Let-clause-rewritten t c =
 
 pub rewrite-returns-in_ok-body-in-Case-clause-rewritten : goal.rewrite-returns-in_ok-body-in-Case-clause-rewritten
 rewrite-returns-in_ok-body-in-Case-clause-rewritten t c =
-    let other : plain c.in_ok-other-in-Case.other ≡ rewritten (shows c.in-Case.other.value) = c.in_ok-other-in-Case.ensures.rewritten ∙ ap (λ (z : Expr). rewritten (shows z)) c.deref-in-Case-2.ensures in
-    let arms = c.in_ok-body-in-Case.ensures.rewritten (shows c.in-Case.other.value) other in
-    let e = case_rewrites c.args.e.now.node c.args.e.now.place c.in-Case.looked_at c.in-Case.arms c.in-Case.other c.in_ok-value-in-Case.value c.in_ok-body-in-Case.body _ _ c.in-Case.is c.deref-in-Case-3.ensures.value c.deref-in-Case.ensures c.in_ok-value-in-Case.ensures.rewritten arms in
+    let other : shown_expression c.in_ok-default-in-Case.default ≡ rewritten (shown_tree c.in-Case.default.value) = c.in_ok-default-in-Case.ensures.rewritten ∙ ap (λ (z : Expr). rewritten (shown_tree z)) c.deref-in-Case-2.ensures in
+    let arms = c.in_ok-body-in-Case.ensures.rewritten (shown_tree c.in-Case.default.value) other in
+    let e = case_rewrites c.args.e.now.node c.args.e.now.place c.in-Case.scrutinee c.in-Case.arms c.in-Case.default c.in_ok-value-in-Case.value c.in_ok-body-in-Case.body _ _ c.in-Case.is c.deref-in-Case-3.ensures.value c.deref-in-Case.ensures c.in_ok-value-in-Case.ensures.rewritten arms in
     ok_plain c.scrutinise.result _ _ c.scrutinise.ensures.made e
 
 pub rewrite-returns-in_ok-operands-in-Op-clause-rewritten : goal.rewrite-returns-in_ok-operands-in-Op-clause-rewritten

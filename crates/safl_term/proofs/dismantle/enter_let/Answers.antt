@@ -1,0 +1,13 @@
+use Rattle.std.proofs.Common.{◌≡◌, ◌<◌, ◌≤◌, ℕ, List, refl, ap, sym, ◌∙◌, arith}
+use Rattle.safl_word.specs.declared.primitive.Primitive.TheVariants as prims
+use Rattle.safl_term.specs.declared.term.Term.{Term}
+use Rattle.safl_term.specs.Weights.{code_weight}
+use Rattle.safl_term.proofs.Dismantling.{two, let_weight, op_weight, call_weight, loop_weight, work_down, work_up, sum_last, less_of, at_most_of, less_in}
+use Rattle.safl_term.proofs.dismantle.enter_let.Goals as goal
+
+pub returns : goal.returns
+returns c =
+    let here = ap code_weight c.replace-here.ensures.value in
+    let kept = ap code_weight c.replace-here.ensures.after in
+    let whole = let_weight 0 c.args.bound c.replace-here.new.b in
+    work_down _ _ _ _ (omega (arith, here, kept, whole)) (omega (arith, here))

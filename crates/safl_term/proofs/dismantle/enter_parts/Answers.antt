@@ -1,0 +1,11 @@
+use Rattle.std.proofs.Common.{◌≡◌, ◌<◌, ◌≤◌, ℕ, List, refl, ap, sym, ◌∙◌, arith}
+use Rattle.safl_word.specs.declared.primitive.Primitive.TheVariants as prims
+use Rattle.safl_term.specs.declared.term.Term.{Term}
+use Rattle.safl_term.specs.Weights.{code_weight}
+use Rattle.safl_term.proofs.Dismantling.{two, let_weight, op_weight, call_weight, loop_weight, work_down, work_up, sum_last, less_of, at_most_of, less_in}
+use Rattle.safl_term.proofs.dismantle.enter_parts.Goals as goal
+
+pub returns : goal.returns
+returns c =
+    let whole = op_weight prims.Not c.replace_first-here.new.parts in
+    work_down _ _ _ _ (omega (arith, c.replace_first-here.ensures.sum, whole)) (omega (arith, c.replace_first-here.ensures.least))

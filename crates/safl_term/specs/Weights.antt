@@ -1,0 +1,31 @@
+-- How much there is to take apart in a term.
+use Rattle.std.specs.Prelude.{ℕ, ◌+◌, ◌*◌}
+use Rattle.safl_term.specs.declared.dismantle.At.{At}
+use Rattle.safl_term.specs.declared.term.Term as code
+use Rattle.safl_term.specs.Terms.{Term, Terms, Const, Var, Op, If, Let, Call, Loop, Nil, Cons}
+use Rattle.safl_term.specs.Tree.{shown_term}
+
+-- an operator, a call and a loop count for two, so that they are no leaves without parts, and a first branch counts twice
+abbrev mutual
+  pub weight : Term → ℕ
+  weight (Const w) = 1
+  weight (Var i) = 1
+  weight (Op o ts) = 2 + weight_in ts
+  weight (If c a b) = 1 + (weight c + (2 * weight a + weight b))
+  weight (Let ts b) = 1 + (weight_in ts + weight b)
+  weight (Call f k ts) = 2 + weight_in ts
+  weight (Loop h ts) = 2 + weight_in ts
+
+  pub weight_in : Terms → ℕ
+  weight_in Nil = 0
+  weight_in (Cons t ts) = weight t + weight_in ts
+
+abbrev pub code_weight : code.Term → ℕ
+code_weight t = weight (shown_term t)
+
+-- what is left to do, where so much is below and so much above: a step down leaves their sum, and a step up makes it less
+abbrev pub work : ℕ → ℕ → ℕ
+work below above = (below + above) * (below + above) + below
+
+abbrev pub work_at : At → ℕ
+work_at a = work (code_weight a.here) (code_weight a.above)
