@@ -66,15 +66,15 @@ module _ {m : Shown} {answers : List Answer} {wants : List (Option (List Word))}
 
 -- ---- the units whose bodies see nothing of an event
 
-module _ (C : Program) (good : Numbered C) (s t : State) (inv : Inv C s) (answers : List Answer) (wants : List (Option (List Word))) (v : ℕ) where
-  same_says : ((k : ℕ) → C.unit (C.caller k) ≡ v → back t k ≡ back s k) → (m : Mode) → s.unit v ≡ m → says_as C (back t) m ≡ says_as C (back s) m
+module _ (C : Program) (good : Numbered C) (s t : State) (inv : Inv C s) (v : ℕ) where
+  pub same_says : ((k : ℕ) → C.unit (C.caller k) ≡ v → back t k ≡ back s k) → (m : Mode) → s.unit v ≡ m → says_as C (back t) m ≡ says_as C (back s) m
   same_says same Idle e = refl
   same_says same (Delivers j w) e = refl
   same_says same (Runs f j ws) e =
       let m = inv.member v f j ws e in
       answer_local (back t) (back s) ws (C.body f) (λ k st. same k (ap C.unit (good.own f k m.1 st).2 ∙ m.0))
 
-  same_asked : ((k : ℕ) → C.unit (C.caller k) ≡ v → back t k ≡ back s k) → (m : Mode) → s.unit v ≡ m → (k : ℕ) → asked_as C (back t) m (C.caller k) k ≡ asked_as C (back s) m (C.caller k) k
+  pub same_asked : ((k : ℕ) → C.unit (C.caller k) ≡ v → back t k ≡ back s k) → (m : Mode) → s.unit v ≡ m → (k : ℕ) → asked_as C (back t) m (C.caller k) k ≡ asked_as C (back s) m (C.caller k) k
   same_asked same Idle e k = refl
   same_asked same (Delivers j w) e k = refl
   same_asked same (Runs f j ws) e k = ⊎_elim
@@ -87,10 +87,11 @@ module _ (C : Program) (good : Numbered C) (s t : State) (inv : Inv C s) (answer
           let m = inv.member v f j ws e in
           wanted_local (back t) (back s) ws (C.body f) k (λ i st. same i (ap C.unit (good.own f i m.1 st).2 ∙ m.0))
 
+module _ (C : Program) (good : Numbered C) (s t : State) (inv : Inv C s) (answers : List Answer) (wants : List (Option (List Word))) (v : ℕ) where
   pub stays : t.unit v ≡ s.unit v → ((k : ℕ) → C.unit (C.caller k) ≡ v → back t k ≡ back s k) → IsKnown C s answers wants v → IsKnown C t answers wants v
   stays e same h = record {
-    outcome = h.outcome ∙ (sym (same_says same (s.unit v) refl) ∙ ap (says_as C (back t)) (sym e));
-    wants = λ k pos le on. h.wants k pos le on ∙ (sym (same_asked same (s.unit v) refl k) ∙ ap (λ m. asked_as C (back t) m (C.caller k) k) (sym e));
+    outcome = h.outcome ∙ (sym (same_says C good s t inv v same (s.unit v) refl) ∙ ap (says_as C (back t)) (sym e));
+    wants = λ k pos le on. h.wants k pos le on ∙ (sym (same_asked C good s t inv v same (s.unit v) refl k) ∙ ap (λ m. asked_as C (back t) m (C.caller k) k) (sym e));
   }
 
   -- a unit that has delivered

@@ -10,3 +10,11 @@ pub mod OutcomeLemmas
 pub mod ListingLemmas
 mod Rows
 pub mod WalkLemmas
+pub mod NumberLemmas
+pub mod SpanLemmas
+pub mod MarkingLemmas
+pub mod LinkLemmas
+pub mod LocalLemmas
+pub mod PickLemmas
+pub mod FirstLemmas
+pub mod ClearLemmas

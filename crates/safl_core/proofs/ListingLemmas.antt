@@ -1,18 +1,14 @@
 -- The enabled events, by their places.
 use Rattle.std.proofs.Common.{◌≡◌, ℕ, zero, suc, ◌+◌, ◌-◌, ◌<◌, ◌≤◌, ◌⊎◌, inl, inr, List, [], ◌∷◌, ◌++◌, length, cond, Option, Some, None, Bool, true, false, nat_lt, refl, sym, ap, ◌∙◌, subst, ⊎_elim, arith, append_assoc}
-use Rattle.std.specs.Prelude.{slice_get, get_or}
-use Rattle.std.proofs.Common.{◌%◌, slice_set, below_more}
-use Rattle.std.proofs.lemmas.List.{get_or-set_other, get_or-set_same}
+use Rattle.std.specs.Prelude.{slice_get}
 use Rattle.std.proofs.lemmas.Bool.{lt-ltb, le-ltb, ltb-true, ltb-false, cases_eq, cases_Bool}
-use Rattle.std.specs.Prelude.{IsTrue}
-use Rattle.std.proofs.lemmas.Bool.{false≢true}
 use Rattle.safl_calls.specs.Machine.{Enabled}
 use Rattle.safl_core.proofs.OutcomeLemmas.{enabled_of, enabled_can, accept_within}
 use Rattle.safl_word.specs.Words.{Word}
 use Rattle.safl_term.specs.Program.{Program}
 use Rattle.safl_calls.specs.Machine.{State, Event, Accept, Finish, Return, LoopInto}
 use Rattle.safl_calls.specs.Picks.{picks}
-use Rattle.safl_core.specs.Listing.{listed, event_at, places, Lists, count_below}
+use Rattle.safl_core.specs.Listing.{listed, event_at, places, count_below}
 use Rattle.safl_core.specs.Picking.{Precedes, IsListing}
 use Rattle.safl_core.specs.Testing.{can}
 use Rattle.safl_core.specs.Shown.{Shown, state, CanFire, IsKept}
@@ -73,7 +69,7 @@ got_last : (xs : List Event) (x : Event) → slice_get (xs ++ x ∷ []) (length 
 got_last [] x = refl
 got_last (y ∷ ys) x = got_last ys x
 
-got_front : (xs ys : List Event) (i : ℕ) (x : Event) → slice_get xs i ≡ Some x → slice_get (xs ++ ys) i ≡ Some x
+pub got_front : (xs ys : List Event) (i : ℕ) (x : Event) → slice_get xs i ≡ Some x → slice_get (xs ++ ys) i ≡ Some x
 got_front [] ys i x e = absurd (never x e) where
   never : (x : Event) → None ≡ Some x → ⊥
   never x e = cc
@@ -222,78 +218,6 @@ module _ (C : Program) (args : List Word) (s : State) where
       ∙ ap (λ l. picks (tests Finish) Finish C.functions ++ l)
       (shift after_finishes Return LoopInto (suc C.sites) C.functions (λ i lt. ap (λ b. cond b (Return i) (LoopInto (i - suc C.sites))) (lt-ltb i (suc C.sites) lt)) third)))
 
--- ---- what the code tests
-
-pub test_true : (C : Program) (args : List Word) (s : State) (x y : Event) (b : Bool) → x ≡ y → (IsTrue b → Enabled C args s x) → b ≡ true → can C args s y ≡ true
-test_true C args s x y b same h is = enabled_can C args s y (subst (λ e. Enabled C args s e) same (h is))
-
-pub test_false : (C : Program) (args : List Word) (s : State) (x y : Event) (b : Bool) → x ≡ y → (Enabled C args s x → IsTrue b) → b ≡ false → can C args s y ≡ false
-test_false C args s x y b same h is = by (can C args s y) refl
-  where
-    by : (t : Bool) → can C args s y ≡ t → t ≡ false
-    by false e = refl
-    by true e = absurd (false≢true (sym is ∙ h (subst (λ z. Enabled C args s z) (sym same) (enabled_of C args s y e))))
-
-pub counted : (p : ℕ → Bool) (e : ℕ → Event) (i n : ℕ) (b : Bool) → n ≡ length (picks p e i) → p i ≡ b → n + cond b 1 0 ≡ length (picks p e (i + 1))
-counted p e i n b is h =
-    let one : i + 1 ≡ suc i = omega arith in
-    ap (λ k. k + cond b 1 0) is ∙ (ap (λ t. length (picks p e i) + cond t 1 0) (sym h) ∙ (sym (count_more p e i) ∙ ap (λ k. length (picks p e k)) (sym one)))
-
--- ---- the places of the enabled events
-
-module _ (C : Program) (args : List Word) (s : State) where
-  pub lists_none : (found : List ℕ) → Lists C args s found 0 0
-  lists_none found = record {
-    count_is = sym (ap (λ (l : List Event). length l) (picks_zero (test_at C args s) (event_at C)));
-    within = omega arith;
-    each = λ j lt. absurd (omega (arith, lt));
-    fires = λ j lt. absurd (omega (arith, lt));
-    below = λ j lt. absurd (omega (arith, lt));
-  }
-
-  front : (found : List ℕ) (count i : ℕ) → Lists C args s found count i → (j : ℕ) → j < count → slice_get (picks (test_at C args s) (event_at C) (i + 1)) j ≡ Some (event_at C (get_or found j 0))
-  front found count i h j lt =
-      let one : i + 1 ≡ suc i = omega arith in
-      ap (λ n. slice_get (picks (test_at C args s) (event_at C) n) j) one
-      ∙ (ap (λ l. slice_get l j) (picks_more (test_at C args s) (event_at C) i)
-      ∙ got_front (picks (test_at C args s) (event_at C) i) (cond (test_at C args s i) (event_at C i ∷ []) []) j (event_at C (get_or found j 0)) (h.each j lt))
-
-  pub lists_more : (found : List ℕ) (count i : ℕ) → Lists C args s found count i → test_at C args s i ≡ true → count < length found → Lists C args s (slice_set found count i) (count + 1) (i + 1)
-  lists_more found count i h is lt = record {
-    count_is = counted (test_at C args s) (event_at C) i count true h.count_is is;
-    within = omega (arith, h.within);
-    each = below_more (λ j. slice_get (picks (test_at C args s) (event_at C) (i + 1)) j ≡ Some (event_at C (get_or (slice_set found count i) j 0))) count
-        (λ j le. front found count i h j le ∙ ap (λ n. Some (event_at C n)) (sym (off j le)))
-        (ap (slice_get (picks (test_at C args s) (event_at C) (i + 1))) h.count_is ∙ (picked_at (test_at C args s) (event_at C) i (i + 1) (omega arith) is ∙ ap (λ n. Some (event_at C n)) (sym at)));
-    fires = below_more (λ j. test_at C args s (get_or (slice_set found count i) j 0) ≡ true) count (λ j le. ap (test_at C args s) (off j le) ∙ h.fires j le) (ap (test_at C args s) at ∙ is);
-    below = below_more (λ j. get_or (slice_set found count i) j 0 < i + 1) count (λ j le. omega (arith, off j le, h.below j le)) (omega (arith, at));
-  }
-    where
-      at : get_or (slice_set found count i) count 0 ≡ i
-      at = get_or-set_same found count i 0 lt
-
-      off : (j : ℕ) → j < count → get_or (slice_set found count i) j 0 ≡ get_or found j 0
-      off j le = get_or-set_other found count j i 0 (λ q. absurd (omega (arith, le, q)))
-
-  pub lists_same : (found : List ℕ) (count i : ℕ) → Lists C args s found count i → test_at C args s i ≡ false → Lists C args s found count (i + 1)
-  lists_same found count i h is = record {
-    count_is = let more = counted (test_at C args s) (event_at C) i count false h.count_is is in omega (arith, more);
-    within = omega (arith, h.within);
-    each = front found count i h;
-    fires = h.fires;
-    below = λ j le. omega (arith, h.below j le);
-  }
-
-  pub lists_count : (found : List ℕ) (count : ℕ) → Lists C args s found count (places C) → count ≡ length (listed C args s)
-  lists_count found count h = h.count_is ∙ ap (λ (l : List Event). length l) (all_listed C args s (places C) refl)
-
-  pub lists_pick : (found : List ℕ) (count x j : ℕ) (e : Event) → Lists C args s found count (places C) → j ≡ x % count → j < count → e ≡ event_at C (get_or found j 0)
-      → (Some e ≡ slice_get (listed C args s) (x % length (listed C args s))) × Enabled C args s e
-  lists_pick found count x j e h at lt is = (
-    ap Some is ∙ (sym (h.each j lt) ∙ (ap (λ l. slice_get l j) (all_listed C args s (places C) refl) ∙ ap (slice_get (listed C args s)) (at ∙ ap (λ n. x % n) (lists_count found count h)))),
-    enabled_of C args s e (ap (can C args s) is ∙ h.fires j lt),
-  )
-
 -- ---- where nothing is listed, nothing is enabled
 
 module _ {m : Shown} {answers : List Kept} {wants : List (Option (List Word))} {room : ℕ} (h : IsKept m answers wants room) where
@@ -359,11 +283,6 @@ pub count_none : (p : ℕ → Bool) → 0 ≡ count_below p 0
 unfolding count_below
 count_none p = refl
 
-count_suc : (p : ℕ → Bool) (n : ℕ) → count_below p (suc n) ≡ count_below p n + cond (p n) 1 0
+pub count_suc : (p : ℕ → Bool) (n : ℕ) → count_below p (suc n) ≡ count_below p n + cond (p n) 1 0
 unfolding count_below
 count_suc p n = refl
-
-pub count_one : (p : ℕ → Bool) (k n : ℕ) (b : Bool) → k ≡ count_below p n → p n ≡ b → k + cond b 1 0 ≡ count_below p (n + 1)
-count_one p k n b is h =
-    let one : n + 1 ≡ suc n = omega arith in
-    ap (λ j. j + cond b 1 0) is ∙ (ap (λ t. count_below p n + cond t 1 0) (sym h) ∙ (sym (count_suc p n) ∙ ap (count_below p) (sym one)))

@@ -13,7 +13,7 @@ use Rattle.safl_term.specs.declared.checked.Function.{Function}
 use Rattle.safl_term.specs.Readiness as plain
 use Rattle.safl_term.specs.Sizes.{nodes}
 use Rattle.safl_term.specs.Terms.{Const}
-use Rattle.safl_term.specs.Tree.{tree}
+use Rattle.safl_term.specs.Tree.{shown_term}
 use Rattle.safl_calls.specs.Machine as core
 use Rattle.safl_core.specs.declared.mode.Answer.{Answer}
 use Rattle.safl_core.specs.declared.mode.Answer.TheVariants.{NotYet}
@@ -27,14 +27,14 @@ use Rattle.safl_core.specs.Stages.{stage_at}
 use Rattle.safl_core.proofs.StateLemmas.{state_is}
 
 abbrev size : Function → ℕ
-size f = nodes (tree f.body)
+size f = nodes (shown_term f.body)
 
-body_at : (fs : List Function) (f : ℕ) (d : Function) → f < length fs → nodes (option_map_or (λ g. tree g.body) (slice_get fs f) (Const no_word)) ≡ size (get_or fs f d)
+body_at : (fs : List Function) (f : ℕ) (d : Function) → f < length fs → nodes (option_map_or (λ g. shown_term g.body) (slice_get fs f) (Const no_word)) ≡ size (get_or fs f d)
 body_at [] f d lt = absurd (omega (arith, lt))
 body_at (x ∷ xs) zero d lt = refl
 body_at (x ∷ xs) (suc f) d lt = body_at xs f d (omega (arith, lt))
 
-body_size : (fs : List Function) (f : ℕ) → f < length fs → nodes (option_map_or (λ g. tree g.body) (slice_get fs f) (Const no_word)) ≤ sum_by size fs
+body_size : (fs : List Function) (f : ℕ) → f < length fs → nodes (option_map_or (λ g. shown_term g.body) (slice_get fs f) (Const no_word)) ≤ sum_by size fs
 body_size [] f lt = absurd (omega (arith, lt))
 body_size (x ∷ xs) f lt = omega (arith, body_at (x ∷ xs) f x lt, get_or-le-sum_by size (x ∷ xs) f x lt)
 

@@ -1,8 +1,8 @@
 -- Writes of modes and stages, as steps of the state.
-use Rattle.std.proofs.Common.{◌≡◌, ◌≢◌, ℕ, suc, ◌+◌, ◌<◌, ◌≤◌, List, length, cond, eqb, slice_set, refl, sym, ap, ◌∙◌, subst, ⊎_elim, arith}
+use Rattle.std.proofs.Common.{◌≡◌, ◌≢◌, ℕ, zero, suc, ◌+◌, ◌<◌, ◌≤◌, ◌⊎◌, Bool, true, false, List, length, cond, eqb, slice_set, refl, sym, ap, ◌∙◌, subst, ⊎_elim, arith}
 use Rattle.std.proofs.Math.Path.{fun_ext}
 use Rattle.std.proofs.lemmas.Bool.{cases_eq, eq-eqb, ne_eqb}
-use Rattle.std.proofs.lemmas.List.{get_or-set_other, get_or-set_same}
+use Rattle.std.proofs.lemmas.List.{get_or-set_other, get_or-set_same, get_or_past}
 use Rattle.safl_term.specs.Program.{Program}
 use Rattle.safl_term.specs.Readiness as plain
 use Rattle.safl_calls.specs.Machine as core
@@ -10,7 +10,9 @@ use Rattle.safl_calls.specs.Machine.{State, put, ended}
 use Rattle.safl_core.specs.declared.mode.Mode as modes_declared
 use Rattle.safl_core.specs.declared.stage.Stage as stages_declared
 use Rattle.safl_core.specs.Modes.{mode_of, unit_at}
+use Rattle.safl_core.specs.Spans.{IsSpan}
 use Rattle.safl_core.specs.Stages.{stage_of, stage_at}
+use Rattle.safl_core.specs.declared.spans.Span.{Span}
 
 pub unit_put : (modes : List modes_declared.Mode) (u : ℕ) (m : modes_declared.Mode) → u < length modes → unit_at (slice_set modes u m) ≡ put (unit_at modes) u (mode_of m)
 unit_put modes u m lt = fun_ext (λ v. ⊎_elim (λ same. at v same) (λ other. off v other) (cases_eq u v))
@@ -38,35 +40,54 @@ core_state f a = record { unit = f; site = a }
 pub state_is : (f g : ℕ → core.Mode) (a b : ℕ → plain.Stage) → f ≡ g → a ≡ b → core_state f a ≡ core_state g b
 state_is f g a b e h = ap (λ x. core_state x a) e ∙ ap (core_state g) h
 
--- ---- one more site of a unit that ends
+-- ---- the sites of a unit that ends
 
-end_both : (C : Program) (u i : ℕ) (S0 S S1 : List stages_declared.Stage) → ((k : ℕ) → k ≤ i → stage_at S k ≡ ended C u (stage_at S0) k) → ((k : ℕ) → i < k → stage_at S k ≡ stage_at S0 k)
-    → stage_at S1 (i + 1) ≡ cond (eqb (C.unit (C.caller (i + 1))) u) plain.Unsent (stage_at S (i + 1)) → ((k : ℕ) → k ≢ i + 1 → stage_at S1 k ≡ stage_at S k)
-    → ((k : ℕ) → k ≤ i + 1 → stage_at S1 k ≡ ended C u (stage_at S0) k) × ((k : ℕ) → i + 1 < k → stage_at S1 k ≡ stage_at S0 k)
-end_both C u i S0 S S1 below above here off = (within, λ k lt. off k (omega arith) ∙ above k (omega arith))
-  where
-    step : i + 1 ≡ suc i
-    step = omega arith
+abbrev none : stages_declared.Stage
+none = stages_declared.TheVariants.Unsent
 
-    at : stage_at S1 (suc i) ≡ ended C u (stage_at S0) (suc i)
-    at = subst (λ n. stage_at S1 n ≡ cond (eqb (C.unit (C.caller n)) u) plain.Unsent (stage_at S n)) step here ∙ ap (λ x. cond (eqb (C.unit (C.caller (suc i))) u) plain.Unsent x) (above (suc i) (omega arith))
+module _ (C : Program) (u : ℕ) where
+  off_ended : (f : ℕ → plain.Stage) (j : ℕ) → (0 < j → C.unit (C.caller j) ≢ u) → f j ≡ ended C u f j
+  off_ended f zero ne = refl
+  off_ended f (suc j) ne = sym (ap (λ b. cond b plain.Unsent (f (suc j))) (ne_eqb (C.unit (C.caller (suc j))) u (ne (omega arith))))
 
-    within : (k : ℕ) → k ≤ i + 1 → stage_at S1 k ≡ ended C u (stage_at S0) k
-    within k le = ⊎_elim
-        (λ same. subst (λ n. stage_at S1 n ≡ ended C u (stage_at S0) n) (sym (same ∙ step)) at)
-        (λ other. off k other ∙ below k (omega (arith, other)))
-        (cases_eq k (i + 1))
+  unsent_ended : (f : ℕ → plain.Stage) (j : ℕ) → f j ≡ plain.Unsent → ended C u f j ≡ plain.Unsent
+  unsent_ended f zero e = e
+  unsent_ended f (suc j) e = by (eqb (C.unit (C.caller (suc j))) u)
+    where
+      by : (b : Bool) → cond b plain.Unsent (f (suc j)) ≡ plain.Unsent
+      by true = refl
+      by false = e
 
-pub end_more : (C : Program) (u i : ℕ) (S0 S S1 : List stages_declared.Stage) → ((k : ℕ) → k ≤ i → stage_at S k ≡ ended C u (stage_at S0) k) → ((k : ℕ) → i < k → stage_at S k ≡ stage_at S0 k)
-    → S1 ≡ slice_set S (i + 1) stages_declared.TheVariants.Unsent → i + 1 < length S → C.unit (C.caller (i + 1)) ≡ u
-    → ((k : ℕ) → k ≤ i + 1 → stage_at S1 k ≡ ended C u (stage_at S0) k) × ((k : ℕ) → i + 1 < k → stage_at S1 k ≡ stage_at S0 k)
-end_more C u i S0 S S1 below above is lt own = end_both C u i S0 S S1 below above
-    (ap (λ l. stage_at l (i + 1)) is ∙ (ap stage_of (get_or-set_same S (i + 1) stages_declared.TheVariants.Unsent stages_declared.TheVariants.Unsent lt) ∙ sym (ap (λ b. cond b plain.Unsent (stage_at S (i + 1))) (eq-eqb (C.unit (C.caller (i + 1))) u own))))
-    (λ k other. ap (λ l. stage_at l k) is ∙ ap stage_of (get_or-set_other S (i + 1) k stages_declared.TheVariants.Unsent stages_declared.TheVariants.Unsent other))
+  at_ended : (f : ℕ → plain.Stage) (j : ℕ) → 0 < j → C.unit (C.caller j) ≡ u → ended C u f j ≡ plain.Unsent
+  at_ended f zero pos e = absurd (omega arith)
+  at_ended f (suc j) pos e = ap (λ b. cond b plain.Unsent (f (suc j))) (eq-eqb (C.unit (C.caller (suc j))) u e)
 
-pub end_less : (C : Program) (u i : ℕ) (S0 S S1 : List stages_declared.Stage) → ((k : ℕ) → k ≤ i → stage_at S k ≡ ended C u (stage_at S0) k) → ((k : ℕ) → i < k → stage_at S k ≡ stage_at S0 k)
-    → S1 ≡ S → (C.unit (C.caller (i + 1)) ≡ u → ⊥)
-    → ((k : ℕ) → k ≤ i + 1 → stage_at S1 k ≡ ended C u (stage_at S0) k) × ((k : ℕ) → i + 1 < k → stage_at S1 k ≡ stage_at S0 k)
-end_less C u i S0 S S1 below above is own = end_both C u i S0 S S1 below above
-    (ap (λ l. stage_at l (i + 1)) is ∙ sym (ap (λ b. cond b plain.Unsent (stage_at S (i + 1))) (ne_eqb (C.unit (C.caller (i + 1))) u own)))
-    (λ k other. ap (λ l. stage_at l k) is)
+  -- the sites before the unit's own
+  pub end_front : (s : Span) → IsSpan C u s → (S : List stages_declared.Stage) (j : ℕ) → j < s.first → stage_at S j ≡ ended C u (stage_at S) j
+  end_front s h S j lt = off_ended (stage_at S) j (λ pos q. absurd (omega (arith, (h.all j pos (omega (arith, lt, h.order, h.most)) q).0, lt)))
+
+  -- one more of them
+  pub end_site : (k : ℕ) (S0 S : List stages_declared.Stage) → ((j : ℕ) → j < k → stage_at S j ≡ ended C u (stage_at S0) j) → ((j : ℕ) → k ≤ j → stage_at S j ≡ stage_at S0 j)
+      → k < length S → 0 < k → C.unit (C.caller k) ≡ u
+      → ((j : ℕ) → j < k + 1 → stage_at (slice_set S k none) j ≡ ended C u (stage_at S0) j) × ((j : ℕ) → k + 1 ≤ j → stage_at (slice_set S k none) j ≡ stage_at S0 j)
+  end_site k S0 S below above lt pos own = (
+    λ j le. ⊎_elim
+        (λ q. subst (λ n. stage_at (slice_set S k none) n ≡ ended C u (stage_at S0) n) (sym q) (ap stage_of (get_or-set_same S k none none lt) ∙ sym (at_ended (stage_at S0) k pos own)))
+        (λ ne. ap stage_of (get_or-set_other S k j none none ne) ∙ below j (omega (arith, le, ne)))
+        (cases_eq j k),
+    λ j le. ap stage_of (get_or-set_other S k j none none (λ q. absurd (omega (arith, le, q)))) ∙ above j (omega (arith, le)),
+  )
+
+  -- and those after them
+  pub end_back : (s : Span) → IsSpan C u s → (k : ℕ) (S0 S : List stages_declared.Stage) → length S0 ≡ suc C.sites → s.end ≤ k → ((j : ℕ) → j < k → stage_at S j ≡ ended C u (stage_at S0) j) → ((j : ℕ) → k ≤ j → stage_at S j ≡ stage_at S0 j)
+      → (j : ℕ) → stage_at S j ≡ ended C u (stage_at S0) j
+  end_back s h k S0 S long le below above j = ⊎_elim (below j) (λ ge. above j ge ∙ ⊎_elim (within ge) past (cases_lt j (suc C.sites))) (cases_lt j k)
+    where
+      cases_lt : (a b : ℕ) → (a < b) ⊎ (b ≤ a)
+      cases_lt a b = grind arith
+
+      within : k ≤ j → j < suc C.sites → stage_at S0 j ≡ ended C u (stage_at S0) j
+      within ge lt = off_ended (stage_at S0) j (λ pos q. absurd (omega (arith, (h.all j pos (omega (arith, lt)) q).1, ge, le)))
+
+      past : suc C.sites ≤ j → stage_at S0 j ≡ ended C u (stage_at S0) j
+      past ge = let e : stage_at S0 j ≡ plain.Unsent = ap stage_of (get_or_past S0 j none (omega (arith, long, ge))) in e ∙ sym (unsent_ended (stage_at S0) j e)

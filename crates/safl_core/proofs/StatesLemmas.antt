@@ -11,11 +11,8 @@ use Rattle.safl_core.specs.declared.state.State.{State}
 use Rattle.safl_core.specs.Knowing.{IsKnown}
 use Rattle.safl_core.specs.Modes.{state_of}
 use Rattle.safl_core.specs.Shown.{shown_of}
-use Rattle.safl_core.specs.States.{Keeps, CanRefresh, IsSized, Steps, Refreshes, Leads, Knows, calls_of}
+use Rattle.safl_core.specs.States.{Keeps, CanRefresh, Steps, Refreshes, Leads, Knows, calls_of}
 use Rattle.safl_core.proofs.KeptLemmas.{next_reached, next_member, next_back}
-
-pub sized_of : (c : CheckedProgram) (args : List Word) (n : ℕ) (s : State) → Keeps c args n s → IsSized (program_of c) s
-sized_of c args n s h = record { units = h.units; sites = h.sites; answers = h.answers_all; wants = h.wants_all; room = h.room_all }
 
 -- after the step of an event each unit may be looked at anew
 pub can_refresh : (c : CheckedProgram) (args : List Word) (n : ℕ) (s t : State) (h : Keeps c args n s) (e : core.Event) → core.Enabled (program_of c) args (calls_of s) e

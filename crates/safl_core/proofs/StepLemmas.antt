@@ -11,7 +11,7 @@ use Rattle.safl_word.specs.Primitives.{apply_prim}
 use Rattle.safl_term.specs.Readiness.{Ready, LoopTo, NotYet, answer, answers, wanted, wanted_in, or_else, select, with_all, both, apply_to, loop_to, ready_from}
 use Rattle.safl_term.specs.Terms.{Term, Const, Var, If, Let, Op, Call, Loop, Terms, Nil, Cons}
 use Rattle.safl_term.specs.declared.term.Term as declared
-use Rattle.safl_term.specs.Tree.{tree, forest}
+use Rattle.safl_term.specs.Tree.{shown_term, shown_terms}
 use Rattle.safl_term.proofs.Once.{count}
 use Rattle.safl_core.specs.Evaluating.{Notes, IsPlaced}
 use Rattle.safl_core.specs.declared.evaluate.Outcome.{Outcome}
@@ -190,7 +190,7 @@ module _ (B : ℕ → Option Word) (E : List Word) where
   unfolding wanted
   notes_nil A = notes_none A _ (λ k. refl)
 
-pub count_forest : (ts : List declared.Term) → count (forest ts) ≡ length ts
+pub count_forest : (ts : List declared.Term) → count (shown_terms ts) ≡ length ts
 count_forest [] = refl
 count_forest (t ∷ ts) = ap suc (count_forest ts)
 
@@ -222,9 +222,9 @@ notes_as B E {A} {A1} {t} {u} e h = subst (λ x. Notes A A1 (wanted B E x)) (sym
 pub notes_in_as : (B : ℕ → Option Word) (E : List Word) {A A1 : List (Option (List Word))} {t u : Terms} → t ≡ u → Notes A A1 (wanted_in B E u) → Notes A A1 (wanted_in B E t)
 notes_in_as B E {A} {A1} {t} {u} e h = subst (λ x. Notes A A1 (wanted_in B E x)) (sym e) h
 
-pub forest_nodes : (ts : List declared.Term) → length ts ≤ nodes_in (forest ts)
+pub forest_nodes : (ts : List declared.Term) → length ts ≤ nodes_in (shown_terms ts)
 forest_nodes [] = omega arith
-forest_nodes (t ∷ ts) = omega (arith, some_node (tree t), forest_nodes ts)
+forest_nodes (t ∷ ts) = omega (arith, some_node (shown_term t), forest_nodes ts)
 
 -- the word of a slot
 pub slot_is : (F : List Word) (n i : ℕ) (v : Word) → i < length (take n F) → v ≡ get_or F i v → v ≡ slot (take n F) i

@@ -1,5 +1,5 @@
 -- The enabled events in order, and the units that are busy.
-use Rattle.std.specs.Prelude.{◌≡◌, ℕ, zero, suc, ◌+◌, ◌-◌, ◌<◌, ◌≤◌, List, length, ◌++◌, Some, slice_get, get_or, Bool, true, cond, not, nat_lt}
+use Rattle.std.specs.Prelude.{ℕ, zero, suc, ◌+◌, ◌-◌, List, ◌++◌, Bool, cond, not, nat_lt}
 use Rattle.safl_word.specs.Words.{Word}
 use Rattle.safl_term.specs.Program.{Program}
 use Rattle.safl_calls.specs.Machine.{State, Event, Accept, Finish, Return, LoopInto}
@@ -25,14 +25,6 @@ event_at C i =
 -- how many events there are, enabled or not
 abbrev pub places : Program → ℕ
 places C = suc C.sites + (C.functions + (suc C.sites + C.functions))
-
--- these are the places of the enabled events among the first n, in order
-pub record Lists (C : Program) (args : List Word) (s : State) (found : List ℕ) (count n : ℕ) : Type 0 where
-  pub count_is : count ≡ length (picks (λ i. can C args s (event_at C i)) (event_at C) n)
-  pub within : count ≤ n
-  pub each : (j : ℕ) → j < count → slice_get (picks (λ i. can C args s (event_at C i)) (event_at C) n) j ≡ Some (event_at C (get_or found j 0))
-  pub fires : (j : ℕ) → j < count → can C args s (event_at C (get_or found j 0)) ≡ true
-  pub below : (j : ℕ) → j < count → get_or found j 0 < n
 
 -- how many numbers below n pass a test
 unfoldable pub count_below : (ℕ → Bool) → ℕ → ℕ

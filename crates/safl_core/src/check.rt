@@ -4,7 +4,6 @@ ghost use Rattle.std.specs.Prelude.{◌≡◌, ◌<◌, ◌≤◌, ◌&&◌, suc
 ghost use Rattle.safl_term.specs.Checked.{program_of};
 ghost use Rattle.safl_term.specs.Program as program;
 ghost use Rattle.safl_calls.specs.Machine as core;
-ghost use Rattle.safl_core.specs.Listing.{count_below};
 ghost use Rattle.safl_core.specs.Modes.{answer_of, unit_at};
 ghost use Rattle.safl_core.specs.Stages.{stage_at};
 ghost use Rattle.safl_core.specs.Testing as test;
@@ -74,19 +73,12 @@ pub fn loops(answers: &[Answer], u: u32, h: u32) -> bool
     }
 }
 
-/// How many units are not idle.
-pub fn busy(modes: &[Mode], count: u32) -> u32
-    requires { count ≤ length modes.now }
-    ensures { result ≡ count_below (λ u. not (test.is_idle (unit_at modes.now u))) count }
+/// Whether a unit is not idle.
+pub fn is_busy(modes: &[Mode], u: u32) -> bool
+    requires { u < length modes.now }
+    ensures { result ≡ not (test.is_idle (unit_at modes.now u)) }
 {
-    let mut busy = 0;
-    for u in 0..count {
-        let idle = is_idle(modes, u);
-        if !idle {
-            busy += 1;
-        }
-    }
-    busy
+    !is_idle(modes, u)
 }
 
 fn is_idle(modes: &[Mode], u: u32) -> bool

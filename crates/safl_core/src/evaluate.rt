@@ -3,7 +3,7 @@
 ghost use Rattle.std.specs.Prelude.{ℕ, ◌≡◌, ◌+◌, ◌≤◌, ◌<◌, List, length, take, drop, cond, Some, None};
 ghost use Rattle.safl_term.specs.Readiness.{answer, answers, wanted, wanted_in, ready_from};
 ghost use Rattle.safl_term.specs.Sizes.{nodes, nodes_in};
-ghost use Rattle.safl_term.specs.Tree.{tree, forest};
+ghost use Rattle.safl_term.specs.Tree.{shown_term, shown_terms};
 ghost use Rattle.safl_word.specs.Words.{Word as a_word};
 ghost use Rattle.safl_core.specs.Stages.{back_at};
 ghost use Rattle.safl_core.specs.Evaluating.{shown, IsPlaced, CanRun, CanRunAll, Unasked, UnaskedIn, Notes};
@@ -32,12 +32,12 @@ pub fn evaluate(
     slots: usize,
     t: &Term,
 ) -> Outcome
-    requires can { CanRun stages.now (length asks.old) (take slots env.old) (tree t.now) }
-    requires room { slots + nodes (tree t.now) ≤ length env.old }
-    requires unasked { Unasked asks.old (tree t.now) }
-    ensures outcome { shown env.new result ≡ answer (back_at stages.now) (take slots env.old) (tree t.now) }
+    requires can { CanRun stages.now (length asks.old) (take slots env.old) (shown_term t.now) }
+    requires room { slots + nodes (shown_term t.now) ≤ length env.old }
+    requires unasked { Unasked asks.old (shown_term t.now) }
+    ensures outcome { shown env.new result ≡ answer (back_at stages.now) (take slots env.old) (shown_term t.now) }
     ensures placed { IsPlaced (length env.old) result }
-    ensures notes { Notes asks.old asks.new (wanted (back_at stages.now) (take slots env.old) (tree t.now)) }
+    ensures notes { Notes asks.old asks.new (wanted (back_at stages.now) (take slots env.old) (shown_term t.now)) }
     ensures kept { take slots env.new ≡ take slots env.old }
 {
     match t {
@@ -101,13 +101,13 @@ fn evaluate_all(
     at: usize,
     ts: &[Term],
 ) -> bool
-    requires can { CanRunAll stages.now (length asks.old) (take slots env.old) (forest ts.now) }
-    requires room { slots + nodes_in (forest ts.now) ≤ length env.old }
+    requires can { CanRunAll stages.now (length asks.old) (take slots env.old) (shown_terms ts.now) }
+    requires room { slots + nodes_in (shown_terms ts.now) ≤ length env.old }
     requires places { at + length ts.now ≤ length env.old }
     requires after { slots ≤ at }
-    requires unasked { UnaskedIn asks.old (forest ts.now) }
-    ensures words { answers (back_at stages.now) (take slots env.old) (forest ts.now) ≡ cond result (Some (take (length ts.now) (drop at env.new))) None }
-    ensures notes { Notes asks.old asks.new (wanted_in (back_at stages.now) (take slots env.old) (forest ts.now)) }
+    requires unasked { UnaskedIn asks.old (shown_terms ts.now) }
+    ensures words { answers (back_at stages.now) (take slots env.old) (shown_terms ts.now) ≡ cond result (Some (take (length ts.now) (drop at env.new))) None }
+    ensures notes { Notes asks.old asks.new (wanted_in (back_at stages.now) (take slots env.old) (shown_terms ts.now)) }
     ensures kept { take slots env.new ≡ take slots env.old }
 {
     let Some((first, rest)) = ts.split_first() else {

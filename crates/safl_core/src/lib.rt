@@ -3,13 +3,18 @@
 
 mod args;
 mod check;
+mod concern;
+mod enabled;
 mod evaluate;
 pub mod event;
 mod fire;
+mod links;
 pub mod machine;
 mod make;
 mod mode;
+mod number_set;
 mod refresh;
+mod spans;
 mod stage;
 mod state;
 mod step;

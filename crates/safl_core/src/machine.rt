@@ -1,7 +1,10 @@
 //! The call machine.
 
 use crate::args::Args;
+use crate::concern::concerned;
+use crate::enabled::{Enabled, relist_both};
 use crate::event::Event;
+use crate::links::{Links, linked};
 use crate::stage::Stage;
 use crate::state::State;
 use crate::{check, fire, make};
@@ -12,10 +15,6 @@ use std::marker::Model;
 
 /// The words of the slots of any body: at most as many as its parameters and nodes.
 const ROOM: usize = 50_016;
-
-/// The most events of a program, enabled or not: accepts and returns of 4,001 sites, finishes and loops of 1,000
-/// functions.
-const PLACES: usize = 10_002;
 
 /// Why there is no machine: the arguments differ from main's parameters in number or in a width, or no memory is left.
 #[derive(Clone, Copy, Debug, PartialEq, Eq)]
@@ -30,6 +29,8 @@ pub struct Machine<'a> {
     checked: &'a Checked,
     opening: Args,
     state: State,
+    sets: Enabled,
+    links: Links,
     events: u64,
 }
 
@@ -37,7 +38,7 @@ impl<'a> Model for Machine<'a> {
     ghost use Rattle.std.specs.Coded.{codes};
     ghost use Rattle.safl_term.specs.contracts.checked.Checked as inner;
     ghost use Rattle.safl_core.specs.Shown.{Shown, shown_of};
-    ghost use Rattle.safl_core.specs.States.{Keeps};
+    ghost use Rattle.safl_core.specs.Held.{IsHeld};
 
     ghost Value = { Shown };
 
@@ -45,7 +46,7 @@ impl<'a> Model for Machine<'a> {
 
     ghost view = { λ m. shown_of m.checked.now m.opening m.state.modes.items m.state.stages.items m.events };
 
-    ghost invariant = { λ m. Keeps m.checked.now m.opening m.events m.state };
+    ghost invariant = { λ m. IsHeld m.checked.now m.opening m.events m.state m.sets m.links };
 }
 
 impl<'a> Machine<'a> {
@@ -54,7 +55,7 @@ impl<'a> Machine<'a> {
     ghost use Rattle.safl_term.specs.Checked.{program_of};
     ghost use Rattle.safl_term.specs.Readiness.{back_word};
     ghost use Rattle.safl_core.specs.Evaluating.{widths};
-    ghost use Rattle.safl_core.specs.Listing.{Lists, busy, event_at, places};
+    ghost use Rattle.safl_core.specs.Listing.{busy};
     ghost use Rattle.safl_core.specs.Picking.{IsPicked};
     ghost use Rattle.safl_core.specs.Outcomes.{IsValue, IsBounded, GoesOn, IsOver};
     ghost use Rattle.safl_core.specs.Walking.{IsShort};
@@ -85,6 +86,8 @@ impl<'a> Machine<'a> {
         let answers = make::unanswered(alloc, functions)?;
         let wants = make::unwanted(alloc, sites)?;
         let env = make::room(alloc, ROOM)?;
+        let sets = Enabled::new(alloc, c)?;
+        let links = linked(alloc, c)?;
         Ok(Machine {
             checked: c,
             opening: Args::new(args),
@@ -95,6 +98,8 @@ impl<'a> Machine<'a> {
                 wants,
                 env,
             },
+            sets,
+            links,
             events: 0,
         })
     }
@@ -168,39 +173,7 @@ impl<'a> Machine<'a> {
     pub fn busy(&self) -> u32
         ensures { result ≡ busy (program_of self.now.program) (state self.now) }
     {
-        check::busy(&self.state.modes, self.checked.functions())
-    }
-
-    // The event at a place in the order of all events.
-    fn event_at(&self, place: u32) -> Event
-        requires { place < 2 ^ 31 }
-        ensures { event_of result ≡ event_at (program_of self.now.program) place }
-    {
-        let c = self.checked;
-        let functions = c.functions();
-        let sites = c.sites() + 1;
-        if place < sites {
-            return Event::Accept(place);
-        }
-        let place = place - sites;
-        if place < functions {
-            return Event::Finish(place);
-        }
-        let place = place - functions;
-        if place < sites {
-            return Event::Return(place);
-        }
-        Event::Loop(place - sites)
-    }
-
-    // How many events there are, enabled or not.
-    fn places(&self) -> u32
-        ensures places { result ≡ places (program_of self.now.program) }
-        ensures few { result ≤ 10002 }
-    {
-        let functions = self.checked.functions();
-        let sites = self.checked.sites() + 1;
-        sites + functions + sites + functions
+        self.sets.busy.len()
     }
 
     /// The event at place `x` modulo their number among the enabled ones, which are listed as accepts, finishes,
@@ -210,31 +183,11 @@ impl<'a> Machine<'a> {
         ensures fires { IfSome result (λ e. CanFire self.now (event_of e)) }
         ensures none { IsNone result ↔ IsSome (back_word ((state self.now).site 0)) }
     {
-        let _ = &self.checked;
-        let mut found = [0; PLACES];
-        let count = self.enabled_places(&mut found);
+        let count = self.sets.count();
         if count == 0 {
             return None;
         }
-        let place = found[(x % u64::from(count)) as usize];
-        Some(self.event_at(place))
-    }
-
-    // Puts the places of the enabled events in order, and says how many there are.
-    fn enabled_places(&self, found: &mut [u32]) -> u32
-        requires { length found.old ≡ 10002 }
-        ensures lists { Lists (program_of self.now.program) self.now.args (state self.now) found.new result (places (program_of self.now.program)) }
-        ensures few { places (program_of self.now.program) ≤ 10002 }
-    {
-        let mut count = 0;
-        for i in 0..self.places() {
-            let fires = self.enabled(self.event_at(i));
-            if fires {
-                found[count as usize] = i;
-                count += 1;
-            }
-        }
-        count
+        Some(self.sets.nth((x % u64::from(count)) as u32))
     }
 
     /// Fires an event that is enabled.
@@ -243,7 +196,16 @@ impl<'a> Machine<'a> {
         requires few { self.old.events < 2 ^ 64 - 1 }
         ensures { Fires self.old (event_of e) self.new }
     {
+        let concerned = concerned(self.checked, e);
         fire::fire(self.checked, &self.opening, &mut self.state, e);
+        relist_both(
+            self.checked,
+            &self.links,
+            &self.opening,
+            &self.state,
+            concerned,
+            &mut self.sets,
+        );
         self.events += 1;
     }
 }

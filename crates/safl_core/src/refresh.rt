@@ -4,7 +4,7 @@ ghost use Rattle.std.specs.Prelude.{◌≡◌, ℕ, suc, ◌+◌, ◌<◌, ◌�
 ghost use Rattle.safl_term.specs.Checked.{program_of};
 ghost use Rattle.safl_term.specs.Readiness.{answer, wanted};
 ghost use Rattle.safl_term.specs.Sizes.{nodes};
-ghost use Rattle.safl_term.specs.Tree.{tree};
+ghost use Rattle.safl_term.specs.Tree.{shown_term};
 ghost use Rattle.safl_calls.specs.Machine as core;
 ghost use Rattle.safl_core.specs.Evaluating.{CanRun, Unasked, Notes};
 ghost use Rattle.safl_core.specs.Modes.{answer_of, unit_at};
@@ -14,6 +14,7 @@ ghost use Rattle.safl_core.specs.States.{CanRefresh, Refreshes, Evaluates};
 use crate::args::Args;
 use crate::evaluate::{Outcome, evaluate, part};
 use crate::mode::{Answer, Mode};
+use crate::spans::own_sites;
 use crate::stage::Stage;
 use crate::state::State;
 use safl_term::{Checked, Term};
@@ -21,14 +22,13 @@ use safl_word::Word;
 
 /// Forgets the words with which a unit wanted its sites.
 pub fn clear(c: &Checked, asks: &mut [Option<Args>], u: u32)
-    requires { length asks.old ≡ suc (program_of c.now).sites }
+    requires unit { u < (program_of c.now).functions }
+    requires sized { length asks.old ≡ suc (program_of c.now).sites }
     ensures { (k : ℕ) → 0 < k → k ≤ (program_of c.now).sites → get_or asks.new k None ≡ cond ((program_of c.now).unit ((program_of c.now).caller k) == u) None (get_or asks.old k None) }
 {
-    for i in 0..c.sites() {
-        let k = i + 1;
-        if c.unit(c.caller(k)) == u {
-            asks[k as usize] = None;
-        }
+    let own = own_sites(c, u);
+    for k in own.first..own.end {
+        asks[k as usize] = None;
     }
 }
 
@@ -40,11 +40,11 @@ pub fn run(
     body: &Term,
     args: &Args,
 ) -> Answer
-    requires can { CanRun stages.now (length asks.old) args.now (tree body.now) }
-    requires room { length args.now + nodes (tree body.now) ≤ length env.old }
-    requires unasked { Unasked asks.old (tree body.now) }
-    ensures answer { answer_of result ≡ answer (back_at stages.now) args.now (tree body.now) }
-    ensures notes { Notes asks.old asks.new (wanted (back_at stages.now) args.now (tree body.now)) }
+    requires can { CanRun stages.now (length asks.old) args.now (shown_term body.now) }
+    requires room { length args.now + nodes (shown_term body.now) ≤ length env.old }
+    requires unasked { Unasked asks.old (shown_term body.now) }
+    ensures answer { answer_of result ≡ answer (back_at stages.now) args.now (shown_term body.now) }
+    ensures notes { Notes asks.old asks.new (wanted (back_at stages.now) args.now (shown_term body.now)) }
 {
     let words = args.words();
     let slots = words.len();

@@ -9,6 +9,7 @@ ghost use Rattle.safl_core.specs.States.{IsSized, Steps, calls_of, ended_with};
 
 use crate::args::Args;
 use crate::mode::Mode;
+use crate::spans::own_sites;
 use crate::stage::Stage;
 use crate::state::State;
 use safl_term::Checked;
@@ -36,14 +37,13 @@ pub fn end(c: &Checked, state: &mut State, u: u32, mode: Mode)
 
 // The sites of a unit's members are unsent again.
 fn end_sites(c: &Checked, stages: &mut [Stage], u: u32)
-    requires { length stages.old ≡ suc (program_of c.now).sites }
+    requires unit { u < (program_of c.now).functions }
+    requires sized { length stages.old ≡ suc (program_of c.now).sites }
     ensures { (k : ℕ) → stage_at stages.new k ≡ core.ended (program_of c.now) u (stage_at stages.old) k }
 {
-    for i in 0..c.sites() {
-        let k = i + 1;
-        if c.unit(c.caller(k)) == u {
-            stages[k as usize] = Stage::Unsent;
-        }
+    let own = own_sites(c, u);
+    for k in own.first..own.end {
+        stages[k as usize] = Stage::Unsent;
     }
 }
 

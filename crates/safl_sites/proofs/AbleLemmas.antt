@@ -5,7 +5,7 @@ use Rattle.safl_word.specs.declared.primitive.Primitive.{Primitive}
 use Rattle.safl_term.specs.Program.{Program}
 use Rattle.safl_term.specs.Terms.{Term, Terms, Var, Op, If, Let, Call, Loop, Cons}
 use Rattle.safl_term.specs.declared.term.Term as declared
-use Rattle.safl_term.specs.Tree.{tree, forest}
+use Rattle.safl_term.specs.Tree.{shown_term, shown_terms}
 use Rattle.safl_sites.specs.declared.keep.Keeping.{Keeping}
 use Rattle.safl_sites.specs.declared.site_set.SiteSet.{SiteSet}
 use Rattle.safl_sites.specs.Keeping.{MayKeep, MayKeepIn, Binds}
@@ -44,11 +44,11 @@ module _ {C : Program} {units peers : List SiteSet} {n : ℕ} where
   keep_rest h = record { reach = may_rest h.reach; sites = h.sites }
 
   -- the same of other names of the slots and the term
-  pub keep_tree : {m : ℕ} {x y : declared.Term} → x ≡ y → m ≡ n → MayKeep C units peers n (tree y) → MayKeep C units peers m (tree x)
-  keep_tree {m} {x} {y} e f h = subst (λ (i : ℕ). MayKeep C units peers i (tree x)) (sym f) (subst (λ (z : declared.Term). MayKeep C units peers n (tree z)) (sym e) h)
+  pub keep_tree : {m : ℕ} {x y : declared.Term} → x ≡ y → m ≡ n → MayKeep C units peers n (shown_term y) → MayKeep C units peers m (shown_term x)
+  keep_tree {m} {x} {y} e f h = subst (λ (i : ℕ). MayKeep C units peers i (shown_term x)) (sym f) (subst (λ (z : declared.Term). MayKeep C units peers n (shown_term z)) (sym e) h)
 
-  pub keep_forest : {m : ℕ} {xs ys : List declared.Term} → xs ≡ ys → m ≡ n → MayKeepIn C units peers n (forest ys) → MayKeepIn C units peers m (forest xs)
-  keep_forest {m} {xs} {ys} e f h = subst (λ (i : ℕ). MayKeepIn C units peers i (forest xs)) (sym f) (subst (λ (z : List declared.Term). MayKeepIn C units peers n (forest z)) (sym e) h)
+  pub keep_forest : {m : ℕ} {xs ys : List declared.Term} → xs ≡ ys → m ≡ n → MayKeepIn C units peers n (shown_terms ys) → MayKeepIn C units peers m (shown_terms xs)
+  keep_forest {m} {xs} {ys} e f h = subst (λ (i : ℕ). MayKeepIn C units peers i (shown_terms xs)) (sym f) (subst (λ (z : List declared.Term). MayKeepIn C units peers n (shown_terms z)) (sym e) h)
 
   pub slot_within : {i : ℕ} → MayKeep C units peers n (Var i) → i < n
   slot_within {i} h = let p = h.reach.part in omega (arith, slice_get_within p.scope i p.width p.typed, p.count)

@@ -8,7 +8,7 @@ use Rattle.safl_term.specs.Program.{Program}
 use Rattle.safl_term.specs.Standing.{Stands}
 use Rattle.safl_term.specs.Terms.{Term, Terms, Const, Var, Op, If, Let, Call, Loop, Nil, Cons}
 use Rattle.safl_term.specs.declared.term.Term as declared
-use Rattle.safl_term.specs.Tree.{tree, forest}
+use Rattle.safl_term.specs.Tree.{shown_term, shown_terms}
 use Rattle.safl_sites.specs.declared.site_set.SiteSet.{SiteSet}
 use Rattle.safl_sites.specs.Conflicts.{Reaches}
 use Rattle.safl_sites.specs.Parallel.{After, Marked, MarkedIn}
@@ -112,8 +112,8 @@ row_more rows i row b k within h =
           }
     ]
 
-pub mark_tree : (C : Program) (B : Type 0) (k b : ℕ) {X Y : Type 0} {x y : declared.Term} → x ≡ y → Adds X Y (Marked C B k b (tree x)) → Adds X Y (Marked C B k b (tree y))
-mark_tree C B k b {X} {Y} e h = subst (λ (z : declared.Term). Adds X Y (Marked C B k b (tree z))) e h
+pub mark_tree : (C : Program) (B : Type 0) (k b : ℕ) {X Y : Type 0} {x y : declared.Term} → x ≡ y → Adds X Y (Marked C B k b (shown_term x)) → Adds X Y (Marked C B k b (shown_term y))
+mark_tree C B k b {X} {Y} e h = subst (λ (z : declared.Term). Adds X Y (Marked C B k b (shown_term z))) e h
 
-pub mark_forest : (C : Program) (B : Type 0) (k b : ℕ) {X Y : Type 0} {xs ys : List declared.Term} → xs ≡ ys → Adds X Y (MarkedIn C B k b (forest xs)) → Adds X Y (MarkedIn C B k b (forest ys))
-mark_forest C B k b {X} {Y} e h = subst (λ (z : List declared.Term). Adds X Y (MarkedIn C B k b (forest z))) e h
+pub mark_forest : (C : Program) (B : Type 0) (k b : ℕ) {X Y : Type 0} {xs ys : List declared.Term} → xs ≡ ys → Adds X Y (MarkedIn C B k b (shown_terms xs)) → Adds X Y (MarkedIn C B k b (shown_terms ys))
+mark_forest C B k b {X} {Y} e h = subst (λ (z : List declared.Term). Adds X Y (MarkedIn C B k b (shown_terms z))) e h

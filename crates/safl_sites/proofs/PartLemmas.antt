@@ -6,7 +6,7 @@ use Rattle.safl_term.specs.Terms.{Term, Terms, Op, If, Let, Call, Loop, Nil, Con
 use Rattle.safl_term.specs.WellFormed.{HaveWidths}
 use Rattle.safl_term.proofs.Places.{fits_le, fits_all_le}
 use Rattle.safl_term.specs.declared.term.Term as declared
-use Rattle.safl_term.specs.Tree.{tree, forest}
+use Rattle.safl_term.specs.Tree.{shown_term, shown_terms}
 use Rattle.safl_sites.specs.declared.site_set.SiteSet.{SiteSet}
 use Rattle.safl_sites.specs.Parts.{IsPart, ArePart, terms_in}
 use Rattle.safl_sites.specs.Reach.{MayReach, MayReachIn}
@@ -142,8 +142,8 @@ module _ {C : Program} {units : List SiteSet} {n : ℕ} where
   may_call h = part_call h.part
 
   -- the same of another name of the term
-  pub may_tree : {x y : declared.Term} → x ≡ y → MayReach C units n (tree y) → (m : ℕ) × MayReach C units m (tree x)
-  may_tree e h = (n, subst (λ (z : declared.Term). MayReach C units n (tree z)) (sym e) h)
+  pub may_tree : {x y : declared.Term} → x ≡ y → MayReach C units n (shown_term y) → (m : ℕ) × MayReach C units m (shown_term x)
+  may_tree e h = (n, subst (λ (z : declared.Term). MayReach C units n (shown_term z)) (sym e) h)
 
-  pub may_forest : {xs ys : List declared.Term} → xs ≡ ys → MayReachIn C units n (forest ys) → (m : ℕ) × MayReachIn C units m (forest xs)
-  may_forest e h = (n, subst (λ (z : List declared.Term). MayReachIn C units n (forest z)) (sym e) h)
+  pub may_forest : {xs ys : List declared.Term} → xs ≡ ys → MayReachIn C units n (shown_terms ys) → (m : ℕ) × MayReachIn C units m (shown_terms xs)
+  may_forest e h = (n, subst (λ (z : List declared.Term). MayReachIn C units n (shown_terms z)) (sym e) h)

@@ -8,7 +8,7 @@ use Rattle.safl_sites.specs.Conflicts.{Reaches, Here, Through, ReachesIn}
 use Rattle.safl_sites.specs.Reach.{IsInReach, MayReach}
 use Rattle.safl_sites.specs.Rows.{HasAt, Adds}
 use Rattle.safl_term.specs.declared.term.Term as declared
-use Rattle.safl_term.specs.Tree.{tree, forest}
+use Rattle.safl_term.specs.Tree.{shown_term, shown_terms}
 use Rattle.safl_sites.specs.declared.site_set.SiteSet.{SiteSet}
 use Rattle.safl_sites.proofs.PartLemmas.{may_call}
 use Rattle.safl_sites.proofs.AddsLemmas.{adds_as, adds_none}
@@ -115,11 +115,11 @@ unfolding ReachesIn
 none_nil C k h = h
 
 -- the same of another name of the term
-pub same_tree : (C : Program) (k : ℕ) {A B : Type 0} {x y : declared.Term} → x ≡ y → Adds A B (Reaches C k (tree x)) → Adds A B (Reaches C k (tree y))
-same_tree C k {A} {B} e h = subst (λ (z : declared.Term). Adds A B (Reaches C k (tree z))) e h
+pub same_tree : (C : Program) (k : ℕ) {A B : Type 0} {x y : declared.Term} → x ≡ y → Adds A B (Reaches C k (shown_term x)) → Adds A B (Reaches C k (shown_term y))
+same_tree C k {A} {B} e h = subst (λ (z : declared.Term). Adds A B (Reaches C k (shown_term z))) e h
 
-pub same_forest : (C : Program) (k : ℕ) {A B : Type 0} {xs ys : List declared.Term} → xs ≡ ys → Adds A B (ReachesIn C k (forest xs)) → Adds A B (ReachesIn C k (forest ys))
-same_forest C k {A} {B} e h = subst (λ (z : List declared.Term). Adds A B (ReachesIn C k (forest z))) e h
+pub same_forest : (C : Program) (k : ℕ) {A B : Type 0} {xs ys : List declared.Term} → xs ≡ ys → Adds A B (ReachesIn C k (shown_terms xs)) → Adds A B (ReachesIn C k (shown_terms ys))
+same_forest C k {A} {B} e h = subst (λ (z : List declared.Term). Adds A B (ReachesIn C k (shown_terms z))) e h
 
 module _ {C : Program} {units : List SiteSet} {n f k : ℕ} {ts : Terms} where
   pub site_below : MayReach C units n (Call f k ts) → k < 4032

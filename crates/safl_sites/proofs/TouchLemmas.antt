@@ -4,7 +4,7 @@ use Rattle.std.proofs.lemmas.List.{get_or_past}
 use Rattle.safl_word.specs.declared.primitive.Primitive.{Primitive}
 use Rattle.safl_term.specs.Terms.{Term, Terms, Const, Var, Op, If, Let, Call, Loop, Nil, Cons}
 use Rattle.safl_term.specs.declared.term.Term as declared
-use Rattle.safl_term.specs.Tree.{tree, forest}
+use Rattle.safl_term.specs.Tree.{shown_term, shown_terms}
 use Rattle.safl_sites.specs.declared.site_set.SiteSet.{SiteSet}
 use Rattle.safl_sites.specs.Kept.{Uses}
 use Rattle.safl_sites.specs.Rows.{Has, HasAt, Adds, no_row}
@@ -89,8 +89,8 @@ module _ (R : List SiteSet) (low k : ℕ) where
   unfolding Uses
   touch_past i past none h = none k (subst (λ (r : SiteSet). Has r k) (get_or_past R i no_row past) (subst (λ j. HasAt R j k) (sym h.used) h.row))
 
-  pub touch_tree : {X Y : Type 0} {x y : declared.Term} → x ≡ y → Adds X Y (IsTouched R low k (tree x)) → Adds X Y (IsTouched R low k (tree y))
-  touch_tree {X} {Y} e h = subst (λ (z : declared.Term). Adds X Y (IsTouched R low k (tree z))) e h
+  pub touch_tree : {X Y : Type 0} {x y : declared.Term} → x ≡ y → Adds X Y (IsTouched R low k (shown_term x)) → Adds X Y (IsTouched R low k (shown_term y))
+  touch_tree {X} {Y} e h = subst (λ (z : declared.Term). Adds X Y (IsTouched R low k (shown_term z))) e h
 
-  pub touch_forest : {X Y : Type 0} {xs ys : List declared.Term} → xs ≡ ys → Adds X Y (IsTouchedIn R low k (forest xs)) → Adds X Y (IsTouchedIn R low k (forest ys))
-  touch_forest {X} {Y} e h = subst (λ (z : List declared.Term). Adds X Y (IsTouchedIn R low k (forest z))) e h
+  pub touch_forest : {X Y : Type 0} {xs ys : List declared.Term} → xs ≡ ys → Adds X Y (IsTouchedIn R low k (shown_terms xs)) → Adds X Y (IsTouchedIn R low k (shown_terms ys))
+  touch_forest {X} {Y} e h = subst (λ (z : List declared.Term). Adds X Y (IsTouchedIn R low k (shown_terms z))) e h

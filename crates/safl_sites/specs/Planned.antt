@@ -1,6 +1,6 @@
 -- A checked program with its plan, and the tables that decide it.
 use Rattle.std.specs.Prelude.{◌≡◌, ℕ, suc, ◌≤◌, ◌<◌, List, length, Bool, false, get_or, ◌↔◌}
-use Rattle.safl_term.specs.Checked.{CheckedProgram, program_of}
+use Rattle.safl_term.specs.Checked.{CheckedProgram, IsChecked, program_of}
 use Rattle.safl_term.specs.Program.{Program}
 use Rattle.safl_sites.specs.declared.site_set.SiteSet.{SiteSet}
 use Rattle.safl_sites.specs.Conflicts.{Reaches}
@@ -31,6 +31,7 @@ pub record BeforeTable (C : Program) (before : List SiteSet) : Type 0 where
   pub rows : (j k : ℕ) → 1 ≤ k → k ≤ C.sites → HasAt before k j ↔ ComesBefore C j k
 
 pub record IsPlanned (p : PlannedProgram) (bodies before : List SiteSet) : Type 0 where
+  pub checked : IsChecked p.program
   pub reach : ReachTable (program_of p.program) bodies
   pub conflicts : BeforeTable (program_of p.program) before
   pub units : length p.arbiters ≡ (program_of p.program).functions

@@ -1,7 +1,7 @@
 //! The sites that conflict, and their units.
 
 ghost use Rattle.std.specs.Prelude.{◌≡◌, ℕ, suc, ◌-◌, ◌≤◌, length, false, get_or};
-ghost use Rattle.safl_term.specs.Checked.{program_of};
+ghost use Rattle.safl_term.specs.Checked.{IsChecked, program_of};
 ghost use Rattle.safl_sites.specs.Collecting.{IsCollected};
 ghost use Rattle.safl_sites.specs.Peers.{ArePeers};
 ghost use Rattle.safl_sites.specs.Planned.{BeforeTable};
@@ -18,6 +18,7 @@ pub fn collect_site(
     arbiters: &mut [bool],
     kept: &mut SiteSet,
 )
+    requires checked { IsChecked c.now }
     requires least { 1 ≤ k }
     requires most { k ≤ (program_of c.now).sites }
     requires conflicts { BeforeTable (program_of c.now) before.now }
@@ -25,7 +26,6 @@ pub fn collect_site(
     requires collected { IsCollected (program_of c.now) (k - 1) arbiters.old kept.old }
     ensures { IsCollected (program_of c.now) k arbiters.new kept.new }
 {
-    let _functions = c.functions();
     let unit = c.unit_for(k) as usize;
     let row = before[k as usize];
     if row.meets(&peers[unit], k) {

@@ -1,7 +1,7 @@
 //! Which sites of a body keep their words for its conditions and bindings.
 
 ghost use Rattle.std.specs.Prelude.{◌≡◌, ℕ, suc, ◌≤◌, ◌<◌, ◌↔◌, IsTrue, OnOk};
-ghost use Rattle.safl_term.specs.Checked.{program_of, first_site_of};
+ghost use Rattle.safl_term.specs.Checked.{IsChecked, program_of, first_site_of};
 ghost use Rattle.safl_sites.specs.Bodies.{UnitTable, MustKeep, IsOwnKept, IsBodyKept, IsKeptBelow};
 ghost use Rattle.safl_sites.specs.Peers.{ArePeers};
 ghost use Rattle.safl_sites.specs.Planned.{ReachTable};
@@ -76,11 +76,11 @@ fn keep_own(
     keeps: &Keeping,
     kept: &mut SiteSet,
 )
+    requires checked { IsChecked c.now }
     requires within { g < (program_of c.now).functions }
     requires peers { ArePeers (program_of c.now) (program_of c.now).sites peers.now }
     ensures { (k : ℕ) → Adds (Has kept.old k) (Has kept.new k) (IsOwnKept (program_of c.now) reach.now peers.now keeps.now (first_site_of c.now g) (first_site_of c.now (suc g)) k) }
 {
-    let _functions = c.functions();
     let first = c.first_site(g);
     let count = c.own_sites(g);
     for i in 0..count {
@@ -92,12 +92,12 @@ fn keep_own(
 }
 
 fn must_keep(c: &Checked, k: u32, reach: &SiteSet, peers: &[SiteSet], keeps: &Keeping) -> bool
+    requires checked { IsChecked c.now }
     requires least { 1 ≤ k }
     requires most { k ≤ (program_of c.now).sites }
     requires peers { ArePeers (program_of c.now) (program_of c.now).sites peers.now }
     ensures { IsTrue result ↔ MustKeep (program_of c.now) reach.now peers.now keeps.now k }
 {
-    let _functions = c.functions();
     if keeps.held.contains(k) {
         return true;
     }

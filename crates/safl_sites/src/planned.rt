@@ -69,7 +69,6 @@ impl Planned {
         requires site { k ≤ (program_of self.now.program).sites }
         ensures { IsTrue result ↔ Reaches (program_of self.now.program) k ((program_of self.now.program).body f) }
     {
-        let _functions = self.checked.functions();
         self.bodies[f as usize].contains(k)
     }
 
@@ -95,7 +94,6 @@ impl Planned {
         requires site { k ≤ (program_of self.now.program).sites }
         ensures { IsTrue result ↔ ComesBefore (program_of self.now.program) k other }
     {
-        let _functions = self.checked.functions();
         self.before[other as usize].contains(k)
     }
 

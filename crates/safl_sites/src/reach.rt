@@ -2,7 +2,7 @@
 
 ghost use Rattle.std.specs.Prelude.{◌≡◌, ℕ};
 ghost use Rattle.safl_term.specs.Checked.{program_of, IsChecked};
-ghost use Rattle.safl_term.specs.Tree.{tree, forest};
+ghost use Rattle.safl_term.specs.Tree.{shown_term, shown_terms};
 ghost use Rattle.safl_sites.specs.Conflicts.{Reaches, ReachesIn};
 ghost use Rattle.safl_sites.specs.Reach.{MayReach, MayReachIn};
 ghost use Rattle.safl_sites.specs.Rows.{Has, Adds};
@@ -13,8 +13,8 @@ use safl_term::{Checked, Term};
 /// Puts the sites in reach of a term into a set. `units` has the sites in reach of the bodies of each unit.
 #[cycle(reach)]
 pub fn reach(c: &Checked, units: &[SiteSet], t: &Term, row: &mut SiteSet)
-    requires { (slots : ℕ) × MayReach (program_of c.now) units.now slots (tree t.now) }
-    ensures { (k : ℕ) → Adds (Has row.old k) (Has row.new k) (Reaches (program_of c.now) k (tree t.now)) }
+    requires { (slots : ℕ) × MayReach (program_of c.now) units.now slots (shown_term t.now) }
+    ensures { (k : ℕ) → Adds (Has row.old k) (Has row.new k) (Reaches (program_of c.now) k (shown_term t.now)) }
 {
     match t {
         Term::Const(_) => {}
@@ -40,8 +40,8 @@ pub fn reach(c: &Checked, units: &[SiteSet], t: &Term, row: &mut SiteSet)
 
 #[cycle(reach)]
 pub fn reach_in(c: &Checked, units: &[SiteSet], ts: &[Term], row: &mut SiteSet)
-    requires { (slots : ℕ) × MayReachIn (program_of c.now) units.now slots (forest ts.now) }
-    ensures { (k : ℕ) → Adds (Has row.old k) (Has row.new k) (ReachesIn (program_of c.now) k (forest ts.now)) }
+    requires { (slots : ℕ) × MayReachIn (program_of c.now) units.now slots (shown_terms ts.now) }
+    ensures { (k : ℕ) → Adds (Has row.old k) (Has row.new k) (ReachesIn (program_of c.now) k (shown_terms ts.now)) }
 {
     if let Some((first, rest)) = ts.split_first() {
         reach(c, units, first, row);

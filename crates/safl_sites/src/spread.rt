@@ -1,7 +1,7 @@
 //! What comes before a site, through all callers.
 
 ghost use Rattle.std.specs.Prelude.{◌≡◌, ℕ, suc, ◌-◌, ◌≤◌, length, OnOk, ◌↔◌};
-ghost use Rattle.safl_term.specs.Checked.{program_of};
+ghost use Rattle.safl_term.specs.Checked.{IsChecked, program_of};
 ghost use Rattle.safl_sites.specs.Filling.{StandsAfter};
 ghost use Rattle.safl_sites.specs.Planned.{BeforeTable};
 ghost use Rattle.safl_sites.specs.Rows.{HasAt};
@@ -28,12 +28,12 @@ pub fn spread(alloc: Global, c: &Checked, rows: &mut [SiteSet]) -> Result<(), Al
 }
 
 fn spread_site(c: &Checked, k: u32, handed: &mut [SiteSet], rows: &mut [SiteSet])
+    requires checked { IsChecked c.now }
     requires least { 1 ≤ k }
     requires most { k ≤ (program_of c.now).sites }
     requires spread { IsSpread (program_of c.now) k rows.old handed.old }
     ensures { IsSpread (program_of c.now) (k - 1) rows.new handed.new }
 {
-    let _functions = c.functions();
     let mut row = rows[k as usize];
     row.union(&handed[c.unit(c.caller(k)) as usize]);
     rows[k as usize] = row;

@@ -3,9 +3,9 @@ use Rattle.safl_word.specs.Words.{Word}
 use Rattle.safl_term.specs.Readiness.{Ready, answer, answers, wanted}
 use Rattle.safl_term.specs.Sizes.{nodes, nodes_in}
 use Rattle.safl_term.specs.Terms as plain
-use Rattle.safl_term.specs.Tree.{tree, forest}
+use Rattle.safl_term.specs.Tree.{shown_term, shown_terms}
 use Rattle.safl_term.specs.declared.term.Term as declared
-use Rattle.safl_term.proofs.TreeLemmas.{tree-Op, tree-Loop, tree-Call, tree-Let}
+use Rattle.safl_term.proofs.TreeLemmas.{shown_term-Op, shown_term-Loop, shown_term-Call, shown_term-Let}
 use Rattle.safl_sites.proofs.TermLemmas.{some_node, empty_list}
 use Rattle.safl_core.specs.Stages.{back_at}
 use Rattle.safl_core.specs.Evaluating.{Notes}
@@ -20,17 +20,17 @@ use Rattle.safl_core.proofs.evaluate.+evaluate.Goals.{evaluate-then-evaluate_all
 
 pub evaluate-evaluate-requires : goal.evaluate-evaluate-requires
 evaluate-evaluate-requires t c =
-    let shape = if_by (ap tree c.in-If.is) (ap tree c.deref.ensures) refl refl in
+    let shape = if_by (ap shown_term c.in-If.is) (ap shown_term c.deref.ensures) refl refl in
     let size = ap nodes shape in
-    let smaller : 2 * nodes (tree c.deref.result.now) < 2 * nodes (tree c.args.t.now) = omega (arith, size) in
+    let smaller : 2 * nodes (shown_term c.deref.result.now) < 2 * nodes (shown_term c.args.t.now) = omega (arith, size) in
     (search rules, (may.can_condition _ _ _ (can_is refl refl shape c.requires.can), (omega (arith, size, c.requires.room), may.unasked_condition _ _ _ (unasked_is shape c.requires.unasked))))
 
 pub evaluate-evaluate-requires-then-bits-eq1 : goal.evaluate-evaluate-requires-then-bits-eq1
 evaluate-evaluate-requires-then-bits-eq1 t c =
-    let shape = if_by (ap tree c.in-If.is) (ap tree c.deref.ensures) (ap tree c.deref-then-bits-eq1.ensures) refl in
+    let shape = if_by (ap shown_term c.in-If.is) (ap shown_term c.deref.ensures) (ap shown_term c.deref-then-bits-eq1.ensures) refl in
     let size = ap nodes shape in
     let can = can_is refl refl shape c.requires.can in
-    let smaller : 2 * nodes (tree c.deref-then-bits-eq1.result.now) < 2 * nodes (tree c.args.t.now) = omega (arith, size) in (
+    let smaller : 2 * nodes (shown_term c.deref-then-bits-eq1.result.now) < 2 * nodes (shown_term c.args.t.now) = omega (arith, size) in (
       search rules,
       (
         can_is (omega (arith, c.evaluate.auto.asks)) (sym c.in-Ready.ensures.kept) refl (may.can_then _ _ _ can),
@@ -40,10 +40,10 @@ evaluate-evaluate-requires-then-bits-eq1 t c =
 
 pub evaluate-evaluate-requires-else-bits-eq1 : goal.evaluate-evaluate-requires-else-bits-eq1
 evaluate-evaluate-requires-else-bits-eq1 t c =
-    let shape = if_by (ap tree c.in-If.is) (ap tree c.deref.ensures) refl (ap tree c.deref-else-bits-eq1.ensures) in
+    let shape = if_by (ap shown_term c.in-If.is) (ap shown_term c.deref.ensures) refl (ap shown_term c.deref-else-bits-eq1.ensures) in
     let size = ap nodes shape in
     let can = can_is refl refl shape c.requires.can in
-    let smaller : 2 * nodes (tree c.deref-else-bits-eq1.result.now) < 2 * nodes (tree c.args.t.now) = omega (arith, size) in (
+    let smaller : 2 * nodes (shown_term c.deref-else-bits-eq1.result.now) < 2 * nodes (shown_term c.args.t.now) = omega (arith, size) in (
       search rules,
       (
         can_is (omega (arith, c.evaluate.auto.asks)) (sym c.in-Ready.ensures.kept) refl (may.can_else _ _ _ can),
@@ -55,7 +55,7 @@ pub evaluate-returns-then-bits-eq1-clause-outcome : goal.evaluate-returns-then-b
 evaluate-returns-then-bits-eq1-clause-outcome t c =
     let B = back_at c.args.stages.now in
     let E = take c.args.slots c.args.env.now in
-    let shape = if_by (ap tree c.in-If.is) (ap tree c.deref.ensures) (ap tree c.deref-then-bits-eq1.ensures) refl in
+    let shape = if_by (ap shown_term c.in-If.is) (ap shown_term c.deref.ensures) (ap shown_term c.deref-then-bits-eq1.ensures) refl in
     c.evaluate-then-bits-eq1.ensures.outcome ∙ (answer_is B c.in-Ready.ensures.kept refl
     ∙ (step.answer_then B E _ _ _ c.in-Ready.word c.in-Ready.ensures.outcome (sym c.bits.ensures.value ∙ c.if-bits-eq1.true) ∙ ap (answer B E) (sym shape)))
 
@@ -63,14 +63,14 @@ pub evaluate-returns-then-bits-eq1-clause-notes : goal.evaluate-returns-then-bit
 evaluate-returns-then-bits-eq1-clause-notes t c =
     let B = back_at c.args.stages.now in
     let E = take c.args.slots c.args.env.now in
-    let shape = if_by (ap tree c.in-If.is) (ap tree c.deref.ensures) (ap tree c.deref-then-bits-eq1.ensures) refl in
+    let shape = if_by (ap shown_term c.in-If.is) (ap shown_term c.deref.ensures) (ap shown_term c.deref-then-bits-eq1.ensures) refl in
     notes_as B E shape (step.notes_then B E _ _ _ c.in-Ready.word c.in-Ready.ensures.outcome (sym c.bits.ensures.value ∙ c.if-bits-eq1.true) c.in-Ready.ensures.notes (notes_is B c.in-Ready.ensures.kept refl c.evaluate-then-bits-eq1.ensures.notes))
 
 pub evaluate-returns-else-bits-eq1-clause-outcome : goal.evaluate-returns-else-bits-eq1-clause-outcome
 evaluate-returns-else-bits-eq1-clause-outcome t c =
     let B = back_at c.args.stages.now in
     let E = take c.args.slots c.args.env.now in
-    let shape = if_by (ap tree c.in-If.is) (ap tree c.deref.ensures) refl (ap tree c.deref-else-bits-eq1.ensures) in
+    let shape = if_by (ap shown_term c.in-If.is) (ap shown_term c.deref.ensures) refl (ap shown_term c.deref-else-bits-eq1.ensures) in
     c.evaluate-else-bits-eq1.ensures.outcome ∙ (answer_is B c.in-Ready.ensures.kept refl
     ∙ (step.answer_else B E _ _ _ c.in-Ready.word c.in-Ready.ensures.outcome (λ q. c.if-bits-eq1.false (c.bits.ensures.value ∙ q)) ∙ ap (answer B E) (sym shape)))
 
@@ -78,55 +78,55 @@ pub evaluate-returns-else-bits-eq1-clause-notes : goal.evaluate-returns-else-bit
 evaluate-returns-else-bits-eq1-clause-notes t c =
     let B = back_at c.args.stages.now in
     let E = take c.args.slots c.args.env.now in
-    let shape = if_by (ap tree c.in-If.is) (ap tree c.deref.ensures) refl (ap tree c.deref-else-bits-eq1.ensures) in
+    let shape = if_by (ap shown_term c.in-If.is) (ap shown_term c.deref.ensures) refl (ap shown_term c.deref-else-bits-eq1.ensures) in
     notes_as B E shape (step.notes_else B E _ _ _ c.in-Ready.word c.in-Ready.ensures.outcome (λ q. c.if-bits-eq1.false (c.bits.ensures.value ∙ q)) c.in-Ready.ensures.notes (notes_is B c.in-Ready.ensures.kept refl c.evaluate-else-bits-eq1.ensures.notes))
 
 pub evaluate-returns-in-Loop-evaluate-clause-outcome : goal.evaluate-returns-in-Loop-evaluate-clause-outcome
 evaluate-returns-in-Loop-evaluate-clause-outcome t c =
     let B = back_at c.args.stages.now in
     let E = take c.args.slots c.args.env.now in
-    let shape = if_by (ap tree c.in-If.is) (ap tree c.deref.ensures) refl refl in
+    let shape = if_by (ap shown_term c.in-If.is) (ap shown_term c.deref.ensures) refl refl in
     step.answer_if_loop B E _ _ _ _ _ c.in-Loop-evaluate.ensures.outcome ∙ ap (answer B E) (sym shape)
 
 pub evaluate-returns-in-Loop-evaluate-clause-notes : goal.evaluate-returns-in-Loop-evaluate-clause-notes
 evaluate-returns-in-Loop-evaluate-clause-notes t c =
     let B = back_at c.args.stages.now in
     let E = take c.args.slots c.args.env.now in
-    let shape = if_by (ap tree c.in-If.is) (ap tree c.deref.ensures) refl refl in
+    let shape = if_by (ap shown_term c.in-If.is) (ap shown_term c.deref.ensures) refl refl in
     notes_as B E shape (step.notes_if_loop B E _ _ _ _ _ c.in-Loop-evaluate.ensures.outcome c.in-Loop-evaluate.ensures.notes)
 
 pub evaluate-returns-in-NotYet-clause-outcome : goal.evaluate-returns-in-NotYet-clause-outcome
 evaluate-returns-in-NotYet-clause-outcome t c =
     let B = back_at c.args.stages.now in
     let E = take c.args.slots c.args.env.now in
-    let shape = if_by (ap tree c.in-If.is) (ap tree c.deref.ensures) refl refl in
+    let shape = if_by (ap shown_term c.in-If.is) (ap shown_term c.deref.ensures) refl refl in
     step.answer_if_not B E _ _ _ c.in-NotYet.ensures.outcome ∙ ap (answer B E) (sym shape)
 
 pub evaluate-returns-in-NotYet-clause-notes : goal.evaluate-returns-in-NotYet-clause-notes
 evaluate-returns-in-NotYet-clause-notes t c =
     let B = back_at c.args.stages.now in
     let E = take c.args.slots c.args.env.now in
-    let shape = if_by (ap tree c.in-If.is) (ap tree c.deref.ensures) refl refl in
+    let shape = if_by (ap shown_term c.in-If.is) (ap shown_term c.deref.ensures) refl refl in
     notes_as B E shape (step.notes_if_not B E _ _ _ c.in-NotYet.ensures.outcome c.in-NotYet.ensures.notes)
 
 -- ---- bindings
 
 pub evaluate-evaluate_all-requires : goal.evaluate-evaluate_all-requires
 evaluate-evaluate_all-requires t c =
-    let shape = let_by (ap tree c.in-Let.is ∙ tree-Let c.in-Let.field-0 c.in-Let.bound c.in-Let.body) (ap forest c.as_slice-bound.ensures.value) refl in
+    let shape = let_by (ap shown_term c.in-Let.is ∙ shown_term-Let c.in-Let.field-0 c.in-Let.bound c.in-Let.body) (ap shown_terms c.as_slice-bound.ensures.value) refl in
     let size = ap nodes shape in
     let count = forest_nodes c.as_slice-bound.result.now in
-    let smaller : 2 * nodes_in (forest c.as_slice-bound.result.now) + 1 < 2 * nodes (tree c.args.t.now) = omega (arith, size) in
+    let smaller : 2 * nodes_in (shown_terms c.as_slice-bound.result.now) + 1 < 2 * nodes (shown_term c.args.t.now) = omega (arith, size) in
     (search rules, (may.can_bound _ _ (can_is refl refl shape c.requires.can), (omega (arith, size, c.requires.room), (omega (arith, size, count, c.requires.room), (omega arith, may.unasked_bound _ _ (unasked_is shape c.requires.unasked))))))
 
 pub evaluate-evaluate-requires-then-evaluate_all : goal.evaluate-evaluate-requires-then-evaluate_all
 evaluate-evaluate-requires-then-evaluate_all t c =
-    let shape = let_by (ap tree c.in-Let.is ∙ tree-Let c.in-Let.field-0 c.in-Let.bound c.in-Let.body) (ap forest c.as_slice-bound.ensures.value) (ap tree c.deref-then-evaluate_all.ensures) in
+    let shape = let_by (ap shown_term c.in-Let.is ∙ shown_term-Let c.in-Let.field-0 c.in-Let.bound c.in-Let.body) (ap shown_terms c.as_slice-bound.ensures.value) (ap shown_term c.deref-then-evaluate_all.ensures) in
     let size = ap nodes shape in
     let count = forest_nodes c.as_slice-bound.result.now in
     let can = can_is refl refl shape c.requires.can in
     let env = step.slots_and c.evaluate_all.new.env (take c.args.slots c.args.env.now) c.args.slots (length c.as_slice-bound.result.now) c.if-evaluate_all.ensures.kept in
-    let smaller : 2 * nodes (tree c.deref-then-evaluate_all.result.now) < 2 * nodes (tree c.args.t.now) = omega (arith, size) in (
+    let smaller : 2 * nodes (shown_term c.deref-then-evaluate_all.result.now) < 2 * nodes (shown_term c.args.t.now) = omega (arith, size) in (
       search rules,
       (
         can_is (omega (arith, c.evaluate_all.auto.asks)) (sym env) refl (may.can_body _ _ _ can c.if-evaluate_all.ensures.words),
@@ -138,7 +138,7 @@ pub evaluate-returns-then-evaluate_all-clause-outcome : goal.evaluate-returns-th
 evaluate-returns-then-evaluate_all-clause-outcome t c =
     let B = back_at c.args.stages.now in
     let E = take c.args.slots c.args.env.now in
-    let shape = let_by (ap tree c.in-Let.is ∙ tree-Let c.in-Let.field-0 c.in-Let.bound c.in-Let.body) (ap forest c.as_slice-bound.ensures.value) (ap tree c.deref-then-evaluate_all.ensures) in
+    let shape = let_by (ap shown_term c.in-Let.is ∙ shown_term-Let c.in-Let.field-0 c.in-Let.bound c.in-Let.body) (ap shown_terms c.as_slice-bound.ensures.value) (ap shown_term c.deref-then-evaluate_all.ensures) in
     let env = step.slots_and c.evaluate_all.new.env E c.args.slots (length c.as_slice-bound.result.now) c.if-evaluate_all.ensures.kept in
     c.evaluate-then-evaluate_all.ensures.outcome ∙ (answer_is B env refl ∙ (step.answer_let B E _ _ _ c.if-evaluate_all.ensures.words ∙ ap (answer B E) (sym shape)))
 
@@ -146,7 +146,7 @@ pub evaluate-returns-then-evaluate_all-clause-notes : goal.evaluate-returns-then
 evaluate-returns-then-evaluate_all-clause-notes t c =
     let B = back_at c.args.stages.now in
     let E = take c.args.slots c.args.env.now in
-    let shape = let_by (ap tree c.in-Let.is ∙ tree-Let c.in-Let.field-0 c.in-Let.bound c.in-Let.body) (ap forest c.as_slice-bound.ensures.value) (ap tree c.deref-then-evaluate_all.ensures) in
+    let shape = let_by (ap shown_term c.in-Let.is ∙ shown_term-Let c.in-Let.field-0 c.in-Let.bound c.in-Let.body) (ap shown_terms c.as_slice-bound.ensures.value) (ap shown_term c.deref-then-evaluate_all.ensures) in
     let env = step.slots_and c.evaluate_all.new.env E c.args.slots (length c.as_slice-bound.result.now) c.if-evaluate_all.ensures.kept in
     notes_as B E shape (step.notes_let B E _ _ _ c.if-evaluate_all.ensures.words c.if-evaluate_all.ensures.notes (notes_is B env refl c.evaluate-then-evaluate_all.ensures.notes))
 
@@ -158,93 +158,93 @@ pub evaluate-returns-else-evaluate_all-clause-outcome : goal.evaluate-returns-el
 evaluate-returns-else-evaluate_all-clause-outcome t c =
     let B = back_at c.args.stages.now in
     let E = take c.args.slots c.args.env.now in
-    let shape = let_by (ap tree c.in-Let.is ∙ tree-Let c.in-Let.field-0 c.in-Let.bound c.in-Let.body) (ap forest c.as_slice-bound.ensures.value) refl in
+    let shape = let_by (ap shown_term c.in-Let.is ∙ shown_term-Let c.in-Let.field-0 c.in-Let.bound c.in-Let.body) (ap shown_terms c.as_slice-bound.ensures.value) refl in
     step.answer_let_not B E _ _ c.if-evaluate_all.ensures.words ∙ ap (answer B E) (sym shape)
 
 pub evaluate-returns-else-evaluate_all-clause-notes : goal.evaluate-returns-else-evaluate_all-clause-notes
 evaluate-returns-else-evaluate_all-clause-notes t c =
     let B = back_at c.args.stages.now in
     let E = take c.args.slots c.args.env.now in
-    let shape = let_by (ap tree c.in-Let.is ∙ tree-Let c.in-Let.field-0 c.in-Let.bound c.in-Let.body) (ap forest c.as_slice-bound.ensures.value) refl in
+    let shape = let_by (ap shown_term c.in-Let.is ∙ shown_term-Let c.in-Let.field-0 c.in-Let.bound c.in-Let.body) (ap shown_terms c.as_slice-bound.ensures.value) refl in
     notes_as B E shape (step.notes_let_not B E _ _ c.if-evaluate_all.ensures.words c.if-evaluate_all.ensures.notes)
 
 -- ---- operators
 
 pub evaluate-evaluate_all-requires-in-Op : goal.evaluate-evaluate_all-requires-in-Op
 evaluate-evaluate_all-requires-in-Op t c =
-    let shape = op_by c.in-Op.p (ap tree c.in-Op.is ∙ tree-Op c.in-Op.p c.in-Op.ts) (ap forest c.as_slice-operands.ensures.value) in
+    let shape = op_by c.in-Op.p (ap shown_term c.in-Op.is ∙ shown_term-Op c.in-Op.p c.in-Op.ts) (ap shown_terms c.as_slice-operands.ensures.value) in
     let size = ap nodes shape in
     let count = forest_nodes c.as_slice-operands.result.now in
-    let smaller : 2 * nodes_in (forest c.as_slice-operands.result.now) + 1 < 2 * nodes (tree c.args.t.now) = omega (arith, size) in
+    let smaller : 2 * nodes_in (shown_terms c.as_slice-operands.result.now) + 1 < 2 * nodes (shown_term c.args.t.now) = omega (arith, size) in
     (search rules, (may.can_op _ _ (can_is refl refl shape c.requires.can), (omega (arith, size, c.requires.room), (omega (arith, size, count, c.requires.room), (omega arith, may.unasked_op _ _ (unasked_is shape c.requires.unasked))))))
 
 pub evaluate-part-requires : goal.evaluate-part-requires
 evaluate-part-requires t c =
-    let shape = op_by c.in-Op.p (ap tree c.in-Op.is ∙ tree-Op c.in-Op.p c.in-Op.ts) (ap forest c.as_slice-operands.ensures.value) in
+    let shape = op_by c.in-Op.p (ap shown_term c.in-Op.is ∙ shown_term-Op c.in-Op.p c.in-Op.ts) (ap shown_terms c.as_slice-operands.ensures.value) in
     omega (arith, ap nodes shape, forest_nodes c.as_slice-operands.result.now, c.requires.room, c.evaluate_all-in-Op.auto.env)
 
 pub evaluate-apply-requires : goal.evaluate-apply-requires
 evaluate-apply-requires t c =
-    let shape = op_by c.in-Op.p (ap tree c.in-Op.is ∙ tree-Op c.in-Op.p c.in-Op.ts) (ap forest c.as_slice-operands.ensures.value) in
+    let shape = op_by c.in-Op.p (ap shown_term c.in-Op.is ∙ shown_term-Op c.in-Op.p c.in-Op.ts) (ap shown_terms c.as_slice-operands.ensures.value) in
     may.op_fits c.in-Op.p _ _ (can_is refl refl shape c.requires.can) (c.if-evaluate_all-2.ensures.words ∙ ap Some (sym c.part.ensures))
 
 pub evaluate-returns-then-evaluate_all-2-clause-outcome : goal.evaluate-returns-then-evaluate_all-2-clause-outcome
 evaluate-returns-then-evaluate_all-2-clause-outcome t c =
     let B = back_at c.args.stages.now in
     let E = take c.args.slots c.args.env.now in
-    let shape = op_by c.in-Op.p (ap tree c.in-Op.is ∙ tree-Op c.in-Op.p c.in-Op.ts) (ap forest c.as_slice-operands.ensures.value) in
+    let shape = op_by c.in-Op.p (ap shown_term c.in-Op.is ∙ shown_term-Op c.in-Op.p c.in-Op.ts) (ap shown_terms c.as_slice-operands.ensures.value) in
     ap Ready c.apply.ensures ∙ (step.answer_op B E _ c.in-Op.p _ (c.if-evaluate_all-2.ensures.words ∙ ap Some (sym c.part.ensures)) ∙ ap (answer B E) (sym shape))
 
 pub evaluate-returns-then-evaluate_all-2-clause-notes : goal.evaluate-returns-then-evaluate_all-2-clause-notes
 evaluate-returns-then-evaluate_all-2-clause-notes t c =
     let B = back_at c.args.stages.now in
     let E = take c.args.slots c.args.env.now in
-    let shape = op_by c.in-Op.p (ap tree c.in-Op.is ∙ tree-Op c.in-Op.p c.in-Op.ts) (ap forest c.as_slice-operands.ensures.value) in
+    let shape = op_by c.in-Op.p (ap shown_term c.in-Op.is ∙ shown_term-Op c.in-Op.p c.in-Op.ts) (ap shown_terms c.as_slice-operands.ensures.value) in
     notes_as B E shape (step.notes_op B E _ c.in-Op.p c.if-evaluate_all-2.ensures.notes)
 
 pub evaluate-returns-else-evaluate_all-2-clause-outcome : goal.evaluate-returns-else-evaluate_all-2-clause-outcome
 evaluate-returns-else-evaluate_all-2-clause-outcome t c =
     let B = back_at c.args.stages.now in
     let E = take c.args.slots c.args.env.now in
-    let shape = op_by c.in-Op.p (ap tree c.in-Op.is ∙ tree-Op c.in-Op.p c.in-Op.ts) (ap forest c.as_slice-operands.ensures.value) in
+    let shape = op_by c.in-Op.p (ap shown_term c.in-Op.is ∙ shown_term-Op c.in-Op.p c.in-Op.ts) (ap shown_terms c.as_slice-operands.ensures.value) in
     step.answer_op_not B E _ c.in-Op.p c.if-evaluate_all-2.ensures.words ∙ ap (answer B E) (sym shape)
 
 pub evaluate-returns-else-evaluate_all-2-clause-notes : goal.evaluate-returns-else-evaluate_all-2-clause-notes
 evaluate-returns-else-evaluate_all-2-clause-notes t c =
     let B = back_at c.args.stages.now in
     let E = take c.args.slots c.args.env.now in
-    let shape = op_by c.in-Op.p (ap tree c.in-Op.is ∙ tree-Op c.in-Op.p c.in-Op.ts) (ap forest c.as_slice-operands.ensures.value) in
+    let shape = op_by c.in-Op.p (ap shown_term c.in-Op.is ∙ shown_term-Op c.in-Op.p c.in-Op.ts) (ap shown_terms c.as_slice-operands.ensures.value) in
     notes_as B E shape (step.notes_op B E _ c.in-Op.p c.if-evaluate_all-2.ensures.notes)
 
 -- ---- calls
 
 pub evaluate-evaluate_all-requires-in-Call : goal.evaluate-evaluate_all-requires-in-Call
 evaluate-evaluate_all-requires-in-Call t c =
-    let shape = call_by c.in-Call.field-0 c.in-Call.k (ap tree c.in-Call.is ∙ tree-Call c.in-Call.field-0 c.in-Call.k c.in-Call.ts) (ap forest c.as_slice-args.ensures.value) in
+    let shape = call_by c.in-Call.field-0 c.in-Call.k (ap shown_term c.in-Call.is ∙ shown_term-Call c.in-Call.field-0 c.in-Call.k c.in-Call.ts) (ap shown_terms c.as_slice-args.ensures.value) in
     let size = ap nodes shape in
     let count = forest_nodes c.as_slice-args.result.now in
-    let smaller : 2 * nodes_in (forest c.as_slice-args.result.now) + 1 < 2 * nodes (tree c.args.t.now) = omega (arith, size) in
+    let smaller : 2 * nodes_in (shown_terms c.as_slice-args.result.now) + 1 < 2 * nodes (shown_term c.args.t.now) = omega (arith, size) in
     (search rules, (may.can_call _ _ _ (can_is refl refl shape c.requires.can), (omega (arith, size, c.requires.room), (omega (arith, size, count, c.requires.room), (omega arith, may.unasked_call _ _ _ (unasked_is shape c.requires.unasked))))))
 
 pub evaluate-part-requires-then-evaluate_all-3 : goal.evaluate-part-requires-then-evaluate_all-3
 evaluate-part-requires-then-evaluate_all-3 t c =
-    let shape = call_by c.in-Call.field-0 c.in-Call.k (ap tree c.in-Call.is ∙ tree-Call c.in-Call.field-0 c.in-Call.k c.in-Call.ts) (ap forest c.as_slice-args.ensures.value) in
+    let shape = call_by c.in-Call.field-0 c.in-Call.k (ap shown_term c.in-Call.is ∙ shown_term-Call c.in-Call.field-0 c.in-Call.k c.in-Call.ts) (ap shown_terms c.as_slice-args.ensures.value) in
     omega (arith, ap nodes shape, forest_nodes c.as_slice-args.result.now, c.requires.room, c.evaluate_all-in-Call.auto.env)
 
 pub evaluate-new-requires : goal.evaluate-new-requires
 evaluate-new-requires t c =
-    let shape = call_by c.in-Call.field-0 c.in-Call.k (ap tree c.in-Call.is ∙ tree-Call c.in-Call.field-0 c.in-Call.k c.in-Call.ts) (ap forest c.as_slice-args.ensures.value) in
+    let shape = call_by c.in-Call.field-0 c.in-Call.k (ap shown_term c.in-Call.is ∙ shown_term-Call c.in-Call.field-0 c.in-Call.k c.in-Call.ts) (ap shown_terms c.as_slice-args.ensures.value) in
     let few = may.call_few _ _ _ (can_is refl refl shape c.requires.can) in
     omega (arith, few, step.count_forest c.as_slice-args.result.now, ap (λ (l : List Word). length l) c.part-then-evaluate_all-3.ensures, step.part_few (length c.as_slice-args.result.now) (drop c.args.slots c.evaluate_all-in-Call.new.env))
 
 pub evaluate-bounds-asks-k : goal.evaluate-bounds-asks-k
 evaluate-bounds-asks-k t c =
-    let shape = call_by c.in-Call.field-0 c.in-Call.k (ap tree c.in-Call.is ∙ tree-Call c.in-Call.field-0 c.in-Call.k c.in-Call.ts) (ap forest c.as_slice-args.ensures.value) in
+    let shape = call_by c.in-Call.field-0 c.in-Call.k (ap shown_term c.in-Call.is ∙ shown_term-Call c.in-Call.field-0 c.in-Call.k c.in-Call.ts) (ap shown_terms c.as_slice-args.ensures.value) in
     omega (arith, may.call_place _ _ _ (can_is refl refl shape c.requires.can), c.evaluate_all-in-Call.auto.asks)
 
 pub evaluate-returned-requires : goal.evaluate-returned-requires
 evaluate-returned-requires t c =
-    let shape = call_by c.in-Call.field-0 c.in-Call.k (ap tree c.in-Call.is ∙ tree-Call c.in-Call.field-0 c.in-Call.k c.in-Call.ts) (ap forest c.as_slice-args.ensures.value) in
+    let shape = call_by c.in-Call.field-0 c.in-Call.k (ap shown_term c.in-Call.is ∙ shown_term-Call c.in-Call.field-0 c.in-Call.k c.in-Call.ts) (ap shown_terms c.as_slice-args.ensures.value) in
     let can = can_is refl refl shape c.requires.can in
     record { least = may.call_first _ _ _ can; within = omega (arith, may.call_place _ _ _ can, c.requires.can.all_sites) }
 
@@ -252,20 +252,20 @@ pub evaluate-returns-after-evaluate_all-3-clause-outcome : goal.evaluate-returns
 evaluate-returns-after-evaluate_all-3-clause-outcome t c =
     let B = back_at c.args.stages.now in
     let E = take c.args.slots c.args.env.now in
-    let shape = call_by c.in-Call.field-0 c.in-Call.k (ap tree c.in-Call.is ∙ tree-Call c.in-Call.field-0 c.in-Call.k c.in-Call.ts) (ap forest c.as_slice-args.ensures.value) in
+    let shape = call_by c.in-Call.field-0 c.in-Call.k (ap shown_term c.in-Call.is ∙ shown_term-Call c.in-Call.field-0 c.in-Call.k c.in-Call.ts) (ap shown_terms c.as_slice-args.ensures.value) in
     c.returned.ensures.shows c.evaluate_all-in-Call.new.env ∙ (step.answer_call B E _ c.in-Call.field-0 c.in-Call.k ∙ ap (answer B E) (sym shape))
 
 pub evaluate-returns-after-evaluate_all-3-clause-notes : goal.evaluate-returns-after-evaluate_all-3-clause-notes
 evaluate-returns-after-evaluate_all-3-clause-notes t c =
     let B = back_at c.args.stages.now in
     let E = take c.args.slots c.args.env.now in
-    let shape = call_by c.in-Call.field-0 c.in-Call.k (ap tree c.in-Call.is ∙ tree-Call c.in-Call.field-0 c.in-Call.k c.in-Call.ts) (ap forest c.as_slice-args.ensures.value) in
+    let shape = call_by c.in-Call.field-0 c.in-Call.k (ap shown_term c.in-Call.is ∙ shown_term-Call c.in-Call.field-0 c.in-Call.k c.in-Call.ts) (ap shown_terms c.as_slice-args.ensures.value) in
     let can = can_is refl refl shape c.requires.can in
     let apart = may.call_apart _ _ _ can (unasked_is shape c.requires.unasked) in
     notes_as B E shape (elim c.if-evaluate_all-3.branch [
-      | evaluate-then-evaluate_all-3 w ↦ subst (λ (l : List (Option (List Word))). Notes c.args.asks.now l (wanted B E (plain.Call c.in-Call.field-0 c.in-Call.k (forest c.as_slice-args.result.now)))) (sym w.asks-is)
+      | evaluate-then-evaluate_all-3 w ↦ subst (λ (l : List (Option (List Word))). Notes c.args.asks.now l (wanted B E (plain.Call c.in-Call.field-0 c.in-Call.k (shown_terms c.as_slice-args.result.now)))) (sym w.asks-is)
           (step.notes_call B E _ c.in-Call.field-0 c.in-Call.k _ apart.0 (omega (arith, may.call_place _ _ _ can, c.evaluate_all-in-Call.auto.asks)) (w.if-evaluate_all-3.ensures.words ∙ ap Some (sym (w.new.ensures ∙ w.part-then-evaluate_all-3.ensures))) w.if-evaluate_all-3.ensures.notes)
-      | evaluate-else-evaluate_all-3 w ↦ subst (λ (l : List (Option (List Word))). Notes c.args.asks.now l (wanted B E (plain.Call c.in-Call.field-0 c.in-Call.k (forest c.as_slice-args.result.now)))) (sym w.asks-is)
+      | evaluate-else-evaluate_all-3 w ↦ subst (λ (l : List (Option (List Word))). Notes c.args.asks.now l (wanted B E (plain.Call c.in-Call.field-0 c.in-Call.k (shown_terms c.as_slice-args.result.now)))) (sym w.asks-is)
           (step.notes_call_not B E _ c.in-Call.field-0 c.in-Call.k apart.1 w.if-evaluate_all-3.ensures.words w.if-evaluate_all-3.ensures.notes)
     ])
 
@@ -273,38 +273,38 @@ evaluate-returns-after-evaluate_all-3-clause-notes t c =
 
 pub evaluate-evaluate_all-requires-in-Loop : goal.evaluate-evaluate_all-requires-in-Loop
 evaluate-evaluate_all-requires-in-Loop t c =
-    let shape = loop_by c.in-Loop.h (ap tree c.in-Loop.is ∙ tree-Loop c.in-Loop.h c.in-Loop.ts) (ap forest c.as_slice-passed.ensures.value) in
+    let shape = loop_by c.in-Loop.h (ap shown_term c.in-Loop.is ∙ shown_term-Loop c.in-Loop.h c.in-Loop.ts) (ap shown_terms c.as_slice-passed.ensures.value) in
     let size = ap nodes shape in
     let count = forest_nodes c.as_slice-passed.result.now in
-    let smaller : 2 * nodes_in (forest c.as_slice-passed.result.now) + 1 < 2 * nodes (tree c.args.t.now) = omega (arith, size) in
+    let smaller : 2 * nodes_in (shown_terms c.as_slice-passed.result.now) + 1 < 2 * nodes (shown_term c.args.t.now) = omega (arith, size) in
     (search rules, (may.can_loop _ _ (can_is refl refl shape c.requires.can), (omega (arith, size, c.requires.room), (omega (arith, size, count, c.requires.room), (omega arith, may.unasked_loop _ _ (unasked_is shape c.requires.unasked))))))
 
 pub evaluate-returns-then-evaluate_all-4-clause-outcome : goal.evaluate-returns-then-evaluate_all-4-clause-outcome
 evaluate-returns-then-evaluate_all-4-clause-outcome t c =
     let B = back_at c.args.stages.now in
     let E = take c.args.slots c.args.env.now in
-    let shape = loop_by c.in-Loop.h (ap tree c.in-Loop.is ∙ tree-Loop c.in-Loop.h c.in-Loop.ts) (ap forest c.as_slice-passed.ensures.value) in
+    let shape = loop_by c.in-Loop.h (ap shown_term c.in-Loop.is ∙ shown_term-Loop c.in-Loop.h c.in-Loop.ts) (ap shown_terms c.as_slice-passed.ensures.value) in
     step.answer_loop B E _ c.in-Loop.h _ c.if-evaluate_all-4.ensures.words ∙ ap (answer B E) (sym shape)
 
 pub evaluate-returns-then-evaluate_all-4-clause-notes : goal.evaluate-returns-then-evaluate_all-4-clause-notes
 evaluate-returns-then-evaluate_all-4-clause-notes t c =
     let B = back_at c.args.stages.now in
     let E = take c.args.slots c.args.env.now in
-    let shape = loop_by c.in-Loop.h (ap tree c.in-Loop.is ∙ tree-Loop c.in-Loop.h c.in-Loop.ts) (ap forest c.as_slice-passed.ensures.value) in
+    let shape = loop_by c.in-Loop.h (ap shown_term c.in-Loop.is ∙ shown_term-Loop c.in-Loop.h c.in-Loop.ts) (ap shown_terms c.as_slice-passed.ensures.value) in
     notes_as B E shape (step.notes_loop B E _ c.in-Loop.h c.if-evaluate_all-4.ensures.notes)
 
 pub evaluate-returns-else-evaluate_all-4-clause-outcome : goal.evaluate-returns-else-evaluate_all-4-clause-outcome
 evaluate-returns-else-evaluate_all-4-clause-outcome t c =
     let B = back_at c.args.stages.now in
     let E = take c.args.slots c.args.env.now in
-    let shape = loop_by c.in-Loop.h (ap tree c.in-Loop.is ∙ tree-Loop c.in-Loop.h c.in-Loop.ts) (ap forest c.as_slice-passed.ensures.value) in
+    let shape = loop_by c.in-Loop.h (ap shown_term c.in-Loop.is ∙ shown_term-Loop c.in-Loop.h c.in-Loop.ts) (ap shown_terms c.as_slice-passed.ensures.value) in
     step.answer_loop_not B E _ c.in-Loop.h c.if-evaluate_all-4.ensures.words ∙ ap (answer B E) (sym shape)
 
 pub evaluate-returns-else-evaluate_all-4-clause-notes : goal.evaluate-returns-else-evaluate_all-4-clause-notes
 evaluate-returns-else-evaluate_all-4-clause-notes t c =
     let B = back_at c.args.stages.now in
     let E = take c.args.slots c.args.env.now in
-    let shape = loop_by c.in-Loop.h (ap tree c.in-Loop.is ∙ tree-Loop c.in-Loop.h c.in-Loop.ts) (ap forest c.as_slice-passed.ensures.value) in
+    let shape = loop_by c.in-Loop.h (ap shown_term c.in-Loop.is ∙ shown_term-Loop c.in-Loop.h c.in-Loop.ts) (ap shown_terms c.as_slice-passed.ensures.value) in
     notes_as B E shape (step.notes_loop B E _ c.in-Loop.h c.if-evaluate_all-4.ensures.notes)
 
 -- ---- constants and slots
@@ -313,20 +313,20 @@ pub evaluate-returns-in-Const-clause-outcome : goal.evaluate-returns-in-Const-cl
 evaluate-returns-in-Const-clause-outcome t c =
     let B = back_at c.args.stages.now in
     let E = take c.args.slots c.args.env.now in
-    sym (step.answer_const B E c.in-Const.word) ∙ ap (answer B E) (sym (ap tree c.in-Const.is))
+    sym (step.answer_const B E c.in-Const.word) ∙ ap (answer B E) (sym (ap shown_term c.in-Const.is))
 
 pub evaluate-returns-in-Const-clause-notes : goal.evaluate-returns-in-Const-clause-notes
-evaluate-returns-in-Const-clause-notes t c = notes_as _ _ (ap tree c.in-Const.is) (step.notes_const _ _ _ c.in-Const.word)
+evaluate-returns-in-Const-clause-notes t c = notes_as _ _ (ap shown_term c.in-Const.is) (step.notes_const _ _ _ c.in-Const.word)
 
 pub evaluate-returns-in-Var-clause-outcome : goal.evaluate-returns-in-Var-clause-outcome
 evaluate-returns-in-Var-clause-outcome t c =
     let B = back_at c.args.stages.now in
     let E = take c.args.slots c.args.env.now in
-    let place = may.var_place c.in-Var.slot (can_is refl refl (ap tree c.in-Var.is) c.requires.can) in
-    ap Ready (step.slot_is c.args.env.now c.args.slots c.in-Var.slot _ place c.index-env-slot.is) ∙ (sym (step.answer_var B E c.in-Var.slot) ∙ ap (answer B E) (sym (ap tree c.in-Var.is)))
+    let place = may.var_place c.in-Var.slot (can_is refl refl (ap shown_term c.in-Var.is) c.requires.can) in
+    ap Ready (step.slot_is c.args.env.now c.args.slots c.in-Var.slot _ place c.index-env-slot.is) ∙ (sym (step.answer_var B E c.in-Var.slot) ∙ ap (answer B E) (sym (ap shown_term c.in-Var.is)))
 
 pub evaluate-returns-in-Var-clause-notes : goal.evaluate-returns-in-Var-clause-notes
-evaluate-returns-in-Var-clause-notes t c = notes_as _ _ (ap tree c.in-Var.is) (step.notes_var _ _ _ c.in-Var.slot)
+evaluate-returns-in-Var-clause-notes t c = notes_as _ _ (ap shown_term c.in-Var.is) (step.notes_var _ _ _ c.in-Var.slot)
 
 -- ---- lists
 
@@ -335,29 +335,29 @@ evaluate_all-returns-in_default-clause-words t c =
     let B = back_at c.args.stages.now in
     let E = take c.args.slots c.args.env.now in
     let e : c.args.ts.now ≡ [] = empty_list c.args.ts.now c.in_default.ensures.cases in
-    subst (λ (x : List declared.Term). answers B E (forest x) ≡ Some (take (length x) (drop c.args.at c.args.env.now))) (sym e) (step.answers_nil B E)
+    subst (λ (x : List declared.Term). answers B E (shown_terms x) ≡ Some (take (length x) (drop c.args.at c.args.env.now))) (sym e) (step.answers_nil B E)
 
 pub evaluate_all-returns-in_default-clause-notes : goal.evaluate_all-returns-in_default-clause-notes
 evaluate_all-returns-in_default-clause-notes t c =
     let e : c.args.ts.now ≡ [] = empty_list c.args.ts.now c.in_default.ensures.cases in
-    notes_in_as _ _ (ap forest e) (step.notes_nil _ _ _)
+    notes_in_as _ _ (ap shown_terms e) (step.notes_nil _ _ _)
 
 pub evaluate_all-evaluate-outcome-requires : goal.evaluate_all-evaluate-outcome-requires
 evaluate_all-evaluate-outcome-requires t c =
     let e : c.args.ts.now ≡ c.in-Some.first.now ∷ c.in-Some.rest.now = c.in-Some.ensures.cases.0 in
-    let shape = ap forest e in
+    let shape = ap shown_terms e in
     let size = ap nodes_in shape in
-    let smaller : 2 * nodes (tree c.in-Some.first.now) < 2 * nodes_in (forest c.args.ts.now) + 1 = omega (arith, size) in
+    let smaller : 2 * nodes (shown_term c.in-Some.first.now) < 2 * nodes_in (shown_terms c.args.ts.now) + 1 = omega (arith, size) in
     (search rules, (may.can_first _ _ (can_all_is refl refl shape c.requires.can), (omega (arith, size, c.requires.room), may.unasked_first _ _ (unasked_in_is shape c.requires.unasked))))
 
 pub evaluate_all-evaluate_all-ready-requires : goal.evaluate_all-evaluate_all-ready-requires
 evaluate_all-evaluate_all-ready-requires t c =
     let e : c.args.ts.now ≡ c.in-Some.first.now ∷ c.in-Some.rest.now = c.in-Some.ensures.cases.0 in
-    let shape = ap forest e in
+    let shape = ap shown_terms e in
     let size = ap nodes_in shape in
     let long = ap (λ (x : List declared.Term). length x) e in
     let can = can_all_is refl refl shape c.requires.can in
-    let smaller : 2 * nodes_in (forest c.in-Some.rest.now) + 1 < 2 * nodes_in (forest c.args.ts.now) + 1 = omega (arith, some_node (tree c.in-Some.first.now), size) in (
+    let smaller : 2 * nodes_in (shown_terms c.in-Some.rest.now) + 1 < 2 * nodes_in (shown_terms c.args.ts.now) + 1 = omega (arith, some_node (shown_term c.in-Some.first.now), size) in (
       search rules,
       (
         can_all_is (omega (arith, c.evaluate-outcome.auto.asks)) (sym c.evaluate-outcome.ensures.kept) refl (may.can_rest _ _ can),
@@ -373,39 +373,39 @@ evaluate_all-returns-in-Ready-clause-words t c =
     let long = ap (λ (x : List declared.Term). length x) e in
     let rest = sym (step.answers_is B c.evaluate-outcome.ensures.kept refl) ∙ c.evaluate_all-ready.ensures.words in
     let within : c.args.at < length c.evaluate_all-ready.new.env = omega (arith, long, c.requires.places, c.evaluate-outcome.auto.env, c.evaluate_all-ready.auto.env) in
-    ap (λ (x : List declared.Term). answers B E (forest x)) e
-    ∙ (step.answers_more B E _ (tree c.in-Some.first.now) c.in-Ready.word _ c.in-Ready.ensures.outcome rest
+    ap (λ (x : List declared.Term). answers B E (shown_terms x)) e
+    ∙ (step.answers_more B E _ (shown_term c.in-Some.first.now) c.in-Ready.word _ c.in-Ready.ensures.outcome rest
     ∙ (step.words_more c.evaluate_all-ready.new.env c.args.at (length c.in-Some.rest.now) c.in-Ready.word c.evaluate_all-ready.result within
     ∙ ap (λ n. cond c.evaluate_all-ready.result (Some (take n (drop c.args.at (slice_set c.evaluate_all-ready.new.env c.args.at c.in-Ready.word)))) None) (sym long)))
 
 pub evaluate_all-returns-in-Ready-clause-notes : goal.evaluate_all-returns-in-Ready-clause-notes
 evaluate_all-returns-in-Ready-clause-notes t c =
     let e : c.args.ts.now ≡ c.in-Some.first.now ∷ c.in-Some.rest.now = c.in-Some.ensures.cases.0 in
-    notes_in_as _ _ (ap forest e) (step.notes_more _ _ _ _ c.in-Ready.ensures.notes (notes_in_is _ c.in-Ready.ensures.kept refl c.evaluate_all-ready.ensures.notes))
+    notes_in_as _ _ (ap shown_terms e) (step.notes_more _ _ _ _ c.in-Ready.ensures.notes (notes_in_is _ c.in-Ready.ensures.kept refl c.evaluate_all-ready.ensures.notes))
 
 pub evaluate_all-returns-in-Loop-clause-words : goal.evaluate_all-returns-in-Loop-clause-words
 evaluate_all-returns-in-Loop-clause-words t c =
     let B = back_at c.args.stages.now in
     let E = take c.args.slots c.args.env.now in
     let e : c.args.ts.now ≡ c.in-Some.first.now ∷ c.in-Some.rest.now = c.in-Some.ensures.cases.0 in
-    ap (λ (x : List declared.Term). answers B E (forest x)) e ∙ step.answers_loop B E _ (tree c.in-Some.first.now) _ _ c.in-Loop.ensures.outcome
+    ap (λ (x : List declared.Term). answers B E (shown_terms x)) e ∙ step.answers_loop B E _ (shown_term c.in-Some.first.now) _ _ c.in-Loop.ensures.outcome
 
 pub evaluate_all-returns-in-Loop-clause-notes : goal.evaluate_all-returns-in-Loop-clause-notes
 evaluate_all-returns-in-Loop-clause-notes t c =
     let e : c.args.ts.now ≡ c.in-Some.first.now ∷ c.in-Some.rest.now = c.in-Some.ensures.cases.0 in
-    notes_in_as _ _ (ap forest e) (step.notes_more _ _ _ _ c.in-Loop.ensures.notes (notes_in_is _ c.in-Loop.ensures.kept refl c.evaluate_all-ready.ensures.notes))
+    notes_in_as _ _ (ap shown_terms e) (step.notes_more _ _ _ _ c.in-Loop.ensures.notes (notes_in_is _ c.in-Loop.ensures.kept refl c.evaluate_all-ready.ensures.notes))
 
 pub evaluate_all-returns-in-NotYet-clause-words : goal.evaluate_all-returns-in-NotYet-clause-words
 evaluate_all-returns-in-NotYet-clause-words t c =
     let B = back_at c.args.stages.now in
     let E = take c.args.slots c.args.env.now in
     let e : c.args.ts.now ≡ c.in-Some.first.now ∷ c.in-Some.rest.now = c.in-Some.ensures.cases.0 in
-    ap (λ (x : List declared.Term). answers B E (forest x)) e ∙ step.answers_not B E _ (tree c.in-Some.first.now) c.in-NotYet.ensures.outcome
+    ap (λ (x : List declared.Term). answers B E (shown_terms x)) e ∙ step.answers_not B E _ (shown_term c.in-Some.first.now) c.in-NotYet.ensures.outcome
 
 pub evaluate_all-returns-in-NotYet-clause-notes : goal.evaluate_all-returns-in-NotYet-clause-notes
 evaluate_all-returns-in-NotYet-clause-notes t c =
     let e : c.args.ts.now ≡ c.in-Some.first.now ∷ c.in-Some.rest.now = c.in-Some.ensures.cases.0 in
-    notes_in_as _ _ (ap forest e) (step.notes_more _ _ _ _ c.in-NotYet.ensures.notes (notes_in_is _ c.in-NotYet.ensures.kept refl c.evaluate_all-ready.ensures.notes))
+    notes_in_as _ _ (ap shown_terms e) (step.notes_more _ _ _ _ c.in-NotYet.ensures.notes (notes_in_is _ c.in-NotYet.ensures.kept refl c.evaluate_all-ready.ensures.notes))
 
 -- ---- where the arguments of a tail call stand
 
@@ -423,6 +423,6 @@ evaluate-returns-after-evaluate_all-3-clause-placed t c = c.returned.ensures.pla
 
 pub evaluate-returns-then-evaluate_all-4-clause-placed : goal.evaluate-returns-then-evaluate_all-4-clause-placed
 evaluate-returns-then-evaluate_all-4-clause-placed t c =
-    let shape = loop_by c.in-Loop.h (ap tree c.in-Loop.is ∙ tree-Loop c.in-Loop.h c.in-Loop.ts) (ap forest c.as_slice-passed.ensures.value) in
+    let shape = loop_by c.in-Loop.h (ap shown_term c.in-Loop.is ∙ shown_term-Loop c.in-Loop.h c.in-Loop.ts) (ap shown_terms c.as_slice-passed.ensures.value) in
     let count = step.count_forest c.as_slice-passed.result.now in
     (omega (arith, ap nodes shape, forest_nodes c.as_slice-passed.result.now, c.requires.room), omega (arith, count, may.loop_few _ _ (can_is refl refl shape c.requires.can)))

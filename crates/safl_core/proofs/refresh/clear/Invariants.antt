@@ -2,7 +2,8 @@ use Rattle.std.proofs.Common.{◌≡◌, ℕ, ◌<◌, ◌≤◌, ◌==◌, None
 use Rattle.safl_term.specs.Checked.{program_of}
 use Rattle.safl_core.proofs.refresh.clear.Given as goal
 
-abbrev pub invariant-loop-i : goal.invariant-loop-i
-invariant-loop-i l =
-    ((k : ℕ) → 0 < k → k ≤ l.i → get_or l.asks k None ≡ cond ((program_of l.c).unit ((program_of l.c).caller k) == l.u) None (get_or l.initial.asks k None))
-    × ((k : ℕ) → l.i < k → get_or l.asks k None ≡ get_or l.initial.asks k None)
+abbrev pub invariant-loop-k : goal.invariant-loop-k
+invariant-loop-k l = record {
+  below : (j : ℕ) → 0 < j → j < l.k → get_or l.asks j None ≡ cond ((program_of l.c).unit ((program_of l.c).caller j) == l.u) None (get_or l.initial.asks j None);
+  above : (j : ℕ) → l.k ≤ j → get_or l.asks j None ≡ get_or l.initial.asks j None;
+}

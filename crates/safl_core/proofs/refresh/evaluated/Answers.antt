@@ -3,7 +3,7 @@ use Rattle.safl_word.specs.Words.{Word}
 use Rattle.safl_term.specs.Checked.{program_of}
 use Rattle.safl_term.specs.Readiness.{answer, wanted, or_else}
 use Rattle.safl_term.specs.Sizes.{nodes}
-use Rattle.safl_term.specs.Tree.{tree}
+use Rattle.safl_term.specs.Tree.{shown_term}
 use Rattle.safl_calls.specs.Machine as core
 use Rattle.safl_calls.proofs.FromWellFormed.{numbered}
 use Rattle.safl_core.specs.declared.stage.Stage.{Stage}
@@ -24,7 +24,7 @@ run-requires-clause-can c =
     let member = c.requires.can.member _ _ _ c.in-Some.ensures.runs.1 in
     let asks = length c.deref_mut.result.now in
     let places = ap (λ (l : List (Option (List Word))). length l) c.deref_mut.ensures.value ∙ c.requires.can.sized.wants in
-    subst (λ (x : List Stage). CanRun x asks args (tree c.body.result.now)) (sym c.deref.ensures.value)
+    subst (λ (x : List Stage). CanRun x asks args (shown_term c.body.result.now)) (sym c.deref.ensures.value)
     (subst (λ t. CanRun s.stages.items asks args t) (sym c.body.ensures.term)
     (body_can c.args.c.now s.stages.items asks args c.in-Some.f c.requires.can.checked member.1 member.2 c.requires.can.back c.requires.can.sized.sites places))
 
@@ -39,7 +39,7 @@ pub run-requires-clause-unasked : goal.run-requires-clause-unasked
 run-requires-clause-unasked c =
     let C = program_of c.args.c.now in
     let member = c.requires.can.member _ _ _ c.in-Some.ensures.runs.1 in
-    subst (λ (l : List (Option (List Word))). Unasked l (tree c.body.result.now)) (sym c.deref_mut.ensures.value)
+    subst (λ (l : List (Option (List Word))). Unasked l (shown_term c.body.result.now)) (sym c.deref_mut.ensures.value)
     (subst (λ t. Unasked c.args.state.now.wants.items t) (sym c.body.ensures.term)
     (cleared_unasked C c.args.u c.in-Some.f c.args.state.now.wants.items (numbered C c.requires.can.checked.formed) member.1 member.0 c.requires.cleared))
 
@@ -49,7 +49,7 @@ returns-in-Some c =
     let s = c.args.state.now in
     let f = c.in-Some.f in
     let args = c.in-Some.args in
-    let body = tree c.body.result.now in
+    let body = shown_term c.body.result.now in
     let B = back_at s.stages.items in
     let runs = c.in-Some.ensures.runs.1 in
     let member = c.requires.can.member _ _ _ runs in

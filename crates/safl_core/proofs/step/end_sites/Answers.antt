@@ -1,15 +1,24 @@
-use Rattle.std.proofs.Common.{◌+◌, ◌<◌, length, sym, ap, ◌∙◌, arith}
+use Rattle.std.proofs.Common.{◌<◌, ◌≤◌, length, refl, arith}
 use Rattle.safl_term.specs.Checked.{program_of}
-use Rattle.safl_core.proofs.StateLemmas.{end_more, end_less}
+use Rattle.safl_core.proofs.StateLemmas.{end_site, end_front, end_back}
 use Rattle.safl_core.proofs.step.end_sites.Goals as goal
-use Rattle.safl_core.proofs.step.end_sites.Goals.{then-unit-u, else-unit-u}
 
-pub loop-i-preserved : goal.loop-i-preserved
-loop-i-preserved c =
+pub loop-k-init : goal.loop-k-init
+loop-k-init c = record {
+  below = end_front (program_of c.args.c.now) c.args.u c.own_sites-own.result c.own_sites-own.ensures c.args.stages.now;
+  above = λ j le. refl;
+}
+
+pub loop-k-preserved : goal.loop-k-preserved
+loop-k-preserved c =
     let C = program_of c.args.c.now in
-    let at = c.unit.ensures.number ∙ ap C.unit c.caller.ensures.number in
-    let within : c.loop-i.i + 1 < length c.loop-i.stages = omega (arith, c.requires, c.loop-i.auto.stages, c.loop-i-test.true, c.sites-i-end.ensures.count) in
-    elim c.if-unit-u.branch [
-      | then-unit-u w ↦ end_more C c.args.u c.loop-i.i c.args.stages.now c.loop-i.stages c.if-unit-u.stages c.loop-i.invariant.0 c.loop-i.invariant.1 w.stages-is within (sym at ∙ w.if-unit-u.true)
-      | else-unit-u w ↦ end_less C c.args.u c.loop-i.i c.args.stages.now c.loop-i.stages c.if-unit-u.stages c.loop-i.invariant.0 c.loop-i.invariant.1 w.stages-is (λ q. w.if-unit-u.false (at ∙ q))
-    ]
+    let k = c.loop-k.k in
+    let s = c.own_sites-own.ensures in
+    let from : c.own_sites-own.result.first ≤ k = omega arith in
+    let upto : k < c.own_sites-own.result.end = omega (arith, c.loop-k-test.true) in
+    let within : k < length c.loop-k.stages = omega (arith, c.requires.sized, c.loop-k.auto.stages, s.most, upto) in
+    let both = end_site C c.args.u k c.args.stages.now c.loop-k.stages c.loop-k.invariant.below c.loop-k.invariant.above within (omega (arith, s.least, from)) (s.own k from upto) in
+    record { below = both.0; above = both.1 }
+
+pub returns : goal.returns
+returns c = end_back (program_of c.args.c.now) c.args.u c.own_sites-own.result c.own_sites-own.ensures c.loop-k.k c.args.stages.now c.loop-k.stages c.requires.sized (omega (arith, c.loop-k-test.false)) c.loop-k.invariant.below c.loop-k.invariant.above

@@ -4,7 +4,8 @@ use Rattle.safl_calls.specs.Machine.{ended}
 use Rattle.safl_core.specs.Stages.{stage_at}
 use Rattle.safl_core.proofs.step.end_sites.Given as goal
 
-abbrev pub invariant-loop-i : goal.invariant-loop-i
-invariant-loop-i l =
-    ((k : ℕ) → k ≤ l.i → stage_at l.stages k ≡ ended (program_of l.c) l.u (stage_at l.initial.stages) k)
-    × ((k : ℕ) → l.i < k → stage_at l.stages k ≡ stage_at l.initial.stages k)
+abbrev pub invariant-loop-k : goal.invariant-loop-k
+invariant-loop-k l = record {
+  below : (j : ℕ) → j < l.k → stage_at l.stages j ≡ ended (program_of l.c) l.u (stage_at l.initial.stages) j;
+  above : (j : ℕ) → l.k ≤ j → stage_at l.stages j ≡ stage_at l.initial.stages j;
+}

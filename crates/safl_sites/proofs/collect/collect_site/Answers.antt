@@ -16,7 +16,7 @@ returns-then-meets c =
     let P = c.args.peers.now in
     let row = get_or B k no_row in
     let to : c.unit_for-unit.result ≡ unit_for C k = c.unit_for-unit.ensures.number in
-    let low = unit_within c.args.c.now c.functions-functions.ensures.checked k c.requires.least c.requires.most in
+    let low = unit_within c.args.c.now c.requires.checked k c.requires.least c.requires.most in
     let meets : Meets row (get_or P (unit_for C k) no_row) k = subst (λ (u : ℕ). Meets row (get_or P u no_row) k) to (c.meets.ensures.0 c.if-meets.true) in
     let common : (j : ℕ) → Adds (Has c.insert.new.self j) (Has c.add_common.new.self j) (IsCommon row (get_or P (unit_for C k) no_row) k j) =
     λ j. subst (λ (u : ℕ). Adds (Has c.insert.new.self j) (Has c.add_common.new.self j) (IsCommon row (get_or P u no_row) k j)) to (c.add_common.ensures j) in

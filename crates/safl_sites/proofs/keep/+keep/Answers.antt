@@ -3,8 +3,8 @@ use Rattle.safl_term.specs.Checked.{program_of}
 use Rattle.safl_term.specs.declared.term.Term as declared
 use Rattle.safl_term.specs.Sizes.{nodes, nodes_in}
 use Rattle.safl_term.specs.Terms.{Term, Cons}
-use Rattle.safl_term.specs.Tree.{tree, forest}
-use Rattle.safl_term.proofs.TreeLemmas.{tree-Op, tree-Loop, tree-Call, tree-Let}
+use Rattle.safl_term.specs.Tree.{shown_term, shown_terms}
+use Rattle.safl_term.proofs.TreeLemmas.{shown_term-Op, shown_term-Loop, shown_term-Call, shown_term-Let}
 use Rattle.safl_sites.specs.declared.site_set.SiteSet.{SiteSet}
 use Rattle.safl_sites.specs.Keeping.{MayKeep, MayKeepIn, IsHeldHere, Walks, WalksIn, Binds}
 use Rattle.safl_sites.specs.Rows.{Has, Adds}
@@ -22,10 +22,10 @@ walk-walk-requires t c =
     let U = c.args.units.now in
     let P = c.args.peers.now in
     let R = c.args.slots.now.items in
-    let e = ap tree c.in-If.is in
+    let e = ap shown_term c.in-If.is in
     let may : MayKeep C U P (length R) _ = subst (λ (x : Term). MayKeep C U P (length R) x) e c.requires in
-    let smaller : 2 * nodes (tree c.deref.result.now) < 2 * nodes (tree c.args.t.now) = omega (arith, ap nodes e, ap (λ (x : declared.Term). nodes (tree x)) c.deref.ensures) in
-    let ok : MayKeep C U P (length R) (tree c.deref.result.now) = keep_tree c.deref.ensures (refl) (keep_cond may) in
+    let smaller : 2 * nodes (shown_term c.deref.result.now) < 2 * nodes (shown_term c.args.t.now) = omega (arith, ap nodes e, ap (λ (x : declared.Term). nodes (shown_term x)) c.deref.ensures) in
+    let ok : MayKeep C U P (length R) (shown_term c.deref.result.now) = keep_tree c.deref.ensures (refl) (keep_cond may) in
     search rules
 
 pub walk-walk-requires-in-If : goal.walk-walk-requires-in-If
@@ -34,10 +34,10 @@ walk-walk-requires-in-If t c =
     let U = c.args.units.now in
     let P = c.args.peers.now in
     let R = c.args.slots.now.items in
-    let e = ap tree c.in-If.is in
+    let e = ap shown_term c.in-If.is in
     let may : MayKeep C U P (length R) _ = subst (λ (x : Term). MayKeep C U P (length R) x) e c.requires in
-    let smaller : 2 * nodes (tree c.deref-in-If.result.now) < 2 * nodes (tree c.args.t.now) = omega (arith, ap nodes e, ap (λ (x : declared.Term). nodes (tree x)) c.deref-in-If.ensures) in
-    let ok : MayKeep C U P (length c.walk.new.slots.items) (tree c.deref-in-If.result.now) = keep_tree c.deref-in-If.ensures (ap (λ (l : List SiteSet). length l) c.in_ok-walk-in-If.ensures.same) (keep_then may) in
+    let smaller : 2 * nodes (shown_term c.deref-in-If.result.now) < 2 * nodes (shown_term c.args.t.now) = omega (arith, ap nodes e, ap (λ (x : declared.Term). nodes (shown_term x)) c.deref-in-If.ensures) in
+    let ok : MayKeep C U P (length c.walk.new.slots.items) (shown_term c.deref-in-If.result.now) = keep_tree c.deref-in-If.ensures (ap (λ (l : List SiteSet). length l) c.in_ok-walk-in-If.ensures.same) (keep_then may) in
     search rules
 
 pub walk-walk-requires-in-If-2 : goal.walk-walk-requires-in-If-2
@@ -46,10 +46,10 @@ walk-walk-requires-in-If-2 t c =
     let U = c.args.units.now in
     let P = c.args.peers.now in
     let R = c.args.slots.now.items in
-    let e = ap tree c.in-If.is in
+    let e = ap shown_term c.in-If.is in
     let may : MayKeep C U P (length R) _ = subst (λ (x : Term). MayKeep C U P (length R) x) e c.requires in
-    let smaller : 2 * nodes (tree c.deref-in-If-2.result.now) < 2 * nodes (tree c.args.t.now) = omega (arith, ap nodes e, ap (λ (x : declared.Term). nodes (tree x)) c.deref-in-If-2.ensures) in
-    let ok : MayKeep C U P (length c.walk-in-If.new.slots.items) (tree c.deref-in-If-2.result.now) = keep_tree c.deref-in-If-2.ensures (ap (λ (l : List SiteSet). length l) (c.in_ok-walk-in-If-2.ensures.same ∙ c.in_ok-walk-in-If.ensures.same)) (keep_else may) in
+    let smaller : 2 * nodes (shown_term c.deref-in-If-2.result.now) < 2 * nodes (shown_term c.args.t.now) = omega (arith, ap nodes e, ap (λ (x : declared.Term). nodes (shown_term x)) c.deref-in-If-2.ensures) in
+    let ok : MayKeep C U P (length c.walk-in-If.new.slots.items) (shown_term c.deref-in-If-2.result.now) = keep_tree c.deref-in-If-2.ensures (ap (λ (l : List SiteSet). length l) (c.in_ok-walk-in-If-2.ensures.same ∙ c.in_ok-walk-in-If.ensures.same)) (keep_else may) in
     search rules
 
 pub walk-bind_all-requires : goal.walk-bind_all-requires
@@ -58,10 +58,10 @@ walk-bind_all-requires t c =
     let U = c.args.units.now in
     let P = c.args.peers.now in
     let R = c.args.slots.now.items in
-    let e = ap tree c.in-Let.is ∙ tree-Let c.in-Let.field-0 c.in-Let.bound c.in-Let.body in
+    let e = ap shown_term c.in-Let.is ∙ shown_term-Let c.in-Let.field-0 c.in-Let.bound c.in-Let.body in
     let may : MayKeep C U P (length R) _ = subst (λ (x : Term). MayKeep C U P (length R) x) e c.requires in
-    let smaller : 2 * nodes_in (forest c.deref-in-Let.result.now) + 1 < 2 * nodes (tree c.args.t.now) = omega (arith, ap nodes e, ap (λ (x : List declared.Term). nodes_in (forest x)) c.deref-in-Let.ensures.value) in
-    let ok : MayKeepIn C U P (length R) (forest c.deref-in-Let.result.now) = keep_forest c.deref-in-Let.ensures.value refl (keep_bound may) in
+    let smaller : 2 * nodes_in (shown_terms c.deref-in-Let.result.now) + 1 < 2 * nodes (shown_term c.args.t.now) = omega (arith, ap nodes e, ap (λ (x : List declared.Term). nodes_in (shown_terms x)) c.deref-in-Let.ensures.value) in
+    let ok : MayKeepIn C U P (length R) (shown_terms c.deref-in-Let.result.now) = keep_forest c.deref-in-Let.ensures.value refl (keep_bound may) in
     search rules
 
 pub walk-hold-requires : goal.walk-hold-requires
@@ -70,7 +70,7 @@ walk-hold-requires t c =
     let U = c.args.units.now in
     let P = c.args.peers.now in
     let R = c.args.slots.now.items in
-    let e = ap tree c.in-Let.is ∙ tree-Let c.in-Let.field-0 c.in-Let.bound c.in-Let.body in
+    let e = ap shown_term c.in-Let.is ∙ shown_term-Let c.in-Let.field-0 c.in-Let.bound c.in-Let.body in
     let may : MayKeep C U P (length R) _ = subst (λ (x : Term). MayKeep C U P (length R) x) e c.requires in
     (_, keep_tree c.deref-in-Let-3.ensures refl (keep_body may))
 
@@ -80,11 +80,11 @@ walk-walk-requires-in-Let t c =
     let U = c.args.units.now in
     let P = c.args.peers.now in
     let R = c.args.slots.now.items in
-    let e = ap tree c.in-Let.is ∙ tree-Let c.in-Let.field-0 c.in-Let.bound c.in-Let.body in
+    let e = ap shown_term c.in-Let.is ∙ shown_term-Let c.in-Let.field-0 c.in-Let.bound c.in-Let.body in
     let may : MayKeep C U P (length R) _ = subst (λ (x : Term). MayKeep C U P (length R) x) e c.requires in
-    let bound : Binds C R c.bind_all.new.slots.items c.args.keeps.now c.bind_all.new.keeps (forest c.in-Let.bound.items) = binds_forest c.deref-in-Let.ensures.value c.in_ok-bind_all-in-Let.ensures in
-    let smaller : 2 * nodes (tree c.deref-in-Let-4.result.now) < 2 * nodes (tree c.args.t.now) = omega (arith, ap nodes e, ap (λ (x : declared.Term). nodes (tree x)) c.deref-in-Let-4.ensures) in
-    let ok : MayKeep C U P (length c.bind_all.new.slots.items) (tree c.deref-in-Let-4.result.now) = keep_tree c.deref-in-Let-4.ensures (bound_length bound) (keep_body may) in
+    let bound : Binds C R c.bind_all.new.slots.items c.args.keeps.now c.bind_all.new.keeps (shown_terms c.in-Let.bound.items) = binds_forest c.deref-in-Let.ensures.value c.in_ok-bind_all-in-Let.ensures in
+    let smaller : 2 * nodes (shown_term c.deref-in-Let-4.result.now) < 2 * nodes (shown_term c.args.t.now) = omega (arith, ap nodes e, ap (λ (x : declared.Term). nodes (shown_term x)) c.deref-in-Let-4.ensures) in
+    let ok : MayKeep C U P (length c.bind_all.new.slots.items) (shown_term c.deref-in-Let-4.result.now) = keep_tree c.deref-in-Let-4.ensures (bound_length bound) (keep_body may) in
     search rules
 
 pub walk-walk_all-requires : goal.walk-walk_all-requires
@@ -93,10 +93,10 @@ walk-walk_all-requires t c =
     let U = c.args.units.now in
     let P = c.args.peers.now in
     let R = c.args.slots.now.items in
-    let e = ap tree c.in-Op.is ∙ tree-Op c.in-Op.field-0 c.in-Op.ts in
+    let e = ap shown_term c.in-Op.is ∙ shown_term-Op c.in-Op.field-0 c.in-Op.ts in
     let may : MayKeep C U P (length R) _ = subst (λ (x : Term). MayKeep C U P (length R) x) e c.requires in
-    let smaller : 2 * nodes_in (forest c.deref-in-Op.result.now) + 1 < 2 * nodes (tree c.args.t.now) = omega (arith, ap nodes e, ap (λ (x : List declared.Term). nodes_in (forest x)) c.deref-in-Op.ensures.value) in
-    let ok : MayKeepIn C U P (length R) (forest c.deref-in-Op.result.now) = keep_forest c.deref-in-Op.ensures.value refl (keep_op may) in
+    let smaller : 2 * nodes_in (shown_terms c.deref-in-Op.result.now) + 1 < 2 * nodes (shown_term c.args.t.now) = omega (arith, ap nodes e, ap (λ (x : List declared.Term). nodes_in (shown_terms x)) c.deref-in-Op.ensures.value) in
+    let ok : MayKeepIn C U P (length R) (shown_terms c.deref-in-Op.result.now) = keep_forest c.deref-in-Op.ensures.value refl (keep_op may) in
     search rules
 
 pub walk-walk_all-requires-in-Call : goal.walk-walk_all-requires-in-Call
@@ -105,10 +105,10 @@ walk-walk_all-requires-in-Call t c =
     let U = c.args.units.now in
     let P = c.args.peers.now in
     let R = c.args.slots.now.items in
-    let e = ap tree c.in-Call.is ∙ tree-Call c.in-Call.field-0 c.in-Call.k c.in-Call.ts in
+    let e = ap shown_term c.in-Call.is ∙ shown_term-Call c.in-Call.field-0 c.in-Call.k c.in-Call.ts in
     let may : MayKeep C U P (length R) _ = subst (λ (x : Term). MayKeep C U P (length R) x) e c.requires in
-    let smaller : 2 * nodes_in (forest c.deref-in-Call.result.now) + 1 < 2 * nodes (tree c.args.t.now) = omega (arith, ap nodes e, ap (λ (x : List declared.Term). nodes_in (forest x)) c.deref-in-Call.ensures.value) in
-    let ok : MayKeepIn C U P (length R) (forest c.deref-in-Call.result.now) = keep_forest c.deref-in-Call.ensures.value refl (keep_args may) in
+    let smaller : 2 * nodes_in (shown_terms c.deref-in-Call.result.now) + 1 < 2 * nodes (shown_term c.args.t.now) = omega (arith, ap nodes e, ap (λ (x : List declared.Term). nodes_in (shown_terms x)) c.deref-in-Call.ensures.value) in
+    let ok : MayKeepIn C U P (length R) (shown_terms c.deref-in-Call.result.now) = keep_forest c.deref-in-Call.ensures.value refl (keep_args may) in
     search rules
 
 pub walk-walk_all-requires-in-Loop : goal.walk-walk_all-requires-in-Loop
@@ -117,10 +117,10 @@ walk-walk_all-requires-in-Loop t c =
     let U = c.args.units.now in
     let P = c.args.peers.now in
     let R = c.args.slots.now.items in
-    let e = ap tree c.in-Loop.is ∙ tree-Loop c.in-Loop.field-0 c.in-Loop.ts in
+    let e = ap shown_term c.in-Loop.is ∙ shown_term-Loop c.in-Loop.field-0 c.in-Loop.ts in
     let may : MayKeep C U P (length R) _ = subst (λ (x : Term). MayKeep C U P (length R) x) e c.requires in
-    let smaller : 2 * nodes_in (forest c.deref-in-Loop.result.now) + 1 < 2 * nodes (tree c.args.t.now) = omega (arith, ap nodes e, ap (λ (x : List declared.Term). nodes_in (forest x)) c.deref-in-Loop.ensures.value) in
-    let ok : MayKeepIn C U P (length R) (forest c.deref-in-Loop.result.now) = keep_forest c.deref-in-Loop.ensures.value refl (keep_loop may) in
+    let smaller : 2 * nodes_in (shown_terms c.deref-in-Loop.result.now) + 1 < 2 * nodes (shown_term c.args.t.now) = omega (arith, ap nodes e, ap (λ (x : List declared.Term). nodes_in (shown_terms x)) c.deref-in-Loop.ensures.value) in
+    let ok : MayKeepIn C U P (length R) (shown_terms c.deref-in-Loop.result.now) = keep_forest c.deref-in-Loop.ensures.value refl (keep_loop may) in
     search rules
 
 pub walk-insert-requires : goal.walk-insert-requires
@@ -129,7 +129,7 @@ walk-insert-requires t c =
     let U = c.args.units.now in
     let P = c.args.peers.now in
     let R = c.args.slots.now.items in
-    let e = ap tree c.in-Call.is ∙ tree-Call c.in-Call.field-0 c.in-Call.k c.in-Call.ts in
+    let e = ap shown_term c.in-Call.is ∙ shown_term-Call c.in-Call.field-0 c.in-Call.k c.in-Call.ts in
     let may : MayKeep C U P (length R) _ = subst (λ (x : Term). MayKeep C U P (length R) x) e c.requires in
     site_below may.reach
 
@@ -139,7 +139,7 @@ walk-returns-in-Const-clause-done t c =
     let U = c.args.units.now in
     let P = c.args.peers.now in
     let R = c.args.slots.now.items in
-    let e = ap tree c.in-Const.is in
+    let e = ap shown_term c.in-Const.is in
     let may : MayKeep C U P (length R) _ = subst (λ (x : Term). MayKeep C U P (length R) x) e c.requires in
     subst (λ (x : Term). Walks C R c.args.feeds.now c.args.feeds.now c.args.keeps.now c.args.keeps.now x) (sym e)
     (walks_const C R c.args.feeds.now c.args.keeps.now _)
@@ -150,7 +150,7 @@ walk-returns-in-Var-clause-done t c =
     let U = c.args.units.now in
     let P = c.args.peers.now in
     let R = c.args.slots.now.items in
-    let e = ap tree c.in-Var.is in
+    let e = ap shown_term c.in-Var.is in
     let may : MayKeep C U P (length R) _ = subst (λ (x : Term). MayKeep C U P (length R) x) e c.requires in
     let within : c.in-Var.slot < length R = slot_within may in
     let is = row_at R c.in-Var.slot c.index.result.now within c.index.ensures in
@@ -163,7 +163,7 @@ walk-index-requires t c =
     let U = c.args.units.now in
     let P = c.args.peers.now in
     let R = c.args.slots.now.items in
-    let e = ap tree c.in-Var.is in
+    let e = ap shown_term c.in-Var.is in
     let may : MayKeep C U P (length R) _ = subst (λ (x : Term). MayKeep C U P (length R) x) e c.requires in
     let within : c.in-Var.slot < length R = slot_within may in
     omega (arith, c.args.slots.now.ok.0)
@@ -174,7 +174,7 @@ walk-returns-in_ok-walk-in-If-3-clause-done t c =
     let U = c.args.units.now in
     let P = c.args.peers.now in
     let R = c.args.slots.now.items in
-    let e = ap tree c.in-If.is in
+    let e = ap shown_term c.in-If.is in
     let may : MayKeep C U P (length R) _ = subst (λ (x : Term). MayKeep C U P (length R) x) e c.requires in
     let first = walks_tree refl c.deref.ensures c.in_ok-walk-in-If.ensures.done in
     let second = walks_tree c.in_ok-walk-in-If.ensures.same c.deref-in-If.ensures c.in_ok-walk-in-If-2.ensures.done in
@@ -188,13 +188,13 @@ walk-returns-in_ok-walk-in-Let-clause-done t c =
     let U = c.args.units.now in
     let P = c.args.peers.now in
     let R = c.args.slots.now.items in
-    let e = ap tree c.in-Let.is ∙ tree-Let c.in-Let.field-0 c.in-Let.bound c.in-Let.body in
+    let e = ap shown_term c.in-Let.is ∙ shown_term-Let c.in-Let.field-0 c.in-Let.bound c.in-Let.body in
     let may : MayKeep C U P (length R) _ = subst (λ (x : Term). MayKeep C U P (length R) x) e c.requires in
-    let bound : Binds C R c.bind_all.new.slots.items c.args.keeps.now c.bind_all.new.keeps (forest c.in-Let.bound.items) = binds_forest c.deref-in-Let.ensures.value c.in_ok-bind_all-in-Let.ensures in
+    let bound : Binds C R c.bind_all.new.slots.items c.args.keeps.now c.bind_all.new.keeps (shown_terms c.in-Let.bound.items) = binds_forest c.deref-in-Let.ensures.value c.in_ok-bind_all-in-Let.ensures in
     let M = c.bind_all.new.slots.items in
     let body = walks_tree refl c.deref-in-Let-4.ensures c.in_ok-walk-in-Let.ensures.done in
     let low : c.len-low.result ≡ length R = omega (arith, c.args.slots.now.ok.0) in
-    let here : (k : ℕ) → 1 ≤ k → k ≤ C.sites → Adds (Has c.bind_all.new.keeps.held k) (Has c.hold.new.held k) (IsHeldHere C M (length R) k (tree c.in-Let.body.value)) = λ k p q. held_tree c.deref-in-Let-2.ensures.value low c.deref-in-Let-3.ensures (c.hold.ensures k p q) in
+    let here : (k : ℕ) → 1 ≤ k → k ≤ C.sites → Adds (Has c.bind_all.new.keeps.held k) (Has c.hold.new.held k) (IsHeldHere C M (length R) k (shown_term c.in-Let.body.value)) = λ k p q. held_tree c.deref-in-Let-2.ensures.value low c.deref-in-Let-3.ensures (c.hold.ensures k p q) in
     subst (λ (x : Term). Walks C R c.args.feeds.now c.walk-in-Let.new.feeds c.args.keeps.now c.walk-in-Let.new.keeps x) (sym e)
     (walks_let C R M c.args.feeds.now c.walk-in-Let.new.feeds c.args.keeps.now c.bind_all.new.keeps (record { decides = c.bind_all.new.keeps.decides; held = c.hold.new.held }) c.walk-in-Let.new.keeps _ _ bound refl here body)
 
@@ -204,7 +204,7 @@ walk-returns-in_ok-walk_all-in-Op-clause-done t c =
     let U = c.args.units.now in
     let P = c.args.peers.now in
     let R = c.args.slots.now.items in
-    let e = ap tree c.in-Op.is ∙ tree-Op c.in-Op.field-0 c.in-Op.ts in
+    let e = ap shown_term c.in-Op.is ∙ shown_term-Op c.in-Op.field-0 c.in-Op.ts in
     let may : MayKeep C U P (length R) _ = subst (λ (x : Term). MayKeep C U P (length R) x) e c.requires in
     let all = walks_forest c.deref-in-Op.ensures.value c.in_ok-walk_all-in-Op.ensures.done in
     subst (λ (x : Term). Walks C R c.args.feeds.now c.walk_all.new.feeds c.args.keeps.now c.walk_all.new.keeps x) (sym e)
@@ -216,7 +216,7 @@ walk-returns-in_ok-walk_all-in-Call-clause-done t c =
     let U = c.args.units.now in
     let P = c.args.peers.now in
     let R = c.args.slots.now.items in
-    let e = ap tree c.in-Call.is ∙ tree-Call c.in-Call.field-0 c.in-Call.k c.in-Call.ts in
+    let e = ap shown_term c.in-Call.is ∙ shown_term-Call c.in-Call.field-0 c.in-Call.k c.in-Call.ts in
     let may : MayKeep C U P (length R) _ = subst (λ (x : Term). MayKeep C U P (length R) x) e c.requires in
     let all = walks_forest c.deref-in-Call.ensures.value c.in_ok-walk_all-in-Call.ensures.done in
     subst (λ (x : Term). Walks C R c.args.feeds.now c.insert.new.self c.args.keeps.now c.walk_all-in-Call.new.keeps x) (sym e)
@@ -228,7 +228,7 @@ walk-returns-in_ok-walk_all-in-Loop-clause-done t c =
     let U = c.args.units.now in
     let P = c.args.peers.now in
     let R = c.args.slots.now.items in
-    let e = ap tree c.in-Loop.is ∙ tree-Loop c.in-Loop.field-0 c.in-Loop.ts in
+    let e = ap shown_term c.in-Loop.is ∙ shown_term-Loop c.in-Loop.field-0 c.in-Loop.ts in
     let may : MayKeep C U P (length R) _ = subst (λ (x : Term). MayKeep C U P (length R) x) e c.requires in
     let all = walks_forest c.deref-in-Loop.ensures.value c.in_ok-walk_all-in-Loop.ensures.done in
     subst (λ (x : Term). Walks C R c.args.feeds.now c.args.feeds.now c.args.keeps.now c.walk_all-in-Loop.new.keeps x) (sym e)
@@ -241,9 +241,9 @@ bind_all-walk-requires t c =
     let P = c.args.peers.now in
     let R = c.args.slots.now.items in
     let e : c.args.ts.now ≡ c.in-Some.first.now ∷ c.in-Some.rest.now = c.in-Some.ensures.cases.0 in
-    let may = subst (λ (x : List declared.Term). MayKeepIn C U P (length R) (forest x)) e c.requires in
-    let smaller : 2 * nodes (tree c.in-Some.first.now) < 2 * nodes_in (forest c.args.ts.now) + 1 = omega (arith, ap (λ (x : List declared.Term). nodes_in (forest x)) e) in
-    let ok : MayKeep C U P (length R) (tree c.in-Some.first.now) = keep_first may in
+    let may = subst (λ (x : List declared.Term). MayKeepIn C U P (length R) (shown_terms x)) e c.requires in
+    let smaller : 2 * nodes (shown_term c.in-Some.first.now) < 2 * nodes_in (shown_terms c.args.ts.now) + 1 = omega (arith, ap (λ (x : List declared.Term). nodes_in (shown_terms x)) e) in
+    let ok : MayKeep C U P (length R) (shown_term c.in-Some.first.now) = keep_first may in
     search rules
 
 pub walk_all-walk-requires : goal.walk_all-walk-requires
@@ -253,9 +253,9 @@ walk_all-walk-requires t c =
     let P = c.args.peers.now in
     let R = c.args.slots.now.items in
     let e : c.args.ts.now ≡ c.in-Some.first.now ∷ c.in-Some.rest.now = c.in-Some.ensures.cases.0 in
-    let may = subst (λ (x : List declared.Term). MayKeepIn C U P (length R) (forest x)) e c.requires in
-    let smaller : 2 * nodes (tree c.in-Some.first.now) < 2 * nodes_in (forest c.args.ts.now) + 1 = omega (arith, ap (λ (x : List declared.Term). nodes_in (forest x)) e) in
-    let ok : MayKeep C U P (length R) (tree c.in-Some.first.now) = keep_first may in
+    let may = subst (λ (x : List declared.Term). MayKeepIn C U P (length R) (shown_terms x)) e c.requires in
+    let smaller : 2 * nodes (shown_term c.in-Some.first.now) < 2 * nodes_in (shown_terms c.args.ts.now) + 1 = omega (arith, ap (λ (x : List declared.Term). nodes_in (shown_terms x)) e) in
+    let ok : MayKeep C U P (length R) (shown_term c.in-Some.first.now) = keep_first may in
     search rules
 
 pub bind_all-bind_all-requires : goal.bind_all-bind_all-requires
@@ -265,9 +265,9 @@ bind_all-bind_all-requires t c =
     let P = c.args.peers.now in
     let R = c.args.slots.now.items in
     let e : c.args.ts.now ≡ c.in-Some.first.now ∷ c.in-Some.rest.now = c.in-Some.ensures.cases.0 in
-    let may = subst (λ (x : List declared.Term). MayKeepIn C U P (length R) (forest x)) e c.requires in
-    let smaller : 2 * nodes_in (forest c.in-Some.rest.now) + 1 < 2 * nodes_in (forest c.args.ts.now) + 1 = omega (arith, some_node (tree c.in-Some.first.now), ap (λ (x : List declared.Term). nodes_in (forest x)) e) in
-    let ok : MayKeepIn C U P (length c.walk.new.slots.items) (forest c.in-Some.rest.now) = keep_forest refl (ap (λ (l : List SiteSet). length l) c.in_ok-walk.ensures.same) (keep_rest may) in
+    let may = subst (λ (x : List declared.Term). MayKeepIn C U P (length R) (shown_terms x)) e c.requires in
+    let smaller : 2 * nodes_in (shown_terms c.in-Some.rest.now) + 1 < 2 * nodes_in (shown_terms c.args.ts.now) + 1 = omega (arith, some_node (shown_term c.in-Some.first.now), ap (λ (x : List declared.Term). nodes_in (shown_terms x)) e) in
+    let ok : MayKeepIn C U P (length c.walk.new.slots.items) (shown_terms c.in-Some.rest.now) = keep_forest refl (ap (λ (l : List SiteSet). length l) c.in_ok-walk.ensures.same) (keep_rest may) in
     search rules
 
 pub walk_all-walk_all-requires : goal.walk_all-walk_all-requires
@@ -277,9 +277,9 @@ walk_all-walk_all-requires t c =
     let P = c.args.peers.now in
     let R = c.args.slots.now.items in
     let e : c.args.ts.now ≡ c.in-Some.first.now ∷ c.in-Some.rest.now = c.in-Some.ensures.cases.0 in
-    let may = subst (λ (x : List declared.Term). MayKeepIn C U P (length R) (forest x)) e c.requires in
-    let smaller : 2 * nodes_in (forest c.in-Some.rest.now) + 1 < 2 * nodes_in (forest c.args.ts.now) + 1 = omega (arith, some_node (tree c.in-Some.first.now), ap (λ (x : List declared.Term). nodes_in (forest x)) e) in
-    let ok : MayKeepIn C U P (length c.walk.new.slots.items) (forest c.in-Some.rest.now) = keep_forest refl (ap (λ (l : List SiteSet). length l) c.in_ok-walk.ensures.same) (keep_rest may) in
+    let may = subst (λ (x : List declared.Term). MayKeepIn C U P (length R) (shown_terms x)) e c.requires in
+    let smaller : 2 * nodes_in (shown_terms c.in-Some.rest.now) + 1 < 2 * nodes_in (shown_terms c.args.ts.now) + 1 = omega (arith, some_node (shown_term c.in-Some.first.now), ap (λ (x : List declared.Term). nodes_in (shown_terms x)) e) in
+    let ok : MayKeepIn C U P (length c.walk.new.slots.items) (shown_terms c.in-Some.rest.now) = keep_forest refl (ap (λ (l : List SiteSet). length l) c.in_ok-walk.ensures.same) (keep_rest may) in
     search rules
 
 pub walk_all-returns-in_default-clause-done : goal.walk_all-returns-in_default-clause-done
@@ -289,7 +289,7 @@ walk_all-returns-in_default-clause-done t c =
     let P = c.args.peers.now in
     let R = c.args.slots.now.items in
     let e : c.args.ts.now ≡ [] = empty_list c.args.ts.now c.in_default.ensures.cases in
-    subst (λ (x : List declared.Term). WalksIn C R c.args.feeds.now c.args.feeds.now c.args.keeps.now c.args.keeps.now (forest x)) (sym e) (walks_none C R c.args.feeds.now c.args.keeps.now)
+    subst (λ (x : List declared.Term). WalksIn C R c.args.feeds.now c.args.feeds.now c.args.keeps.now c.args.keeps.now (shown_terms x)) (sym e) (walks_none C R c.args.feeds.now c.args.keeps.now)
 
 pub bind_all-returns-in_default : goal.bind_all-returns-in_default
 bind_all-returns-in_default t c =
@@ -298,7 +298,7 @@ bind_all-returns-in_default t c =
     let P = c.args.peers.now in
     let R = c.args.slots.now.items in
     let e : c.args.ts.now ≡ [] = empty_list c.args.ts.now c.in_default.ensures.cases in
-    subst (λ (x : List declared.Term). Binds C R R c.args.keeps.now c.args.keeps.now (forest x)) (sym e) (binds_none C R c.args.keeps.now)
+    subst (λ (x : List declared.Term). Binds C R R c.args.keeps.now c.args.keeps.now (shown_terms x)) (sym e) (binds_none C R c.args.keeps.now)
 
 pub walk_all-returns-clause-done : goal.walk_all-returns-clause-done
 walk_all-returns-clause-done t c =
@@ -307,9 +307,9 @@ walk_all-returns-clause-done t c =
     let P = c.args.peers.now in
     let R = c.args.slots.now.items in
     let e : c.args.ts.now ≡ c.in-Some.first.now ∷ c.in-Some.rest.now = c.in-Some.ensures.cases.0 in
-    let may = subst (λ (x : List declared.Term). MayKeepIn C U P (length R) (forest x)) e c.requires in
+    let may = subst (λ (x : List declared.Term). MayKeepIn C U P (length R) (shown_terms x)) e c.requires in
     let rest = walks_same c.in_ok-walk.ensures.same c.in_ok-walk_all.ensures.done in
-    subst (λ (x : List declared.Term). WalksIn C R c.args.feeds.now c.walk_all.new.feeds c.args.keeps.now c.walk_all.new.keeps (forest x)) (sym e)
+    subst (λ (x : List declared.Term). WalksIn C R c.args.feeds.now c.walk_all.new.feeds c.args.keeps.now c.walk_all.new.keeps (shown_terms x)) (sym e)
     (walks_more C R c.args.feeds.now c.walk.new.feeds c.walk_all.new.feeds c.args.keeps.now c.walk.new.keeps c.walk_all.new.keeps _ _ c.in_ok-walk.ensures.done rest)
 
 pub bind_all-returns : goal.bind_all-returns
@@ -319,11 +319,11 @@ bind_all-returns t c =
     let P = c.args.peers.now in
     let R = c.args.slots.now.items in
     let e : c.args.ts.now ≡ c.in-Some.first.now ∷ c.in-Some.rest.now = c.in-Some.ensures.cases.0 in
-    let may = subst (λ (x : List declared.Term). MayKeepIn C U P (length R) (forest x)) e c.requires in
+    let may = subst (λ (x : List declared.Term). MayKeepIn C U P (length R) (shown_terms x)) e c.requires in
     let rest = binds_same c.in_ok-walk.ensures.same c.in_ok-bind_all.ensures in
     let M = c.bind_all.new.slots.items in
     let at : c.len-at.result ≡ length R = omega (arith, c.walk.new.slots.ok.0, ap (λ (l : List SiteSet). length l) c.in_ok-walk.ensures.same) in
     let is : c.insert.new.self.items ≡ R ++ (c.walk.new.feeds ∷ rest.bound) = c.in_ok-insert.ensures.items ∙ inserted R rest.bound M c.len-at.result c.walk.new.feeds rest.joined at in
-    subst (λ (x : List declared.Term). Binds C R c.insert.new.self.items c.args.keeps.now c.bind_all.new.keeps (forest x)) (sym e)
-    (subst (λ (l : List SiteSet). Binds C R l c.args.keeps.now c.bind_all.new.keeps (Cons (tree c.in-Some.first.now) (forest c.in-Some.rest.now))) (sym is)
+    subst (λ (x : List declared.Term). Binds C R c.insert.new.self.items c.args.keeps.now c.bind_all.new.keeps (shown_terms x)) (sym e)
+    (subst (λ (l : List SiteSet). Binds C R l c.args.keeps.now c.bind_all.new.keeps (Cons (shown_term c.in-Some.first.now) (shown_terms c.in-Some.rest.now))) (sym is)
     (binds_more C R M c.new-row.result c.walk.new.feeds c.args.keeps.now c.walk.new.keeps c.bind_all.new.keeps _ _ c.new-row.ensures c.in_ok-walk.ensures.done rest))

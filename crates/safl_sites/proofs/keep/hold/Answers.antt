@@ -1,7 +1,7 @@
 use Rattle.std.proofs.Common.{◌≡◌, ℕ, ◌+◌, ◌⊎◌, get_or, refl, sym, ◌∙◌, ap, subst, inl, inr, arith}
 use Rattle.safl_term.specs.Checked.{program_of}
 use Rattle.safl_term.specs.Program.{unit_for}
-use Rattle.safl_term.specs.Tree.{tree}
+use Rattle.safl_term.specs.Tree.{shown_term}
 use Rattle.safl_sites.specs.declared.site_set.SiteSet.{SiteSet}
 use Rattle.safl_sites.specs.Keeping.{IsHeldHere}
 use Rattle.safl_sites.specs.Kept.{InBody}
@@ -29,7 +29,7 @@ loop-done-preserved c =
     let P = c.args.peers.now in
     let n = c.requires.0 in
     let low = c.args.low in
-    let body = tree c.args.body.now in
+    let body = shown_term c.args.body.now in
     let m = c.requires.1.reach in
     let sites = c.requires.1.sites in
     let k = c.loop-done.done + 1 in

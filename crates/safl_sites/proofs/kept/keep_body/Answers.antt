@@ -2,7 +2,7 @@ use Rattle.std.proofs.Common.{◌≡◌, ℕ, length, get_or, sym, ◌∙◌, su
 use Rattle.safl_term.specs.Checked.{program_of}
 use Rattle.safl_term.specs.Program.{arity}
 use Rattle.safl_term.specs.Terms.{Term}
-use Rattle.safl_term.specs.Tree.{tree}
+use Rattle.safl_term.specs.Tree.{shown_term}
 use Rattle.safl_sites.specs.declared.keep.Keeping.{Keeping}
 use Rattle.safl_sites.specs.Keeping.{MayKeep, Walks}
 use Rattle.safl_sites.specs.Rows.{no_row}
@@ -17,7 +17,7 @@ walk-requires c =
     let g = c.args.g in
     let count : length c.in_ok-slots.slots.items ≡ arity C g = c.in_ok-slots.ensures.count ∙ c.params.ensures.count in
     let may = body_may_keep c.args.c.now c.body.ensures.checked g U P c.requires.within c.requires.units c.requires.peers in
-    subst (λ (n : ℕ). MayKeep C U P n (tree c.body.result.now)) (sym count) (subst (λ (x : Term). MayKeep C U P (arity C g) x) (sym c.body.ensures.term) may)
+    subst (λ (n : ℕ). MayKeep C U P n (shown_term c.body.result.now)) (sym count) (subst (λ (x : Term). MayKeep C U P (arity C g) x) (sym c.body.ensures.term) may)
 
 pub returns : goal.returns
 returns c = λ k.

@@ -26,6 +26,7 @@ returns c =
     let all = c.keep_all.new.kept in
     let listed : (k : ℕ) → k < suc C.sites → get_or planned.keeps k false ≡ has all k = λ k less. c.in_ok-keeps.ensures.items k (omega (arith, c.sites.ensures.count)) in
     record {
+      checked = c.sites.ensures.checked;
       reach = record { count = filled.bodies_count; rows = λ f k within. filled.body_rows f k within };
       conflicts = subst (λ (l : List SiteSet). BeforeTable C l) (sym same) c.in_ok-spread.ensures;
       units = c.in_ok-arbiters.ensures.count;

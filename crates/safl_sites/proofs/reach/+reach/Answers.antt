@@ -3,8 +3,8 @@ use Rattle.safl_term.specs.Checked.{program_of}
 use Rattle.safl_term.specs.declared.term.Term as declared
 use Rattle.safl_term.specs.Sizes.{nodes, nodes_in}
 use Rattle.safl_term.specs.Terms.{Term}
-use Rattle.safl_term.specs.Tree.{tree, forest}
-use Rattle.safl_term.proofs.TreeLemmas.{tree-Op, tree-Loop, tree-Call, tree-Let}
+use Rattle.safl_term.specs.Tree.{shown_term, shown_terms}
+use Rattle.safl_term.proofs.TreeLemmas.{shown_term-Op, shown_term-Loop, shown_term-Call, shown_term-Let}
 use Rattle.safl_sites.specs.Conflicts.{Reaches, ReachesIn}
 use Rattle.safl_sites.specs.Reach.{MayReach, MayReachIn}
 use Rattle.safl_sites.specs.Rows.{Has, Adds}
@@ -19,10 +19,10 @@ reach-reach-requires t c =
     let C = program_of c.args.c.now in
     let U = c.args.units.now in
     let n = c.requires.0 in
-    let e = ap tree c.in-If.is in
+    let e = ap shown_term c.in-If.is in
     let may : MayReach C U n _ = subst (λ (x : Term). MayReach C U n x) e c.requires.1 in
-    let smaller : 2 * nodes (tree c.deref.result.now) < 2 * nodes (tree c.args.t.now) = omega (arith, ap nodes e, ap (λ (x : declared.Term). nodes (tree x)) c.deref.ensures) in
-    let ok : (m : ℕ) × MayReach C U m (tree c.deref.result.now) = may_tree c.deref.ensures (may_cond may) in
+    let smaller : 2 * nodes (shown_term c.deref.result.now) < 2 * nodes (shown_term c.args.t.now) = omega (arith, ap nodes e, ap (λ (x : declared.Term). nodes (shown_term x)) c.deref.ensures) in
+    let ok : (m : ℕ) × MayReach C U m (shown_term c.deref.result.now) = may_tree c.deref.ensures (may_cond may) in
     search rules
 
 pub reach-reach-requires-in-If : goal.reach-reach-requires-in-If
@@ -30,10 +30,10 @@ reach-reach-requires-in-If t c =
     let C = program_of c.args.c.now in
     let U = c.args.units.now in
     let n = c.requires.0 in
-    let e = ap tree c.in-If.is in
+    let e = ap shown_term c.in-If.is in
     let may : MayReach C U n _ = subst (λ (x : Term). MayReach C U n x) e c.requires.1 in
-    let smaller : 2 * nodes (tree c.deref-in-If.result.now) < 2 * nodes (tree c.args.t.now) = omega (arith, ap nodes e, ap (λ (x : declared.Term). nodes (tree x)) c.deref-in-If.ensures) in
-    let ok : (m : ℕ) × MayReach C U m (tree c.deref-in-If.result.now) = may_tree c.deref-in-If.ensures (may_then may) in
+    let smaller : 2 * nodes (shown_term c.deref-in-If.result.now) < 2 * nodes (shown_term c.args.t.now) = omega (arith, ap nodes e, ap (λ (x : declared.Term). nodes (shown_term x)) c.deref-in-If.ensures) in
+    let ok : (m : ℕ) × MayReach C U m (shown_term c.deref-in-If.result.now) = may_tree c.deref-in-If.ensures (may_then may) in
     search rules
 
 pub reach-reach-requires-in-If-2 : goal.reach-reach-requires-in-If-2
@@ -41,10 +41,10 @@ reach-reach-requires-in-If-2 t c =
     let C = program_of c.args.c.now in
     let U = c.args.units.now in
     let n = c.requires.0 in
-    let e = ap tree c.in-If.is in
+    let e = ap shown_term c.in-If.is in
     let may : MayReach C U n _ = subst (λ (x : Term). MayReach C U n x) e c.requires.1 in
-    let smaller : 2 * nodes (tree c.deref-in-If-2.result.now) < 2 * nodes (tree c.args.t.now) = omega (arith, ap nodes e, ap (λ (x : declared.Term). nodes (tree x)) c.deref-in-If-2.ensures) in
-    let ok : (m : ℕ) × MayReach C U m (tree c.deref-in-If-2.result.now) = may_tree c.deref-in-If-2.ensures (may_else may) in
+    let smaller : 2 * nodes (shown_term c.deref-in-If-2.result.now) < 2 * nodes (shown_term c.args.t.now) = omega (arith, ap nodes e, ap (λ (x : declared.Term). nodes (shown_term x)) c.deref-in-If-2.ensures) in
+    let ok : (m : ℕ) × MayReach C U m (shown_term c.deref-in-If-2.result.now) = may_tree c.deref-in-If-2.ensures (may_else may) in
     search rules
 
 pub reach-reach_in-requires : goal.reach-reach_in-requires
@@ -52,10 +52,10 @@ reach-reach_in-requires t c =
     let C = program_of c.args.c.now in
     let U = c.args.units.now in
     let n = c.requires.0 in
-    let e = ap tree c.in-Let.is ∙ tree-Let c.in-Let.field-0 c.in-Let.bound c.in-Let.body in
+    let e = ap shown_term c.in-Let.is ∙ shown_term-Let c.in-Let.field-0 c.in-Let.bound c.in-Let.body in
     let may : MayReach C U n _ = subst (λ (x : Term). MayReach C U n x) e c.requires.1 in
-    let smaller : 2 * nodes_in (forest c.deref-in-Let.result.now) + 1 < 2 * nodes (tree c.args.t.now) = omega (arith, ap nodes e, ap (λ (x : List declared.Term). nodes_in (forest x)) c.deref-in-Let.ensures.value) in
-    let ok : (m : ℕ) × MayReachIn C U m (forest c.deref-in-Let.result.now) = may_forest c.deref-in-Let.ensures.value (may_bound may) in
+    let smaller : 2 * nodes_in (shown_terms c.deref-in-Let.result.now) + 1 < 2 * nodes (shown_term c.args.t.now) = omega (arith, ap nodes e, ap (λ (x : List declared.Term). nodes_in (shown_terms x)) c.deref-in-Let.ensures.value) in
+    let ok : (m : ℕ) × MayReachIn C U m (shown_terms c.deref-in-Let.result.now) = may_forest c.deref-in-Let.ensures.value (may_bound may) in
     search rules
 
 pub reach-reach-requires-in-Let : goal.reach-reach-requires-in-Let
@@ -63,10 +63,10 @@ reach-reach-requires-in-Let t c =
     let C = program_of c.args.c.now in
     let U = c.args.units.now in
     let n = c.requires.0 in
-    let e = ap tree c.in-Let.is ∙ tree-Let c.in-Let.field-0 c.in-Let.bound c.in-Let.body in
+    let e = ap shown_term c.in-Let.is ∙ shown_term-Let c.in-Let.field-0 c.in-Let.bound c.in-Let.body in
     let may : MayReach C U n _ = subst (λ (x : Term). MayReach C U n x) e c.requires.1 in
-    let smaller : 2 * nodes (tree c.deref-in-Let-2.result.now) < 2 * nodes (tree c.args.t.now) = omega (arith, ap nodes e, ap (λ (x : declared.Term). nodes (tree x)) c.deref-in-Let-2.ensures) in
-    let ok : (m : ℕ) × MayReach C U m (tree c.deref-in-Let-2.result.now) = may_tree c.deref-in-Let-2.ensures (may_body may) in
+    let smaller : 2 * nodes (shown_term c.deref-in-Let-2.result.now) < 2 * nodes (shown_term c.args.t.now) = omega (arith, ap nodes e, ap (λ (x : declared.Term). nodes (shown_term x)) c.deref-in-Let-2.ensures) in
+    let ok : (m : ℕ) × MayReach C U m (shown_term c.deref-in-Let-2.result.now) = may_tree c.deref-in-Let-2.ensures (may_body may) in
     search rules
 
 pub reach-reach_in-requires-in-Op : goal.reach-reach_in-requires-in-Op
@@ -74,10 +74,10 @@ reach-reach_in-requires-in-Op t c =
     let C = program_of c.args.c.now in
     let U = c.args.units.now in
     let n = c.requires.0 in
-    let e = ap tree c.in-Op.is ∙ tree-Op c.in-Op.field-0 c.in-Op.ts in
+    let e = ap shown_term c.in-Op.is ∙ shown_term-Op c.in-Op.field-0 c.in-Op.ts in
     let may : MayReach C U n _ = subst (λ (x : Term). MayReach C U n x) e c.requires.1 in
-    let smaller : 2 * nodes_in (forest c.deref-in-Op.result.now) + 1 < 2 * nodes (tree c.args.t.now) = omega (arith, ap nodes e, ap (λ (x : List declared.Term). nodes_in (forest x)) c.deref-in-Op.ensures.value) in
-    let ok : (m : ℕ) × MayReachIn C U m (forest c.deref-in-Op.result.now) = may_forest c.deref-in-Op.ensures.value (may_op may) in
+    let smaller : 2 * nodes_in (shown_terms c.deref-in-Op.result.now) + 1 < 2 * nodes (shown_term c.args.t.now) = omega (arith, ap nodes e, ap (λ (x : List declared.Term). nodes_in (shown_terms x)) c.deref-in-Op.ensures.value) in
+    let ok : (m : ℕ) × MayReachIn C U m (shown_terms c.deref-in-Op.result.now) = may_forest c.deref-in-Op.ensures.value (may_op may) in
     search rules
 
 pub reach-reach_in-requires-in-Call : goal.reach-reach_in-requires-in-Call
@@ -85,10 +85,10 @@ reach-reach_in-requires-in-Call t c =
     let C = program_of c.args.c.now in
     let U = c.args.units.now in
     let n = c.requires.0 in
-    let e = ap tree c.in-Call.is ∙ tree-Call c.in-Call.f c.in-Call.k c.in-Call.ts in
+    let e = ap shown_term c.in-Call.is ∙ shown_term-Call c.in-Call.f c.in-Call.k c.in-Call.ts in
     let may : MayReach C U n _ = subst (λ (x : Term). MayReach C U n x) e c.requires.1 in
-    let smaller : 2 * nodes_in (forest c.deref-in-Call.result.now) + 1 < 2 * nodes (tree c.args.t.now) = omega (arith, ap nodes e, ap (λ (x : List declared.Term). nodes_in (forest x)) c.deref-in-Call.ensures.value) in
-    let ok : (m : ℕ) × MayReachIn C U m (forest c.deref-in-Call.result.now) = may_forest c.deref-in-Call.ensures.value (may_args may) in
+    let smaller : 2 * nodes_in (shown_terms c.deref-in-Call.result.now) + 1 < 2 * nodes (shown_term c.args.t.now) = omega (arith, ap nodes e, ap (λ (x : List declared.Term). nodes_in (shown_terms x)) c.deref-in-Call.ensures.value) in
+    let ok : (m : ℕ) × MayReachIn C U m (shown_terms c.deref-in-Call.result.now) = may_forest c.deref-in-Call.ensures.value (may_args may) in
     search rules
 
 pub reach-reach_in-requires-in-Loop : goal.reach-reach_in-requires-in-Loop
@@ -96,37 +96,37 @@ reach-reach_in-requires-in-Loop t c =
     let C = program_of c.args.c.now in
     let U = c.args.units.now in
     let n = c.requires.0 in
-    let e = ap tree c.in-Loop.is ∙ tree-Loop c.in-Loop.field-0 c.in-Loop.ts in
+    let e = ap shown_term c.in-Loop.is ∙ shown_term-Loop c.in-Loop.field-0 c.in-Loop.ts in
     let may : MayReach C U n _ = subst (λ (x : Term). MayReach C U n x) e c.requires.1 in
-    let smaller : 2 * nodes_in (forest c.deref-in-Loop.result.now) + 1 < 2 * nodes (tree c.args.t.now) = omega (arith, ap nodes e, ap (λ (x : List declared.Term). nodes_in (forest x)) c.deref-in-Loop.ensures.value) in
-    let ok : (m : ℕ) × MayReachIn C U m (forest c.deref-in-Loop.result.now) = may_forest c.deref-in-Loop.ensures.value (may_loop may) in
+    let smaller : 2 * nodes_in (shown_terms c.deref-in-Loop.result.now) + 1 < 2 * nodes (shown_term c.args.t.now) = omega (arith, ap nodes e, ap (λ (x : List declared.Term). nodes_in (shown_terms x)) c.deref-in-Loop.ensures.value) in
+    let ok : (m : ℕ) × MayReachIn C U m (shown_terms c.deref-in-Loop.result.now) = may_forest c.deref-in-Loop.ensures.value (may_loop may) in
     search rules
 
 pub reach-returns-in-If : goal.reach-returns-in-If
 reach-returns-in-If t c = λ k.
     let C = program_of c.args.c.now in
-    let e = ap tree c.in-If.is in
+    let e = ap shown_term c.in-If.is in
     subst (λ (x : Term). Adds (Has c.args.row.now k) (Has c.reach-in-If-2.new.row k) (Reaches C k x)) (sym e)
     (reach_if (adds_then (adds_then (same_tree C k c.deref.ensures (c.reach.ensures k)) (same_tree C k c.deref-in-If.ensures (c.reach-in-If.ensures k))) (same_tree C k c.deref-in-If-2.ensures (c.reach-in-If-2.ensures k))))
 
 pub reach-returns-in-Let : goal.reach-returns-in-Let
 reach-returns-in-Let t c = λ k.
     let C = program_of c.args.c.now in
-    let e = ap tree c.in-Let.is ∙ tree-Let c.in-Let.field-0 c.in-Let.bound c.in-Let.body in
+    let e = ap shown_term c.in-Let.is ∙ shown_term-Let c.in-Let.field-0 c.in-Let.bound c.in-Let.body in
     subst (λ (x : Term). Adds (Has c.args.row.now k) (Has c.reach-in-Let.new.row k) (Reaches C k x)) (sym e)
     (reach_let (adds_then (same_forest C k c.deref-in-Let.ensures.value (c.reach_in.ensures k)) (same_tree C k c.deref-in-Let-2.ensures (c.reach-in-Let.ensures k))))
 
 pub reach-returns-in-Op : goal.reach-returns-in-Op
 reach-returns-in-Op t c = λ k.
     let C = program_of c.args.c.now in
-    let e = ap tree c.in-Op.is ∙ tree-Op c.in-Op.field-0 c.in-Op.ts in
+    let e = ap shown_term c.in-Op.is ∙ shown_term-Op c.in-Op.field-0 c.in-Op.ts in
     subst (λ (x : Term). Adds (Has c.args.row.now k) (Has c.reach_in-in-Op.new.row k) (Reaches C k x)) (sym e)
     (reach_op (same_forest C k c.deref-in-Op.ensures.value (c.reach_in-in-Op.ensures k)))
 
 pub reach-returns-in-Loop : goal.reach-returns-in-Loop
 reach-returns-in-Loop t c = λ k.
     let C = program_of c.args.c.now in
-    let e = ap tree c.in-Loop.is ∙ tree-Loop c.in-Loop.field-0 c.in-Loop.ts in
+    let e = ap shown_term c.in-Loop.is ∙ shown_term-Loop c.in-Loop.field-0 c.in-Loop.ts in
     subst (λ (x : Term). Adds (Has c.args.row.now k) (Has c.reach_in-in-Loop.new.row k) (Reaches C k x)) (sym e)
     (reach_loop (same_forest C k c.deref-in-Loop.ensures.value (c.reach_in-in-Loop.ensures k)))
 
@@ -135,7 +135,7 @@ reach-insert-requires t c =
     let C = program_of c.args.c.now in
     let U = c.args.units.now in
     let n = c.requires.0 in
-    let e = ap tree c.in-Call.is ∙ tree-Call c.in-Call.f c.in-Call.k c.in-Call.ts in
+    let e = ap shown_term c.in-Call.is ∙ shown_term-Call c.in-Call.f c.in-Call.k c.in-Call.ts in
     let may : MayReach C U n _ = subst (λ (x : Term). MayReach C U n x) e c.requires.1 in
     site_below may
 
@@ -144,7 +144,7 @@ reach-bounds-units-unit t c =
     let C = program_of c.args.c.now in
     let U = c.args.units.now in
     let n = c.requires.0 in
-    let e = ap tree c.in-Call.is ∙ tree-Call c.in-Call.f c.in-Call.k c.in-Call.ts in
+    let e = ap shown_term c.in-Call.is ∙ shown_term-Call c.in-Call.f c.in-Call.k c.in-Call.ts in
     let may : MayReach C U n _ = subst (λ (x : Term). MayReach C U n x) e c.requires.1 in
     let low = (may_call may).lower in
     let top = may.below.top in
@@ -155,7 +155,7 @@ reach-returns-in-Call t c = λ k.
     let C = program_of c.args.c.now in
     let U = c.args.units.now in
     let n = c.requires.0 in
-    let e = ap tree c.in-Call.is ∙ tree-Call c.in-Call.f c.in-Call.k c.in-Call.ts in
+    let e = ap shown_term c.in-Call.is ∙ shown_term-Call c.in-Call.f c.in-Call.k c.in-Call.ts in
     let may : MayReach C U n _ = subst (λ (x : Term). MayReach C U n x) e c.requires.1 in
     subst (λ (x : Term). Adds (Has c.args.row.now k) (Has c.reach_in-in-Call.new.row k) (Reaches C k x)) (sym e)
     (reach_call (may_call may).callee
@@ -163,11 +163,11 @@ reach-returns-in-Call t c = λ k.
 
 pub reach-returns-in-Const : goal.reach-returns-in-Const
 reach-returns-in-Const t c = λ k.
-    subst (λ (x : Term). Adds (Has c.args.row.now k) (Has c.args.row.now k) (Reaches (program_of c.args.c.now) k x)) (sym (ap tree c.in-Const.is)) (reach_leaf _ (none_const _))
+    subst (λ (x : Term). Adds (Has c.args.row.now k) (Has c.args.row.now k) (Reaches (program_of c.args.c.now) k x)) (sym (ap shown_term c.in-Const.is)) (reach_leaf _ (none_const _))
 
 pub reach-returns-in-Var : goal.reach-returns-in-Var
 reach-returns-in-Var t c = λ k.
-    subst (λ (x : Term). Adds (Has c.args.row.now k) (Has c.args.row.now k) (Reaches (program_of c.args.c.now) k x)) (sym (ap tree c.in-Var.is)) (reach_leaf _ (none_var _))
+    subst (λ (x : Term). Adds (Has c.args.row.now k) (Has c.args.row.now k) (Reaches (program_of c.args.c.now) k x)) (sym (ap shown_term c.in-Var.is)) (reach_leaf _ (none_var _))
 
 pub reach_in-reach-requires : goal.reach_in-reach-requires
 reach_in-reach-requires t c =
@@ -175,9 +175,9 @@ reach_in-reach-requires t c =
     let U = c.args.units.now in
     let n = c.requires.0 in
     let e : c.args.ts.now ≡ c.in-Some.first.now ∷ c.in-Some.rest.now = c.in-Some.ensures.cases.0 in
-    let may = subst (λ (x : List declared.Term). MayReachIn C U n (forest x)) e c.requires.1 in
-    let smaller : 2 * nodes (tree c.in-Some.first.now) < 2 * nodes_in (forest c.args.ts.now) + 1 = omega (arith, ap (λ (x : List declared.Term). nodes_in (forest x)) e) in
-    let ok : (m : ℕ) × MayReach C U m (tree c.in-Some.first.now) = (n, may_first may) in
+    let may = subst (λ (x : List declared.Term). MayReachIn C U n (shown_terms x)) e c.requires.1 in
+    let smaller : 2 * nodes (shown_term c.in-Some.first.now) < 2 * nodes_in (shown_terms c.args.ts.now) + 1 = omega (arith, ap (λ (x : List declared.Term). nodes_in (shown_terms x)) e) in
+    let ok : (m : ℕ) × MayReach C U m (shown_term c.in-Some.first.now) = (n, may_first may) in
     search rules
 
 pub reach_in-reach_in-requires : goal.reach_in-reach_in-requires
@@ -186,18 +186,18 @@ reach_in-reach_in-requires t c =
     let U = c.args.units.now in
     let n = c.requires.0 in
     let e : c.args.ts.now ≡ c.in-Some.first.now ∷ c.in-Some.rest.now = c.in-Some.ensures.cases.0 in
-    let may = subst (λ (x : List declared.Term). MayReachIn C U n (forest x)) e c.requires.1 in
-    let smaller : 2 * nodes_in (forest c.in-Some.rest.now) + 1 < 2 * nodes_in (forest c.args.ts.now) + 1 = omega (arith, some_node (tree c.in-Some.first.now), ap (λ (x : List declared.Term). nodes_in (forest x)) e) in
-    let ok : (m : ℕ) × MayReachIn C U m (forest c.in-Some.rest.now) = (n, may_rest may) in
+    let may = subst (λ (x : List declared.Term). MayReachIn C U n (shown_terms x)) e c.requires.1 in
+    let smaller : 2 * nodes_in (shown_terms c.in-Some.rest.now) + 1 < 2 * nodes_in (shown_terms c.args.ts.now) + 1 = omega (arith, some_node (shown_term c.in-Some.first.now), ap (λ (x : List declared.Term). nodes_in (shown_terms x)) e) in
+    let ok : (m : ℕ) × MayReachIn C U m (shown_terms c.in-Some.rest.now) = (n, may_rest may) in
     search rules
 
 pub reach_in-returns-in-Some : goal.reach_in-returns-in-Some
 reach_in-returns-in-Some t c = λ k.
     let e : c.args.ts.now ≡ c.in-Some.first.now ∷ c.in-Some.rest.now = c.in-Some.ensures.cases.0 in
-    subst (λ (x : List declared.Term). Adds (Has c.args.row.now k) (Has c.reach_in.new.row k) (ReachesIn (program_of c.args.c.now) k (forest x))) (sym e)
+    subst (λ (x : List declared.Term). Adds (Has c.args.row.now k) (Has c.reach_in.new.row k) (ReachesIn (program_of c.args.c.now) k (shown_terms x))) (sym e)
     (reach_more _ _ (adds_then (c.reach.ensures k) (c.reach_in.ensures k)))
 
 pub reach_in-returns-in_default : goal.reach_in-returns-in_default
 reach_in-returns-in_default t c = λ k.
     let e : c.args.ts.now ≡ [] = empty_list c.args.ts.now c.in_default.ensures.cases in
-    subst (λ (x : List declared.Term). Adds (Has c.args.row.now k) (Has c.args.row.now k) (ReachesIn (program_of c.args.c.now) k (forest x))) (sym e) (adds_none (none_nil _ k))
+    subst (λ (x : List declared.Term). Adds (Has c.args.row.now k) (Has c.args.row.now k) (ReachesIn (program_of c.args.c.now) k (shown_terms x))) (sym e) (adds_none (none_nil _ k))

@@ -10,7 +10,7 @@ pub returns : goal.returns
 returns c =
     let C = program_of c.args.c.now in
     let k = c.args.k in
-    let h = c.functions-functions.ensures.checked in
+    let h = c.requires.checked in
     let from : c.unit.result ≡ C.unit (C.caller k) = c.unit.ensures.number ∙ ap C.unit c.caller.ensures.number in
     let to = c.unit_for.ensures.number in
     let union : (j : ℕ) → Adds (HasAt c.args.rows.now k j) (Has c.union.new.self j) (HasAt c.args.handed.now (C.unit (C.caller k)) j) =

@@ -2,8 +2,8 @@ use Rattle.std.proofs.Common.{rules, ◌≡◌, ◌+◌, ◌*◌, ◌<◌, List,
 use Rattle.safl_term.specs.declared.term.Term as declared
 use Rattle.safl_term.specs.Sizes.{nodes, nodes_in}
 use Rattle.safl_term.specs.Terms.{Term, Var}
-use Rattle.safl_term.specs.Tree.{tree, forest}
-use Rattle.safl_term.proofs.TreeLemmas.{tree-Op, tree-Loop, tree-Call, tree-Let}
+use Rattle.safl_term.specs.Tree.{shown_term, shown_terms}
+use Rattle.safl_term.proofs.TreeLemmas.{shown_term-Op, shown_term-Loop, shown_term-Call, shown_term-Let}
 use Rattle.safl_sites.specs.Rows.{Has, Adds}
 use Rattle.safl_sites.specs.Touched.{IsTouched, IsTouchedIn}
 use Rattle.safl_sites.proofs.AddsLemmas.{adds_then, adds_none}
@@ -15,57 +15,57 @@ use Rattle.safl_sites.proofs.touched.+touch.Goals.{touch-else-low-slot-via-then-
 
 pub touch-touch-requires : goal.touch-touch-requires
 touch-touch-requires t c =
-    let e = ap tree c.in-If.is in
-    let smaller : 2 * nodes (tree c.deref.result.now) < 2 * nodes (tree c.args.t.now) = omega (arith, ap nodes e, ap (λ (x : declared.Term). nodes (tree x)) c.deref.ensures) in
+    let e = ap shown_term c.in-If.is in
+    let smaller : 2 * nodes (shown_term c.deref.result.now) < 2 * nodes (shown_term c.args.t.now) = omega (arith, ap nodes e, ap (λ (x : declared.Term). nodes (shown_term x)) c.deref.ensures) in
     search rules
 
 pub touch-touch-requires-in-If : goal.touch-touch-requires-in-If
 touch-touch-requires-in-If t c =
-    let e = ap tree c.in-If.is in
-    let smaller : 2 * nodes (tree c.deref-in-If.result.now) < 2 * nodes (tree c.args.t.now) = omega (arith, ap nodes e, ap (λ (x : declared.Term). nodes (tree x)) c.deref-in-If.ensures) in
+    let e = ap shown_term c.in-If.is in
+    let smaller : 2 * nodes (shown_term c.deref-in-If.result.now) < 2 * nodes (shown_term c.args.t.now) = omega (arith, ap nodes e, ap (λ (x : declared.Term). nodes (shown_term x)) c.deref-in-If.ensures) in
     search rules
 
 pub touch-touch-requires-in-If-2 : goal.touch-touch-requires-in-If-2
 touch-touch-requires-in-If-2 t c =
-    let e = ap tree c.in-If.is in
-    let smaller : 2 * nodes (tree c.deref-in-If-2.result.now) < 2 * nodes (tree c.args.t.now) = omega (arith, ap nodes e, ap (λ (x : declared.Term). nodes (tree x)) c.deref-in-If-2.ensures) in
+    let e = ap shown_term c.in-If.is in
+    let smaller : 2 * nodes (shown_term c.deref-in-If-2.result.now) < 2 * nodes (shown_term c.args.t.now) = omega (arith, ap nodes e, ap (λ (x : declared.Term). nodes (shown_term x)) c.deref-in-If-2.ensures) in
     search rules
 
 pub touch-touch_in-requires : goal.touch-touch_in-requires
 touch-touch_in-requires t c =
-    let e = ap tree c.in-Let.is ∙ tree-Let c.in-Let.field-0 c.in-Let.bound c.in-Let.body in
-    let smaller : 2 * nodes_in (forest c.deref-in-Let.result.now) + 1 < 2 * nodes (tree c.args.t.now) = omega (arith, ap nodes e, ap (λ (x : List declared.Term). nodes_in (forest x)) c.deref-in-Let.ensures.value) in
+    let e = ap shown_term c.in-Let.is ∙ shown_term-Let c.in-Let.field-0 c.in-Let.bound c.in-Let.body in
+    let smaller : 2 * nodes_in (shown_terms c.deref-in-Let.result.now) + 1 < 2 * nodes (shown_term c.args.t.now) = omega (arith, ap nodes e, ap (λ (x : List declared.Term). nodes_in (shown_terms x)) c.deref-in-Let.ensures.value) in
     search rules
 
 pub touch-touch-requires-in-Let : goal.touch-touch-requires-in-Let
 touch-touch-requires-in-Let t c =
-    let e = ap tree c.in-Let.is ∙ tree-Let c.in-Let.field-0 c.in-Let.bound c.in-Let.body in
-    let smaller : 2 * nodes (tree c.deref-in-Let-2.result.now) < 2 * nodes (tree c.args.t.now) = omega (arith, ap nodes e, ap (λ (x : declared.Term). nodes (tree x)) c.deref-in-Let-2.ensures) in
+    let e = ap shown_term c.in-Let.is ∙ shown_term-Let c.in-Let.field-0 c.in-Let.bound c.in-Let.body in
+    let smaller : 2 * nodes (shown_term c.deref-in-Let-2.result.now) < 2 * nodes (shown_term c.args.t.now) = omega (arith, ap nodes e, ap (λ (x : declared.Term). nodes (shown_term x)) c.deref-in-Let-2.ensures) in
     search rules
 
 pub touch-touch_in-requires-in-Op : goal.touch-touch_in-requires-in-Op
 touch-touch_in-requires-in-Op t c =
-    let e = ap tree c.in-Op.is ∙ tree-Op c.in-Op.field-0 c.in-Op.ts in
-    let smaller : 2 * nodes_in (forest c.deref-in-Op.result.now) + 1 < 2 * nodes (tree c.args.t.now) = omega (arith, ap nodes e, ap (λ (x : List declared.Term). nodes_in (forest x)) c.deref-in-Op.ensures.value) in
+    let e = ap shown_term c.in-Op.is ∙ shown_term-Op c.in-Op.field-0 c.in-Op.ts in
+    let smaller : 2 * nodes_in (shown_terms c.deref-in-Op.result.now) + 1 < 2 * nodes (shown_term c.args.t.now) = omega (arith, ap nodes e, ap (λ (x : List declared.Term). nodes_in (shown_terms x)) c.deref-in-Op.ensures.value) in
     search rules
 
 pub touch-touch_in-requires-in-Call : goal.touch-touch_in-requires-in-Call
 touch-touch_in-requires-in-Call t c =
-    let e = ap tree c.in-Call.is ∙ tree-Call c.in-Call.field-0 c.in-Call.field-1 c.in-Call.ts in
-    let smaller : 2 * nodes_in (forest c.deref-in-Call.result.now) + 1 < 2 * nodes (tree c.args.t.now) = omega (arith, ap nodes e, ap (λ (x : List declared.Term). nodes_in (forest x)) c.deref-in-Call.ensures.value) in
+    let e = ap shown_term c.in-Call.is ∙ shown_term-Call c.in-Call.field-0 c.in-Call.field-1 c.in-Call.ts in
+    let smaller : 2 * nodes_in (shown_terms c.deref-in-Call.result.now) + 1 < 2 * nodes (shown_term c.args.t.now) = omega (arith, ap nodes e, ap (λ (x : List declared.Term). nodes_in (shown_terms x)) c.deref-in-Call.ensures.value) in
     search rules
 
 pub touch-touch_in-requires-in-Loop : goal.touch-touch_in-requires-in-Loop
 touch-touch_in-requires-in-Loop t c =
-    let e = ap tree c.in-Loop.is ∙ tree-Loop c.in-Loop.field-0 c.in-Loop.ts in
-    let smaller : 2 * nodes_in (forest c.deref-in-Loop.result.now) + 1 < 2 * nodes (tree c.args.t.now) = omega (arith, ap nodes e, ap (λ (x : List declared.Term). nodes_in (forest x)) c.deref-in-Loop.ensures.value) in
+    let e = ap shown_term c.in-Loop.is ∙ shown_term-Loop c.in-Loop.field-0 c.in-Loop.ts in
+    let smaller : 2 * nodes_in (shown_terms c.deref-in-Loop.result.now) + 1 < 2 * nodes (shown_term c.args.t.now) = omega (arith, ap nodes e, ap (λ (x : List declared.Term). nodes_in (shown_terms x)) c.deref-in-Loop.ensures.value) in
     search rules
 
 pub touch-returns-in-If : goal.touch-returns-in-If
 touch-returns-in-If t c = λ k.
     let R = c.args.slots.now in
     let low = c.args.low in
-    let e = ap tree c.in-If.is in
+    let e = ap shown_term c.in-If.is in
     subst (λ (x : Term). Adds (Has c.args.row.now k) (Has c.touch-in-If-2.new.row k) (IsTouched R low k x)) (sym e)
     (touch_if R low k _ _ _ (adds_then (adds_then (touch_tree R low k c.deref.ensures (c.touch.ensures k)) (touch_tree R low k c.deref-in-If.ensures (c.touch-in-If.ensures k))) (touch_tree R low k c.deref-in-If-2.ensures (c.touch-in-If-2.ensures k))))
 
@@ -73,7 +73,7 @@ pub touch-returns-in-Let : goal.touch-returns-in-Let
 touch-returns-in-Let t c = λ k.
     let R = c.args.slots.now in
     let low = c.args.low in
-    let e = ap tree c.in-Let.is ∙ tree-Let c.in-Let.field-0 c.in-Let.bound c.in-Let.body in
+    let e = ap shown_term c.in-Let.is ∙ shown_term-Let c.in-Let.field-0 c.in-Let.bound c.in-Let.body in
     subst (λ (x : Term). Adds (Has c.args.row.now k) (Has c.touch-in-Let.new.row k) (IsTouched R low k x)) (sym e)
     (touch_let R low k _ _ (adds_then (touch_forest R low k c.deref-in-Let.ensures.value (c.touch_in.ensures k)) (touch_tree R low k c.deref-in-Let-2.ensures (c.touch-in-Let.ensures k))))
 
@@ -81,7 +81,7 @@ pub touch-returns-in-Op : goal.touch-returns-in-Op
 touch-returns-in-Op t c = λ k.
     let R = c.args.slots.now in
     let low = c.args.low in
-    let e = ap tree c.in-Op.is ∙ tree-Op c.in-Op.field-0 c.in-Op.ts in
+    let e = ap shown_term c.in-Op.is ∙ shown_term-Op c.in-Op.field-0 c.in-Op.ts in
     subst (λ (x : Term). Adds (Has c.args.row.now k) (Has c.touch_in-in-Op.new.row k) (IsTouched R low k x)) (sym e)
     (touch_op R low k _ _ (touch_forest R low k c.deref-in-Op.ensures.value (c.touch_in-in-Op.ensures k)))
 
@@ -89,7 +89,7 @@ pub touch-returns-in-Call : goal.touch-returns-in-Call
 touch-returns-in-Call t c = λ k.
     let R = c.args.slots.now in
     let low = c.args.low in
-    let e = ap tree c.in-Call.is ∙ tree-Call c.in-Call.field-0 c.in-Call.field-1 c.in-Call.ts in
+    let e = ap shown_term c.in-Call.is ∙ shown_term-Call c.in-Call.field-0 c.in-Call.field-1 c.in-Call.ts in
     subst (λ (x : Term). Adds (Has c.args.row.now k) (Has c.touch_in-in-Call.new.row k) (IsTouched R low k x)) (sym e)
     (touch_call R low k _ _ _ (touch_forest R low k c.deref-in-Call.ensures.value (c.touch_in-in-Call.ensures k)))
 
@@ -97,7 +97,7 @@ pub touch-returns-in-Loop : goal.touch-returns-in-Loop
 touch-returns-in-Loop t c = λ k.
     let R = c.args.slots.now in
     let low = c.args.low in
-    let e = ap tree c.in-Loop.is ∙ tree-Loop c.in-Loop.field-0 c.in-Loop.ts in
+    let e = ap shown_term c.in-Loop.is ∙ shown_term-Loop c.in-Loop.field-0 c.in-Loop.ts in
     subst (λ (x : Term). Adds (Has c.args.row.now k) (Has c.touch_in-in-Loop.new.row k) (IsTouched R low k x)) (sym e)
     (touch_loop R low k _ _ (touch_forest R low k c.deref-in-Loop.ensures.value (c.touch_in-in-Loop.ensures k)))
 
@@ -105,18 +105,18 @@ pub touch-returns-in-Const : goal.touch-returns-in-Const
 touch-returns-in-Const t c = λ k.
     let R = c.args.slots.now in
     let low = c.args.low in
-    subst (λ (x : Term). Adds (Has c.args.row.now k) (Has c.args.row.now k) (IsTouched R low k x)) (sym (ap tree c.in-Const.is)) (adds_none (touch_const R low k _))
+    subst (λ (x : Term). Adds (Has c.args.row.now k) (Has c.args.row.now k) (IsTouched R low k x)) (sym (ap shown_term c.in-Const.is)) (adds_none (touch_const R low k _))
 
 pub touch_in-touch-requires : goal.touch_in-touch-requires
 touch_in-touch-requires t c =
     let e : c.args.ts.now ≡ c.in-Some.first.now ∷ c.in-Some.rest.now = c.in-Some.ensures.cases.0 in
-    let smaller : 2 * nodes (tree c.in-Some.first.now) < 2 * nodes_in (forest c.args.ts.now) + 1 = omega (arith, ap (λ (x : List declared.Term). nodes_in (forest x)) e) in
+    let smaller : 2 * nodes (shown_term c.in-Some.first.now) < 2 * nodes_in (shown_terms c.args.ts.now) + 1 = omega (arith, ap (λ (x : List declared.Term). nodes_in (shown_terms x)) e) in
     search rules
 
 pub touch_in-touch_in-requires : goal.touch_in-touch_in-requires
 touch_in-touch_in-requires t c =
     let e : c.args.ts.now ≡ c.in-Some.first.now ∷ c.in-Some.rest.now = c.in-Some.ensures.cases.0 in
-    let smaller : 2 * nodes_in (forest c.in-Some.rest.now) + 1 < 2 * nodes_in (forest c.args.ts.now) + 1 = omega (arith, some_node (tree c.in-Some.first.now), ap (λ (x : List declared.Term). nodes_in (forest x)) e) in
+    let smaller : 2 * nodes_in (shown_terms c.in-Some.rest.now) + 1 < 2 * nodes_in (shown_terms c.args.ts.now) + 1 = omega (arith, some_node (shown_term c.in-Some.first.now), ap (λ (x : List declared.Term). nodes_in (shown_terms x)) e) in
     search rules
 
 pub touch_in-returns-in-Some : goal.touch_in-returns-in-Some
@@ -124,7 +124,7 @@ touch_in-returns-in-Some t c = λ k.
     let R = c.args.slots.now in
     let low = c.args.low in
     let e : c.args.ts.now ≡ c.in-Some.first.now ∷ c.in-Some.rest.now = c.in-Some.ensures.cases.0 in
-    subst (λ (x : List declared.Term). Adds (Has c.args.row.now k) (Has c.touch_in.new.row k) (IsTouchedIn R low k (forest x))) (sym e)
+    subst (λ (x : List declared.Term). Adds (Has c.args.row.now k) (Has c.touch_in.new.row k) (IsTouchedIn R low k (shown_terms x))) (sym e)
     (touch_more R low k _ _ (adds_then (c.touch.ensures k) (c.touch_in.ensures k)))
 
 pub touch_in-returns-in_default : goal.touch_in-returns-in_default
@@ -132,13 +132,13 @@ touch_in-returns-in_default t c = λ k.
     let R = c.args.slots.now in
     let low = c.args.low in
     let e : c.args.ts.now ≡ [] = empty_list c.args.ts.now c.in_default.ensures.cases in
-    subst (λ (x : List declared.Term). Adds (Has c.args.row.now k) (Has c.args.row.now k) (IsTouchedIn R low k (forest x))) (sym e) (adds_none (touch_nil R low k))
+    subst (λ (x : List declared.Term). Adds (Has c.args.row.now k) (Has c.args.row.now k) (IsTouchedIn R low k (shown_terms x))) (sym e) (adds_none (touch_nil R low k))
 
 pub touch-returns-then-slot-slots : goal.touch-returns-then-slot-slots
 touch-returns-then-slot-slots t c = λ k.
     let R = c.args.slots.now in
     let low = c.args.low in
-    subst (λ (x : Term). Adds (Has c.args.row.now k) (Has c.union.new.self k) (IsTouched R low k x)) (sym (ap tree c.in-Var.is)) (touch_var R low k c.in-Var.slot c.if-low-slot.true (c.union.ensures k))
+    subst (λ (x : Term). Adds (Has c.args.row.now k) (Has c.union.new.self k) (IsTouched R low k x)) (sym (ap shown_term c.in-Var.is)) (touch_var R low k c.in-Var.slot c.if-low-slot.true (c.union.ensures k))
 
 pub touch-returns-else-low-slot : goal.touch-returns-else-low-slot
 touch-returns-else-low-slot t c = λ k.
@@ -149,4 +149,4 @@ touch-returns-else-low-slot t c = λ k.
       | touch-else-low-slot-via-then-low-slot+else-slot-slots w ↦ touch_past R low k i (omega arith) no_row_has
       | touch-else-low-slot-via-else-low-slot w ↦ touch_below R low k i (λ h. omega arith)
     ] in
-    subst (λ (x : Term). Adds (Has c.args.row.now k) (Has c.args.row.now k) (IsTouched R low k x)) (sym (ap tree c.in-Var.is)) (adds_none none)
+    subst (λ (x : Term). Adds (Has c.args.row.now k) (Has c.args.row.now k) (IsTouched R low k x)) (sym (ap shown_term c.in-Var.is)) (adds_none none)

@@ -1,10 +1,10 @@
 use Rattle.std.proofs.Common.{◌+◌, ◌*◌}
 use Rattle.safl_term.specs.Sizes.{nodes, nodes_in}
-use Rattle.safl_term.specs.Tree.{tree, forest}
+use Rattle.safl_term.specs.Tree.{shown_term, shown_terms}
 use Rattle.safl_sites.proofs.touched.+touch.Given as goal
 
 abbrev pub decreases-touch : goal.decreases-touch
-decreases-touch l = 2 * nodes (tree l.t.now)
+decreases-touch l = 2 * nodes (shown_term l.t.now)
 
 abbrev pub decreases-touch_in : goal.decreases-touch_in
-decreases-touch_in l = 2 * nodes_in (forest l.ts.now) + 1
+decreases-touch_in l = 2 * nodes_in (shown_terms l.ts.now) + 1

@@ -17,31 +17,31 @@ use Rattle.safl_core.proofs.machine.Machine.enabled.Goals as goal
 
 pub returns-then-k-sites : goal.returns-then-k-sites
 returns-then-k-sites c =
-    let h = c.self.invariant in
+    let h = c.self.invariant.kept in
     refused_as h c.args.self.now (Accept c.in-Accept.k) (event_of c.args.e) c.self.view_is (ap event_of c.in-Accept.is)
     (λ q. absurd (omega (arith, accept_within h c.in-Accept.k q, c.sites.ensures.count, c.if-k-sites.true)))
 
 pub returns-then-f-functions : goal.returns-then-f-functions
 returns-then-f-functions c =
-    let h = c.self.invariant in
+    let h = c.self.invariant.kept in
     refused_as h c.args.self.now (Finish c.in-Finish.f) (event_of c.args.e) c.self.view_is (ap event_of c.in-Finish.is)
     (λ q. absurd (omega (arith, finish_in h c.in-Finish.f q.0 q.1 q.3, c.functions-functions.ensures.count, c.if-f-functions.true)))
 
 pub returns-then-k-sites-2 : goal.returns-then-k-sites-2
 returns-then-k-sites-2 c =
-    let h = c.self.invariant in
+    let h = c.self.invariant.kept in
     refused_as h c.args.self.now (Return c.in-Return.k) (event_of c.args.e) c.self.view_is (ap event_of c.in-Return.is)
     (λ q. absurd (omega (arith, return_in h c.in-Return.k q.0 q.1, c.sites-in-Return.ensures.count, c.if-k-sites-2.true)))
 
 pub returns-then-h-functions : goal.returns-then-h-functions
 returns-then-h-functions c =
-    let h = c.self.invariant in
+    let h = c.self.invariant.kept in
     refused_as h c.args.self.now (LoopInto c.in-Loop.h) (event_of c.args.e) c.self.view_is (ap event_of c.in-Loop.is)
     (λ q. absurd (omega (arith, (looping h c.in-Loop.h q.0 q.1).within, c.functions-functions.ensures.count, c.if-h-functions.true)))
 
 pub returns-else-k-sites : goal.returns-else-k-sites
 returns-else-k-sites c =
-    let h = c.self.invariant in
+    let h = c.self.invariant.kept in
     let m = c.self.inside in
     let C = program_of m.checked.now in
     let k = c.in-Accept.k in
@@ -54,7 +54,7 @@ returns-else-k-sites c =
 
 pub returns-else-f-functions : goal.returns-else-f-functions
 returns-else-f-functions c =
-    let h = c.self.invariant in
+    let h = c.self.invariant.kept in
     let m = c.self.inside in
     let f = c.in-Finish.f in
     let is = c.finishes.ensures
@@ -65,7 +65,7 @@ returns-else-f-functions c =
 
 pub returns-else-k-sites-2 : goal.returns-else-k-sites-2
 returns-else-k-sites-2 c =
-    let h = c.self.invariant in
+    let h = c.self.invariant.kept in
     let m = c.self.inside in
     let C = program_of m.checked.now in
     let k = c.in-Return.k in
@@ -77,7 +77,7 @@ returns-else-k-sites-2 c =
 
 pub returns-else-h-functions : goal.returns-else-h-functions
 returns-else-h-functions c =
-    let h = c.self.invariant in
+    let h = c.self.invariant.kept in
     let n = c.in-Loop.h in
     let is = c.loops.ensures ∙ ap (λ (x : List Answer). loops_to (answer_of (get_or x c.unit-in-Loop.result NotYet)) n) c.deref-in-Loop.ensures.value in
     tested_as h c.args.self.now (LoopInto n) (event_of c.args.e) c.loops.result c.self.view_is (ap event_of c.in-Loop.is)

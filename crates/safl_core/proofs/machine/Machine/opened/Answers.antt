@@ -1,13 +1,18 @@
-use Rattle.std.proofs.Common.{◌∙◌, ap, arith}
+use Rattle.std.proofs.Common.{ℕ, List, ◌∙◌, ap, refl, sym, subst, length, arith}
+use Rattle.safl_term.specs.Checked.{program_of}
+use Rattle.safl_calls.specs.Machine.{State}
 use Rattle.safl_core.specs.Evaluating.{widths}
-use Rattle.safl_core.proofs.OpenLemmas.{kept_open}
+use Rattle.safl_core.proofs.OpenLemmas.{kept_open, opens, widths_long}
+use Rattle.safl_core.proofs.FirstLemmas.{marked_first}
+use Rattle.safl_core.proofs.OutcomeLemmas.{sized}
+use Rattle.safl_core.specs.Marking.{AreMarked}
 use Rattle.safl_core.proofs.machine.Machine.opened.Goals as goal
 
 pub invariant_of-result : goal.invariant_of-result
 invariant_of-result c =
-    kept_open c.args.c.now c.new.result c.in_ok-modes.modes.items c.in_ok-stages.stages.items c.in_ok-answers.answers.items c.in_ok-wants.wants.items _
+    let kept = kept_open c.args.c.now c.new-2.result c.in_ok-modes.modes.items c.in_ok-stages.stages.items c.in_ok-answers.answers.items c.in_ok-wants.wants.items _
     c.functions-functions.ensures.checked
-    (ap widths c.new.ensures ∙ c.requires)
+    (ap widths c.new-2.ensures ∙ c.requires)
     c.in_ok-modes.ensures.idle
     c.in_ok-stages.ensures.unsent
     c.in_ok-answers.ensures.none
@@ -16,4 +21,21 @@ invariant_of-result c =
     (omega (arith, c.in_ok-stages.ensures.count, c.sites.ensures.count))
     (c.in_ok-answers.ensures.count ∙ c.functions-functions.ensures.count)
     (omega (arith, c.in_ok-wants.ensures.count, c.sites.ensures.count))
-    (omega (arith, c.in_ok-env.ensures))
+    (omega (arith, c.in_ok-env.ensures)) in
+    let is = opens c.args.c.now c.new-2.result c.in_ok-modes.modes.items c.in_ok-stages.stages.items c.in_ok-answers.answers.items c.in_ok-wants.wants.items (length c.in_ok-env.env.items) c.in_ok-modes.ensures.idle c.in_ok-stages.ensures.unsent in
+    record {
+      kept = kept;
+      marked = subst (λ (s : State). AreMarked (program_of c.args.c.now) c.new-2.result s c.in_ok-sets.sets) (sym is) (marked_first (program_of c.args.c.now) c.new-2.result c.in_ok-sets.sets (sized kept) c.in_ok-sets.ensures);
+      linked = c.in_ok-links.ensures;
+    }
+
+pub new-requires-2 : goal.new-requires-2
+new-requires-2 c = omega (arith, widths_long c.args.args.now, ap (λ (l : List ℕ). length l) c.requires, c.functions-functions.ensures.checked.limits.params (program_of c.args.c.now).main)
+
+pub returns : goal.returns
+returns c = record {
+  program = refl;
+  given = c.new-2.ensures;
+  first = opens c.args.c.now c.new-2.result c.in_ok-modes.modes.items c.in_ok-stages.stages.items c.in_ok-answers.answers.items c.in_ok-wants.wants.items (length c.in_ok-env.env.items) c.in_ok-modes.ensures.idle c.in_ok-stages.ensures.unsent;
+  none = refl;
+}

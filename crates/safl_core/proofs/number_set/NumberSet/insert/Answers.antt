@@ -1,0 +1,42 @@
+use Rattle.std.proofs.Common.{◌≡◌, ℕ, ◌+◌, ◌/◌, ◌<◌, List, length, get_or, sym, subst, arith}
+use Rattle.std.proofs.lemmas.List.{get_or_read}
+use Rattle.safl_core.proofs.NumberLemmas.{set_counted, are_few, block_few, top_few}
+use Rattle.safl_core.proofs.number_set.NumberSet.insert.Goals as goal
+
+pub invariant_of-self : goal.invariant_of-self
+invariant_of-self c =
+    let n = c.self.inside in
+    let k = c.args.k in
+    let h = c.self.invariant in
+    let lt : k < length n.ones.items = subst (λ (l : List ℕ). k < length l) (sym c.self.view_is) c.requires in
+    let bit : c.index.result.now ≡ get_or n.ones.items k 0 = get_or_read n.ones.items k _ lt c.index.ensures 0 in
+    let zero : get_or n.ones.items k 0 ≡ 0 = omega (arith, h.bits k, bit, c.if-index-eq1.false) in
+    let block : c.index_mut-2.result.now ≡ get_or n.blocks.items (k / 32) 0 = get_or_read n.blocks.items (k / 32) _ (omega (arith, lt, h.blocks.enough)) c.index_mut-2.ensures.value 0 in
+    let top : c.index_mut-3.result.now ≡ get_or n.tops.items (k / 32 / 32) 0 = get_or_read n.tops.items (k / 32 / 32) _ (omega (arith, lt, h.blocks.enough, h.tops.enough)) c.index_mut-3.ensures.value 0 in
+    set_counted n.ones.items n.blocks.items n.tops.items n.total h k 1 (c.index_mut-2.result.now + 1) (c.index_mut-3.result.now + 1) (n.total + 1) lt (omega arith) (omega (arith, zero, block)) (omega (arith, zero, top)) (omega (arith, zero))
+
+pub overflow_add-index_mut : goal.overflow_add-index_mut
+overflow_add-index_mut c =
+    let n = c.self.inside in
+    let k = c.args.k in
+    let h = c.self.invariant in
+    let lt : k < length n.ones.items = subst (λ (l : List ℕ). k < length l) (sym c.self.view_is) c.requires in
+    let in_blocks : k / 32 < length n.blocks.items = omega (arith, lt, h.blocks.enough) in
+    let block : c.index_mut-2.result.now ≡ get_or n.blocks.items (k / 32) 0 = get_or_read n.blocks.items (k / 32) _ in_blocks c.index_mut-2.ensures.value 0 in
+    omega (arith, block, block_few n.ones.items n.blocks.items n.tops.items n.total h (k / 32) in_blocks)
+
+pub overflow_add-index_mut-2 : goal.overflow_add-index_mut-2
+overflow_add-index_mut-2 c =
+    let n = c.self.inside in
+    let k = c.args.k in
+    let h = c.self.invariant in
+    let lt : k < length n.ones.items = subst (λ (l : List ℕ). k < length l) (sym c.self.view_is) c.requires in
+    let in_blocks : k / 32 < length n.blocks.items = omega (arith, lt, h.blocks.enough) in
+    let in_tops : k / 32 / 32 < length n.tops.items = omega (arith, in_blocks, h.tops.enough) in
+    let top : c.index_mut-3.result.now ≡ get_or n.tops.items (k / 32 / 32) 0 = get_or_read n.tops.items (k / 32 / 32) _ in_tops c.index_mut-3.ensures.value 0 in
+    omega (arith, top, top_few n.ones.items n.blocks.items n.tops.items n.total h (k / 32 / 32) in_tops)
+
+pub overflow_add-self : goal.overflow_add-self
+overflow_add-self c =
+    let n = c.self.inside in
+    omega (arith, c.self.invariant.total, (are_few n.ones.items n.blocks.items n.tops.items n.total c.self.invariant).of_ones)

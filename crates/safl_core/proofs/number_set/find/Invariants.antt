@@ -1,0 +1,9 @@
+use Rattle.std.proofs.Common.{◌≡◌, ◌≤◌, take}
+use Rattle.std.specs.Prelude.{sum}
+use Rattle.safl_core.proofs.number_set.find.Given as goal
+
+abbrev pub invariant-loop-at : goal.invariant-loop-at
+invariant-loop-at l = record {
+  start : l.before ≡ sum (take l.at l.counts);
+  reached : l.before ≤ l.place;
+}

@@ -1,0 +1,100 @@
+-- The sets of enabled events that a machine keeps.
+use Rattle.std.specs.Prelude.{◌≡◌, ℕ, suc, ◌+◌, ◌<◌, ◌≤◌, ◌⊎◌, List, length, sum, take, get_or, replicate, slice_set, Bool, not}
+use Rattle.std.specs.Int.{from_bool}
+use Rattle.safl_word.specs.Words.{Word}
+use Rattle.safl_term.specs.Program.{Program, unit_for}
+use Rattle.safl_calls.specs.Machine.{State, Event, Accept, Finish, Return, LoopInto}
+use Rattle.safl_core.specs.declared.enabled.Enabled.{Enabled}
+use Rattle.safl_core.specs.Testing.{can, is_idle}
+
+-- a number is in the set exactly if the test holds for it
+abbrev pub IsRight : (ℕ → Bool) → List ℕ → ℕ → Type 0
+IsRight p s k = get_or s k 0 ≡ from_bool (p k)
+
+-- the set has exactly the numbers below n for which the test holds
+pub record Marks (p : ℕ → Bool) (n : ℕ) (s : List ℕ) : Type 0 where
+  pub long : length s ≡ n
+  pub each : (k : ℕ) → k < n → IsRight p s k
+
+-- the sets of the sites whose calls can be accepted, the functions that can finish, the sites that can get their word, the
+-- members to which units can loop, and the units that are busy
+pub record AreMarked (C : Program) (args : List Word) (s : State) (e : Enabled) : Type 0 where
+  pub accepts : Marks (λ k. can C args s (Accept k)) (suc C.sites) e.accepts
+  pub finishes : Marks (λ f. can C args s (Finish f)) C.functions e.finishes
+  pub returns : Marks (λ k. can C args s (Return k)) (suc C.sites) e.returns
+  pub loops : Marks (λ h. can C args s (LoopInto h)) C.functions e.loops
+  pub busy : Marks (λ u. not (is_idle (s.unit u))) C.functions e.busy
+
+-- each set has a place for each site, or for each function
+pub record HasPlaces (C : Program) (e : Enabled) : Type 0 where
+  pub accepts : length e.accepts ≡ suc C.sites
+  pub finishes : length e.finishes ≡ C.functions
+  pub returns : length e.returns ≡ suc C.sites
+  pub loops : length e.loops ≡ C.functions
+  pub busy : length e.busy ≡ C.functions
+
+-- a set before and after: what is right stays right, and so is now each of these numbers
+pub record Rights (p : ℕ → Bool) (which : ℕ → Type 0) (old new : List ℕ) : Type 0 where
+  pub long : length new ≡ length old
+  pub kept : (k : ℕ) → IsRight p old k → IsRight p new k
+  pub these : (k : ℕ) → k < length old → which k → IsRight p new k
+
+-- the sets before and after these sites, functions and units were looked at anew
+pub record Relists (C : Program) (args : List Word) (s : State) (sites functions units : ℕ → Type 0) (old new : Enabled) : Type 0 where
+  pub accepts : Rights (λ k. can C args s (Accept k)) sites old.accepts new.accepts
+  pub finishes : Rights (λ f. can C args s (Finish f)) functions old.finishes new.finishes
+  pub returns : Rights (λ k. can C args s (Return k)) sites old.returns new.returns
+  pub loops : Rights (λ h. can C args s (LoopInto h)) functions old.loops new.loops
+  pub busy : Rights (λ u. not (is_idle (s.unit u))) units old.busy new.busy
+
+abbrev pub Nothing : ℕ → Type 0
+Nothing k = ⊥
+
+-- the site stands in the body of one of the unit's members
+abbrev pub IsOwn : Program → ℕ → ℕ → Type 0
+IsOwn C u k = (0 < k) × (C.unit (C.caller k) ≡ u)
+
+-- it calls the unit, or stands there
+abbrev pub Near : Program → ℕ → ℕ → Type 0
+Near C u k = (unit_for C k ≡ u) ⊎ IsOwn C u k
+
+-- the sets before and after the events of a unit were looked at anew, or those of two units
+abbrev pub RelistsUnit : Program → List Word → State → ℕ → Enabled → Enabled → Type 0
+RelistsUnit C args s u old new = Relists C args s (λ k. Near C u k) (λ f. C.unit f ≡ u) (λ v. v ≡ u) old new
+
+abbrev pub RelistsBoth : Program → List Word → State → ℕ → ℕ → Enabled → Enabled → Type 0
+RelistsBoth C args s u w old new = Relists C args s (λ k. Near C u k ⊎ Near C w k) (λ f. (C.unit f ≡ u) ⊎ (C.unit f ≡ w)) (λ v. (v ≡ u) ⊎ (v ≡ w)) old new
+
+-- An event is seen by the events of these units alone: by those of the unit that serves the site, finishes or loops, and
+-- where a site gets its word, by those of the unit in whose body it stands
+abbrev pub Concerns : Program → Event → ℕ → ℕ → Type 0
+Concerns C (Accept k) u w = (u ≡ unit_for C k) × (w ≡ u)
+Concerns C (Finish f) u w = (u ≡ C.unit f) × (w ≡ u)
+Concerns C (Return k) u w = (u ≡ unit_for C k) × (0 < k → w ≡ C.unit (C.caller k))
+Concerns C (LoopInto h) u w = (u ≡ C.unit h) × (w ≡ u)
+
+-- how many events the sets have
+abbrev pub marked : Enabled → ℕ
+marked e = sum e.accepts + (sum e.finishes + (sum e.returns + sum e.loops))
+
+-- the event has its number in its set, and so many come before it
+abbrev pub IsNth : Enabled → ℕ → Event → Type 0
+IsNth e i (Accept k) = (get_or e.accepts k 0 ≡ 1) × (i ≡ sum (take k e.accepts))
+IsNth e i (Finish f) = (get_or e.finishes f 0 ≡ 1) × (i ≡ sum e.accepts + sum (take f e.finishes))
+IsNth e i (Return k) = (get_or e.returns k 0 ≡ 1) × (i ≡ sum e.accepts + (sum e.finishes + sum (take k e.returns)))
+IsNth e i (LoopInto h) = (get_or e.loops h 0 ≡ 1) × (i ≡ sum e.accepts + (sum e.finishes + (sum e.returns + sum (take h e.loops))))
+
+-- the event is one of the program
+abbrev pub IsThere : Program → Event → Type 0
+IsThere C (Accept k) = k ≤ C.sites
+IsThere C (Finish f) = f < C.functions
+IsThere C (Return k) = k ≤ C.sites
+IsThere C (LoopInto h) = h < C.functions
+
+-- main's call alone can be accepted, and no unit is busy
+pub record OpensWith (C : Program) (e : Enabled) : Type 0 where
+  pub accepts : e.accepts ≡ slice_set (replicate (suc C.sites) 0) 0 1
+  pub finishes : e.finishes ≡ replicate C.functions 0
+  pub returns : e.returns ≡ replicate (suc C.sites) 0
+  pub loops : e.loops ≡ replicate C.functions 0
+  pub busy : e.busy ≡ replicate C.functions 0

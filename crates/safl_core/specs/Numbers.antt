@@ -1,0 +1,15 @@
+-- Sets of numbers below a bound, as lists of bits, and the sums beside them.
+use Rattle.std.specs.Prelude.{◌≡◌, ℕ, ◌*◌, ◌≤◌, List, length, sum, take, drop, get_or}
+
+-- the upper numbers are the sums of each 32 of the lower ones
+pub record AreSums (low high : List ℕ) : Type 0 where
+  pub each : (b : ℕ) → get_or high b 0 ≡ sum (take 32 (drop (32 * b) low))
+  pub enough : length low ≤ 32 * length high
+
+-- bits, the sums of each 32 of them, the sums of each 32 of those, and the sum of all
+pub record IsCounted (low middle high : List ℕ) (all : ℕ) : Type 0 where
+  pub bits : (k : ℕ) → get_or low k 0 ≤ 1
+  pub few : length low ≤ 5000
+  pub blocks : AreSums low middle
+  pub tops : AreSums middle high
+  pub total : all ≡ sum low

@@ -1,0 +1,51 @@
+//! The units whose events an event changes.
+
+ghost use Rattle.std.specs.Prelude.{◌≡◌, ◌<◌};
+ghost use Rattle.safl_term.specs.Checked.{program_of};
+ghost use Rattle.safl_core.specs.Marking.{Concerns, IsThere};
+ghost use Rattle.safl_core.specs.Shown.{event_of};
+
+use crate::event::Event;
+use safl_term::Checked;
+
+/// Two units, or twice the same one.
+#[derive(Clone, Copy)]
+pub struct TwoUnits {
+    pub unit: u32,
+    pub other: u32,
+}
+
+impl TwoUnits {
+    // One unit alone.
+    fn alone(unit: u32) -> TwoUnits
+        ensures unit { result.unit ≡ unit }
+        ensures other { result.other ≡ unit }
+    {
+        TwoUnits { unit, other: unit }
+    }
+}
+
+/// The units that an event concerns: the one that serves the site, finishes or loops, and the one in whose body a site
+/// stands that gets its word.
+pub fn concerned(c: &Checked, e: Event) -> TwoUnits
+    requires { IsThere (program_of c.now) (event_of e) }
+    ensures concerns { Concerns (program_of c.now) (event_of e) result.unit result.other }
+    ensures unit { result.unit < (program_of c.now).functions }
+    ensures other { result.other < (program_of c.now).functions }
+{
+    match e {
+        Event::Accept(k) => TwoUnits::alone(c.unit_for(k)),
+        Event::Finish(f) => TwoUnits::alone(c.unit(f)),
+        Event::Return(k) => {
+            let unit = c.unit_for(k);
+            if k == 0 {
+                return TwoUnits::alone(unit);
+            }
+            TwoUnits {
+                unit,
+                other: c.unit(c.caller(k)),
+            }
+        }
+        Event::Loop(h) => TwoUnits::alone(c.unit(h)),
+    }
+}

@@ -1,0 +1,52 @@
+//! The members of a unit, and the sites in their bodies.
+
+ghost use Rattle.std.specs.Prelude.{◌≡◌, ℕ, suc, ◌<◌, ◌≤◌};
+ghost use Rattle.safl_term.specs.Checked.{IsChecked, program_of, first_site_of};
+ghost use Rattle.safl_core.specs.Spans.{IsSpan, EndsMembers};
+
+use safl_term::Checked;
+
+/// Sites that follow each other: the first one, and the number after the last one.
+#[derive(Clone, Copy)]
+pub struct Span {
+    pub first: u32,
+    pub end: u32,
+}
+
+/// The number after the last member of a unit.
+pub fn members_end(c: &Checked, u: u32) -> u32
+    requires { u < (program_of c.now).functions }
+    ensures ends { EndsMembers (program_of c.now) u result }
+    ensures checked { IsChecked c.now }
+{
+    let functions = c.functions();
+    for f in u..functions {
+        if c.unit(f) != u {
+            return f;
+        }
+    }
+    functions
+}
+
+/// The sites in the bodies of a unit's members.
+pub fn own_sites(c: &Checked, u: u32) -> Span
+    requires { u < (program_of c.now).functions }
+    ensures { IsSpan (program_of c.now) u result }
+{
+    Span {
+        first: c.first_site(u),
+        end: sites_before(c, members_end(c, u)),
+    }
+}
+
+// The number of the first site of a function and of those that follow it.
+fn sites_before(c: &Checked, f: u32) -> u32
+    requires { f ≤ (program_of c.now).functions }
+    ensures { result ≡ first_site_of c.now f }
+{
+    if f < c.functions() {
+        c.first_site(f)
+    } else {
+        c.sites() + 1
+    }
+}
