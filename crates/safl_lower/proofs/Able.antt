@@ -15,7 +15,8 @@ use Rattle.safl_lower.specs.declared.parts.Lowered.{Lowered}
 use Rattle.safl_lower.specs.declared.parts.LoweredAll.{LoweredAll}
 use Rattle.safl_lower.specs.declared.parts.Out.{Out}
 use Rattle.safl_lower.specs.Bits.{ReadyAt}
-use Rattle.safl_lower.specs.Typing.{Owner, Typed, TypedAll, nodes_in}
+use Rattle.safl_term.specs.Sizes.{nodes_in}
+use Rattle.safl_lower.specs.Typing.{Owner, Typed, TypedAll}
 use Rattle.safl_lower.specs.Lowering.{Sited, Setting, Lowerable, LowerableAll, HasPorts, Shaped, Lowers, LowersAll, Shows}
 use Rattle.safl_lower.proofs.Kept.{sited_kept, setting_on, setting_kept, setting_below}
 use Rattle.safl_lower.proofs.Typing.{test_typed, yes_typed, no_typed, bound_typed, body_typed, parts_typed, args_typed, next_typed}

@@ -11,7 +11,8 @@ use Rattle.safl_net.specs.Growth.{Val, words, Grows}
 use Rattle.safl_lower.specs.declared.parts.Out.{Out}
 use Rattle.safl_lower.specs.declared.parts.Want.{Want}
 use Rattle.safl_lower.specs.declared.parts.TailCall.{TailCall}
-use Rattle.safl_lower.specs.Typing.{Owner, Typed, nodes}
+use Rattle.safl_term.specs.Sizes.{nodes}
+use Rattle.safl_lower.specs.Typing.{Owner, Typed}
 use Rattle.safl_net.specs.Bits.{gate, on}
 use Rattle.safl_lower.specs.Entries.{Told, WantFits, LoopFits, WantsFit, LoopsFit, OutFits, member_of, Between, cost}
 use Rattle.safl_lower.specs.Lowering.{goes_of}

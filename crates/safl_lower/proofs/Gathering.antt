@@ -234,16 +234,3 @@ module _ {z : Sig} {first count : ℕ} {old cur : Netlist} {all all_rest : List 
               (ap (λ (y : Option (List Word)). or_else y (given v (slice_get bits i) (slice_get args i))) (sym (taken_end v rest e (first + i)))
               ∙ ap (λ (l : List TailCall). or_else (taken_to v l (first + i)) (given v (slice_get bits i) (slice_get args i))) (sym q) ∙ h.told v (wired_before b.grows w) off i);
         }
-
-pub merging_end : {z : Sig} {first count : ℕ} {old cur : Netlist} {all rest : List TailCall} (m : Rows) → rest ≡ [] → Merging z first count old cur all rest m.bits.items m.args.items → Merged z first count old cur all m
-merging_end {first = first} m q h = record {
-  paid = let k = h.paid in omega (arith, k);
-  idle = h.idle;
-  bits_length = h.bits_length;
-  args_length = h.args_length;
-  fits = h.fits;
-  told = λ v w off i. ap (λ (l : List TailCall). or_else (taken_to v l (first + i)) (given v (slice_get m.bits.items i) (slice_get m.args.items i))) (sym q) ∙ h.told v w off i;
-}
-
-pub merging_built : {z : Sig} {first count : ℕ} {old cur : Netlist} {all rest : List TailCall} {bits : List Sig} {args : List (Vec Sig Global)} → rest ≡ [] → Merging z first count old cur all rest bits args → Builds old cur (cost all)
-merging_built q h = record { grows = h.grows; settles = h.settles; count = let r = h.room in let e = ap cost q in omega (arith, r, e) }

@@ -16,4 +16,3 @@ pub mod Gathering
 pub mod Whole
 pub mod Extending
 pub mod FromProgram
-pub mod Sample

@@ -2,28 +2,29 @@
 use Rattle.std.proofs.Common.{◌≡◌, ℕ, zero, suc, ◌+◌, ◌*◌, ◌<◌, List, [], ◌∷◌, take, drop, Some, slice_get, Bool, true, false, ◌||◌, refl, ap, ◌∙◌, arith, add-one}
 use Rattle.safl_term.specs.Terms as plain
 use Rattle.safl_term.specs.declared.term.Term.{Term}
-use Rattle.safl_term.specs.Tree.{tree, forest}
-use Rattle.safl_lower.specs.Typing.{nodes, nodes_in, holds_calls, hold_calls}
+use Rattle.safl_term.specs.Tree.{shown_term, shown_terms}
+use Rattle.safl_term.specs.Sizes.{nodes, nodes_in}
+use Rattle.safl_lower.specs.Typing.{holds_calls, hold_calls}
 use Rattle.safl_lower.proofs.Lists.{end}
 use Rattle.safl_lower.proofs.Able.{joined}
 use Rattle.safl_lower.proofs.Quiet.{or_off}
 
-take_next : (ts : List Term) (i : ℕ) (x : Term) → slice_get ts i ≡ Some x → forest (take (suc i) ts) ≡ end (forest (take i ts)) (tree x)
+take_next : (ts : List Term) (i : ℕ) (x : Term) → slice_get ts i ≡ Some x → shown_terms (take (suc i) ts) ≡ end (shown_terms (take i ts)) (shown_term x)
 take_next [] i x e = absurd (cc)
-take_next (t ∷ ts) zero x e = let g : t ≡ x = cc in ap (λ (y : Term). plain.Cons (tree y) plain.Nil) g
-take_next (t ∷ ts) (suc i) x e = ap (plain.Cons (tree t)) (take_next ts i x e)
+take_next (t ∷ ts) zero x e = let g : t ≡ x = cc in ap (λ (y : Term). plain.Cons (shown_term y) plain.Nil) g
+take_next (t ∷ ts) (suc i) x e = ap (plain.Cons (shown_term t)) (take_next ts i x e)
 
-pub forest_more : (ts : List Term) (i : ℕ) (x : Term) → slice_get ts i ≡ Some x → forest (take (i + 1) ts) ≡ end (forest (take i ts)) (tree x)
-forest_more ts i x e = ap (λ (k : ℕ). forest (take k ts)) (add-one i) ∙ take_next ts i x e
+pub forest_more : (ts : List Term) (i : ℕ) (x : Term) → slice_get ts i ≡ Some x → shown_terms (take (i + 1) ts) ≡ end (shown_terms (take i ts)) (shown_term x)
+forest_more ts i x e = ap (λ (k : ℕ). shown_terms (take k ts)) (add-one i) ∙ take_next ts i x e
 
-pub forest_at : (ts : List Term) (i : ℕ) (x : Term) → slice_get ts i ≡ Some x → forest ts ≡ joined (forest (take i ts)) (plain.Cons (tree x) (forest (drop (suc i) ts)))
+pub forest_at : (ts : List Term) (i : ℕ) (x : Term) → slice_get ts i ≡ Some x → shown_terms ts ≡ joined (shown_terms (take i ts)) (plain.Cons (shown_term x) (shown_terms (drop (suc i) ts)))
 forest_at [] i x e = absurd (cc)
-forest_at (t ∷ ts) zero x e = let g : t ≡ x = cc in ap (λ (y : Term). plain.Cons (tree y) (forest ts)) g
-forest_at (t ∷ ts) (suc i) x e = ap (plain.Cons (tree t)) (forest_at ts i x e)
+forest_at (t ∷ ts) zero x e = let g : t ≡ x = cc in ap (λ (y : Term). plain.Cons (shown_term y) (shown_terms ts)) g
+forest_at (t ∷ ts) (suc i) x e = ap (plain.Cons (shown_term t)) (forest_at ts i x e)
 
-pub smaller_at : (ts : List Term) (i : ℕ) (x : Term) → slice_get ts i ≡ Some x → 2 * nodes (tree x) < 2 * nodes_in (forest ts) + 1
+pub smaller_at : (ts : List Term) (i : ℕ) (x : Term) → slice_get ts i ≡ Some x → 2 * nodes (shown_term x) < 2 * nodes_in (shown_terms ts) + 1
 smaller_at [] i x e = absurd (cc)
-smaller_at (t ∷ ts) zero x e = let g : t ≡ x = cc in let h = ap (λ (y : Term). nodes (tree y)) g in omega (arith, h)
+smaller_at (t ∷ ts) zero x e = let g : t ≡ x = cc in let h = ap (λ (y : Term). nodes (shown_term y)) g in omega (arith, h)
 smaller_at (t ∷ ts) (suc i) x e = let h = smaller_at ts i x e in omega (arith, h)
 
 -- ---- calls in a list
@@ -42,8 +43,8 @@ none_hold (plain.Cons x ts) t e f =
     let h = or_off (holds_calls x) (hold_calls ts) e in
     ap (λ (b : Bool). b || hold_calls (end ts t)) h.0 ∙ none_hold ts t h.1 f
 
-pub holds_at : (ts : List Term) (i : ℕ) (x : Term) → slice_get ts i ≡ Some x → holds_calls (tree x) ≡ true → hold_calls (forest ts) ≡ true
-holds_at ts i x e h = ap hold_calls (forest_at ts i x e) ∙ one_holds (forest (take i ts)) (tree x) (forest (drop (suc i) ts)) h
+pub holds_at : (ts : List Term) (i : ℕ) (x : Term) → slice_get ts i ≡ Some x → holds_calls (shown_term x) ≡ true → hold_calls (shown_terms ts) ≡ true
+holds_at ts i x e h = ap hold_calls (forest_at ts i x e) ∙ one_holds (shown_terms (take i ts)) (shown_term x) (shown_terms (drop (suc i) ts)) h
 
-pub none_so_far : (ts : List Term) (i : ℕ) (x : Term) → slice_get ts i ≡ Some x → hold_calls (forest (take i ts)) ≡ false → holds_calls (tree x) ≡ false → hold_calls (forest (take (i + 1) ts)) ≡ false
-none_so_far ts i x e h k = ap hold_calls (forest_more ts i x e) ∙ none_hold (forest (take i ts)) (tree x) h k
+pub none_so_far : (ts : List Term) (i : ℕ) (x : Term) → slice_get ts i ≡ Some x → hold_calls (shown_terms (take i ts)) ≡ false → holds_calls (shown_term x) ≡ false → hold_calls (shown_terms (take (i + 1) ts)) ≡ false
+none_so_far ts i x e h k = ap hold_calls (forest_more ts i x e) ∙ none_hold (shown_terms (take i ts)) (shown_term x) h k

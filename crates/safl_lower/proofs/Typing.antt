@@ -55,18 +55,6 @@ module _ {F : Owner} {tail : Bool} {env : List ℕ} {w : ℕ} where
 
 -- ---- the first and the other terms of a list
 
-pub first_typed : {F : Owner} {env : List ℕ} {t : Term} {ts : Terms} {w : ℕ} {ws : List ℕ} → TypedAll F env (Cons t ts) (w ∷ ws) → Typed F false env t w
-first_typed {F} {ts = ts} h =
-    let s = h.spans in
-    let y = fits_all_le F.program F.function s.0 h.high ts s.2 in
-    record { low = h.low; high = s.0; from = h.from; upto = omega (arith, y, h.upto); spans = s.1; width = h.widths.0 }
-
-pub rest_typed : {F : Owner} {env : List ℕ} {t : Term} {ts : Terms} {w : ℕ} {ws : List ℕ} → TypedAll F env (Cons t ts) (w ∷ ws) → TypedAll F env ts ws
-rest_typed {F} {t = t} h =
-    let s = h.spans in
-    let x = fits_le F.program F.function false h.low s.0 t s.1 in
-    record { low = s.0; high = h.high; from = omega (arith, x, h.from); upto = h.upto; spans = s.2; widths = h.widths.1 }
-
 -- ---- the sites of a term
 
 between_more : (a b : ℕ) (ks js : List ℕ) → Between a b ks → Between a b js → Between a b (ks ++ js)
@@ -88,9 +76,6 @@ differs_more k (x ∷ ks) js h i = (h.0, differs_more k ks js h.1 i)
 apart_more : (lo m hi : ℕ) (ks js : List ℕ) → Apart ks → Apart js → Between lo m ks → Between m hi js → Apart (ks ++ js)
 apart_more lo m hi [] js a b x y = b
 apart_more lo m hi (k ∷ ks) js a b x y = (differs_more k ks js a.0 (differs_below k m hi js x.1 y), apart_more lo m hi ks js a.1 b x.2 y)
-
-differs_above : (k j lo hi : ℕ) (js : List ℕ) → k ≡ j → j < lo → Between lo hi js → Differs k js
-differs_above k j lo hi js e l h = differs_below k lo hi js (omega (arith, e, l)) h
 
 apart_last : (k lo hi : ℕ) (js : List ℕ) → k < lo → Apart js → Between lo hi js → Apart (js ++ k ∷ [])
 apart_last k lo hi [] l a h = (tt, tt)

@@ -3,7 +3,7 @@ use Rattle.std.proofs.Common.{◌≡◌, ℕ, List, ◌⊎◌, cond, ◌==◌, R
 use Rattle.safl_term.specs.declared.term.Term as declared
 use Rattle.safl_term.specs.Terms.{Term, Terms, If, Call, Loop}
 use Rattle.safl_term.specs.Readiness.{or_else}
-use Rattle.safl_term.specs.Tree.{tree, forest}
+use Rattle.safl_term.specs.Tree.{shown_term, shown_terms}
 use Rattle.safl_net.specs.declared.cell.Sig.{Sig}
 use Rattle.safl_net.specs.Netlist.{Netlist}
 use Rattle.safl_net.specs.Growth.{Val, Wired}
@@ -24,11 +24,11 @@ use Rattle.safl_gates.specs.Sources.{Builds}
 
 module _ {P : Ports} {path : Sig} {n m : Netlist} {o p : Out} where
   -- the same of another name of the slots and of the term
-  pub renamed : {s slots : List Sig} {r : Lowered} {x y : declared.Term} → s ≡ slots → x ≡ y → Lowers P s path n m o p r (tree x) → Lowers P slots path n m o p r (tree y)
-  renamed {s} {slots} {r} {x} {y} e f h = subst (λ (l : List Sig). Lowers P l path n m o p r (tree y)) e (subst (λ (z : declared.Term). Lowers P s path n m o p r (tree z)) f h)
+  pub renamed : {s slots : List Sig} {r : Lowered} {x y : declared.Term} → s ≡ slots → x ≡ y → Lowers P s path n m o p r (shown_term x) → Lowers P slots path n m o p r (shown_term y)
+  renamed {s} {slots} {r} {x} {y} e f h = subst (λ (l : List Sig). Lowers P l path n m o p r (shown_term y)) e (subst (λ (z : declared.Term). Lowers P s path n m o p r (shown_term z)) f h)
 
-  pub renamed_all : {s slots : List Sig} {r : LoweredAll} {xs ys : List declared.Term} → s ≡ slots → xs ≡ ys → LowersAll P s path n m o p r (forest xs) → LowersAll P slots path n m o p r (forest ys)
-  renamed_all {s} {slots} {r} {xs} {ys} e f h = subst (λ (l : List Sig). LowersAll P l path n m o p r (forest ys)) e (subst (λ (z : List declared.Term). LowersAll P s path n m o p r (forest z)) f h)
+  pub renamed_all : {s slots : List Sig} {r : LoweredAll} {xs ys : List declared.Term} → s ≡ slots → xs ≡ ys → LowersAll P s path n m o p r (shown_terms xs) → LowersAll P slots path n m o p r (shown_terms ys)
+  renamed_all {s} {slots} {r} {xs} {ys} e f h = subst (λ (l : List Sig). LowersAll P l path n m o p r (shown_terms ys)) e (subst (λ (z : List declared.Term). LowersAll P s path n m o p r (shown_terms z)) f h)
 
 pub done_if : {E : Type 0} {P : Ports} {slots : List Sig} {path py pn : Sig} {n0 n1 n2 n3 n4 n5 : Netlist} {o0 o1 o2 o3 : Out} {test yes no : Lowered} {c a b t : Term} (res : Result Lowered E)
     → t ≡ If c a b

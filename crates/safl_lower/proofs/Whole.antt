@@ -16,7 +16,8 @@ use Rattle.safl_lower.specs.declared.parts.Want.{Want}
 use Rattle.safl_lower.specs.declared.parts.TailCall.{TailCall}
 use Rattle.safl_net.specs.Bits.{on, gate}
 use Rattle.safl_lower.specs.Bits.{ReadyAt}
-use Rattle.safl_lower.specs.Typing.{Owner, nodes, sites_of, tails_of}
+use Rattle.safl_term.specs.Sizes.{nodes}
+use Rattle.safl_lower.specs.Typing.{Owner, sites_of, tails_of}
 use Rattle.safl_lower.specs.Entries.{asked, went, Told, site_of, member_of, Between, OutFits, WantsFit, LoopsFit, cost}
 use Rattle.safl_lower.specs.Lowering.{back_of, open_at, shown, goes_of, Shaped, Lowerable, Lowers}
 use Rattle.safl_lower.specs.Rows.{Apart, Listed, to_member, Spreads, Merged}
@@ -29,7 +30,7 @@ use Rattle.safl_gates.specs.Sources.{IsSource, Builds}
 use Rattle.safl_gates.proofs.Building.{source_grown}
 use Rattle.safl_net.proofs.Settling.{settles_on}
 
-pub lowerable : {n : Netlist} {P : Ports} {args : List Sig} {run : Sig} {t : Term} → CanLower n P args run t → Lowerable n P args run t
+pub lowerable : {n : Netlist} {P : Ports} {t : Term} → CanLower n P t → Lowerable n P P.args.items P.run t
 lowerable {t = t} h = record { owner = h.owner; tail = true; env = h.env; width = h.width; setting = h.setting; typed = h.body.typed; room = let r = h.room in omega (arith, r) }
 
 -- the calls of a body are those of its sites
@@ -44,7 +45,7 @@ in_range [] i x e = absurd (cc)
 in_range (y ∷ xs) zero x e = omega arith
 in_range (y ∷ xs) (suc i) x e = let h = in_range xs i x e in omega (arith, h)
 
-module _ {P : Ports} {args : List Sig} {run : Sig} {n0 n1 : Netlist} {o p : Out} {r : Lowered} {t : Term} (ew : o.wants.items ≡ []) (el : o.loops.items ≡ []) (c : CanLower n0 P args run t) (h : Lowers P args run n0 n1 o p r t) where
+module _ {P : Ports} {n0 n1 : Netlist} {o p : Out} {r : Lowered} {t : Term} (ew : o.wants.items ≡ []) (el : o.loops.items ≡ []) (c : CanLower n0 P t) (h : Lowers P P.args.items P.run n0 n1 o p r t) where
   pub spread_apart : Apart (map site_of p.wants.items)
   spread_apart = let b = c.body.typed in subst Apart (sym (sites_first ew h)) (places c.owner.program c.owner.function true b.low b.high t b.spans).apart
 
@@ -81,16 +82,16 @@ all_listed F P env w t es e first last b i l =
     let high : b.typed.high ≡ P.first_site + length P.sites.items = b.upto ∙ sym last in
     subst (Listed (P.first_site + i)) (sym e) ((places F.program F.function true b.typed.low b.typed.high t b.typed.spans).listed (P.first_site + i) (omega (arith, low)) (omega (arith, high, l)))
 
-pub bodies : {P : Ports} {args : List Sig} {run : Sig} {n0 n1 n2 n3 n4 : Netlist} {o p : Out} {r : Lowered} {t : Term} (ends value off : Sig) (s m : Rows)
-    → o.wants.items ≡ [] → o.loops.items ≡ [] → CanLower n0 P args run t
-    → Lowers P args run n0 n1 o p r t
+pub bodies : {P : Ports} {n0 n1 n2 n3 n4 : Netlist} {o p : Out} {r : Lowered} {t : Term} (ends value off : Sig) (s m : Rows)
+    → o.wants.items ≡ [] → o.loops.items ≡ [] → CanLower n0 P t
+    → Lowers P P.args.items P.run n0 n1 o p r t
     → Builds n1 n2 1 → IsSource n2 off 1 → ((v : Val) → Wired n2 v → on v off ≡ false)
     → Builds n2 n3 1 → IsSource n3 ends 1 → ((w : ℕ) → Shaped n2 r w → (r.ready ≡ Never → w ≡ P.width) → IsSource n3 value w)
-    → ((v : Val) → Wired n3 v → gate (on v ends) (Some (v value.0)) ≡ gate (on v run) (shown v r))
+    → ((v : Val) → Wired n3 v → gate (on v ends) (Some (v value.0)) ≡ gate (on v P.run) (shown v r))
     → Spreads off P.first_site (length P.sites.items) p.wants.items s
     → Builds n3 n4 (cost p.loops.items) → Merged off P.first_member P.members n3 n4 p.loops.items m
-    → Bodies P args run n0 n4 (record { ends = ends; value = value; wants = s.bits; site_args = s.args; loops = m.bits; loop_args = m.args; zero = off }) t
-bodies {P} {args} {run} {n0} {n1} {n2} {n3} {n4} {o} {p} {r} {t} ends value off s m ew el c h b2 bz z b3 be wide is sp b4 me = let g2 = b2.grows in let g3 = b3.grows in let g4 = b4.grows in record {
+    → Bodies P n0 n4 (record { ends = ends; value = value; wants = s.bits; site_args = s.args; loops = m.bits; loop_args = m.args; zero = off }) t
+bodies {P} {n0} {n1} {n2} {n3} {n4} {o} {p} {r} {t} ends value off s m ew el c h b2 bz z b3 be wide is sp b4 me = let g2 = b2.grows in let g3 = b3.grows in let g4 = b4.grows in record {
   zero_bit = source_grown (grows_on g3 g4) off 1 bz;
   zero_off = λ v w4. z v (wired_before g3 (wired_before g4 w4));
   tails = λ F env w b. let i = h.cheap F true env w b.typed in let j = ap cost el in let k = me.paid in omega (arith, i, j, k);
@@ -121,19 +122,19 @@ bodies {P} {args} {run} {n0} {n1} {n2} {n3} {n4} {o} {p} {r} {t} ends value off 
   ends = λ v w4.
       let w3 = wired_before g4 w4 in
       let w1 = wired_before g2 (wired_before g3 w3) in
-      is v w3 ∙ ap (gate (on v run)) (h.value v w1);
+      is v w3 ∙ ap (gate (on v P.run)) (h.value v w1);
   wants = λ F env w b v w4 i.
       let w3 = wired_before g4 w4 in
       let w1 = wired_before g2 (wired_before g3 w3) in
       let k = P.first_site + i in
       sp.told v (z v (wired_before g3 w3)) i ∙ h.wants F true env w b.typed v w1 k
-      ∙ ap (λ (l : List Want). or_else (asked v l k) (gate (open_at v P run k) (wanted (back_of v P) (words v args) t k))) ew;
+      ∙ ap (λ (l : List Want). or_else (asked v l k) (gate (open_at v P P.run k) (wanted (back_of v P) (words v P.args.items) t k))) ew;
   loops = λ F env w b v w4 i.
       let w3 = wired_before g4 w4 in
       let w1 = wired_before g2 (wired_before g3 w3) in
       let k = P.first_member + i in
-      let x = gate (on v run) (goes_of (answer (back_of v P) (words v args) t)) in
+      let x = gate (on v P.run) (goes_of (answer (back_of v P) (words v P.args.items) t)) in
       let told = subst (λ (l : List TailCall). Told v l x) (sym (h.loops_more ∙ ap (λ (l : List TailCall). l ++ h.more) el)) (h.told F true env w b.typed v w1) in
       let first = h.loops F true env w b.typed v w1 ∙ ap (λ (l : List TailCall). or_else (went v l) x) el in
-      me.told v w4 (z v (wired_before g3 w3)) i ∙ member_told v p.loops.items x k told first ∙ to_gate k (on v run) (goes_of (answer (back_of v P) (words v args) t));
+      me.told v w4 (z v (wired_before g3 w3)) i ∙ member_told v p.loops.items x k told first ∙ to_gate k (on v P.run) (goes_of (answer (back_of v P) (words v P.args.items) t));
 }

@@ -4,4 +4,3 @@ pub mod Entries
 pub mod Lowering
 pub mod Rows
 pub mod Bodies
-pub mod Sample

@@ -16,7 +16,8 @@ use Rattle.safl_lower.specs.declared.parts.Want.{Want}
 use Rattle.safl_lower.specs.declared.parts.Out.{Out}
 use Rattle.safl_net.specs.Bits.{on, gate}
 use Rattle.safl_lower.specs.Bits.{is_ready, ReadyAt}
-use Rattle.safl_lower.specs.Typing.{Owner, Typed, TypedAll, nodes, nodes_in, sites_of, sites_in, tails_of}
+use Rattle.safl_term.specs.Sizes.{nodes, nodes_in}
+use Rattle.safl_lower.specs.Typing.{Owner, Typed, TypedAll, sites_of, sites_in, tails_of}
 use Rattle.safl_lower.specs.Entries.{asked, went, Told, site_of, member_of, Between, OutFits, cost}
 use Rattle.safl_gates.specs.Sources.{IsSource, AreSources, HasRoom}
 use Rattle.safl_net.specs.Settled.{Settles}

@@ -30,21 +30,6 @@ pub record TypedAll (F : Owner) (slots : List ℕ) (ts : Terms) (ws : List ℕ) 
   pub widths : HaveWidths F.program slots ts ws
 
 abbrev mutual
-  -- the number of terms in a term
-  pub nodes : Term → ℕ
-  nodes (Const w) = 1
-  nodes (Var i) = 1
-  nodes (Op p ts) = 1 + nodes_in ts
-  nodes (If c a b) = 1 + nodes c + nodes a + nodes b
-  nodes (Let bs b) = 1 + nodes_in bs + nodes b
-  nodes (Call f k ts) = 1 + nodes_in ts
-  nodes (Loop h ts) = 1 + nodes_in ts
-
-  pub nodes_in : Terms → ℕ
-  nodes_in Nil = 0
-  nodes_in (Cons t ts) = nodes t + nodes_in ts
-
-abbrev mutual
   -- the sites of a term, each call after its arguments
   pub sites_of : Term → List ℕ
   sites_of (Const w) = []

@@ -1,7 +1,8 @@
 //! Whole bodies.
 
 ghost use Rattle.std.specs.Prelude.{◌≡◌, ℕ, ◌<◌, ◌≤◌, false, Some, IfOk};
-ghost use Rattle.safl_term.specs.Tree.{tree};
+ghost use Rattle.safl_term.specs.Checked.{program_of};
+ghost use Rattle.safl_term.specs.Tree.{shown_term};
 ghost use Rattle.safl_net.specs.Names.{IsTidy};
 ghost use Rattle.safl_net.specs.Growth.{Val, Wired, Grows};
 ghost use Rattle.safl_word.specs.Words.{max_width};
@@ -18,36 +19,51 @@ use crate::spread::spread;
 use crate::terms::lower_term;
 use safl_gates::gates::{constant, zero};
 use safl_net::{Net, Sig};
-use safl_term::Term;
+use safl_term::{Checked, Term};
 use safl_word::{NoMemory, Word};
 use std::alloc::Global;
 
-/// The circuit of a body, which runs if `run` is 1, with its parameters on `args`. It adds temporaries alone, at most
-/// 32 for each of the body's terms and 32 more, and they close no loop of cells. The net is tidy before and after.
-/// Fails only if out of memory; some temporaries may then remain in the net.
+/// The circuit of a function's body between these ports. It adds temporaries alone, at most 32 for each of the body's
+/// terms and 32 more, and they close no loop of cells. The net is tidy before and after. Fails only if out of memory;
+/// some temporaries may then remain in the net.
 pub fn lower(
+    alloc: Global,
+    c: &Checked,
+    f: u32,
+    net: &mut Net,
+    ports: &Ports,
+) -> Result<Body, NoMemory>
+    requires function { f < (program_of c.now).functions }
+    requires tidy { IsTidy net.old }
+    requires able { CanLower net.old ports.now ((program_of c.now).body f) }
+    ensures tidy { IsTidy net.new }
+    ensures kept { Grows net.old net.new }
+    ensures done { IfOk result (λ b. Bodies ports.now net.old net.new b ((program_of c.now).body f)) }
+{
+    lower_body(alloc, net, ports, c.body(f))
+}
+
+/// The circuit of a term that is a whole body.
+pub fn lower_body(
     alloc: Global,
     net: &mut Net,
     ports: &Ports,
-    run: Sig,
-    args: &[Sig],
     body: &Term,
 ) -> Result<Body, NoMemory>
     requires tidy { IsTidy net.old }
-    requires able { CanLower net.old ports.now args.now run (tree body.now) }
+    requires able { CanLower net.old ports.now (shown_term body.now) }
     ensures tidy { IsTidy net.new }
     ensures kept { Grows net.old net.new }
-    ensures done { IfOk result (λ b. Bodies ports.now args.now run net.old net.new b (tree body.now)) }
+    ensures done { IfOk result (λ b. Bodies ports.now net.old net.new b (shown_term body.now)) }
 {
-    let mut slots = Vec::new(alloc);
-    slots.extend_from_slice(args)?;
+    let mut slots = Vec::from_slice(alloc, &ports.args)?;
     let mut out = Out {
         wants: Vec::new(alloc),
         loops: Vec::new(alloc),
     };
-    let lowered = lower_term(alloc, net, &mut out, &mut slots, ports, run, body)?;
+    let lowered = lower_term(alloc, net, &mut out, &mut slots, ports, ports.run, body)?;
     let zero = zero(net)?;
-    let ending = end(net, run, zero, ports.width, lowered)?;
+    let ending = end(net, ports.run, zero, ports.width, lowered)?;
     let Out { wants, loops } = out;
     let sites = spread(alloc, ports.first_site, ports.sites.len(), zero, wants)?;
     let tails = merge(alloc, net, ports.first_member, ports.members, zero, loops)?;

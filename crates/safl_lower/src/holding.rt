@@ -1,7 +1,7 @@
 //! Which terms hold calls.
 
 ghost use Rattle.std.specs.Prelude.{◌≡◌};
-ghost use Rattle.safl_term.specs.Tree.{tree, forest};
+ghost use Rattle.safl_term.specs.Tree.{shown_term, shown_terms};
 ghost use Rattle.safl_lower.specs.Typing.{holds_calls, hold_calls};
 
 use safl_term::Term;
@@ -9,7 +9,7 @@ use safl_term::Term;
 /// Whether a call or a tail call stands somewhere in the term.
 #[cycle(holding)]
 pub fn holds_calls(t: &Term) -> bool
-    ensures { result ≡ holds_calls (tree t.now) }
+    ensures { result ≡ holds_calls (shown_term t.now) }
 {
     match t {
         Term::Const(_) => false,
@@ -25,7 +25,7 @@ pub fn holds_calls(t: &Term) -> bool
 // Whether one of the terms does.
 #[cycle(holding)]
 fn hold_calls(ts: &[Term]) -> bool
-    ensures { result ≡ hold_calls (forest ts.now) }
+    ensures { result ≡ hold_calls (shown_terms ts.now) }
 {
     for t in ts {
         if holds_calls(t) {

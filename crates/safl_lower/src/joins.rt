@@ -2,7 +2,7 @@
 
 ghost use Rattle.std.specs.Prelude.{◌≡◌, ◌⊎◌, ◌==◌, true, ℕ, ◌<◌, ◌&&◌, not, cond, IfOk, OnOk};
 ghost use Rattle.safl_term.specs.Readiness.{or_else};
-ghost use Rattle.safl_term.specs.Tree.{tree};
+ghost use Rattle.safl_term.specs.Tree.{shown_term};
 ghost use Rattle.safl_net.specs.Names.{IsTidy};
 ghost use Rattle.safl_net.specs.Growth.{Val, Wired};
 ghost use Rattle.safl_net.specs.Bits.{on, gate};
@@ -44,8 +44,8 @@ pub fn branch_paths(
     ensures tidy { IsTidy net.new }
     ensures built { Builds net.old net.new 4 }
     ensures widths { IfOk result (λ p. IsSource net.new p.yes 1 × IsSource net.new p.no 1) }
-    ensures yes { IfOk result (λ p. holds_calls (tree yes.now) ≡ true → (v : Val) → Wired net.new v → on v p.yes ≡ ((on v path && is_ready v test.ready) && on v test.value)) }
-    ensures no { IfOk result (λ p. holds_calls (tree no.now) ≡ true → (v : Val) → Wired net.new v → on v p.no ≡ ((on v path && is_ready v test.ready) && not (on v test.value))) }
+    ensures yes { IfOk result (λ p. holds_calls (shown_term yes.now) ≡ true → (v : Val) → Wired net.new v → on v p.yes ≡ ((on v path && is_ready v test.ready) && on v test.value)) }
+    ensures no { IfOk result (λ p. holds_calls (shown_term no.now) ≡ true → (v : Val) → Wired net.new v → on v p.no ≡ ((on v path && is_ready v test.ready) && not (on v test.value))) }
 {
     match (holds_calls(yes), holds_calls(no)) {
         (false, false) => Ok(Paths {
@@ -81,7 +81,7 @@ pub fn body_path(net: &mut Net, path: Sig, bound: Readiness, body: &Term) -> Res
     ensures tidy { IsTidy net.new }
     ensures built { Builds net.old net.new 1 }
     ensures fits { IfOk result (λ s. IsSource net.new s 1) }
-    ensures value { IfOk result (λ s. holds_calls (tree body.now) ≡ true → (v : Val) → Wired net.new v → on v s ≡ (on v path && is_ready v bound)) }
+    ensures value { IfOk result (λ s. holds_calls (shown_term body.now) ≡ true → (v : Val) → Wired net.new v → on v s ≡ (on v path && is_ready v bound)) }
 {
     if holds_calls(body) {
         and_ready(net, path, bound)

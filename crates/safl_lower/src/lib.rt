@@ -10,8 +10,6 @@ mod primitives;
 mod ready;
 mod spread;
 mod terms;
-#[cfg(test)]
-mod tests;
 
 pub use crate::body::lower;
 pub use crate::parts::{Body, Ports, SitePorts};

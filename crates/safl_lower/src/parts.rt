@@ -11,10 +11,13 @@ pub struct SitePorts {
     pub value: Sig,
 }
 
-/// The ports of a body. Its sites are as many as `sites`, numbered from `first_site`; its function's group
-/// has `members` members, numbered from `first_member`, whose results have `width` bits.
+/// The ports of a body, which runs where `run` is 1, with its parameters on `args`. Its sites are as many as `sites`,
+/// numbered from `first_site`; its function's group has `members` members, numbered from `first_member`, whose results
+/// have `width` bits.
 #[derive(Drop)]
 pub struct Ports {
+    pub run: Sig,
+    pub args: Vec<Sig>,
     pub sites: Vec<SitePorts>,
     pub first_site: u32,
     pub members: u32,

@@ -1,7 +1,7 @@
 //! Terms as circuits.
 
 ghost use Rattle.std.specs.Prelude.{◌≡◌, ◌*◌, ◌<◌, IfOk, OnOk};
-ghost use Rattle.safl_term.specs.Tree.{tree, forest};
+ghost use Rattle.safl_term.specs.Tree.{shown_term, shown_terms};
 ghost use Rattle.safl_net.specs.Names.{IsTidy};
 ghost use Rattle.safl_net.specs.Growth.{Grows};
 ghost use Rattle.safl_lower.specs.Lowering.{Lowerable, LowerableAll, Lowers, LowersAll};
@@ -28,11 +28,11 @@ pub fn lower_term(
     t: &Term,
 ) -> Result<Lowered, NoMemory>
     requires tidy { IsTidy net.old }
-    requires able { Lowerable net.old ports.now slots.old.items path (tree t.now) }
+    requires able { Lowerable net.old ports.now slots.old.items path (shown_term t.now) }
     ensures tidy { IsTidy net.new }
     ensures kept { Grows net.old net.new }
     ensures slots { OnOk result (slots.new.items ≡ slots.old.items) }
-    ensures done { IfOk result (λ r. Lowers ports.now slots.old.items path net.old net.new out.old out.new r (tree t.now)) }
+    ensures done { IfOk result (λ r. Lowers ports.now slots.old.items path net.old net.new out.old out.new r (shown_term t.now)) }
 {
     match t {
         Term::Const(w) => {
@@ -97,11 +97,11 @@ fn lower_all(
     ts: &[Term],
 ) -> Result<LoweredAll, NoMemory>
     requires tidy { IsTidy net.old }
-    requires able { LowerableAll net.old ports.now slots.old.items path (forest ts.now) }
+    requires able { LowerableAll net.old ports.now slots.old.items path (shown_terms ts.now) }
     ensures tidy { IsTidy net.new }
     ensures kept { Grows net.old net.new }
     ensures slots { OnOk result (slots.new.items ≡ slots.old.items) }
-    ensures done { IfOk result (λ r. LowersAll ports.now slots.old.items path net.old net.new out.old out.new r (forest ts.now)) }
+    ensures done { IfOk result (λ r. LowersAll ports.now slots.old.items path net.old net.new out.old out.new r (shown_terms ts.now)) }
 {
     let mut values = Vec::new(alloc);
     let mut ready = Readiness::Always;

@@ -5,8 +5,6 @@ pub mod cell;
 pub mod laws;
 pub mod names;
 pub mod net;
-#[cfg(test)]
-mod tests;
 pub mod widths;
 
 pub use crate::cell::{Cell, Op, Sig, SigKind, WidthsDiffer};

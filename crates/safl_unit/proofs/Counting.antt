@@ -6,10 +6,9 @@ use Rattle.std.proofs.lemmas.List.Sums.{sum_by_push}
 use Rattle.safl_word.specs.Words.{no_word}
 use Rattle.safl_term.specs.declared.checked.Function.{Function}
 use Rattle.safl_term.specs.Checked.{CheckedProgram, IsChecked, program_of}
-use Rattle.safl_term.specs.Terms.{Term, Terms, Const, Var, Op, If, Let, Call, Loop, Nil, Cons}
-use Rattle.safl_term.specs.Tree.{tree}
-use Rattle.safl_term.specs.Sizes as sizes
-use Rattle.safl_lower.specs.Typing as typed
+use Rattle.safl_term.specs.Terms.{Term, Const}
+use Rattle.safl_term.specs.Tree.{shown_term}
+use Rattle.safl_term.specs.Sizes.{nodes}
 use Rattle.safl_circuit.specs.Equations.{Choice}
 use Rattle.safl_circuit.specs.Names.{names_of}
 use Rattle.safl_circuit.specs.Layout.{lines, site_lines, unit_lines, function_wires, site_wires, layout_inputs, layout_registers, layout_wires}
@@ -24,49 +23,25 @@ use Rattle.safl_unit.proofs.Lining.{there}
 
 -- ---- the terms of the bodies
 
-mutual
-  same_nodes : (t : Term) → typed.nodes t ≡ sizes.nodes t
-  same_nodes (Const w) = refl
-  same_nodes (Var i) = refl
-  same_nodes (Op p ts) = let a = same_in ts in omega (arith, a)
-  same_nodes (If x y z) =
-      let a = same_nodes x in
-      let b = same_nodes y in
-      let d = same_nodes z in
-      omega (arith, a, b, d)
-  same_nodes (Let ts b) =
-      let a = same_in ts in
-      let d = same_nodes b in
-      omega (arith, a, d)
-  same_nodes (Call f k ts) = let a = same_in ts in omega (arith, a)
-  same_nodes (Loop g ts) = let a = same_in ts in omega (arith, a)
-
-  same_in : (ts : Terms) → typed.nodes_in ts ≡ sizes.nodes_in ts
-  same_in Nil = refl
-  same_in (Cons t ts) =
-      let a = same_nodes t in
-      let b = same_in ts in
-      omega (arith, a, b)
-
-body_is : (c : CheckedProgram) (n : ℕ) (x : Function) → slice_get c.functions n ≡ Some x → (program_of c).body n ≡ tree x.body
+body_is : (c : CheckedProgram) (n : ℕ) (x : Function) → slice_get c.functions n ≡ Some x → (program_of c).body n ≡ shown_term x.body
 unfolding program_of
-body_is c n x e = ap (λ o. option_map_or (λ (f : Function). tree f.body) o (Const no_word)) e
+body_is c n x e = ap (λ o. option_map_or (λ (f : Function). shown_term f.body) o (Const no_word)) e
 
-nodes_below : (c : CheckedProgram) (n : ℕ) → n ≤ length c.functions → body_nodes (program_of c) n ≡ sum_by (λ (f : Function). sizes.nodes (tree f.body)) (take n c.functions)
+nodes_below : (c : CheckedProgram) (n : ℕ) → n ≤ length c.functions → body_nodes (program_of c) n ≡ sum_by (λ (f : Function). nodes (shown_term f.body)) (take n c.functions)
 unfolding body_nodes
 nodes_below c zero l = refl
 nodes_below c (suc n) l =
     let x = there c.functions n (length c.functions) refl (omega (arith, l)) in
     let a = nodes_below c n (omega (arith, l)) in
-    let b = ap typed.nodes (body_is c n x.0 x.1) ∙ same_nodes (tree x.0.body) in
-    let d = ap (sum_by (λ (f : Function). sizes.nodes (tree f.body))) (take_next c.functions n x.0 x.1) ∙ sum_by_push (λ (f : Function). sizes.nodes (tree f.body)) (take n c.functions) x.0 in
+    let b = ap nodes (body_is c n x.0 x.1) in
+    let d = ap (sum_by (λ (f : Function). nodes (shown_term f.body))) (take_next c.functions n x.0 x.1) ∙ sum_by_push (λ (f : Function). nodes (shown_term f.body)) (take n c.functions) x.0 in
     omega (arith, a, b, d)
 
 pub few_nodes : (c : CheckedProgram) → IsChecked c → body_nodes (program_of c) (program_of c).functions ≤ 50000
 unfolding program_of
 few_nodes c h =
     let a = nodes_below c (length c.functions) (omega arith) in
-    let b = ap (sum_by (λ (f : Function). sizes.nodes (tree f.body))) (take_whole c.functions (length c.functions) (omega arith)) in
+    let b = ap (sum_by (λ (f : Function). nodes (shown_term f.body))) (take_whole c.functions (length c.functions) (omega arith)) in
     let d = h.limits.nodes in
     omega (arith, a, b, d)
 

@@ -57,9 +57,6 @@ module _ {a b : Netlist} {most : ℕ} (h : Builds a b most) where
   pub cycle_before : {C : Program} {P : Choice} {p : Pins} {v : Val} {r : Registers} {i : Inputs} → Cycle C P b p v r i → Cycle C P a p v r i
   cycle_before c = record { wired = wired_before h.grows c.wired; start = c.start; words = c.words; bank = c.bank }
 
-  pub cycles_kept : (C : Program) (P : Choice) (p : Pins) (Q : Val → Registers → Inputs → Type 0) → InEachCycle C P a p Q → InEachCycle C P b p Q
-  cycles_kept C P p Q q = λ v r i c. q v r i (cycle_before c)
-
   -- ---- the parts
 
   pub returns_kept : {C : Program} {P : Choice} {p : Pins} {s : Returns} → HasReturns C P a p s → HasReturns C P b p s
@@ -113,14 +110,4 @@ module _ {a b : Netlist} {most : ℕ} (h : Builds a b most) where
     wants = λ k l m. source_kept h (q.wants k l m);
     rets = λ k l m. source_kept h (q.rets k l m);
     goes = λ k l. source_kept h (q.goes k l);
-  }
-
-  pub controls_kept : {C : Program} {P : Choice} {p : Pins} {T : Controls} → HasControls C P a p T → HasControls C P b p T
-  controls_kept q = record {
-    fits = controls_fit_kept q.fits;
-    ends = λ v r i c. q.ends v r i (cycle_before c);
-    loops = λ v r i c. q.loops v r i (cycle_before c);
-    wants = λ v r i c. q.wants v r i (cycle_before c);
-    rets = λ v r i c. q.rets v r i (cycle_before c);
-    goes = λ v r i c. q.goes v r i (cycle_before c);
   }

@@ -48,23 +48,6 @@ no_site_zero C P ss = by (slice_get ss 0)
 
 -- ---- the registers
 
-module _ (C : Program) (D : Names) (f : ℕ) (u : UnitPins) (xs : List Sig) where
-  abbrev three : Bool → List Tie
-  three b = cond b (((of_function D (codes "run$") f, 1), u.run) ∷ ((of_function D (codes "fin$") f, 1), u.fin) ∷ ((of_function D (codes "res$") f, C.result f), u.res) ∷ []) []
-
-  pub unit_skipped : (C.unit f ≡ f → ⊥) → xs ≡ xs ++ map sig_of (unit_ties C D f (Some u))
-  unit_skipped other = sym (append-nil xs) ∙ ap (λ b. xs ++ map sig_of (three b)) (sym (ne_eqb (C.unit f) f other))
-
-  pub unit_listed : C.unit f ≡ f → xs ++ (u.run ∷ u.fin ∷ u.res ∷ []) ≡ xs ++ map sig_of (unit_ties C D f (Some u))
-  unit_listed own = ap (λ b. xs ++ map sig_of (three b)) (sym (eq-eqb (C.unit f) f own))
-
-module _ (C : Program) (D : Names) (f : ℕ) (s : Sig) (xs : List Sig) where
-  pub at_skipped : many C f ≡ false → xs ≡ xs ++ map sig_of (at_ties C D f s)
-  at_skipped e = sym (append-nil xs) ∙ ap (λ b. xs ++ map sig_of (cond b (((of_function D (codes "at$") f, 1), s) ∷ []) [])) (sym e)
-
-  pub at_listed : many C f ≡ true → xs ++ s ∷ [] ≡ xs ++ map sig_of (at_ties C D f s)
-  at_listed e = ap (λ b. xs ++ map sig_of (cond b (((of_function D (codes "at$") f, 1), s) ∷ []) [])) (sym e)
-
 pub function_listed : (c : CheckedProgram) (us : List UnitPins) (ms : List MemberPins) (f : ℕ) (u : UnitPins) (m : MemberPins) (xs a b e : List Sig)
     → slice_get us f ≡ Some u → slice_get ms f ≡ Some m → length m.args.items ≡ length ((program_of c).params f)
     → a ≡ xs ++ map sig_of (unit_ties (program_of c) (names_of c) f (Some u)) → b ≡ a ++ map sig_of (at_ties (program_of c) (names_of c) f m.at) → e ≡ b ++ m.args.items
@@ -86,21 +69,6 @@ function_listed c us ms f u m xs a b e atu atm long ea eb ee =
     ∙ ap (λ o. map sig_of (unit_ties C D f o ++ member_ties C D f (Some m))) (sym atu)
     ∙ ap (λ o. map sig_of (unit_ties C D f (slice_get us f) ++ member_ties C D f o)) (sym atm))
 
-module _ (C : Program) (P : Choice) (k : ℕ) (ss : List SitePins) (s : SitePins) (xs : List Sig) (pos : 1 ≤ k) (at : slice_get ss k ≡ Some s) where
-  abbrev site_three : Bool → Bool → List Tie
-  site_three a b = cond a (((of_site (codes "sent$") k, 1), s.sent) ∷ ((of_site (codes "got$") k, 1), s.got) ∷ cond b (((of_site (codes "keep$") k, C.result (C.callee k)), s.keep) ∷ []) []) []
-
-  site_is : (b : Bool) → P.kept k ≡ b → map sig_of (site_three true b) ≡ map sig_of (site_ties C P ss k)
-  site_is b e =
-      ap (λ t. map sig_of (site_three t b)) (sym (lt-ltb 0 k (omega (arith, pos)))) ∙ ap (λ t. map sig_of (site_three (nat_lt 0 k) t)) (sym e)
-      ∙ ap (λ o. map sig_of (call_registers C P k o)) (sym at)
-
-  pub site_kept_listed : P.kept k ≡ true → xs ++ (s.sent ∷ s.got ∷ s.keep ∷ []) ≡ xs ++ map sig_of (site_ties C P ss k)
-  site_kept_listed e = ap (λ l. xs ++ l) (site_is true e)
-
-  pub site_listed : P.kept k ≡ false → xs ++ (s.sent ∷ s.got ∷ []) ≡ xs ++ map sig_of (site_ties C P ss k)
-  site_listed e = ap (λ l. xs ++ l) (site_is false e)
-
 pub registers_listed : (C : Program) (D : Names) (P : Choice) (b : Bank) (k : ℕ) (xs : List Sig) → k ≡ suc C.sites → xs ≡ map sig_of (own_ties C D b) ++ map sig_of (ties (site_ties C P b.sites.items) k)
     → xs ≡ map sig_of (register_ties C D P b)
 registers_listed C D P b k xs e q =
@@ -111,28 +79,6 @@ registers_listed C D P b k xs e q =
 pub body_listed : (D : Names) (T : Controls) (f : ℕ) (x y : Sig) (xs a b : List Sig) → x ≡ pin T.ends.items f → y ≡ pin T.loops.items f → a ≡ xs ++ x ∷ [] → b ≡ a ++ y ∷ [] → b ≡ xs ++ map sig_of (body_ties D T f)
 body_listed D T f x y xs a b ex ey ea eb =
     eb ∙ ap (λ l. l ++ y ∷ []) ea ∙ append_assoc xs (x ∷ []) (y ∷ []) ∙ ap (λ z. xs ++ (z ∷ y ∷ [])) ex ∙ ap (λ z. xs ++ (pin T.ends.items f ∷ z ∷ [])) ey
-
-module _ (C : Program) (P : Choice) (first : ℕ) (T : Controls) (k : ℕ) (x y z : Sig) (xs : List Sig) (pos : 1 ≤ k) (ex : x ≡ pin T.wants.items k) (ey : y ≡ pin T.rets.items k) where
-  abbrev call_four : Bool → Bool → List Tie
-  call_four a b =
-      cond a
-      (((of_site (codes "want$") k, 1), pin T.wants.items k)
-      ∷ ((of_site (codes "ret$") k, 1), pin T.rets.items k)
-      ∷ (cond b (((of_site (codes "arb$") k, 1), pin T.goes.items k) ∷ []) []
-      ++ ((of_site (codes "go$") k, 1), cond b (pin T.goes.items k) (record { 0 = want_wire C P first k }))
-      ∷ []))
-      []
-
-  call_is : (b : Bool) → P.arbiter (unit_for C k) ≡ b → map sig_of (call_four true b) ≡ map sig_of (call_ties C P first T k)
-  call_is b e = ap (λ t. map sig_of (call_four t b)) (sym (lt-ltb 0 k (omega (arith, pos)))) ∙ ap (λ t. map sig_of (call_four (nat_lt 0 k) t)) (sym e)
-
-  pub call_granted : z ≡ pin T.goes.items k → P.arbiter (unit_for C k) ≡ true → xs ++ (x ∷ y ∷ z ∷ z ∷ []) ≡ xs ++ map sig_of (call_ties C P first T k)
-  call_granted ez e =
-      ap (λ a. xs ++ (a ∷ y ∷ z ∷ z ∷ [])) ex ∙ ap (λ a. xs ++ (pin T.wants.items k ∷ a ∷ z ∷ z ∷ [])) ey ∙ ap (λ a. xs ++ (pin T.wants.items k ∷ pin T.rets.items k ∷ a ∷ a ∷ [])) ez ∙ ap (λ l. xs ++ l) (call_is true e)
-
-  pub call_direct : z.0 ≡ want_wire C P first k → P.arbiter (unit_for C k) ≡ false → xs ++ (x ∷ y ∷ z ∷ []) ≡ xs ++ map sig_of (call_ties C P first T k)
-  call_direct ez e =
-      ap (λ a. xs ++ (a ∷ y ∷ z ∷ [])) ex ∙ ap (λ a. xs ++ (pin T.wants.items k ∷ a ∷ z ∷ [])) ey ∙ ap (λ (a : ℕ). xs ++ (pin T.wants.items k ∷ pin T.rets.items k ∷ record { 0 = a } ∷ [])) ez ∙ ap (λ l. xs ++ l) (call_is false e)
 
 four_lines : (a b : Bool) (x y z w : Line) (r s t u : Sig) → map line_of (cond a ((x, r) ∷ (y, s) ∷ (cond b ((z, t) ∷ []) [] ++ (w, u) ∷ [])) []) ≡ cond a (x ∷ y ∷ (cond b (z ∷ []) [] ++ w ∷ [])) []
 four_lines true true x y z w r s t u = refl

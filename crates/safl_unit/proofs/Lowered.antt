@@ -21,7 +21,8 @@ use Rattle.safl_lower.specs.declared.parts.Ports.{Ports}
 use Rattle.safl_lower.specs.declared.parts.Body.{Body}
 use Rattle.safl_net.specs.Bits.{on, gate}
 use Rattle.safl_lower.specs.Rows.{to_member, RowFits}
-use Rattle.safl_lower.specs.Typing.{Owner, nodes}
+use Rattle.safl_term.specs.Sizes.{nodes}
+use Rattle.safl_lower.specs.Typing.{Owner}
 use Rattle.safl_lower.specs.Lowering.{back_of, sent_of, port_of, returned_word, was_sent, goes_of, Setting}
 use Rattle.safl_lower.specs.Bodies.{IsBody, CanLower, Bodies}
 use Rattle.safl_lower.proofs.FromProgram.{one_width}
@@ -133,8 +134,8 @@ module _ (c : CheckedProgram) (h : IsChecked c) (f : ℕ) (l : f < (program_of c
         let b = ports.last in
         fits.port (q.first_site + i) x (own_least (q.first_site + i) (omega (arith, a))) (own_most (q.first_site + i) (omega (arith, b, m))) (sym (ports.sites i m) ∙ e)
 
-    pub body_setting : (n : Netlist) (run : Sig) (args : List Sig) → ReturnsFit (program_of c) n s → IsSource n run 1 → AreSources n args ((program_of c).params f) → Setting n (owner c f) q args ((program_of c).params f) run
-    body_setting n run args fits bit sources = record {
+    pub body_setting : (n : Netlist) → ReturnsFit (program_of c) n s → IsSource n q.run 1 → AreSources n q.args.items ((program_of c).params f) → Setting n (owner c f) q q.args.items ((program_of c).params f) q.run
+    body_setting n fits bit sources = record {
       path_bit = bit;
       slots_sized = sources;
       first = ports.first;
@@ -146,9 +147,9 @@ module _ (c : CheckedProgram) (h : IsChecked c) (f : ℕ) (l : f < (program_of c
     }
 
     -- what the body gives are sources
-    pub body_sources : (n m : Netlist) (run : Sig) (args : List Sig) (b : Body) → ReturnsFit (program_of c) n s → IsSource n run 1 → AreSources n args ((program_of c).params f) → Bodies q args run n m b ((program_of c).body f) → BodySources c m f b
-    body_sources n m run args b fits bit sources done =
-        let k = done.fits (owner c f) ((program_of c).params f) ((program_of c).result f) (body_setting n run args fits bit sources) own_body in
+    pub body_sources : (n m : Netlist) (b : Body) → ReturnsFit (program_of c) n s → IsSource n q.run 1 → AreSources n q.args.items ((program_of c).params f) → Bodies q n m b ((program_of c).body f) → BodySources c m f b
+    body_sources n m b fits bit sources done =
+        let k = done.fits (owner c f) ((program_of c).params f) ((program_of c).result f) (body_setting n fits bit sources) own_body in
         record {
           ends = k.ends;
           value = k.value;
@@ -174,44 +175,44 @@ module _ (c : CheckedProgram) (h : IsChecked c) (f : ℕ) (l : f < (program_of c
       stands_is : (k : ℕ) → Stands k ((program_of c).body f) → back_of v q k ≡ on_wires (program_of c) P r k
       stands_is k st = let w = stands_within (program_of c) f true (first_site_of c f) (first_site_of c (suc f)) ((program_of c).body f) k (h.own_sites f l) st in back_is k w.above w.below
 
-      module _ (args : List Sig) (own : words v args ≡ r.arg f) where
-        answer_is : answer (back_of v q) (words v args) ((program_of c).body f) ≡ answer (on_wires (program_of c) P r) (r.arg f) ((program_of c).body f)
+      module _ (own : words v q.args.items ≡ r.arg f) where
+        answer_is : answer (back_of v q) (words v q.args.items) ((program_of c).body f) ≡ answer (on_wires (program_of c) P r) (r.arg f) ((program_of c).body f)
         answer_is = ap (λ (e : List Word). answer (back_of v q) e ((program_of c).body f)) own ∙ answer_local (back_of v q) (on_wires (program_of c) P r) (r.arg f) ((program_of c).body f) stands_is
 
-        wanted_is : (k : ℕ) → wanted (back_of v q) (words v args) ((program_of c).body f) k ≡ wanted (on_wires (program_of c) P r) (r.arg f) ((program_of c).body f) k
+        wanted_is : (k : ℕ) → wanted (back_of v q) (words v q.args.items) ((program_of c).body f) k ≡ wanted (on_wires (program_of c) P r) (r.arg f) ((program_of c).body f) k
         wanted_is k = ap (λ (e : List Word). wanted (back_of v q) e ((program_of c).body f) k) own ∙ wanted_local (back_of v q) (on_wires (program_of c) P r) (r.arg f) ((program_of c).body f) k stands_is
 
-        module _ (run : Sig) (runs : on v run ≡ path (program_of c) r f) where
-          says_is : (g : Bool → Answer → Option (List Word)) → g (on v run) (answer (back_of v q) (words v args) ((program_of c).body f)) ≡ g (path (program_of c) r f) (answer (on_wires (program_of c) P r) (r.arg f) ((program_of c).body f))
-          says_is g = ap (λ b. g b (answer (back_of v q) (words v args) ((program_of c).body f))) runs ∙ ap (g (path (program_of c) r f)) answer_is
+        module _ (runs : on v q.run ≡ path (program_of c) r f) where
+          says_is : (g : Bool → Answer → Option (List Word)) → g (on v q.run) (answer (back_of v q) (words v q.args.items) ((program_of c).body f)) ≡ g (path (program_of c) r f) (answer (on_wires (program_of c) P r) (r.arg f) ((program_of c).body f))
+          says_is g = ap (λ b. g b (answer (back_of v q) (words v q.args.items) ((program_of c).body f))) runs ∙ ap (g (path (program_of c) r f)) answer_is
 
-          ends_are : gate (on v run) (word_of (answer (back_of v q) (words v args) ((program_of c).body f))) ≡ end_word (program_of c) P r f
+          ends_are : gate (on v q.run) (word_of (answer (back_of v q) (words v q.args.items) ((program_of c).body f))) ≡ end_word (program_of c) P r f
           unfolding body_says
           ends_are =
-              ap (λ b. gate b (word_of (answer (back_of v q) (words v args) ((program_of c).body f)))) runs
+              ap (λ b. gate b (word_of (answer (back_of v q) (words v q.args.items) ((program_of c).body f)))) runs
               ∙ ap (λ a. gate (path (program_of c) r f) (word_of a)) answer_is
               ∙ gate_says (path (program_of c) r f) (answer (on_wires (program_of c) P r) (r.arg f) ((program_of c).body f))
 
-          goes_are : (g : ℕ) → gate (on v run) (to_member g (goes_of (answer (back_of v q) (words v args) ((program_of c).body f)))) ≡ goes_to g (body_says (program_of c) P r f)
+          goes_are : (g : ℕ) → gate (on v q.run) (to_member g (goes_of (answer (back_of v q) (words v q.args.items) ((program_of c).body f)))) ≡ goes_to g (body_says (program_of c) P r f)
           unfolding body_says
           goes_are g =
               says_is (λ b a. gate b (to_member g (goes_of a)))
               ∙ gate_goes (path (program_of c) r f) g (answer (on_wires (program_of c) P r) (r.arg f) ((program_of c).body f))
 
           wants_are : (k : ℕ) → first_site_of c f ≤ k → k < first_site_of c (suc f)
-              → gate (on v run && not (sent_of v q k)) (wanted (back_of v q) (words v args) ((program_of c).body f) k) ≡ body_wants (program_of c) P r k
+              → gate (on v q.run && not (sent_of v q k)) (wanted (back_of v q) (words v q.args.items) ((program_of c).body f) k) ≡ body_wants (program_of c) P r k
           unfolding body_wants
           wants_are k a b =
               let own = spans_caller (program_of c) f true (first_site_of c f) (first_site_of c (suc f)) ((program_of c).body f) k (h.own_sites f l) a b in
               let m = own_most k b in
-              ap (λ x. gate (x && not (sent_of v q k)) (wanted (back_of v q) (words v args) ((program_of c).body f) k)) runs
-              ∙ ap (λ x. gate (path (program_of c) r f && not x) (wanted (back_of v q) (words v args) ((program_of c).body f) k)) (sent_is k a b)
+              ap (λ x. gate (x && not (sent_of v q k)) (wanted (back_of v q) (words v q.args.items) ((program_of c).body f) k)) runs
+              ∙ ap (λ x. gate (path (program_of c) r f && not x) (wanted (back_of v q) (words v q.args.items) ((program_of c).body f) k)) (sent_is k a b)
               ∙ ap (λ x. gate (path (program_of c) r f && not (r.sent k)) x) (wanted_is k)
               ∙ gate_wants (path (program_of c) r f) (r.sent k) (nat_le k (program_of c).sites) (wanted (on_wires (program_of c) P r) (r.arg f) ((program_of c).body f) k) (le-leb k (program_of c).sites m)
               ∙ ap (λ j. cond (not (r.sent k) && nat_le k (program_of c).sites) (cond (path (program_of c) r j) (wanted (on_wires (program_of c) P r) (r.arg j) ((program_of c).body j) k) None) None) (sym own)
 
           -- the body shows what the equations say
-          pub body_shows : (n m : Netlist) (b : Body) → Wired m v → Bodies q args run n m b ((program_of c).body f) → BodyShows c P f b v r
+          pub body_shows : (n m : Netlist) (b : Body) → Wired m v → Bodies q n m b ((program_of c).body f) → BodyShows c P f b v r
           body_shows n m b w done = record {
             ends = done.ends v w ∙ ends_are;
             wants = λ i below.
@@ -233,36 +234,33 @@ module _ (c : CheckedProgram) (h : IsChecked c) (f : ℕ) (l : f < (program_of c
 
 -- ---- all that a body is
 
-module _ (c : CheckedProgram) (h : IsChecked c) (P : Choice) (f : ℕ) (l : f < (program_of c).functions) (n0 n1 : Netlist) (p : Pins) (s : Returns) (q : Ports) (run : Sig) (m : MemberPins) (args : List Sig) (t : Term)
-    (built : Builds n0 n1 1) (fits : PinsFit (program_of c) n0 p) (returns : HasReturns (program_of c) P n0 p s) (bit : IsSource n1 run 1) (runs : InEachCycle (program_of c) P n1 p (λ v r i. on v run ≡ path (program_of c) r f))
-    (ports : ArePorts c s.ports.items f q) (member : slice_get p.bank.members.items f ≡ Some m) (own : args ≡ m.args.items) (is : t ≡ (program_of c).body f) where
+module _ (c : CheckedProgram) (h : IsChecked c) (P : Choice) (f : ℕ) (l : f < (program_of c).functions) (n0 n1 : Netlist) (p : Pins) (s : Returns) (q : Ports) (m : MemberPins)
+    (built : Builds n0 n1 1) (fits : PinsFit (program_of c) n0 p) (returns : HasReturns (program_of c) P n0 p s) (bit : IsSource n1 q.run 1) (runs : InEachCycle (program_of c) P n1 p (λ v r i. on v q.run ≡ path (program_of c) r f))
+    (ports : ArePorts c s.ports.items f q) (member : slice_get p.bank.members.items f ≡ Some m) (own : q.args.items ≡ m.args.items) where
   returns_fit : ReturnsFit (program_of c) n1 s
   returns_fit = (returns_kept built returns).fits
 
-  args_fit : AreSources n1 args ((program_of c).params f)
+  args_fit : AreSources n1 q.args.items ((program_of c).params f)
   args_fit = subst (λ xs. AreSources n1 xs ((program_of c).params f)) (sym own) (sources_kept built (fits.bank.members f m member).args)
 
-  pub body_able : HasRoom n0 (32 * nodes ((program_of c).body f) + 33) → CanLower n1 q args run t
+  pub body_able : HasRoom n0 (32 * nodes ((program_of c).body f) + 33) → CanLower n1 q ((program_of c).body f)
   body_able room = record {
     owner = owner c f;
     env = (program_of c).params f;
     width = (program_of c).result f;
-    setting = body_setting c h f l s q ports n1 run args returns_fit bit args_fit;
-    body = subst (λ x. IsBody (owner c f) ((program_of c).params f) x ((program_of c).result f)) (sym is) (own_body c h f l);
-    room = let a = built.count in let e = ap nodes is in omega (arith, a, e, room);
+    setting = body_setting c h f l s q ports n1 returns_fit bit args_fit;
+    body = own_body c h f l;
+    room = let a = built.count in omega (arith, a, room);
   }
 
   module _ (n2 : Netlist) where
-    given_of : (b : Body) → Bodies q args run n1 n2 b t → Bodies q args run n1 n2 b ((program_of c).body f)
-    given_of b done = subst (λ x. Bodies q args run n1 n2 b x) is done
-
-    body_built : (b : Body) → Bodies q args run n1 n2 b t → Builds n0 n2 (32 * nodes ((program_of c).body f) + 33)
+    body_built : (b : Body) → Bodies q n1 n2 b ((program_of c).body f) → Builds n0 n2 (32 * nodes ((program_of c).body f) + 33)
     body_built b done =
-        builds_within (32 * nodes ((program_of c).body f) + 33) (builds_on built (given_of b done).built) (omega arith)
+        builds_within (32 * nodes ((program_of c).body f) + 33) (builds_on built done.built) (omega arith)
 
-    has_body : (b : Body) → Bodies q args run n1 n2 b t → HasBody c P n2 p f b
+    has_body : (b : Body) → Bodies q n1 n2 b ((program_of c).body f) → HasBody c P n2 p f b
     has_body b done =
-        let k = given_of b done in
+        let k = done in
         let w = k.wants_length in
         let a = k.site_args_length in
         let x = k.loops_length in
@@ -280,18 +278,18 @@ module _ (c : CheckedProgram) (h : IsChecked c) (P : Choice) (f : ℕ) (l : f < 
           members = λ g o e. let z = ports.members g o e in let z0 = z.0 in let z1 = z.1 in (omega (arith, z0, unit), omega (arith, z1, unit, x));
           zero_off = k.zero_off;
           tails = k.tails (owner c f) ((program_of c).params f) ((program_of c).result f) (own_body c h f l);
-          fits = body_sources c h f l s q ports n1 n2 run args b returns_fit bit args_fit k;
+          fits = body_sources c h f l s q ports n1 n2 b returns_fit bit args_fit k;
           shows = λ v r i y.
               let y1 = cycle_before k.built y in
               let y0 = cycle_before built y1 in
-              body_shows c h f l s q ports P v r (returns.shows v r i y0) args (ap (words v) own ∙ (y0.bank.members f m member).arg) run (runs v r i y1) n1 n2 b y.wired k;
+              body_shows c h f l s q ports P v r (returns.shows v r i y0) (ap (words v) own ∙ (y0.bank.members f m member).arg) (runs v r i y1) n1 n2 b y.wired k;
         }
 
     -- the same of a result
-    pub all_built : {E : Type 0} (r : Result Body E) → IfOk r (λ b. Bodies q args run n1 n2 b t) → OnOk r (Builds n0 n2 (32 * nodes ((program_of c).body f) + 33))
+    pub all_built : {E : Type 0} (r : Result Body E) → IfOk r (λ b. Bodies q n1 n2 b ((program_of c).body f)) → OnOk r (Builds n0 n2 (32 * nodes ((program_of c).body f) + 33))
     all_built (Ok b) done = body_built b done
     all_built (Err e) done = tt
 
-    pub all_has : {E : Type 0} (r : Result Body E) → IfOk r (λ b. Bodies q args run n1 n2 b t) → IfOk r (λ b. HasBody c P n2 p f b)
+    pub all_has : {E : Type 0} (r : Result Body E) → IfOk r (λ b. Bodies q n1 n2 b ((program_of c).body f)) → IfOk r (λ b. HasBody c P n2 p f b)
     all_has (Ok b) done = has_body b done
     all_has (Err e) done = tt

@@ -72,12 +72,6 @@ module _ (c : CheckedProgram) where
         lone = lone;
       }
 
-  pub function_added : (f : ℕ) (n a b e : Netlist) → a ≡ with_signals n (map open_register (unit_head C D f)) → b ≡ with_signals a (map open_register (at_line C D f))
-      → e ≡ with_signals b (map open_register (argument_lines C D f)) → e ≡ with_signals n (map open_register (function_lines C D f))
-  function_added f n a b e ea eb ee =
-      lines_on n a e open_register (unit_head C D f) (at_line C D f ++ argument_lines C D f) ea
-      (lines_on a b e open_register (at_line C D f) (argument_lines C D f) eb ee)
-
   few_at : (b : Bool) (l : Line) → length (cond b (l ∷ []) []) ≤ 1
   few_at true l = omega arith
   few_at false l = omega arith

@@ -9,7 +9,7 @@ use Rattle.safl_net.specs.Growth.{Val, words}
 use Rattle.safl_net.specs.Bits.{on, gate}
 use Rattle.safl_net.specs.Netlist.{Netlist}
 use Rattle.safl_lower.specs.Rows.{given, Untaken, tail_cost}
-use Rattle.safl_lower.specs.Typing.{nodes}
+use Rattle.safl_term.specs.Sizes.{nodes}
 use Rattle.safl_gates.specs.declared.loads.Load.{Load}
 use Rattle.safl_gates.specs.Sources.{IsSource, AreSources, Builds}
 use Rattle.safl_gates.specs.Tables.{EachAt, taken_from, LoadFits}
@@ -69,9 +69,6 @@ tail_upto z (x ∷ ls) (y ∷ rows) zero = omega arith
 tail_upto z (x ∷ ls) (y ∷ rows) (suc i) = let h = tail_upto z ls rows i in omega (arith, h)
 
 -- ---- calls
-
-pub no_rows : (bits : List Sig) (args : List (Vec Sig Global)) (old new : List Load) → new ≡ old → AddsRows bits args old new
-no_rows bits args old new e = λ k x q. inl (ap (λ l. slice_get l k) (sym e) ∙ q)
 
 pub more_rows : (bits : List Sig) (args : List (Vec Sig Global)) (old mid new : List Load) (i : ℕ) (x : Load) (a : Vec Sig Global) → AddsRows bits args old mid → length mid ≡ length old + i
     → slice_get bits i ≡ Some x.bit → slice_get args i ≡ Some a → x.words.items ≡ a.items → new ≡ mid ++ x ∷ [] → AddsRows bits args old new

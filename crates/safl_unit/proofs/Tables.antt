@@ -1,5 +1,5 @@
 -- Entries of tables.
-use Rattle.std.proofs.Common.{◌≡◌, ℕ, zero, suc, ◌<◌, List, [], ◌∷◌, ◌++◌, length, Some, slice_get, inl, inr, refl, sym, subst, arith}
+use Rattle.std.proofs.Common.{◌≡◌, ℕ, zero, suc, ◌<◌, List, [], ◌∷◌, ◌++◌, length, Some, slice_get, slice_index_or, inl, inr, refl, sym, subst, arith}
 use Rattle.std.proofs.lemmas.Option.{slice_get-get_or, get_or_from_slice_get}
 use Rattle.safl_net.specs.declared.cell.Sig.{Sig}
 use Rattle.safl_net.proofs.Naming.{pushed}
@@ -32,3 +32,7 @@ pin_is xs i s e = get_or_from_slice_get xs i s (record { 0 = 0 }) e
 
 pub pin_get : (xs : List Sig) (i : ℕ) → i < length xs → slice_get xs i ≡ Some (pin xs i)
 pin_get xs i l = slice_get-get_or xs i (record { 0 = 0 }) l
+
+-- an entry that is there is the same whatever stands for one that is not
+pub read_again : {A : Type 0} (xs : List A) (i : ℕ) (d : A) → i < length xs → slice_index_or xs i d ≡ slice_index_or xs i (slice_index_or xs i d)
+read_again xs i d l = sym (get_or_from_slice_get xs i (slice_index_or xs i d) (slice_index_or xs i d) (slice_get-get_or xs i d l))

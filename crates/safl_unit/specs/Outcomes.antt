@@ -11,7 +11,7 @@ use Rattle.safl_lower.specs.declared.parts.Ports.{Ports}
 use Rattle.safl_lower.specs.declared.parts.Body.{Body}
 use Rattle.safl_net.specs.Bits.{on, gate}
 use Rattle.safl_lower.specs.Rows.{given, Untaken, tail_cost}
-use Rattle.safl_lower.specs.Typing.{nodes}
+use Rattle.safl_term.specs.Sizes.{nodes}
 use Rattle.safl_circuit.specs.Equations.{Registers, Choice, end_word, body_wants, loop_from}
 use Rattle.safl_gates.specs.declared.loads.Load.{Load}
 use Rattle.safl_gates.specs.Sources.{IsSource}

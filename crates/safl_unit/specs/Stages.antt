@@ -7,7 +7,7 @@ use Rattle.safl_net.specs.Netlist.{Netlist}
 use Rattle.safl_net.specs.Growth.{Val}
 use Rattle.safl_lower.specs.declared.parts.SitePorts.{SitePorts}
 use Rattle.safl_net.specs.Bits.{on}
-use Rattle.safl_lower.specs.Typing.{nodes}
+use Rattle.safl_term.specs.Sizes.{nodes}
 use Rattle.safl_lower.specs.Lowering.{returned_word, was_sent}
 use Rattle.safl_circuit.specs.Equations.{Registers, Inputs, Choice, ret, on_wires, body_wants, end_word, loop_words, go, ends, loads, starts, clears, starts_it, starts_other, next}
 use Rattle.safl_gates.specs.declared.loads.Load.{Load}

@@ -3,6 +3,8 @@
 ghost use Rattle.std.specs.Prelude.{◌≡◌, ℕ, suc, ◌+◌, ◌*◌, ◌<◌, ◌≤◌, ◌==◌, ◌&&◌, ◌||◌, List, [], ◌∷◌, length, map, Option, Some, None, IfOk, OnOk, slice_get, is_some};
 ghost use Rattle.safl_term.specs.Checked.{IsChecked, program_of};
 ghost use Rattle.safl_term.specs.Program.{unit_for};
+ghost use Rattle.safl_sites.specs.Plan.{IsPlan};
+ghost use Rattle.safl_sites.specs.Planned.{arbiter_of, kept_of};
 ghost use Rattle.safl_net.specs.Names.{IsTidy};
 ghost use Rattle.safl_net.specs.Growth.{Val, Wired};
 ghost use Rattle.safl_net.specs.Bits.{on, gate};
@@ -12,11 +14,11 @@ ghost use Rattle.safl_gates.specs.Tables.{pin, taken_at, taken_from, on_in, on_f
 ghost use Rattle.safl_unit.specs.Stages.{OutcomesFit};
 ghost use Rattle.safl_unit.specs.Edges.{one_below, bit_of, operands_in, IsBare, ShowsBits, ShowsLoads};
 
-use crate::names::main_function;
 use crate::parts::Outcomes;
 use safl_gates::loads::{Load, add_bit, add_load};
 use safl_net::{Net, Sig};
 use safl_sites::Planned;
+use safl_term::Checked;
 use safl_word::NoMemory;
 use std::alloc::{AllocError, Global};
 
@@ -106,16 +108,16 @@ pub fn unit_clears(
     net: &mut Net,
     p: &Planned,
     outcomes: &Outcomes,
-    ends: &Vec<Option<Load>>,
+    ends: &[Option<Load>],
 ) -> Result<Vec<Option<Sig>>, NoMemory>
     requires tidy { IsTidy net.old }
     requires outcomes { OutcomesFit (program_of p.now.program) net.old outcomes.now }
-    requires count { length ends.now.items ≡ (program_of p.now.program).functions }
-    requires ends { (ws : ℕ → List ℕ) × SomeFit net.old ends.now.items ws }
+    requires count { length ends.now ≡ (program_of p.now.program).functions }
+    requires ends { (ws : ℕ → List ℕ) × SomeFit net.old ends.now ws }
     requires room { HasRoom net.old (program_of p.now.program).functions }
     ensures tidy { IsTidy net.new }
     ensures built { OnOk result (Builds net.old net.new (program_of p.now.program).functions) }
-    ensures done { IfOk result (λ bits. ShowsBits net.new bits.items (program_of p.now.program).functions (λ v u. is_some (taken_from v ends.now.items u) || one_below (λ h. (u == (program_of p.now.program).unit h) && is_some (taken_from v outcomes.now.loops.items h)) (program_of p.now.program).functions)) }
+    ensures done { IfOk result (λ bits. ShowsBits net.new bits.items (program_of p.now.program).functions (λ v u. is_some (taken_from v ends.now u) || one_below (λ h. (u == (program_of p.now.program).unit h) && is_some (taken_from v outcomes.now.loops.items h)) (program_of p.now.program).functions)) }
 {
     let functions = function_count(p);
     let mut all = load_bits(alloc, ends, functions)?;
@@ -133,16 +135,16 @@ pub fn function_entries(
     net: &mut Net,
     p: &Planned,
     outcomes: &Outcomes,
-    loads: &Vec<Option<Load>>,
+    loads: &[Option<Load>],
 ) -> Result<Vec<Option<Sig>>, NoMemory>
     requires tidy { IsTidy net.old }
     requires outcomes { OutcomesFit (program_of p.now.program) net.old outcomes.now }
-    requires count { length loads.now.items ≡ (program_of p.now.program).functions }
-    requires loads { (ws : ℕ → List ℕ) × SomeFit net.old loads.now.items ws }
+    requires count { length loads.now ≡ (program_of p.now.program).functions }
+    requires loads { (ws : ℕ → List ℕ) × SomeFit net.old loads.now ws }
     requires room { HasRoom net.old (program_of p.now.program).functions }
     ensures tidy { IsTidy net.new }
     ensures built { OnOk result (Builds net.old net.new (program_of p.now.program).functions) }
-    ensures done { IfOk result (λ bits. ShowsBits net.new bits.items (program_of p.now.program).functions (λ v f. is_some (taken_from v loads.now.items f) || one_below (λ h. (f == h) && is_some (taken_from v outcomes.now.loops.items h)) (program_of p.now.program).functions)) }
+    ensures done { IfOk result (λ bits. ShowsBits net.new bits.items (program_of p.now.program).functions (λ v f. is_some (taken_from v loads.now f) || one_below (λ h. (f == h) && is_some (taken_from v outcomes.now.loops.items h)) (program_of p.now.program).functions)) }
 {
     let functions = function_count(p);
     let mut all = load_bits(alloc, loads, functions)?;
@@ -153,12 +155,24 @@ pub fn function_entries(
     Ok(all)
 }
 
+/// The program of a plan.
+pub fn program(p: &Planned) -> &Checked
+    ensures same { result.now ≡ p.now.program }
+    ensures checked { IsChecked p.now.program }
+    ensures plan { IsPlan (program_of p.now.program) (arbiter_of p.now) (kept_of p.now) }
+{
+    let c = p.checked();
+    let functions = c.functions();
+    prove!(functions >= 1);
+    c
+}
+
 /// The number of functions.
 pub fn function_count(p: &Planned) -> u32
     ensures count { result ≡ (program_of p.now.program).functions }
     ensures checked { IsChecked p.now.program }
 {
-    p.checked().functions()
+    program(p).functions()
 }
 
 /// The number of sites.
@@ -166,9 +180,7 @@ pub fn site_count(p: &Planned) -> u32
     ensures count { result ≡ (program_of p.now.program).sites }
     ensures small { result ≤ 4000 }
 {
-    let c = p.checked();
-    let _functions = c.functions();
-    c.sites()
+    program(p).sites()
 }
 
 /// The unit of a function.
@@ -178,9 +190,7 @@ pub fn unit_of(p: &Planned, f: u32) -> u32
     ensures within { result ≤ f }
     ensures width { (program_of p.now.program).result result ≡ (program_of p.now.program).result f }
 {
-    let c = p.checked();
-    let _functions = c.functions();
-    c.unit(f)
+    program(p).unit(f)
 }
 
 /// The function that a site calls; site 0 is the call of main from outside.
@@ -189,12 +199,7 @@ pub fn callee_of(p: &Planned, k: u32) -> u32
     ensures number { result ≡ (program_of p.now.program).callee k }
     ensures within { result < (program_of p.now.program).functions }
 {
-    let c = p.checked();
-    let _functions = c.functions();
-    if k == 0 {
-        return main_function(c);
-    }
-    c.callee(k)
+    program(p).callee(k)
 }
 
 /// The function in whose body a site stands.
@@ -204,9 +209,7 @@ pub fn caller_of(p: &Planned, k: u32) -> u32
     ensures number { result ≡ (program_of p.now.program).caller k }
     ensures within { result < (program_of p.now.program).functions }
 {
-    let c = p.checked();
-    let _functions = c.functions();
-    c.caller(k)
+    program(p).caller(k)
 }
 
 /// So many bits, of which none is there.
@@ -244,11 +247,11 @@ pub fn load_bit(load: &Option<Load>) -> Option<Sig>
 // The bits of so many loads.
 fn load_bits(
     alloc: Global,
-    loads: &Vec<Option<Load>>,
+    loads: &[Option<Load>],
     count: u32,
 ) -> Result<Vec<Option<Sig>>, AllocError>
-    requires { length loads.now.items ≡ count }
-    ensures bits { IfOk result (λ bits. bits.items ≡ map bit_of loads.now.items) }
+    requires { length loads.now ≡ count }
+    ensures bits { IfOk result (λ bits. bits.items ≡ map bit_of loads.now) }
 {
     let mut bits = Vec::new(alloc);
     for i in 0..count {

@@ -1,13 +1,13 @@
 //! The circuits of all bodies, and what they come to.
 
 ghost use Rattle.std.specs.Prelude.{◌≡◌, ℕ, suc, ◌+◌, ◌*◌, ◌<◌, ◌≤◌, ◌&&◌, ◌==◌, ◌⊎◌, List, [], ◌∷◌, length, Some, None, false, cond, slice_get, IfOk, OnOk};
-ghost use Rattle.safl_term.specs.Checked.{program_of};
+ghost use Rattle.safl_term.specs.Checked.{IsChecked, program_of};
 ghost use Rattle.std.specs.Option.{option_or};
 ghost use Rattle.safl_net.specs.Names.{IsTidy};
 ghost use Rattle.safl_net.specs.Growth.{Val, words, Wired};
 ghost use Rattle.safl_net.specs.Bits.{on, gate};
 ghost use Rattle.safl_lower.specs.Rows.{Untaken, tail_cost};
-ghost use Rattle.safl_lower.specs.Typing.{nodes};
+ghost use Rattle.safl_term.specs.Sizes.{nodes};
 ghost use Rattle.safl_circuit.specs.Equations.{Choice, path};
 ghost use Rattle.safl_gates.specs.declared.loads.Load.{Load as load};
 ghost use Rattle.safl_gates.specs.Sources.{IsSource, AreSources, Builds, HasRoom};
@@ -16,6 +16,7 @@ ghost use Rattle.safl_unit.specs.Cycles.{choice_of, PinsFit, InEachCycle};
 ghost use Rattle.safl_unit.specs.Stages.{body_nodes, HasReturns, HasOutcomes};
 ghost use Rattle.safl_unit.specs.Outcomes.{ArePorts, RowsHave, HasBody, AddsRows, JoinsRows};
 
+use crate::arrivals::program;
 use crate::names::has_peers;
 use crate::parts::{Outcomes, Pins, Returns};
 use safl_gates::gates::both;
@@ -121,12 +122,11 @@ fn body_of(
     ensures built { OnOk result (Builds net.old net.new (32 * nodes ((program_of p.now.program).body f) + 33)) }
     ensures done { IfOk result (λ b. HasBody p.now.program (choice_of p.now) net.new pins.now f b) }
 {
-    let c = p.checked();
-    let _functions = c.functions();
+    let c = program(p);
     let run = body_path(net, c, f, pins)?;
-    let ports = body_ports(alloc, c, f, returns.ports.as_slice())?;
-    let args = &pins.bank.members[f as usize].args;
-    lower(alloc, net, &ports, run, args, c.body(f))
+    let args = Vec::from_slice(alloc, &pins.bank.members[f as usize].args)?;
+    let ports = body_ports(alloc, c, f, run, args, &returns.ports)?;
+    lower(alloc, c, f, net, &ports)
 }
 
 // The bit that a function's body runs.
@@ -148,19 +148,29 @@ fn body_path(net: &mut Net, c: &Checked, f: u32, pins: &Pins) -> Result<Sig, NoM
 }
 
 // The ports of a function's body.
-fn body_ports(alloc: Global, c: &Checked, f: u32, ports: &[SitePorts]) -> Result<Ports, AllocError>
+fn body_ports(
+    alloc: Global,
+    c: &Checked,
+    f: u32,
+    run: Sig,
+    args: Vec<Sig>,
+    ports: &[SitePorts],
+) -> Result<Ports, AllocError>
     requires function { f < (program_of c.now).functions }
     requires ports { length ports.now ≡ suc (program_of c.now).sites }
-    ensures { IfOk result (λ q. ArePorts c.now ports.now f q) }
+    ensures run { IfOk result (λ q. q.run ≡ run) }
+    ensures operands { IfOk result (λ q. q.args.items ≡ args.items) }
+    ensures sites { IfOk result (λ q. ArePorts c.now ports.now f q) }
 {
-    let _functions = c.functions();
+    let first_member = c.unit(f);
+    let members = group_end(c, f) - first_member;
     let first_site = c.first_site(f);
     let first = first_site as usize;
     let end = first + c.own_sites(f) as usize;
     let sites = Vec::from_slice(alloc, &ports[first..end])?;
-    let first_member = c.unit(f);
-    let members = group_end(c, f) - first_member;
     Ok(Ports {
+        run,
+        args,
         sites,
         first_site,
         members,
@@ -172,6 +182,7 @@ fn body_ports(alloc: Global, c: &Checked, f: u32, ports: &[SitePorts]) -> Result
 // The number of the function after a function's group.
 fn group_end(c: &Checked, f: u32) -> u32
     requires { f < (program_of c.now).functions }
+    ensures checked { IsChecked c.now }
     ensures above { f < result }
     ensures within { result ≤ (program_of c.now).functions }
     ensures inside { (h : ℕ) → (program_of c.now).unit f ≤ h → h < result → (program_of c.now).unit h ≡ (program_of c.now).unit f }

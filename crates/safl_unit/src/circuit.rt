@@ -69,8 +69,6 @@ pub fn compile(alloc: Global, p: &Planned) -> Result<Circuit, NoMemory>
 {
     circuit_law();
     plan_law();
-    let c = p.checked();
-    let _functions = c.functions();
     let declared = declare(alloc, p)?;
     let mut net = declared.net;
     let pins = declared.pins;
@@ -78,9 +76,10 @@ pub fn compile(alloc: Global, p: &Planned) -> Result<Circuit, NoMemory>
     let outcomes = lower_bodies(alloc, &mut net, p, &pins, &shown)?;
     let goes = grants(alloc, &mut net, p, &pins, &outcomes)?;
     let starts = goes.as_slice();
-    let next = edge(alloc, &mut net, p, &pins, &shown, &outcomes, &goes)?;
-    let copied = controls(alloc, &mut net, p, &pins, &shown, &outcomes, starts)?;
+    let next = edge(alloc, &mut net, p, &pins, &shown, &outcomes, starts)?;
+    let copied = controls(alloc, &mut net, &shown, &outcomes, starts)?;
     finish(alloc, &mut net, p, &pins, &next, &copied)?;
+    // its contract says that what the net shows is a netlist
     let _signals = net.signals();
     Ok(Circuit { net })
 }

@@ -1,19 +1,19 @@
 //! The signals that the named wires copy.
 
 ghost use Rattle.std.specs.Prelude.{◌≡◌, map, IfOk, OnOk};
-ghost use Rattle.safl_term.specs.Checked.{program_of};
+ghost use Rattle.safl_term.specs.Program.{Program};
 ghost use Rattle.safl_net.specs.Names.{IsTidy};
 ghost use Rattle.safl_gates.specs.Sources.{Builds, HasRoom};
 ghost use Rattle.safl_gates.specs.Tables.{load_bit, bit_or};
-ghost use Rattle.safl_unit.specs.Cycles.{choice_of, PinsFit};
+ghost use Rattle.safl_circuit.specs.Equations.{Choice};
+ghost use Rattle.safl_unit.specs.declared.parts.Pins.{Pins};
 ghost use Rattle.safl_unit.specs.Stages.{HasReturns, HasOutcomes, HasGoes};
 ghost use Rattle.safl_unit.specs.Finished.{HasControls};
 
-use crate::parts::{Controls, Outcomes, Pins, Returns};
+use crate::parts::{Controls, Outcomes, Returns};
 use safl_gates::gates::zero;
 use safl_gates::loads::Load;
 use safl_net::{Net, Sig};
-use safl_sites::Planned;
 use safl_word::NoMemory;
 use std::alloc::{AllocError, Global};
 
@@ -22,24 +22,16 @@ use std::alloc::{AllocError, Global};
 pub fn controls(
     alloc: Global,
     net: &mut Net,
-    p: &Planned,
-    pins: &Pins,
     returns: &Returns,
     outcomes: &Outcomes,
     goes: &[Sig],
 ) -> Result<Controls, NoMemory>
     requires tidy { IsTidy net.old }
-    requires pins { PinsFit (program_of p.now.program) net.old pins.now }
-    requires returns { HasReturns (program_of p.now.program) (choice_of p.now) net.old pins.now returns.now }
-    requires outcomes { HasOutcomes (program_of p.now.program) (choice_of p.now) net.old pins.now outcomes.now }
-    requires goes { HasGoes (program_of p.now.program) (choice_of p.now) net.old pins.now goes.now }
     requires room { HasRoom net.old 1 }
     ensures tidy { IsTidy net.new }
     ensures built { OnOk result (Builds net.old net.new 1) }
-    ensures done { IfOk result (λ t. HasControls (program_of p.now.program) (choice_of p.now) net.new pins.now t) }
+    ensures done { (C : Program) (P : Choice) (pins : Pins) → HasReturns C P net.old pins returns.now → HasOutcomes C P net.old pins outcomes.now → HasGoes C P net.old pins goes.now → IfOk result (λ t. HasControls C P net.new pins t) }
 {
-    let _ = &p;
-    let _ = &pins;
     let never = zero(net)?;
     let ends = bits_of(alloc, &outcomes.ends)?;
     let loops = bits_or(alloc, &outcomes.loops, never)?;

@@ -2,7 +2,9 @@
 
 ghost use Rattle.std.specs.Prelude.{◌≡◌, ◌+◌, ◌*◌, ◌<◌, ◌≤◌, ◌++◌, [], ◌∷◌, suc, map, length, Some, None, false, cond, slice_get, codes, IfOk, OnOk};
 ghost use Rattle.safl_term.specs.Program.{arity};
-ghost use Rattle.safl_term.specs.Checked.{program_of, param_names};
+ghost use Rattle.safl_term.specs.Checked.{IsChecked, program_of, param_names};
+ghost use Rattle.safl_sites.specs.Plan.{IsPlan};
+ghost use Rattle.safl_sites.specs.Planned.{arbiter_of, kept_of};
 ghost use Rattle.safl_circuit.specs.Equations.{many};
 ghost use Rattle.safl_circuit.specs.Names.{names_of, of_function};
 ghost use Rattle.safl_circuit.specs.Layout.{lines, named, site_lines, function_wires, site_wires, layout_wires};
@@ -15,6 +17,7 @@ ghost use Rattle.safl_unit.specs.Ties.{sig_of, numbered, unit_ties};
 ghost use Rattle.safl_unit.specs.Finished.{input_line, open_register, open_wire, declared_net, ArePins};
 ghost use Rattle.safl_unit.specs.Declaring.{with_signals, MayAdd, unit_head, at_line, argument_lines, function_lines, port_lines, arbiter_line, Pinned, FunctionsPinned, SitePinned, SitesPinned};
 
+use crate::arrivals::program;
 use crate::names::{argument_name, has_peers, headed, main_function, numbered};
 use crate::parts::{Bank, MemberPins, Pins, SitePins, UnitPins};
 use safl_net::{Net, NetErr, Sig};
@@ -85,7 +88,8 @@ fn add_unit(
     ensures order { IfOk result (λ u. map sig_of (unit_ties (program_of c.now) (names_of c.now) f (Some u)) ≡ numbered (length net.old.signals) (length (unit_head (program_of c.now) (names_of c.now) f))) }
     ensures same { IfOk result (λ u. ((program_of c.now).unit f ≡ f → ⊥) → slice_get units.now ((program_of c.now).unit f) ≡ Some u) }
 {
-    let _functions = c.functions();
+    let functions = c.functions();
+    prove!(f < functions);
     let unit = c.unit(f);
     if unit != f {
         return Ok(units[unit as usize]);
@@ -121,7 +125,8 @@ fn add_arguments(alloc: Global, net: &mut Net, c: &Checked, f: u32) -> Result<Ve
     ensures added { OnOk result (net.new ≡ with_signals net.old (map open_register (argument_lines (program_of c.now) (names_of c.now) f))) }
     ensures order { IfOk result (λ v. v.items ≡ numbered (length net.old.signals) (arity (program_of c.now) f)) }
 {
-    let _functions = c.functions();
+    let functions = c.functions();
+    prove!(f < functions);
     let mut args = Vec::new(alloc);
     for i in 0..c.params(f) {
         let name = argument_name(alloc, c.name(f), c.param_name(f, i))?;
@@ -201,8 +206,7 @@ fn add_site(
     ensures added { OnOk result (net.new ≡ with_signals net.old (map open_register (site_lines (program_of p.now.program) (choice_of p.now) k))) }
     ensures pinned { IfOk result (λ s. SitePinned (program_of p.now.program) (choice_of p.now) k (length net.old.signals) units.now s) }
 {
-    let c = p.checked();
-    let _functions = c.functions();
+    let c = program(p);
     let callee = c.callee(k);
     let sent = add_register(net, numbered(alloc, "sent$", k)?.as_str(), 1)?;
     let got = add_register(net, numbered(alloc, "got$", k)?.as_str(), 1)?;
@@ -227,8 +231,7 @@ fn add_sites(
     ensures added { OnOk result (net.new ≡ with_signals net.old (map open_register (lines (site_lines (program_of p.now.program) (choice_of p.now)) (suc (program_of p.now.program).sites)))) }
     ensures pinned { IfOk result (λ s. SitesPinned (program_of p.now.program) (choice_of p.now) (length net.old.signals) (suc (program_of p.now.program).sites) units.now s.items) }
 {
-    let c = p.checked();
-    let _functions = c.functions();
+    let c = program(p);
     let mut sites = Vec::new(alloc);
     sites.push(SitePins {
         sent: Sig(0),
@@ -296,8 +299,7 @@ fn add_call_wires(alloc: Global, net: &mut Net, p: &Planned, k: u32) -> Result<(
     requires free { MayAdd net.old (map open_wire (site_wires (program_of p.now.program) (choice_of p.now) k)) }
     ensures { OnOk result (net.new ≡ with_signals net.old (map open_wire (site_wires (program_of p.now.program) (choice_of p.now) k))) }
 {
-    let c = p.checked();
-    let _functions = c.functions();
+    let c = program(p);
     let callee = c.callee(k);
     add_wire(net, numbered(alloc, "want$", k)?.as_str())?;
     add_wire(net, numbered(alloc, "ret$", k)?.as_str())?;
@@ -312,8 +314,7 @@ fn add_all_call_wires(alloc: Global, net: &mut Net, p: &Planned) -> Result<(), N
     requires free { MayAdd net.old (map open_wire (lines (site_wires (program_of p.now.program) (choice_of p.now)) (suc (program_of p.now.program).sites))) }
     ensures { OnOk result (net.new ≡ with_signals net.old (map open_wire (lines (site_wires (program_of p.now.program) (choice_of p.now)) (suc (program_of p.now.program).sites)))) }
 {
-    let c = p.checked();
-    let _functions = c.functions();
+    let c = program(p);
     for k in 1..c.sites() + 1 {
         add_call_wires(alloc, net, p, k)?;
     }
@@ -328,7 +329,8 @@ fn add_ports(alloc: Global, net: &mut Net, c: &Checked, f: u32) -> Result<Vec<Si
     ensures added { OnOk result (net.new ≡ with_signals net.old (map input_line (port_lines (program_of c.now) (names_of c.now) f))) }
     ensures order { IfOk result (λ v. v.items ≡ numbered (length net.old.signals) (arity (program_of c.now) f)) }
 {
-    let _functions = c.functions();
+    let functions = c.functions();
+    prove!(f < functions);
     let mut words = Vec::new(alloc);
     for i in 0..c.params(f) {
         let name = headed(alloc, "in$", c.param_name(f, i))?;
@@ -365,9 +367,10 @@ pub fn declare(alloc: Global, p: &Planned) -> Result<Declared, NoMemory>
     ensures fits { IfOk result (λ d. PinsFit (program_of p.now.program) d.net d.pins) }
     ensures tidy { IfOk result (λ d. IsTidy d.net) }
     ensures settled { IfOk result (λ d. IsSettled d.net) }
+    ensures checked { IsChecked p.now.program }
+    ensures plan { IsPlan (program_of p.now.program) (arbiter_of p.now) (kept_of p.now) }
 {
-    let c = p.checked();
-    let _functions = c.functions();
+    let c = program(p);
     let main = main_function(c);
     let mut net = Net::new(alloc);
     let start = add_input(&mut net, "start", 1)?;

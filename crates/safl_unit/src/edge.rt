@@ -1,7 +1,7 @@
 //! The next words of all registers, which they take at the edge.
 
 ghost use Rattle.std.specs.Prelude.{◌≡◌, ℕ, suc, ◌+◌, ◌*◌, ◌≤◌, ◌⊎◌, [], ◌∷◌, length, Some, slice_get, IfOk, OnOk};
-ghost use Rattle.safl_term.specs.Checked.{program_of};
+ghost use Rattle.safl_term.specs.Checked.{IsChecked, program_of};
 ghost use Rattle.safl_net.specs.Names.{IsTidy};
 ghost use Rattle.safl_net.specs.Growth.{Val, Wired};
 ghost use Rattle.safl_gates.specs.Sources.{IsSource, Builds, HasRoom};
@@ -14,7 +14,7 @@ ghost use Rattle.safl_unit.specs.Steps.{UnitStep, UnitsNext, MembersNext, SitesN
 use crate::arrivals::{callee_of, caller_of, function_count, site_count, unit_of};
 use crate::events::{Events, edge_events};
 use crate::names::has_peers;
-use crate::next::{next_member, next_site, next_unit};
+use crate::next::{Entry, next_member, next_site, next_unit};
 use crate::parts::{Bank, MemberPins, Outcomes, Pins, Returns, SitePins, UnitPins};
 use safl_gates::loads::Load;
 use safl_net::{Net, Sig};
@@ -30,19 +30,18 @@ pub fn edge(
     pins: &Pins,
     returns: &Returns,
     outcomes: &Outcomes,
-    goes: &Vec<Sig>,
+    goes: &[Sig],
 ) -> Result<Bank, NoMemory>
     requires tidy { IsTidy net.old }
     requires pins { PinsFit (program_of p.now.program) net.old pins.now }
     requires returns { HasReturns (program_of p.now.program) (choice_of p.now) net.old pins.now returns.now }
     requires outcomes { HasOutcomes (program_of p.now.program) (choice_of p.now) net.old pins.now outcomes.now }
-    requires goes { HasGoes (program_of p.now.program) (choice_of p.now) net.old pins.now goes.now.items }
+    requires goes { HasGoes (program_of p.now.program) (choice_of p.now) net.old pins.now goes.now }
     requires room { HasRoom net.old (64 * (program_of p.now.program).functions + 32 * (program_of p.now.program).sites + 32) }
     ensures tidy { IsTidy net.new }
     ensures built { OnOk result (Builds net.old net.new (64 * (program_of p.now.program).functions + 32 * (program_of p.now.program).sites + 32)) }
     ensures done { IfOk result (λ b. HasNext (program_of p.now.program) (choice_of p.now) net.new pins.now b) }
 {
-    let _functions = function_count(p);
     let events = edge_events(alloc, net, p, outcomes, goes)?;
     let units = next_units(alloc, net, p, pins, &events.ends, &events.starts)?;
     let members = next_members(alloc, net, p, pins, &events, outcomes)?;
@@ -60,19 +59,20 @@ pub fn next_units(
     net: &mut Net,
     p: &Planned,
     pins: &Pins,
-    ends: &Vec<Option<Load>>,
-    starts: &Vec<Option<Sig>>,
+    ends: &[Option<Load>],
+    starts: &[Option<Sig>],
 ) -> Result<Vec<UnitPins>, NoMemory>
     requires tidy { IsTidy net.old }
     requires pins { PinsFit (program_of p.now.program) net.old pins.now }
-    requires ends_count { length ends.now.items ≡ (program_of p.now.program).functions }
-    requires ends { SomeFit net.old ends.now.items (λ u. (program_of p.now.program).result u ∷ []) }
-    requires starts_count { length starts.now.items ≡ (program_of p.now.program).functions }
-    requires starts { BitsFit net.old starts.now.items }
+    requires ends_count { length ends.now ≡ (program_of p.now.program).functions }
+    requires ends { SomeFit net.old ends.now (λ u. (program_of p.now.program).result u ∷ []) }
+    requires starts_count { length starts.now ≡ (program_of p.now.program).functions }
+    requires starts { BitsFit net.old starts.now }
     requires room { HasRoom net.old (5 * (program_of p.now.program).functions) }
     ensures tidy { IsTidy net.new }
     ensures built { OnOk result (Builds net.old net.new (5 * (program_of p.now.program).functions)) }
-    ensures done { IfOk result (λ all. UnitsNext (program_of p.now.program) net.new pins.now.bank.units.items ends.now.items starts.now.items all.items (program_of p.now.program).functions) }
+    ensures checked { IsChecked p.now.program }
+    ensures done { IfOk result (λ all. UnitsNext (program_of p.now.program) net.new pins.now.bank.units.items ends.now starts.now all.items (program_of p.now.program).functions) }
 {
     let functions = function_count(p);
     let mut all = Vec::new(alloc);
@@ -90,7 +90,7 @@ pub fn next_units(
 // The next words of a function's unit: those that its first member has, where that came before.
 fn unit_after(
     net: &mut Net,
-    all: &Vec<UnitPins>,
+    all: &[UnitPins],
     unit: usize,
     end: &Option<Load>,
     start: Option<Sig>,
@@ -102,7 +102,7 @@ fn unit_after(
     requires room { HasRoom net.old 5 }
     ensures tidy { IsTidy net.new }
     ensures built { OnOk result (Builds net.old net.new 5) }
-    ensures done { (w : ℕ) → FitsIn net.old end.now (w ∷ []) → UnitFits net.old now w → IfOk result (λ y. (slice_get all.now.items unit ≡ Some y) ⊎ (UnitFits net.new y w × ((v : Val) → Wired net.new v → UnitStep v (taken_in v end.now) (on_in v start) now y))) }
+    ensures done { (w : ℕ) → FitsIn net.old end.now (w ∷ []) → UnitFits net.old now w → IfOk result (λ y. (slice_get all.now unit ≡ Some y) ⊎ (UnitFits net.new y w × ((v : Val) → Wired net.new v → UnitStep v (taken_in v end.now) (on_in v start) now y))) }
 {
     if unit < all.len() {
         return Ok(all[unit]);
@@ -133,12 +133,13 @@ pub fn next_members(
     let mut all = Vec::new(alloc);
     for f in 0..functions {
         let many = has_peers(p.checked(), f);
-        let entry = events.entries[f as usize];
+        let own = events.entries[f as usize];
         let rival = events.rivals[f as usize];
+        let entry = Entry { own, rival };
         let load = &events.loads[f as usize];
         let looped = &outcomes.loops[f as usize];
         let now = &pins.bank.members[f as usize];
-        let next = next_member(alloc, net, many, entry, rival, load, looped, now)?;
+        let next = next_member(alloc, net, many, entry, load, looped, now)?;
         all.push(next)?;
     }
     Ok(all)
@@ -151,20 +152,20 @@ pub fn next_sites(
     p: &Planned,
     pins: &Pins,
     returns: &Returns,
-    goes: &Vec<Sig>,
-    clears: &Vec<Option<Sig>>,
+    goes: &[Sig],
+    clears: &[Option<Sig>],
 ) -> Result<Vec<SitePins>, NoMemory>
     requires tidy { IsTidy net.old }
     requires pins { PinsFit (program_of p.now.program) net.old pins.now }
     requires returns { ReturnsFit (program_of p.now.program) net.old returns.now }
-    requires goes_count { length goes.now.items ≡ suc (program_of p.now.program).sites }
-    requires goes { (k : ℕ) → k ≤ (program_of p.now.program).sites → IsSource net.old (pin goes.now.items k) 1 }
-    requires clears_count { length clears.now.items ≡ (program_of p.now.program).functions }
-    requires clears { BitsFit net.old clears.now.items }
+    requires goes_count { length goes.now ≡ suc (program_of p.now.program).sites }
+    requires goes { (k : ℕ) → k ≤ (program_of p.now.program).sites → IsSource net.old (pin goes.now k) 1 }
+    requires clears_count { length clears.now ≡ (program_of p.now.program).functions }
+    requires clears { BitsFit net.old clears.now }
     requires room { HasRoom net.old (7 * (program_of p.now.program).sites) }
     ensures tidy { IsTidy net.new }
     ensures built { OnOk result (Builds net.old net.new (7 * (program_of p.now.program).sites)) }
-    ensures done { IfOk result (λ all. SitesNext (program_of p.now.program) (choice_of p.now) net.new pins.now.bank.units.items pins.now.bank.sites.items returns.now.ret.items goes.now.items clears.now.items all.items (program_of p.now.program).sites) }
+    ensures done { IfOk result (λ all. SitesNext (program_of p.now.program) (choice_of p.now) net.new pins.now.bank.units.items pins.now.bank.sites.items returns.now.ret.items goes.now clears.now all.items (program_of p.now.program).sites) }
 {
     let first = pins.bank.sites[0];
     let mut all = one_site(alloc, first)?;

@@ -10,12 +10,14 @@ ghost use Rattle.safl_net.specs.Settled.{IsSettled};
 ghost use Rattle.safl_net.specs.Growth.{Grows};
 ghost use Rattle.safl_circuit.specs.Names.{names_of};
 ghost use Rattle.safl_circuit.specs.Layout.{layout_wires};
+ghost use Rattle.safl_gates.specs.Sources.{HasRoom};
 ghost use Rattle.safl_gates.specs.Tables.{EachAt};
 ghost use Rattle.safl_unit.specs.Cycles.{choice_of, BankFits, PinsFit};
 ghost use Rattle.safl_unit.specs.Ties.{sig_of, unit_ties, function_ties, site_ties, register_ties, ties, want_wire, body_ties, call_ties, wire_ties};
 ghost use Rattle.safl_unit.specs.Finished.{declared_net, ArePins, ControlsFit, Finishes};
 ghost use Rattle.safl_unit.specs.Setting.{with_kinds, next_kind, copy_kind, Takes, at_ties, IsSet, own_ties};
 
+use crate::arrivals::program;
 use crate::names::{has_peers, main_function};
 use crate::parts::{Bank, Controls, Pins, UnitPins};
 use safl_net::{Net, NetErr, Op, Sig};
@@ -145,8 +147,7 @@ fn register_sources(alloc: Global, p: &Planned, next: &Bank) -> Result<Vec<Sig>,
     requires sites { length next.now.sites.items ≡ suc (program_of p.now.program).sites }
     ensures { IfOk result (λ v. v.items ≡ map sig_of (register_ties (program_of p.now.program) (names_of p.now.program) (choice_of p.now) next.now)) }
 {
-    let c = p.checked();
-    let _functions = c.functions();
+    let c = program(p);
     let mut all = Vec::new(alloc);
     add_functions(&mut all, c, next)?;
     for k in 1..c.sites() + 1 {
@@ -185,8 +186,7 @@ fn add_call(
     requires place { place.0 ≡ want_wire (program_of p.now.program) (choice_of p.now) first k }
     ensures { OnOk result (all.new.items ≡ all.old.items ++ map sig_of (call_ties (program_of p.now.program) (choice_of p.now) first controls.now k)) }
 {
-    let c = p.checked();
-    let _functions = c.functions();
+    let c = program(p);
     let want = controls.wants[k as usize];
     let ret = controls.rets[k as usize];
     let go = controls.goes[k as usize];
@@ -213,8 +213,7 @@ fn wire_sources(
     requires room { first + length (layout_wires (program_of p.now.program) (names_of p.now.program) (choice_of p.now)) < 4294967296 }
     ensures { IfOk result (λ v. v.items ≡ map sig_of (wire_ties (program_of p.now.program) (names_of p.now.program) (choice_of p.now) first controls.now)) }
 {
-    let c = p.checked();
-    let _functions = c.functions();
+    let c = program(p);
     let mut all = Vec::new(alloc);
     add_bodies(&mut all, c, controls)?;
     for k in 1..c.sites() + 1 {
@@ -235,6 +234,7 @@ fn set_all(
     controls: &Controls,
 ) -> Result<(), AllocError>
     requires tidy { IsTidy net.old }
+    requires room { HasRoom net.old 0 }
     requires grown { Grows (declared_net (program_of p.now.program) (names_of p.now.program) (choice_of p.now)) net.old }
     requires pins { ArePins (program_of p.now.program) (names_of p.now.program) (choice_of p.now) pins.now }
     requires next { BankFits (program_of p.now.program) net.old next.now }
@@ -242,9 +242,7 @@ fn set_all(
     ensures tidy { IsTidy net.new }
     ensures set { OnOk result (IsSet (program_of p.now.program) (names_of p.now.program) (choice_of p.now) pins.now next.now controls.now net.old net.new) }
 {
-    let c = p.checked();
-    let _functions = c.functions();
-    let _signals = net.signals();
+    let c = program(p);
     let nexts = register_sources(alloc, p, next)?;
     let copies = wire_sources(alloc, p, controls, pins.first_wire)?;
     set_nexts(net, pins.first_register, nexts.as_slice());
@@ -279,6 +277,7 @@ pub fn finish(
     controls: &Controls,
 ) -> Result<(), NoMemory>
     requires tidy { IsTidy net.old }
+    requires room { HasRoom net.old 0 }
     requires grown { Grows (declared_net (program_of p.now.program) (names_of p.now.program) (choice_of p.now)) net.old }
     requires settled { IsSettled net.old }
     requires pins { ArePins (program_of p.now.program) (names_of p.now.program) (choice_of p.now) pins.now }
@@ -288,8 +287,7 @@ pub fn finish(
     ensures tidy { IsTidy net.new }
     ensures done { OnOk result (Finishes (program_of p.now.program) (names_of p.now.program) (choice_of p.now) pins.now next.now controls.now net.old net.new) }
 {
-    let c = p.checked();
-    let _functions = c.functions();
+    let c = program(p);
     let main = main_function(c);
     let unit = pins.bank.units[main as usize];
     set_all(alloc, net, p, pins, next, controls)?;

@@ -43,28 +43,34 @@ pub fn next_unit(
     Ok(UnitPins { run, fin, res })
 }
 
+/// Who of a unit starts: a function itself, and another member.
+#[derive(Clone, Copy)]
+pub struct Entry {
+    pub own: Option<Sig>,
+    pub rival: Option<Sig>,
+}
+
 /// A function is run from its own entry to that of another member, and keeps its arguments from one load to the next.
 pub fn next_member(
     alloc: Global,
     net: &mut Net,
     many: bool,
-    entry: Option<Sig>,
-    rival: Option<Sig>,
+    entry: Entry,
     load: &Option<Load>,
     looped: &Option<Load>,
     member: &MemberPins,
 ) -> Result<MemberPins, NoMemory>
     requires tidy { IsTidy net.old }
-    requires entry { IsBitIn net.old entry }
-    requires rival { IsBitIn net.old rival }
+    requires entry { IsBitIn net.old entry.own }
+    requires rival { IsBitIn net.old entry.rival }
     requires fits { (ws : List ℕ) × FitsIn net.old load.now ws × FitsIn net.old looped.now ws × MemberFits net.old member.now ws }
     requires room { HasRoom net.old (3 + 2 * length member.now.args.items) }
     ensures tidy { IsTidy net.new }
     ensures built { OnOk result (Builds net.old net.new (3 + 2 * length member.now.args.items)) }
     ensures fits { (ws : List ℕ) → FitsIn net.old load.now ws → FitsIn net.old looped.now ws → MemberFits net.old member.now ws → IfOk result (λ y. MemberFits net.new y ws) }
-    ensures shows { IfOk result (λ y. (v : Val) → Wired net.new v → MemberStep v many (on_in v entry) (on_in v rival) (taken_in v load.now) (taken_in v looped.now) member.now y) }
+    ensures shows { IfOk result (λ y. (v : Val) → Wired net.new v → MemberStep v many (on_in v entry.own) (on_in v entry.rival) (taken_in v load.now) (taken_in v looped.now) member.now y) }
 {
-    let at = next_at(net, many, entry, rival, member.at)?;
+    let at = next_at(net, many, entry.own, entry.rival, member.at)?;
     let kept = load_words(alloc, net, looped, &member.args)?;
     let args = load_words(alloc, net, load, &kept)?;
     Ok(MemberPins { at, args })

@@ -10,6 +10,7 @@ ghost use Rattle.safl_unit.specs.Cycles.{choice_of, UnitFits, SiteFits, PinsFit}
 ghost use Rattle.safl_unit.specs.Stages.{PortFits, HasReturns};
 ghost use Rattle.safl_unit.specs.Returning.{SiteShown};
 
+use crate::arrivals::program;
 use crate::parts::{Pins, Returns, SitePins, UnitPins};
 use safl_gates::gates::{both, either, inverse, mux};
 use safl_lower::SitePorts;
@@ -34,8 +35,7 @@ pub fn returns(alloc: Global, net: &mut Net, p: &Planned, pins: &Pins) -> Result
     ensures built { OnOk result (Builds net.old net.new (5 * (program_of p.now.program).sites)) }
     ensures done { IfOk result (λ s. HasReturns (program_of p.now.program) (choice_of p.now) net.new pins.now s) }
 {
-    let c = p.checked();
-    let _functions = c.functions();
+    let c = program(p);
     let mut all = no_returns(alloc, pins.start)?;
     let sites = c.sites();
     for done in 0..sites {

@@ -19,15 +19,15 @@ pub fn function_rivals(
     alloc: Global,
     net: &mut Net,
     p: &Planned,
-    entries: &Vec<Option<Sig>>,
+    entries: &[Option<Sig>],
 ) -> Result<Vec<Option<Sig>>, NoMemory>
     requires tidy { IsTidy net.old }
-    requires count { length entries.now.items ≡ (program_of p.now.program).functions }
-    requires entries { BitsFit net.old entries.now.items }
+    requires count { length entries.now ≡ (program_of p.now.program).functions }
+    requires entries { BitsFit net.old entries.now }
     requires room { HasRoom net.old (4 * (program_of p.now.program).functions) }
     ensures tidy { IsTidy net.new }
     ensures built { OnOk result (Builds net.old net.new (4 * (program_of p.now.program).functions)) }
-    ensures done { IfOk result (λ bits. ShowsBelow net.new bits.items (program_of p.now.program).functions (λ v f. one_below (rival (program_of p.now.program) (on_from v entries.now.items) f) (program_of p.now.program).functions)) }
+    ensures done { IfOk result (λ bits. ShowsBelow net.new bits.items (program_of p.now.program).functions (λ v f. one_below (rival (program_of p.now.program) (on_from v entries.now) f) (program_of p.now.program).functions)) }
 {
     let functions = function_count(p);
     let mut all = no_bits(alloc, functions)?;
@@ -42,18 +42,18 @@ fn add_earlier(
     alloc: Global,
     net: &mut Net,
     p: &Planned,
-    entries: &Vec<Option<Sig>>,
+    entries: &[Option<Sig>],
     falling: bool,
     all: &mut Vec<Option<Sig>>,
 ) -> Result<(), NoMemory>
     requires tidy { IsTidy net.old }
-    requires many { length entries.now.items ≡ (program_of p.now.program).functions }
-    requires entries { BitsFit net.old entries.now.items }
+    requires many { length entries.now ≡ (program_of p.now.program).functions }
+    requires entries { BitsFit net.old entries.now }
     requires table { ShowsBits net.old all.old.items (program_of p.now.program).functions (λ v i. on_from v all.old.items i) }
     requires room { HasRoom net.old (2 * (program_of p.now.program).functions) }
     ensures tidy { IsTidy net.new }
     ensures built { OnOk result (Builds net.old net.new (2 * (program_of p.now.program).functions)) }
-    ensures done { OnOk result (ShowsBits net.new all.new.items (program_of p.now.program).functions (λ v i. on_from v all.old.items i || one_below (earlier (program_of p.now.program) (on_from v entries.now.items) falling i) (program_of p.now.program).functions)) }
+    ensures done { OnOk result (ShowsBits net.new all.new.items (program_of p.now.program).functions (λ v i. on_from v all.old.items i || one_below (earlier (program_of p.now.program) (on_from v entries.now) falling i) (program_of p.now.program).functions)) }
 {
     let functions = function_count(p);
     let mut chain = no_bits(alloc, functions)?;

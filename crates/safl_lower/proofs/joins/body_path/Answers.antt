@@ -1,6 +1,6 @@
 use Rattle.std.proofs.Common.{◌≡◌, ◌&&◌, true}
 use Rattle.safl_net.specs.Growth.{Val, Wired}
-use Rattle.safl_term.specs.Tree.{tree}
+use Rattle.safl_term.specs.Tree.{shown_term}
 use Rattle.safl_net.specs.Bits.{on}
 use Rattle.safl_lower.specs.Bits.{is_ready}
 use Rattle.safl_lower.specs.Typing.{holds_calls}
@@ -15,5 +15,5 @@ returns-then-holds_calls c =
       tidy = e.tidy;
       built = e.built;
       fits = e.fits;
-      value = weaker c.and_ready.result (λ s. (v : Val) → Wired m v → on v s ≡ (on v c.args.path && is_ready v c.args.bound)) (λ s. holds_calls (tree c.args.body.now) ≡ true → (v : Val) → Wired m v → on v s ≡ (on v c.args.path && is_ready v c.args.bound)) (λ s h k. h) e.value;
+      value = weaker c.and_ready.result (λ s. (v : Val) → Wired m v → on v s ≡ (on v c.args.path && is_ready v c.args.bound)) (λ s. holds_calls (shown_term c.args.body.now) ≡ true → (v : Val) → Wired m v → on v s ≡ (on v c.args.path && is_ready v c.args.bound)) (λ s h k. h) e.value;
     }

@@ -1,19 +1,19 @@
 use Rattle.std.proofs.Common.{◌≡◌, ◌+◌, ◌*◌, take}
 use Rattle.safl_net.specs.Names.{IsTidy}
-use Rattle.safl_lower.specs.Typing.{nodes, nodes_in}
-use Rattle.safl_term.specs.Tree.{tree, forest}
+use Rattle.safl_term.specs.Sizes.{nodes, nodes_in}
+use Rattle.safl_term.specs.Tree.{shown_term, shown_terms}
 use Rattle.safl_lower.specs.Lowering.{LowersAll}
 use Rattle.safl_lower.proofs.terms.+terms.Given as goal
 
 abbrev pub invariant-lower_all-loop-t : goal.invariant-lower_all-loop-t
 invariant-lower_all-loop-t l = record {
   tidy : IsTidy l.net;
-  lowered : LowersAll l.ports l.initial.slots.items l.path l.initial.net l.net l.initial.out l.out (record { ready = l.ready; values = l.values }) (forest (take l.t-index l.ts));
+  lowered : LowersAll l.ports l.initial.slots.items l.path l.initial.net l.net l.initial.out l.out (record { ready = l.ready; values = l.values }) (shown_terms (take l.t-index l.ts));
   same : l.slots.items ≡ l.initial.slots.items;
 }
 
 abbrev pub decreases-lower_term : goal.decreases-lower_term
-decreases-lower_term l = 2 * nodes (tree l.t.now)
+decreases-lower_term l = 2 * nodes (shown_term l.t.now)
 
 abbrev pub decreases-lower_all : goal.decreases-lower_all
-decreases-lower_all l = 2 * nodes_in (forest l.ts.now) + 1
+decreases-lower_all l = 2 * nodes_in (shown_terms l.ts.now) + 1

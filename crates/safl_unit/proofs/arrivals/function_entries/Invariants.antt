@@ -10,5 +10,5 @@ abbrev pub invariant-loop-h : goal.invariant-loop-h
 invariant-loop-h l = record {
   tidy : IsTidy l.net;
   built : Builds l.initial.net l.net l.h;
-  table : ShowsBits l.net l.all.items (program_of l.p.program).functions (λ v i. is_some (taken_from v l.loads.items i) || one_below (λ h. (i == h) && is_some (taken_from v l.outcomes.loops.items h)) l.h);
+  table : ShowsBits l.net l.all.items (program_of l.p.program).functions (λ v i. is_some (taken_from v l.loads i) || one_below (λ h. (i == h) && is_some (taken_from v l.outcomes.loops.items h)) l.h);
 }

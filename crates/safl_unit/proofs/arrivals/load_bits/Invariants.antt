@@ -3,4 +3,4 @@ use Rattle.safl_unit.specs.Edges.{bit_of}
 use Rattle.safl_unit.proofs.arrivals.load_bits.Given as goal
 
 abbrev pub invariant-loop-i : goal.invariant-loop-i
-invariant-loop-i l = record { same : l.bits.items ≡ map bit_of (take l.i l.loads.items) }
+invariant-loop-i l = record { same : l.bits.items ≡ map bit_of (take l.i l.loads) }

@@ -12,7 +12,7 @@ pub loop-h-init : goal.loop-h-init
 loop-h-init c =
     let C = program_of c.args.p.now.program in
     let n = c.args.net.now in
-    let xs = c.args.ends.now.items in
+    let xs = c.args.ends.now in
     record {
       tidy = c.requires.tidy;
       built = builds_same n n refl 0;
@@ -61,7 +61,7 @@ loop-h-preserved c =
     record {
       tidy = c.add_some.ensures.tidy;
       built = builds_on c.loop-h.invariant.built c.add_some.ensures.built;
-      table = more_bits c.loop-h.net c.add_some.new.net c.loop-h.all.items c.add_some.new.bits.items C.functions c.unit_of-unit.result 1 h (λ (v : Val). on_in v c.load_bit-bit.result) (λ (v : Val) (i : ℕ). is_some (taken_from v c.args.ends.now.items i))
+      table = more_bits c.loop-h.net c.add_some.new.net c.loop-h.all.items c.add_some.new.bits.items C.functions c.unit_of-unit.result 1 h (λ (v : Val). on_in v c.load_bit-bit.result) (λ (v : Val) (i : ℕ). is_some (taken_from v c.args.ends.now i))
           (λ (v : Val) (i j : ℕ). (i == C.unit j) && is_some (taken_from v o.loops.items j))
           c.add_some.ensures.built c.loop-h.invariant.table c.add_some.ensures.count c.in_ok-add_some.ensures.fits c.in_ok-add_some.ensures.shows
           (λ v i w. loop_shown v o h i c.unit_of-unit.result (C.unit h) c.index.result.now c.load_bit-bit.result g c.load_bit-bit.ensures c.unit_of-unit.ensures.number);
@@ -83,5 +83,5 @@ returns-clause-done c =
     let b = c.loop-h.auto.h-end in
     let k = c.function_count-functions.ensures.count in
     let e : c.loop-h.h ≡ C.functions = omega (arith, l, b, k) in
-    subst (λ (m : ℕ). ShowsBits c.loop-h.net c.loop-h.all.items C.functions (λ (v : Val) (i : ℕ). is_some (taken_from v c.args.ends.now.items i) || one_below (λ (h : ℕ). (i == C.unit h) && is_some (taken_from v c.args.outcomes.now.loops.items h)) m)) e
+    subst (λ (m : ℕ). ShowsBits c.loop-h.net c.loop-h.all.items C.functions (λ (v : Val) (i : ℕ). is_some (taken_from v c.args.ends.now i) || one_below (λ (h : ℕ). (i == C.unit h) && is_some (taken_from v c.args.outcomes.now.loops.items h)) m)) e
     c.loop-h.invariant.table

@@ -6,16 +6,16 @@ use Rattle.safl_unit.proofs.bodies.body_ports.Goals as goal
 pub slice_bounds-from_slice-end : goal.slice_bounds-from_slice-end
 slice_bounds-from_slice-end c =
     let l = c.requires.function in
-    let a = first_site_most c.args.c.now c.functions-functions.ensures.checked (suc c.args.f) (omega (arith, l)) in
+    let a = first_site_most c.args.c.now c.group_end.ensures.checked (suc c.args.f) (omega (arith, l)) in
     let e = c.first_site-first_site.ensures in
     let g = c.own_sites.ensures in
     let n = c.requires.ports in
     omega (arith, a, e, g, n)
 
-pub returns : goal.returns
-returns c =
+pub returns-clause-sites : goal.returns-clause-sites
+returns-clause-sites c =
     let l = c.requires.function in
-    let a = first_site_most c.args.c.now c.functions-functions.ensures.checked (suc c.args.f) (omega (arith, l)) in
+    let a = first_site_most c.args.c.now c.group_end.ensures.checked (suc c.args.f) (omega (arith, l)) in
     let e = c.first_site-first_site.ensures in
     let g = c.own_sites.ensures in
     let n = c.requires.ports in

@@ -17,7 +17,7 @@ returns-requires-clause-room c =
     let C = program_of c.args.p.now.program in
     let P = choice_of c.args.p.now in
     let pins = c.in_ok-declared.declared.pins in
-    let h = subst IsChecked c.checked-c.ensures.same c.functions-functions.ensures.checked in
+    let h = c.in_ok-declared.ensures.checked in
     let d = c.in_ok-declared.ensures.net in
     let f = h.limits.functions in
     let s = h.limits.sites in
@@ -29,7 +29,7 @@ lower_bodies-requires-clause-pins c =
     let C = program_of c.args.p.now.program in
     let P = choice_of c.args.p.now in
     let pins = c.in_ok-declared.declared.pins in
-    let h = subst IsChecked c.checked-c.ensures.same c.functions-functions.ensures.checked in
+    let h = c.in_ok-declared.ensures.checked in
     let d = c.in_ok-declared.ensures.net in
     pins_kept c.in_ok-shown.ensures.built c.in_ok-declared.ensures.fits
 
@@ -38,7 +38,7 @@ lower_bodies-requires-clause-room c =
     let C = program_of c.args.p.now.program in
     let P = choice_of c.args.p.now in
     let pins = c.in_ok-declared.declared.pins in
-    let h = subst IsChecked c.checked-c.ensures.same c.functions-functions.ensures.checked in
+    let h = c.in_ok-declared.ensures.checked in
     let d = c.in_ok-declared.ensures.net in
     let f = h.limits.functions in
     let s = h.limits.sites in
@@ -50,7 +50,7 @@ grants-requires-clause-pins c =
     let C = program_of c.args.p.now.program in
     let P = choice_of c.args.p.now in
     let pins = c.in_ok-declared.declared.pins in
-    let h = subst IsChecked c.checked-c.ensures.same c.functions-functions.ensures.checked in
+    let h = c.in_ok-declared.ensures.checked in
     let d = c.in_ok-declared.ensures.net in
     pins_kept (builds_on c.in_ok-shown.ensures.built c.in_ok-outcomes.ensures.built) c.in_ok-declared.ensures.fits
 
@@ -59,7 +59,7 @@ grants-requires-clause-room c =
     let C = program_of c.args.p.now.program in
     let P = choice_of c.args.p.now in
     let pins = c.in_ok-declared.declared.pins in
-    let h = subst IsChecked c.checked-c.ensures.same c.functions-functions.ensures.checked in
+    let h = c.in_ok-declared.ensures.checked in
     let d = c.in_ok-declared.ensures.net in
     let f = h.limits.functions in
     let s = h.limits.sites in
@@ -71,7 +71,7 @@ edge-requires-clause-pins c =
     let C = program_of c.args.p.now.program in
     let P = choice_of c.args.p.now in
     let pins = c.in_ok-declared.declared.pins in
-    let h = subst IsChecked c.checked-c.ensures.same c.functions-functions.ensures.checked in
+    let h = c.in_ok-declared.ensures.checked in
     let d = c.in_ok-declared.ensures.net in
     pins_kept (builds_on (builds_on c.in_ok-shown.ensures.built c.in_ok-outcomes.ensures.built) (c.in_ok-goes.ensures.built)) c.in_ok-declared.ensures.fits
 
@@ -80,7 +80,7 @@ edge-requires-clause-returns c =
     let C = program_of c.args.p.now.program in
     let P = choice_of c.args.p.now in
     let pins = c.in_ok-declared.declared.pins in
-    let h = subst IsChecked c.checked-c.ensures.same c.functions-functions.ensures.checked in
+    let h = c.in_ok-declared.ensures.checked in
     let d = c.in_ok-declared.ensures.net in
     returns_kept (builds_on c.in_ok-outcomes.ensures.built c.in_ok-goes.ensures.built) c.in_ok-shown.ensures.done
 
@@ -89,79 +89,55 @@ edge-requires-clause-outcomes c =
     let C = program_of c.args.p.now.program in
     let P = choice_of c.args.p.now in
     let pins = c.in_ok-declared.declared.pins in
-    let h = subst IsChecked c.checked-c.ensures.same c.functions-functions.ensures.checked in
+    let h = c.in_ok-declared.ensures.checked in
     let d = c.in_ok-declared.ensures.net in
     outcomes_kept c.in_ok-goes.ensures.built c.in_ok-outcomes.ensures.done
 
 pub edge-requires-clause-goes : goal.edge-requires-clause-goes
-edge-requires-clause-goes c = c.in_ok-goes.ensures.done
+edge-requires-clause-goes c =
+    subst (λ xs. HasGoes (program_of c.args.p.now.program) (choice_of c.args.p.now) c.grants.new.net c.in_ok-declared.declared.pins xs) (sym c.as_slice-starts.ensures.value) c.in_ok-goes.ensures.done
 
 pub edge-requires-clause-room : goal.edge-requires-clause-room
 edge-requires-clause-room c =
     let C = program_of c.args.p.now.program in
     let P = choice_of c.args.p.now in
     let pins = c.in_ok-declared.declared.pins in
-    let h = subst IsChecked c.checked-c.ensures.same c.functions-functions.ensures.checked in
+    let h = c.in_ok-declared.ensures.checked in
     let d = c.in_ok-declared.ensures.net in
     let f = h.limits.functions in
     let s = h.limits.sites in
     let m = few_nodes c.args.p.now.program h in
     room_for c.args.p.now.program h P c.in_ok-declared.declared.net c.grants.new.net ((5 * C.sites + (33 * body_nodes C C.functions + 33 * C.functions)) + (5 * C.sites + 2)) (64 * C.functions + 32 * C.sites + 32) d (builds_on (builds_on c.in_ok-shown.ensures.built c.in_ok-outcomes.ensures.built) (c.in_ok-goes.ensures.built)).count (omega (arith, f, s, m))
 
-pub controls-requires-clause-pins : goal.controls-requires-clause-pins
-controls-requires-clause-pins c =
-    let C = program_of c.args.p.now.program in
-    let P = choice_of c.args.p.now in
-    let pins = c.in_ok-declared.declared.pins in
-    let h = subst IsChecked c.checked-c.ensures.same c.functions-functions.ensures.checked in
-    let d = c.in_ok-declared.ensures.net in
-    pins_kept (builds_on (builds_on (builds_on c.in_ok-shown.ensures.built c.in_ok-outcomes.ensures.built) (c.in_ok-goes.ensures.built)) (c.in_ok-next.ensures.built)) c.in_ok-declared.ensures.fits
-
-pub controls-requires-clause-returns : goal.controls-requires-clause-returns
-controls-requires-clause-returns c =
-    let C = program_of c.args.p.now.program in
-    let P = choice_of c.args.p.now in
-    let pins = c.in_ok-declared.declared.pins in
-    let h = subst IsChecked c.checked-c.ensures.same c.functions-functions.ensures.checked in
-    let d = c.in_ok-declared.ensures.net in
-    returns_kept (builds_on c.in_ok-outcomes.ensures.built (builds_on c.in_ok-goes.ensures.built c.in_ok-next.ensures.built)) c.in_ok-shown.ensures.done
-
-pub controls-requires-clause-outcomes : goal.controls-requires-clause-outcomes
-controls-requires-clause-outcomes c =
-    let C = program_of c.args.p.now.program in
-    let P = choice_of c.args.p.now in
-    let pins = c.in_ok-declared.declared.pins in
-    let h = subst IsChecked c.checked-c.ensures.same c.functions-functions.ensures.checked in
-    let d = c.in_ok-declared.ensures.net in
-    outcomes_kept (builds_on c.in_ok-goes.ensures.built c.in_ok-next.ensures.built) c.in_ok-outcomes.ensures.done
-
-pub controls-requires-clause-goes : goal.controls-requires-clause-goes
-controls-requires-clause-goes c =
-    let C = program_of c.args.p.now.program in
-    let P = choice_of c.args.p.now in
-    let pins = c.in_ok-declared.declared.pins in
-    let h = subst IsChecked c.checked-c.ensures.same c.functions-functions.ensures.checked in
-    let d = c.in_ok-declared.ensures.net in
-    goes_kept c.in_ok-next.ensures.built (subst (λ xs. HasGoes C P c.grants.new.net pins xs) (sym c.as_slice-starts.ensures.value) c.in_ok-goes.ensures.done)
-
 pub controls-requires-clause-room : goal.controls-requires-clause-room
 controls-requires-clause-room c =
     let C = program_of c.args.p.now.program in
     let P = choice_of c.args.p.now in
     let pins = c.in_ok-declared.declared.pins in
-    let h = subst IsChecked c.checked-c.ensures.same c.functions-functions.ensures.checked in
+    let h = c.in_ok-declared.ensures.checked in
     let d = c.in_ok-declared.ensures.net in
     let f = h.limits.functions in
     let s = h.limits.sites in
     let m = few_nodes c.args.p.now.program h in
     room_for c.args.p.now.program h P c.in_ok-declared.declared.net c.edge.new.net (((5 * C.sites + (33 * body_nodes C C.functions + 33 * C.functions)) + (5 * C.sites + 2)) + (64 * C.functions + 32 * C.sites + 32)) (1) d (builds_on (builds_on (builds_on c.in_ok-shown.ensures.built c.in_ok-outcomes.ensures.built) (c.in_ok-goes.ensures.built)) (c.in_ok-next.ensures.built)).count (omega (arith, f, s, m))
 
+pub finish-requires-clause-room : goal.finish-requires-clause-room
+finish-requires-clause-room c =
+    let C = program_of c.args.p.now.program in
+    let P = choice_of c.args.p.now in
+    let h = c.in_ok-declared.ensures.checked in
+    let d = c.in_ok-declared.ensures.net in
+    let f = h.limits.functions in
+    let s = h.limits.sites in
+    let m = few_nodes c.args.p.now.program h in
+    room_for c.args.p.now.program h P c.in_ok-declared.declared.net c.controls.new.net ((((5 * C.sites + (33 * body_nodes C C.functions + 33 * C.functions)) + (5 * C.sites + 2)) + (64 * C.functions + 32 * C.sites + 32)) + 1) (0) d (builds_on (builds_on (builds_on (builds_on c.in_ok-shown.ensures.built c.in_ok-outcomes.ensures.built) (c.in_ok-goes.ensures.built)) (c.in_ok-next.ensures.built)) (c.in_ok-copied.ensures.built)).count (omega (arith, f, s, m))
+
 pub finish-requires-clause-grown : goal.finish-requires-clause-grown
 finish-requires-clause-grown c =
     let C = program_of c.args.p.now.program in
     let P = choice_of c.args.p.now in
     let pins = c.in_ok-declared.declared.pins in
-    let h = subst IsChecked c.checked-c.ensures.same c.functions-functions.ensures.checked in
+    let h = c.in_ok-declared.ensures.checked in
     let d = c.in_ok-declared.ensures.net in
     subst (λ n. Grows n c.controls.new.net) d (builds_on (builds_on (builds_on (builds_on c.in_ok-shown.ensures.built c.in_ok-outcomes.ensures.built) (c.in_ok-goes.ensures.built)) (c.in_ok-next.ensures.built)) (c.in_ok-copied.ensures.built)).grows
 
@@ -170,7 +146,7 @@ finish-requires-clause-settled c =
     let C = program_of c.args.p.now.program in
     let P = choice_of c.args.p.now in
     let pins = c.in_ok-declared.declared.pins in
-    let h = subst IsChecked c.checked-c.ensures.same c.functions-functions.ensures.checked in
+    let h = c.in_ok-declared.ensures.checked in
     let d = c.in_ok-declared.ensures.net in
     (builds_on (builds_on (builds_on (builds_on c.in_ok-shown.ensures.built c.in_ok-outcomes.ensures.built) (c.in_ok-goes.ensures.built)) (c.in_ok-next.ensures.built)) (c.in_ok-copied.ensures.built)).settles.settled c.in_ok-declared.ensures.settled
 
@@ -179,7 +155,7 @@ finish-requires-clause-fits c =
     let C = program_of c.args.p.now.program in
     let P = choice_of c.args.p.now in
     let pins = c.in_ok-declared.declared.pins in
-    let h = subst IsChecked c.checked-c.ensures.same c.functions-functions.ensures.checked in
+    let h = c.in_ok-declared.ensures.checked in
     let d = c.in_ok-declared.ensures.net in
     pins_kept (builds_on (builds_on (builds_on (builds_on c.in_ok-shown.ensures.built c.in_ok-outcomes.ensures.built) (c.in_ok-goes.ensures.built)) (c.in_ok-next.ensures.built)) (c.in_ok-copied.ensures.built)) c.in_ok-declared.ensures.fits
 
@@ -188,7 +164,7 @@ finish-requires-clause-next c =
     let C = program_of c.args.p.now.program in
     let P = choice_of c.args.p.now in
     let pins = c.in_ok-declared.declared.pins in
-    let h = subst IsChecked c.checked-c.ensures.same c.functions-functions.ensures.checked in
+    let h = c.in_ok-declared.ensures.checked in
     let d = c.in_ok-declared.ensures.net in
     bank_kept c.in_ok-copied.ensures.built c.in_ok-next.ensures.done.fits
 
@@ -197,37 +173,49 @@ finish-requires-clause-controls c =
     let C = program_of c.args.p.now.program in
     let P = choice_of c.args.p.now in
     let pins = c.in_ok-declared.declared.pins in
-    let h = subst IsChecked c.checked-c.ensures.same c.functions-functions.ensures.checked in
+    let h = c.in_ok-declared.ensures.checked in
     let d = c.in_ok-declared.ensures.net in
-    c.in_ok-copied.ensures.done.fits
+    (c.in_ok-copied.ensures.done C P pins
+    (returns_kept (builds_on c.in_ok-outcomes.ensures.built (builds_on c.in_ok-goes.ensures.built c.in_ok-next.ensures.built)) c.in_ok-shown.ensures.done)
+    (outcomes_kept (builds_on c.in_ok-goes.ensures.built c.in_ok-next.ensures.built) c.in_ok-outcomes.ensures.done)
+    (goes_kept c.in_ok-next.ensures.built (subst (λ xs. HasGoes C P c.grants.new.net pins xs) (sym c.as_slice-starts.ensures.value) c.in_ok-goes.ensures.done))).fits
 
 pub returns-clause-scheme : goal.returns-clause-scheme
 returns-clause-scheme c =
     let C = program_of c.args.p.now.program in
     let P = choice_of c.args.p.now in
     let pins = c.in_ok-declared.declared.pins in
-    let h = subst IsChecked c.checked-c.ensures.same c.functions-functions.ensures.checked in
+    let h = c.in_ok-declared.ensures.checked in
     let d = c.in_ok-declared.ensures.net in
-    finished_scheme c.args.p.now.program h P c.controls.new.net c.finish.new.net pins c.in_ok-next.next c.in_ok-copied.copied c.signals-signals.ensures.netlist (subst (λ n. Grows n c.controls.new.net) d (builds_on (builds_on (builds_on (builds_on c.in_ok-shown.ensures.built c.in_ok-outcomes.ensures.built) (c.in_ok-goes.ensures.built)) (c.in_ok-next.ensures.built)) (c.in_ok-copied.ensures.built)).grows) c.in_ok-declared.ensures.pins (pins_kept (builds_on (builds_on (builds_on (builds_on c.in_ok-shown.ensures.built c.in_ok-outcomes.ensures.built) (c.in_ok-goes.ensures.built)) (c.in_ok-next.ensures.built)) (c.in_ok-copied.ensures.built)) c.in_ok-declared.ensures.fits) (next_kept c.in_ok-copied.ensures.built c.in_ok-next.ensures.done) c.in_ok-copied.ensures.done c.in_ok-finish.ensures.done
+    finished_scheme c.args.p.now.program h P c.controls.new.net c.finish.new.net pins c.in_ok-next.next c.in_ok-copied.copied c.signals-signals.ensures.netlist (subst (λ n. Grows n c.controls.new.net) d (builds_on (builds_on (builds_on (builds_on c.in_ok-shown.ensures.built c.in_ok-outcomes.ensures.built) (c.in_ok-goes.ensures.built)) (c.in_ok-next.ensures.built)) (c.in_ok-copied.ensures.built)).grows) c.in_ok-declared.ensures.pins (pins_kept (builds_on (builds_on (builds_on (builds_on c.in_ok-shown.ensures.built c.in_ok-outcomes.ensures.built) (c.in_ok-goes.ensures.built)) (c.in_ok-next.ensures.built)) (c.in_ok-copied.ensures.built)) c.in_ok-declared.ensures.fits) (next_kept c.in_ok-copied.ensures.built c.in_ok-next.ensures.done) (c.in_ok-copied.ensures.done C P pins
+    (returns_kept (builds_on c.in_ok-outcomes.ensures.built (builds_on c.in_ok-goes.ensures.built c.in_ok-next.ensures.built)) c.in_ok-shown.ensures.done)
+    (outcomes_kept (builds_on c.in_ok-goes.ensures.built c.in_ok-next.ensures.built) c.in_ok-outcomes.ensures.done)
+    (goes_kept c.in_ok-next.ensures.built (subst (λ xs. HasGoes C P c.grants.new.net pins xs) (sym c.as_slice-starts.ensures.value) c.in_ok-goes.ensures.done))) c.in_ok-finish.ensures.done
 
 pub returns-clause-plan : goal.returns-clause-plan
 returns-clause-plan c =
     let C = program_of c.args.p.now.program in
     let P = choice_of c.args.p.now in
     let pins = c.in_ok-declared.declared.pins in
-    let h = subst IsChecked c.checked-c.ensures.same c.functions-functions.ensures.checked in
+    let h = c.in_ok-declared.ensures.checked in
     let d = c.in_ok-declared.ensures.net in
-    finished_plan c.args.p.now.program h P c.controls.new.net c.finish.new.net pins c.in_ok-next.next c.in_ok-copied.copied c.signals-signals.ensures.netlist (subst (λ n. Grows n c.controls.new.net) d (builds_on (builds_on (builds_on (builds_on c.in_ok-shown.ensures.built c.in_ok-outcomes.ensures.built) (c.in_ok-goes.ensures.built)) (c.in_ok-next.ensures.built)) (c.in_ok-copied.ensures.built)).grows) c.in_ok-declared.ensures.pins (pins_kept (builds_on (builds_on (builds_on (builds_on c.in_ok-shown.ensures.built c.in_ok-outcomes.ensures.built) (c.in_ok-goes.ensures.built)) (c.in_ok-next.ensures.built)) (c.in_ok-copied.ensures.built)) c.in_ok-declared.ensures.fits) (next_kept c.in_ok-copied.ensures.built c.in_ok-next.ensures.done) c.in_ok-copied.ensures.done c.in_ok-finish.ensures.done
+    finished_plan c.args.p.now.program h P c.controls.new.net c.finish.new.net pins c.in_ok-next.next c.in_ok-copied.copied c.signals-signals.ensures.netlist (subst (λ n. Grows n c.controls.new.net) d (builds_on (builds_on (builds_on (builds_on c.in_ok-shown.ensures.built c.in_ok-outcomes.ensures.built) (c.in_ok-goes.ensures.built)) (c.in_ok-next.ensures.built)) (c.in_ok-copied.ensures.built)).grows) c.in_ok-declared.ensures.pins (pins_kept (builds_on (builds_on (builds_on (builds_on c.in_ok-shown.ensures.built c.in_ok-outcomes.ensures.built) (c.in_ok-goes.ensures.built)) (c.in_ok-next.ensures.built)) (c.in_ok-copied.ensures.built)) c.in_ok-declared.ensures.fits) (next_kept c.in_ok-copied.ensures.built c.in_ok-next.ensures.done) (c.in_ok-copied.ensures.done C P pins
+    (returns_kept (builds_on c.in_ok-outcomes.ensures.built (builds_on c.in_ok-goes.ensures.built c.in_ok-next.ensures.built)) c.in_ok-shown.ensures.done)
+    (outcomes_kept (builds_on c.in_ok-goes.ensures.built c.in_ok-next.ensures.built) c.in_ok-outcomes.ensures.done)
+    (goes_kept c.in_ok-next.ensures.built (subst (λ xs. HasGoes C P c.grants.new.net pins xs) (sym c.as_slice-starts.ensures.value) c.in_ok-goes.ensures.done))) c.in_ok-finish.ensures.done
 
 pub returns-clause-circuit : goal.returns-clause-circuit
 returns-clause-circuit c =
     let C = program_of c.args.p.now.program in
     let P = choice_of c.args.p.now in
     let pins = c.in_ok-declared.declared.pins in
-    let h = subst IsChecked c.checked-c.ensures.same c.functions-functions.ensures.checked in
+    let h = c.in_ok-declared.ensures.checked in
     let d = c.in_ok-declared.ensures.net in
-    c.circuit_law.ensures C (names_of c.args.p.now.program) P c.finish.new.net h.formed (c.plan_law.ensures C P.arbiter P.kept c.checked-c.ensures.plan)
-    (finished_scheme c.args.p.now.program h P c.controls.new.net c.finish.new.net pins c.in_ok-next.next c.in_ok-copied.copied c.signals-signals.ensures.netlist (subst (λ n. Grows n c.controls.new.net) d (builds_on (builds_on (builds_on (builds_on c.in_ok-shown.ensures.built c.in_ok-outcomes.ensures.built) (c.in_ok-goes.ensures.built)) (c.in_ok-next.ensures.built)) (c.in_ok-copied.ensures.built)).grows) c.in_ok-declared.ensures.pins (pins_kept (builds_on (builds_on (builds_on (builds_on c.in_ok-shown.ensures.built c.in_ok-outcomes.ensures.built) (c.in_ok-goes.ensures.built)) (c.in_ok-next.ensures.built)) (c.in_ok-copied.ensures.built)) c.in_ok-declared.ensures.fits) (next_kept c.in_ok-copied.ensures.built c.in_ok-next.ensures.done) c.in_ok-copied.ensures.done c.in_ok-finish.ensures.done)
+    c.circuit_law.ensures C (names_of c.args.p.now.program) P c.finish.new.net h.formed (c.plan_law.ensures C P.arbiter P.kept c.in_ok-declared.ensures.plan)
+    (finished_scheme c.args.p.now.program h P c.controls.new.net c.finish.new.net pins c.in_ok-next.next c.in_ok-copied.copied c.signals-signals.ensures.netlist (subst (λ n. Grows n c.controls.new.net) d (builds_on (builds_on (builds_on (builds_on c.in_ok-shown.ensures.built c.in_ok-outcomes.ensures.built) (c.in_ok-goes.ensures.built)) (c.in_ok-next.ensures.built)) (c.in_ok-copied.ensures.built)).grows) c.in_ok-declared.ensures.pins (pins_kept (builds_on (builds_on (builds_on (builds_on c.in_ok-shown.ensures.built c.in_ok-outcomes.ensures.built) (c.in_ok-goes.ensures.built)) (c.in_ok-next.ensures.built)) (c.in_ok-copied.ensures.built)) c.in_ok-declared.ensures.fits) (next_kept c.in_ok-copied.ensures.built c.in_ok-next.ensures.done) (c.in_ok-copied.ensures.done C P pins
+    (returns_kept (builds_on c.in_ok-outcomes.ensures.built (builds_on c.in_ok-goes.ensures.built c.in_ok-next.ensures.built)) c.in_ok-shown.ensures.done)
+    (outcomes_kept (builds_on c.in_ok-goes.ensures.built c.in_ok-next.ensures.built) c.in_ok-outcomes.ensures.done)
+    (goes_kept c.in_ok-next.ensures.built (subst (λ xs. HasGoes C P c.grants.new.net pins xs) (sym c.as_slice-starts.ensures.value) c.in_ok-goes.ensures.done))) c.in_ok-finish.ensures.done)
 
 pub returns-clause-whole : goal.returns-clause-whole
 returns-clause-whole c =
@@ -254,12 +242,15 @@ returns-clause-count c =
     let C = program_of c.args.p.now.program in
     let P = choice_of c.args.p.now in
     let pins = c.in_ok-declared.declared.pins in
-    let h = subst IsChecked c.checked-c.ensures.same c.functions-functions.ensures.checked in
+    let h = c.in_ok-declared.ensures.checked in
     let d = c.in_ok-declared.ensures.net in
     let f = h.limits.functions in
     let s = h.limits.sites in
     let m = few_nodes c.args.p.now.program h in
-    let n = finished_count c.args.p.now.program h P c.controls.new.net c.finish.new.net pins c.in_ok-next.next c.in_ok-copied.copied c.signals-signals.ensures.netlist (subst (λ n. Grows n c.controls.new.net) d (builds_on (builds_on (builds_on (builds_on c.in_ok-shown.ensures.built c.in_ok-outcomes.ensures.built) (c.in_ok-goes.ensures.built)) (c.in_ok-next.ensures.built)) (c.in_ok-copied.ensures.built)).grows) c.in_ok-declared.ensures.pins (pins_kept (builds_on (builds_on (builds_on (builds_on c.in_ok-shown.ensures.built c.in_ok-outcomes.ensures.built) (c.in_ok-goes.ensures.built)) (c.in_ok-next.ensures.built)) (c.in_ok-copied.ensures.built)) c.in_ok-declared.ensures.fits) (next_kept c.in_ok-copied.ensures.built c.in_ok-next.ensures.done) c.in_ok-copied.ensures.done c.in_ok-finish.ensures.done in
+    let n = finished_count c.args.p.now.program h P c.controls.new.net c.finish.new.net pins c.in_ok-next.next c.in_ok-copied.copied c.signals-signals.ensures.netlist (subst (λ n. Grows n c.controls.new.net) d (builds_on (builds_on (builds_on (builds_on c.in_ok-shown.ensures.built c.in_ok-outcomes.ensures.built) (c.in_ok-goes.ensures.built)) (c.in_ok-next.ensures.built)) (c.in_ok-copied.ensures.built)).grows) c.in_ok-declared.ensures.pins (pins_kept (builds_on (builds_on (builds_on (builds_on c.in_ok-shown.ensures.built c.in_ok-outcomes.ensures.built) (c.in_ok-goes.ensures.built)) (c.in_ok-next.ensures.built)) (c.in_ok-copied.ensures.built)) c.in_ok-declared.ensures.fits) (next_kept c.in_ok-copied.ensures.built c.in_ok-next.ensures.done) (c.in_ok-copied.ensures.done C P pins
+    (returns_kept (builds_on c.in_ok-outcomes.ensures.built (builds_on c.in_ok-goes.ensures.built c.in_ok-next.ensures.built)) c.in_ok-shown.ensures.done)
+    (outcomes_kept (builds_on c.in_ok-goes.ensures.built c.in_ok-next.ensures.built) c.in_ok-outcomes.ensures.done)
+    (goes_kept c.in_ok-next.ensures.built (subst (λ xs. HasGoes C P c.grants.new.net pins xs) (sym c.as_slice-starts.ensures.value) c.in_ok-goes.ensures.done))) c.in_ok-finish.ensures.done in
     let few = (builds_on (builds_on (builds_on (builds_on c.in_ok-shown.ensures.built c.in_ok-outcomes.ensures.built) (c.in_ok-goes.ensures.built)) (c.in_ok-next.ensures.built)) (c.in_ok-copied.ensures.built)).count in
     let first = declared_few c.args.p.now.program h P in
     let e = ap (λ (x : Netlist). length x.signals) d in

@@ -16,14 +16,14 @@ add_call_wires-requires-clause-room c =
     let a = lines_count c.args.net.now c.loop-k.net open_wire (lines (site_wires (program_of c.args.p.now.program) (choice_of c.args.p.now)) c.loop-k.k) c.loop-k.invariant in
     let b = few_calls (program_of c.args.p.now.program) (choice_of c.args.p.now) c.loop-k.k in
     let l = c.loop-k-test.true in
-    let e = c.sites-k-end.ensures.count ∙ ap (λ x. (program_of x).sites) c.checked-c.ensures.same in
+    let e = c.sites-k-end.ensures.count ∙ ap (λ x. (program_of x).sites) c.program-c.ensures.same in
     let r = c.requires.room in
     omega (arith, a, b, l, e, r)
 
 pub add_call_wires-requires-clause-free : goal.add_call_wires-requires-clause-free
 add_call_wires-requires-clause-free c =
     let l = c.loop-k-test.true in
-    let e = c.sites-k-end.ensures.count ∙ ap (λ x. (program_of x).sites) c.checked-c.ensures.same in
+    let e = c.sites-k-end.ensures.count ∙ ap (λ x. (program_of x).sites) c.program-c.ensures.same in
     lines_at open_wire c.args.net.now c.loop-k.net (site_wires (program_of c.args.p.now.program) (choice_of c.args.p.now)) c.loop-k.k (suc (program_of c.args.p.now.program).sites) (omega (arith, l, e)) c.requires.free c.loop-k.invariant
 
 pub loop-k-preserved : goal.loop-k-preserved

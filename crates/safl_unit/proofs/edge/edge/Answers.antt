@@ -1,10 +1,12 @@
-use Rattle.std.proofs.Common.{◌+◌, ◌*◌, List, sym, subst, arith}
+use Rattle.std.proofs.Common.{◌+◌, ◌*◌, List, [], ◌∷◌, Option, length, sym, ap, subst, ◌∙◌, arith}
 use Rattle.safl_term.specs.Checked.{program_of}
 use Rattle.safl_net.specs.declared.cell.Sig.{Sig}
+use Rattle.safl_gates.specs.declared.loads.Load.{Load}
+use Rattle.safl_gates.specs.Tables.{SomeFit, BitsFit}
 use Rattle.safl_gates.proofs.Building.{builds_on, builds_within}
 use Rattle.safl_gates.proofs.Kept.{bits_kept}
 use Rattle.safl_unit.specs.Cycles.{choice_of}
-use Rattle.safl_unit.specs.Stages.{HasGoes}
+use Rattle.safl_unit.specs.Steps.{UnitsNext, SitesNext}
 use Rattle.safl_unit.proofs.Keeping.{pins_kept, returns_kept, outcomes_kept, goes_kept}
 use Rattle.safl_unit.proofs.Whole.{events_kept, events_fit, units_next_kept, members_next_kept, has_next}
 use Rattle.safl_unit.proofs.edge.edge.Goals as goal
@@ -16,14 +18,14 @@ pub edge_events-requires-clause-count : goal.edge_events-requires-clause-count
 edge_events-requires-clause-count c =
     let C = program_of c.args.p.now.program in
     let P = choice_of c.args.p.now in
-    let g = subst (λ (xs : List Sig). HasGoes C P c.args.net.now c.args.pins.now xs) (sym c.deref.ensures.value) c.requires.goes in
+    let g = c.requires.goes in
     g.count
 
 pub edge_events-requires-clause-goes : goal.edge_events-requires-clause-goes
 edge_events-requires-clause-goes c =
     let C = program_of c.args.p.now.program in
     let P = choice_of c.args.p.now in
-    let g = subst (λ (xs : List Sig). HasGoes C P c.args.net.now c.args.pins.now xs) (sym c.deref.ensures.value) c.requires.goes in
+    let g = c.requires.goes in
     g.fits
 
 pub edge_events-requires-clause-room : goal.edge_events-requires-clause-room
@@ -36,29 +38,29 @@ pub next_units-requires-clause-ends_count : goal.next_units-requires-clause-ends
 next_units-requires-clause-ends_count c =
     let C = program_of c.args.p.now.program in
     let P = choice_of c.args.p.now in
-    let g = subst (λ (xs : List Sig). HasGoes C P c.args.net.now c.args.pins.now xs) (sym c.deref.ensures.value) c.requires.goes in
-    (c.in_ok-events.ensures.done c.args.pins.now c.requires.outcomes g).ends.count
+    let g = c.requires.goes in
+    ap (λ (xs : List (Option Load)). length xs) c.deref.ensures.value ∙ (c.in_ok-events.ensures.done c.args.pins.now c.requires.outcomes g).ends.count
 
 pub next_units-requires-clause-ends : goal.next_units-requires-clause-ends
 next_units-requires-clause-ends c =
     let C = program_of c.args.p.now.program in
     let P = choice_of c.args.p.now in
-    let g = subst (λ (xs : List Sig). HasGoes C P c.args.net.now c.args.pins.now xs) (sym c.deref.ensures.value) c.requires.goes in
-    (c.in_ok-events.ensures.done c.args.pins.now c.requires.outcomes g).ends.fits
+    let g = c.requires.goes in
+    subst (λ (xs : List (Option Load)). SomeFit c.edge_events.new.net xs (λ u. C.result u ∷ [])) (sym c.deref.ensures.value) (c.in_ok-events.ensures.done c.args.pins.now c.requires.outcomes g).ends.fits
 
 pub next_units-requires-clause-starts_count : goal.next_units-requires-clause-starts_count
 next_units-requires-clause-starts_count c =
     let C = program_of c.args.p.now.program in
     let P = choice_of c.args.p.now in
-    let g = subst (λ (xs : List Sig). HasGoes C P c.args.net.now c.args.pins.now xs) (sym c.deref.ensures.value) c.requires.goes in
-    (c.in_ok-events.ensures.done c.args.pins.now c.requires.outcomes g).starts.count
+    let g = c.requires.goes in
+    ap (λ (xs : List (Option Sig)). length xs) c.deref-2.ensures.value ∙ (c.in_ok-events.ensures.done c.args.pins.now c.requires.outcomes g).starts.count
 
 pub next_units-requires-clause-starts : goal.next_units-requires-clause-starts
 next_units-requires-clause-starts c =
     let C = program_of c.args.p.now.program in
     let P = choice_of c.args.p.now in
-    let g = subst (λ (xs : List Sig). HasGoes C P c.args.net.now c.args.pins.now xs) (sym c.deref.ensures.value) c.requires.goes in
-    (c.in_ok-events.ensures.done c.args.pins.now c.requires.outcomes g).starts.fits
+    let g = c.requires.goes in
+    subst (λ (xs : List (Option Sig)). BitsFit c.edge_events.new.net xs) (sym c.deref-2.ensures.value) (c.in_ok-events.ensures.done c.args.pins.now c.requires.outcomes g).starts.fits
 
 pub next_units-requires-clause-room : goal.next_units-requires-clause-room
 next_units-requires-clause-room c =
@@ -73,7 +75,7 @@ pub next_members-requires-clause-events : goal.next_members-requires-clause-even
 next_members-requires-clause-events c =
     let C = program_of c.args.p.now.program in
     let P = choice_of c.args.p.now in
-    let g = subst (λ (xs : List Sig). HasGoes C P c.args.net.now c.args.pins.now xs) (sym c.deref.ensures.value) c.requires.goes in
+    let g = c.requires.goes in
     events_fit C P c.next_units.new.net c.args.pins.now c.in_ok-events.events (events_kept c.in_ok-units.ensures.built C P c.args.pins.now c.in_ok-events.events (c.in_ok-events.ensures.done c.args.pins.now c.requires.outcomes g))
 
 pub next_members-requires-clause-outcomes : goal.next_members-requires-clause-outcomes
@@ -101,15 +103,16 @@ pub next_sites-requires-clause-clears_count : goal.next_sites-requires-clause-cl
 next_sites-requires-clause-clears_count c =
     let C = program_of c.args.p.now.program in
     let P = choice_of c.args.p.now in
-    let g = subst (λ (xs : List Sig). HasGoes C P c.args.net.now c.args.pins.now xs) (sym c.deref.ensures.value) c.requires.goes in
-    (c.in_ok-events.ensures.done c.args.pins.now c.requires.outcomes g).clears.count
+    let g = c.requires.goes in
+    ap (λ (xs : List (Option Sig)). length xs) c.deref-3.ensures.value ∙ (c.in_ok-events.ensures.done c.args.pins.now c.requires.outcomes g).clears.count
 
 pub next_sites-requires-clause-clears : goal.next_sites-requires-clause-clears
 next_sites-requires-clause-clears c =
     let C = program_of c.args.p.now.program in
     let P = choice_of c.args.p.now in
-    let g = subst (λ (xs : List Sig). HasGoes C P c.args.net.now c.args.pins.now xs) (sym c.deref.ensures.value) c.requires.goes in
-    bits_kept (builds_on c.in_ok-units.ensures.built c.in_ok-members.ensures.built) c.in_ok-events.events.clears.items (c.in_ok-events.ensures.done c.args.pins.now c.requires.outcomes g).clears.fits
+    let g = c.requires.goes in
+    subst (λ (xs : List (Option Sig)). BitsFit c.next_members.new.net xs) (sym c.deref-3.ensures.value)
+    (bits_kept (builds_on c.in_ok-units.ensures.built c.in_ok-members.ensures.built) c.in_ok-events.events.clears.items (c.in_ok-events.ensures.done c.args.pins.now c.requires.outcomes g).clears.fits)
 
 pub next_sites-requires-clause-room : goal.next_sites-requires-clause-room
 next_sites-requires-clause-room c =
@@ -126,12 +129,16 @@ pub returns-clause-done : goal.returns-clause-done
 returns-clause-done c =
     let C = program_of c.args.p.now.program in
     let P = choice_of c.args.p.now in
-    let g = subst (λ (xs : List Sig). HasGoes C P c.args.net.now c.args.pins.now xs) (sym c.deref.ensures.value) c.requires.goes in
+    let g = c.requires.goes in
     let p = c.args.pins.now in
     let back = builds_on (builds_on c.in_ok-units.ensures.built c.in_ok-members.ensures.built) c.in_ok-sites.ensures.built in
     let all = builds_on c.in_ok-events.ensures.built back in
     let events = c.in_ok-events.events in
-    has_next C P c.next_sites.new.net p c.args.returns.now c.args.outcomes.now c.args.goes.now.items events (record { units = c.in_ok-units.units; members = c.in_ok-members.members; sites = c.in_ok-sites.sites })
-    c.function_count-functions.ensures.checked.formed (pins_kept all c.requires.pins) (returns_kept all c.requires.returns) (outcomes_kept all c.requires.outcomes) (goes_kept all c.requires.goes)
+    has_next C P c.next_sites.new.net p c.args.returns.now c.args.outcomes.now c.args.goes.now events (record { units = c.in_ok-units.units; members = c.in_ok-members.members; sites = c.in_ok-sites.sites })
+    c.next_units.ensures.checked.formed (pins_kept all c.requires.pins) (returns_kept all c.requires.returns) (outcomes_kept all c.requires.outcomes) (goes_kept all c.requires.goes)
     (events_kept back C P p events (c.in_ok-events.ensures.done p c.requires.outcomes g))
-    (units_next_kept (builds_on c.in_ok-members.ensures.built c.in_ok-sites.ensures.built) c.in_ok-units.ensures.done) (members_next_kept c.in_ok-sites.ensures.built c.in_ok-members.ensures.done) c.in_ok-sites.ensures.done
+    (units_next_kept (builds_on c.in_ok-members.ensures.built c.in_ok-sites.ensures.built)
+    (subst (λ (xs : List (Option Load)). UnitsNext C c.next_units.new.net p.bank.units.items xs events.starts.items c.in_ok-units.units.items C.functions) c.deref.ensures.value
+    (subst (λ (xs : List (Option Sig)). UnitsNext C c.next_units.new.net p.bank.units.items c.deref.result.now xs c.in_ok-units.units.items C.functions) c.deref-2.ensures.value c.in_ok-units.ensures.done)))
+    (members_next_kept c.in_ok-sites.ensures.built c.in_ok-members.ensures.done)
+    (subst (λ (xs : List (Option Sig)). SitesNext C P c.next_sites.new.net p.bank.units.items p.bank.sites.items c.args.returns.now.ret.items c.args.goes.now xs c.in_ok-sites.sites.items C.sites) c.deref-3.ensures.value c.in_ok-sites.ensures.done)

@@ -82,23 +82,23 @@ pub next_member-requires-clause-entry : goal.next_member-requires-clause-entry
 next_member-requires-clause-entry c =
     let l = c.loop-f-test.true in
     let k = c.function_count-functions.ensures.count in
-    (entries_at (program_of c.args.p.now.program) c.args.net.now c.loop-f.net (35 * c.loop-f.f) c.args.pins.now c.args.events.now c.args.outcomes.now c.loop-f.f c.index-entry.result.now c.index-rival.result.now c.index-load.result.now c.index-looped.result.now
-    c.index-now.result.now c.loop-f.invariant.built (omega (arith, l, k)) c.requires.pins c.requires.events c.requires.outcomes c.index-entry.ensures c.index-rival.ensures c.index-load.ensures c.index-looped.ensures c.index-now.ensures).entry_fits
+    (entries_at (program_of c.args.p.now.program) c.args.net.now c.loop-f.net (35 * c.loop-f.f) c.args.pins.now c.args.events.now c.args.outcomes.now c.loop-f.f c.index-own.result.now c.index-rival.result.now c.index-load.result.now c.index-looped.result.now
+    c.index-now.result.now c.loop-f.invariant.built (omega (arith, l, k)) c.requires.pins c.requires.events c.requires.outcomes c.index-own.ensures c.index-rival.ensures c.index-load.ensures c.index-looped.ensures c.index-now.ensures).entry_fits
 
 pub next_member-requires-clause-rival : goal.next_member-requires-clause-rival
 next_member-requires-clause-rival c =
     let l = c.loop-f-test.true in
     let k = c.function_count-functions.ensures.count in
-    (entries_at (program_of c.args.p.now.program) c.args.net.now c.loop-f.net (35 * c.loop-f.f) c.args.pins.now c.args.events.now c.args.outcomes.now c.loop-f.f c.index-entry.result.now c.index-rival.result.now c.index-load.result.now c.index-looped.result.now
-    c.index-now.result.now c.loop-f.invariant.built (omega (arith, l, k)) c.requires.pins c.requires.events c.requires.outcomes c.index-entry.ensures c.index-rival.ensures c.index-load.ensures c.index-looped.ensures c.index-now.ensures).rival_fits
+    (entries_at (program_of c.args.p.now.program) c.args.net.now c.loop-f.net (35 * c.loop-f.f) c.args.pins.now c.args.events.now c.args.outcomes.now c.loop-f.f c.index-own.result.now c.index-rival.result.now c.index-load.result.now c.index-looped.result.now
+    c.index-now.result.now c.loop-f.invariant.built (omega (arith, l, k)) c.requires.pins c.requires.events c.requires.outcomes c.index-own.ensures c.index-rival.ensures c.index-load.ensures c.index-looped.ensures c.index-now.ensures).rival_fits
 
 pub next_member-requires-clause-fits : goal.next_member-requires-clause-fits
 next_member-requires-clause-fits c =
     let C = program_of c.args.p.now.program in
     let l = c.loop-f-test.true in
     let k = c.function_count-functions.ensures.count in
-    let h = entries_at C c.args.net.now c.loop-f.net (35 * c.loop-f.f) c.args.pins.now c.args.events.now c.args.outcomes.now c.loop-f.f c.index-entry.result.now c.index-rival.result.now c.index-load.result.now c.index-looped.result.now
-    c.index-now.result.now c.loop-f.invariant.built (omega (arith, l, k)) c.requires.pins c.requires.events c.requires.outcomes c.index-entry.ensures c.index-rival.ensures c.index-load.ensures c.index-looped.ensures c.index-now.ensures in
+    let h = entries_at C c.args.net.now c.loop-f.net (35 * c.loop-f.f) c.args.pins.now c.args.events.now c.args.outcomes.now c.loop-f.f c.index-own.result.now c.index-rival.result.now c.index-load.result.now c.index-looped.result.now
+    c.index-now.result.now c.loop-f.invariant.built (omega (arith, l, k)) c.requires.pins c.requires.events c.requires.outcomes c.index-own.ensures c.index-rival.ensures c.index-load.ensures c.index-looped.ensures c.index-now.ensures in
     (C.params c.loop-f.f, h.load_fits, h.loop_fits, h.fits)
 
 pub next_member-requires-clause-room : goal.next_member-requires-clause-room
@@ -106,8 +106,8 @@ next_member-requires-clause-room c =
     let C = program_of c.args.p.now.program in
     let l = c.loop-f-test.true in
     let k = c.function_count-functions.ensures.count in
-    let h = (entries_at C c.args.net.now c.loop-f.net (35 * c.loop-f.f) c.args.pins.now c.args.events.now c.args.outcomes.now c.loop-f.f c.index-entry.result.now c.index-rival.result.now c.index-load.result.now c.index-looped.result.now
-    c.index-now.result.now c.loop-f.invariant.built (omega (arith, l, k)) c.requires.pins c.requires.events c.requires.outcomes c.index-entry.ensures c.index-rival.ensures c.index-load.ensures c.index-looped.ensures c.index-now.ensures).count in
+    let h = (entries_at C c.args.net.now c.loop-f.net (35 * c.loop-f.f) c.args.pins.now c.args.events.now c.args.outcomes.now c.loop-f.f c.index-own.result.now c.index-rival.result.now c.index-load.result.now c.index-looped.result.now
+    c.index-now.result.now c.loop-f.invariant.built (omega (arith, l, k)) c.requires.pins c.requires.events c.requires.outcomes c.index-own.ensures c.index-rival.ensures c.index-load.ensures c.index-looped.ensures c.index-now.ensures).count in
     let a = c.function_count-functions.ensures.checked.limits.params c.loop-f.f in
     let b = c.loop-f.invariant.built.count in
     let r = c.requires.room in
@@ -121,8 +121,8 @@ loop-f-preserved c =
     let k = c.function_count-functions.ensures.count in
     let e = c.args.events.now in
     let o = c.args.outcomes.now in
-    let h = entries_at C c.args.net.now c.loop-f.net (35 * f) c.args.pins.now e o f c.index-entry.result.now c.index-rival.result.now c.index-load.result.now c.index-looped.result.now
-    c.index-now.result.now c.loop-f.invariant.built (omega (arith, l, k)) c.requires.pins c.requires.events c.requires.outcomes c.index-entry.ensures c.index-rival.ensures c.index-load.ensures c.index-looped.ensures c.index-now.ensures in
+    let h = entries_at C c.args.net.now c.loop-f.net (35 * f) c.args.pins.now e o f c.index-own.result.now c.index-rival.result.now c.index-load.result.now c.index-looped.result.now
+    c.index-now.result.now c.loop-f.invariant.built (omega (arith, l, k)) c.requires.pins c.requires.events c.requires.outcomes c.index-own.ensures c.index-rival.ensures c.index-load.ensures c.index-looped.ensures c.index-now.ensures in
     let n = h.count in
     let a = c.function_count-functions.ensures.checked.limits.params f in
     let x = c.index-now.result.now in
@@ -133,9 +133,9 @@ loop-f-preserved c =
       tidy = c.next_member.ensures.tidy;
       built = builds_within (35 * (f + 1)) (builds_on c.loop-f.invariant.built built) (omega (arith, n, a));
       table = more_members C c.loop-f.net c.next_member.new.net (3 + 2 * length x.args.items) c.args.pins.now.bank.members.items e.entries.items e.rivals.items e.loads.items o.loops.items c.loop-f.all.items c.push.new.self.items f
-          c.index-entry.result.now c.index-rival.result.now c.index-load.result.now c.index-looped.result.now x y
+          c.index-own.result.now c.index-rival.result.now c.index-load.result.now c.index-looped.result.now x y
           c.loop-f.invariant.table built h.at_entry h.at_rival h.at_load h.at_loop h.at (c.in_ok-next.ensures.fits (C.params f) h.load_fits h.loop_fits h.fits)
-          (λ v w. subst (λ (m : Bool). MemberStep v m (on_in v c.index-entry.result.now) (on_in v c.index-rival.result.now) (taken_in v c.index-load.result.now) (taken_in v c.index-looped.result.now) x y) peers (c.in_ok-next.ensures.shows v w))
+          (λ v w. subst (λ (m : Bool). MemberStep v m (on_in v c.index-own.result.now) (on_in v c.index-rival.result.now) (taken_in v c.index-load.result.now) (taken_in v c.index-looped.result.now) x y) peers (c.in_ok-next.ensures.shows v w))
           c.in_ok-push.ensures.items;
     }
 

@@ -1,4 +1,4 @@
-use Rattle.std.proofs.Common.{◌≡◌, ℕ, suc, ◌+◌, ◌*◌, ◌<◌, ◌≤◌, List, length, Option, Bool, Some, slice_get, slice_index_or, refl, sym, ap, subst, ◌∙◌, add-one, arith}
+use Rattle.std.proofs.Common.{◌≡◌, ℕ, suc, ◌+◌, ◌*◌, ◌<◌, ◌≤◌, List, length, Option, Bool, Some, None, slice_get, slice_index_or, refl, sym, ap, subst, ◌∙◌, add-one, arith}
 use Rattle.std.proofs.lemmas.Option.{slice_get_read}
 use Rattle.safl_term.specs.Checked.{program_of}
 use Rattle.safl_term.specs.Program.{Program}
@@ -17,7 +17,7 @@ use Rattle.safl_unit.specs.Cycles.{choice_of, SiteFits, PinsFit}
 use Rattle.safl_unit.specs.Stages.{ReturnsFit}
 use Rattle.safl_unit.specs.Steps.{SiteStep, SitesNext}
 use Rattle.safl_unit.proofs.Keeping.{site_kept}
-use Rattle.safl_unit.proofs.Tables.{pin_is}
+use Rattle.safl_unit.proofs.Tables.{pin_is, read_again}
 use Rattle.safl_unit.proofs.Stepping.{no_sites, more_sites}
 use Rattle.safl_unit.proofs.edge.next_sites.Goals as goal
 
@@ -70,7 +70,7 @@ loop-done-init c =
     record {
       tidy = c.requires.tidy;
       built = builds_same n n refl 0;
-      table = no_sites (program_of c.args.p.now.program) (choice_of c.args.p.now) n p.bank.units.items p.bank.sites.items c.args.returns.now.ret.items c.args.goes.now.items c.args.clears.now.items c.in_ok-all.all.items c.in_ok-all.ensures.count;
+      table = no_sites (program_of c.args.p.now.program) (choice_of c.args.p.now) n p.bank.units.items p.bank.sites.items c.args.returns.now.ret.items c.args.goes.now c.args.clears.now c.in_ok-all.all.items c.in_ok-all.ensures.count;
     }
 
 pub next_site-requires-clause-tidy : goal.next_site-requires-clause-tidy
@@ -83,10 +83,10 @@ next_site-requires-clause-ret c =
     let s = c.site_count-sites.ensures.count in
     let w = c.caller_of-caller.ensures.within in
     let u = c.unit_of-owner.ensures.within in
-    let h = site_now C c.args.net.now c.loop-done.net (7 * c.loop-done.done) c.args.pins.now c.args.returns.now c.args.goes.now.items c.args.clears.now.items (c.loop-done.done + 1) c.callee_of-callee.result c.unit_of-owner.result
-    c.index-ret.result.now c.index-go.result.now c.index-clear.result.now c.index-unit.result.now c.index-now.result.now c.loop-done.invariant.built (omega arith) (omega (arith, l, s)) c.callee_of-callee.ensures.number c.callee_of-callee.ensures.within
+    let h = site_now C c.args.net.now c.loop-done.net (7 * c.loop-done.done) c.args.pins.now c.args.returns.now c.args.goes.now c.args.clears.now (c.loop-done.done + 1) c.callee_of-callee.result c.unit_of-owner.result
+    c.index-ret.result.now (pin c.args.goes.now (c.loop-done.done + 1)) (slice_index_or c.args.clears.now c.unit_of-owner.result None) c.index-unit.result.now c.index-now.result.now c.loop-done.invariant.built (omega arith) (omega (arith, l, s)) c.callee_of-callee.ensures.number c.callee_of-callee.ensures.within
     (c.unit_of-owner.ensures.number ∙ ap C.unit c.caller_of-caller.ensures.number) (omega (arith, w, u)) c.requires.pins c.requires.returns c.requires.goes_count c.requires.goes c.requires.clears_count c.requires.clears
-    c.index-clear.ensures c.index-unit.ensures c.index-now.ensures c.index-ret.ensures c.index-go.ensures in
+    (read_again c.args.clears.now c.unit_of-owner.result None (let m = c.requires.clears_count in omega (arith, w, u, m))) c.index-unit.ensures c.index-now.ensures c.index-ret.ensures (read_again c.args.goes.now (c.loop-done.done + 1) (record { 0 = 0 }) (let m = c.requires.goes_count in omega (arith, l, s, m))) in
     h.ret_fits
 
 pub next_site-requires-clause-go : goal.next_site-requires-clause-go
@@ -96,10 +96,10 @@ next_site-requires-clause-go c =
     let s = c.site_count-sites.ensures.count in
     let w = c.caller_of-caller.ensures.within in
     let u = c.unit_of-owner.ensures.within in
-    let h = site_now C c.args.net.now c.loop-done.net (7 * c.loop-done.done) c.args.pins.now c.args.returns.now c.args.goes.now.items c.args.clears.now.items (c.loop-done.done + 1) c.callee_of-callee.result c.unit_of-owner.result
-    c.index-ret.result.now c.index-go.result.now c.index-clear.result.now c.index-unit.result.now c.index-now.result.now c.loop-done.invariant.built (omega arith) (omega (arith, l, s)) c.callee_of-callee.ensures.number c.callee_of-callee.ensures.within
+    let h = site_now C c.args.net.now c.loop-done.net (7 * c.loop-done.done) c.args.pins.now c.args.returns.now c.args.goes.now c.args.clears.now (c.loop-done.done + 1) c.callee_of-callee.result c.unit_of-owner.result
+    c.index-ret.result.now (pin c.args.goes.now (c.loop-done.done + 1)) (slice_index_or c.args.clears.now c.unit_of-owner.result None) c.index-unit.result.now c.index-now.result.now c.loop-done.invariant.built (omega arith) (omega (arith, l, s)) c.callee_of-callee.ensures.number c.callee_of-callee.ensures.within
     (c.unit_of-owner.ensures.number ∙ ap C.unit c.caller_of-caller.ensures.number) (omega (arith, w, u)) c.requires.pins c.requires.returns c.requires.goes_count c.requires.goes c.requires.clears_count c.requires.clears
-    c.index-clear.ensures c.index-unit.ensures c.index-now.ensures c.index-ret.ensures c.index-go.ensures in
+    (read_again c.args.clears.now c.unit_of-owner.result None (let m = c.requires.clears_count in omega (arith, w, u, m))) c.index-unit.ensures c.index-now.ensures c.index-ret.ensures (read_again c.args.goes.now (c.loop-done.done + 1) (record { 0 = 0 }) (let m = c.requires.goes_count in omega (arith, l, s, m))) in
     h.go_fits
 
 pub next_site-requires-clause-clear : goal.next_site-requires-clause-clear
@@ -109,10 +109,10 @@ next_site-requires-clause-clear c =
     let s = c.site_count-sites.ensures.count in
     let w = c.caller_of-caller.ensures.within in
     let u = c.unit_of-owner.ensures.within in
-    let h = site_now C c.args.net.now c.loop-done.net (7 * c.loop-done.done) c.args.pins.now c.args.returns.now c.args.goes.now.items c.args.clears.now.items (c.loop-done.done + 1) c.callee_of-callee.result c.unit_of-owner.result
-    c.index-ret.result.now c.index-go.result.now c.index-clear.result.now c.index-unit.result.now c.index-now.result.now c.loop-done.invariant.built (omega arith) (omega (arith, l, s)) c.callee_of-callee.ensures.number c.callee_of-callee.ensures.within
+    let h = site_now C c.args.net.now c.loop-done.net (7 * c.loop-done.done) c.args.pins.now c.args.returns.now c.args.goes.now c.args.clears.now (c.loop-done.done + 1) c.callee_of-callee.result c.unit_of-owner.result
+    c.index-ret.result.now (pin c.args.goes.now (c.loop-done.done + 1)) (slice_index_or c.args.clears.now c.unit_of-owner.result None) c.index-unit.result.now c.index-now.result.now c.loop-done.invariant.built (omega arith) (omega (arith, l, s)) c.callee_of-callee.ensures.number c.callee_of-callee.ensures.within
     (c.unit_of-owner.ensures.number ∙ ap C.unit c.caller_of-caller.ensures.number) (omega (arith, w, u)) c.requires.pins c.requires.returns c.requires.goes_count c.requires.goes c.requires.clears_count c.requires.clears
-    c.index-clear.ensures c.index-unit.ensures c.index-now.ensures c.index-ret.ensures c.index-go.ensures in
+    (read_again c.args.clears.now c.unit_of-owner.result None (let m = c.requires.clears_count in omega (arith, w, u, m))) c.index-unit.ensures c.index-now.ensures c.index-ret.ensures (read_again c.args.goes.now (c.loop-done.done + 1) (record { 0 = 0 }) (let m = c.requires.goes_count in omega (arith, l, s, m))) in
     h.clear_fits
 
 pub next_site-requires-clause-fits : goal.next_site-requires-clause-fits
@@ -122,10 +122,10 @@ next_site-requires-clause-fits c =
     let s = c.site_count-sites.ensures.count in
     let w = c.caller_of-caller.ensures.within in
     let u = c.unit_of-owner.ensures.within in
-    let h = site_now C c.args.net.now c.loop-done.net (7 * c.loop-done.done) c.args.pins.now c.args.returns.now c.args.goes.now.items c.args.clears.now.items (c.loop-done.done + 1) c.callee_of-callee.result c.unit_of-owner.result
-    c.index-ret.result.now c.index-go.result.now c.index-clear.result.now c.index-unit.result.now c.index-now.result.now c.loop-done.invariant.built (omega arith) (omega (arith, l, s)) c.callee_of-callee.ensures.number c.callee_of-callee.ensures.within
+    let h = site_now C c.args.net.now c.loop-done.net (7 * c.loop-done.done) c.args.pins.now c.args.returns.now c.args.goes.now c.args.clears.now (c.loop-done.done + 1) c.callee_of-callee.result c.unit_of-owner.result
+    c.index-ret.result.now (pin c.args.goes.now (c.loop-done.done + 1)) (slice_index_or c.args.clears.now c.unit_of-owner.result None) c.index-unit.result.now c.index-now.result.now c.loop-done.invariant.built (omega arith) (omega (arith, l, s)) c.callee_of-callee.ensures.number c.callee_of-callee.ensures.within
     (c.unit_of-owner.ensures.number ∙ ap C.unit c.caller_of-caller.ensures.number) (omega (arith, w, u)) c.requires.pins c.requires.returns c.requires.goes_count c.requires.goes c.requires.clears_count c.requires.clears
-    c.index-clear.ensures c.index-unit.ensures c.index-now.ensures c.index-ret.ensures c.index-go.ensures in
+    (read_again c.args.clears.now c.unit_of-owner.result None (let m = c.requires.clears_count in omega (arith, w, u, m))) c.index-unit.ensures c.index-now.ensures c.index-ret.ensures (read_again c.args.goes.now (c.loop-done.done + 1) (record { 0 = 0 }) (let m = c.requires.goes_count in omega (arith, l, s, m))) in
     (C.result (C.callee (c.loop-done.done + 1)), h.res_fits, h.fits)
 
 pub next_site-requires-clause-room : goal.next_site-requires-clause-room
@@ -143,20 +143,20 @@ loop-done-preserved c =
     let s = c.site_count-sites.ensures.count in
     let w = c.caller_of-caller.ensures.within in
     let u = c.unit_of-owner.ensures.within in
-    let h = site_now C c.args.net.now c.loop-done.net (7 * c.loop-done.done) c.args.pins.now c.args.returns.now c.args.goes.now.items c.args.clears.now.items (c.loop-done.done + 1) c.callee_of-callee.result c.unit_of-owner.result
-    c.index-ret.result.now c.index-go.result.now c.index-clear.result.now c.index-unit.result.now c.index-now.result.now c.loop-done.invariant.built (omega arith) (omega (arith, l, s)) c.callee_of-callee.ensures.number c.callee_of-callee.ensures.within
+    let h = site_now C c.args.net.now c.loop-done.net (7 * c.loop-done.done) c.args.pins.now c.args.returns.now c.args.goes.now c.args.clears.now (c.loop-done.done + 1) c.callee_of-callee.result c.unit_of-owner.result
+    c.index-ret.result.now (pin c.args.goes.now (c.loop-done.done + 1)) (slice_index_or c.args.clears.now c.unit_of-owner.result None) c.index-unit.result.now c.index-now.result.now c.loop-done.invariant.built (omega arith) (omega (arith, l, s)) c.callee_of-callee.ensures.number c.callee_of-callee.ensures.within
     (c.unit_of-owner.ensures.number ∙ ap C.unit c.caller_of-caller.ensures.number) (omega (arith, w, u)) c.requires.pins c.requires.returns c.requires.goes_count c.requires.goes c.requires.clears_count c.requires.clears
-    c.index-clear.ensures c.index-unit.ensures c.index-now.ensures c.index-ret.ensures c.index-go.ensures in
+    (read_again c.args.clears.now c.unit_of-owner.result None (let m = c.requires.clears_count in omega (arith, w, u, m))) c.index-unit.ensures c.index-now.ensures c.index-ret.ensures (read_again c.args.goes.now (c.loop-done.done + 1) (record { 0 = 0 }) (let m = c.requires.goes_count in omega (arith, l, s, m))) in
     let P = choice_of c.args.p.now in
     let p = c.args.pins.now in
     let rets = c.args.returns.now.ret.items in
-    let goes = c.args.goes.now.items in
-    let clears = c.args.clears.now.items in
+    let goes = c.args.goes.now in
+    let clears = c.args.clears.now in
     let k = c.loop-done.done + 1 in
     let x = c.index-now.result.now in
     let y = c.in_ok-next.next in
     let unit = c.index-unit.result.now in
-    let clear = c.index-clear.result.now in
+    let clear = (slice_index_or c.args.clears.now c.unit_of-owner.result None) in
     let built = c.in_ok-next.ensures.built in
     record {
       tidy = c.next_site.ensures.tidy;
@@ -166,7 +166,7 @@ loop-done-preserved c =
           (λ v w.
           subst (λ (t : Sig). SiteStep v (P.kept k) (on v t) (on v (pin goes k)) (on_in v clear) (v unit.res.0) x y) (sym h.ret_is)
           (subst (λ (t : Sig). SiteStep v (P.kept k) (on v c.index-ret.result.now) (on v t) (on_in v clear) (v unit.res.0) x y) (sym h.go_is)
-          (subst (λ (b : Bool). SiteStep v b (on v c.index-ret.result.now) (on v c.index-go.result.now) (on_in v clear) (v unit.res.0) x y) c.kept.ensures.entry (c.in_ok-next.ensures.shows v w))))
+          (subst (λ (b : Bool). SiteStep v b (on v c.index-ret.result.now) (on v (pin c.args.goes.now (c.loop-done.done + 1))) (on_in v clear) (v unit.res.0) x y) c.kept.ensures.entry (c.in_ok-next.ensures.shows v w))))
           c.in_ok-push.ensures.items;
     }
 
@@ -187,4 +187,4 @@ returns-clause-done c =
     let b = c.loop-done.auto.done-end in
     let s = c.site_count-sites.ensures.count in
     let e : c.loop-done.done ≡ C.sites = omega (arith, l, b, s) in
-    subst (λ (m : ℕ). SitesNext C (choice_of c.args.p.now) c.loop-done.net p.bank.units.items p.bank.sites.items c.args.returns.now.ret.items c.args.goes.now.items c.args.clears.now.items c.loop-done.all.items m) e c.loop-done.invariant.table
+    subst (λ (m : ℕ). SitesNext C (choice_of c.args.p.now) c.loop-done.net p.bank.units.items p.bank.sites.items c.args.returns.now.ret.items c.args.goes.now c.args.clears.now c.loop-done.all.items m) e c.loop-done.invariant.table

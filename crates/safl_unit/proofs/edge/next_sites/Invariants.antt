@@ -10,5 +10,5 @@ abbrev pub invariant-loop-done : goal.invariant-loop-done
 invariant-loop-done l = record {
   tidy : IsTidy l.net;
   built : Builds l.initial.net l.net (7 * l.done);
-  table : SitesNext (program_of l.p.program) (choice_of l.p) l.net l.pins.bank.units.items l.pins.bank.sites.items l.returns.ret.items l.goes.items l.clears.items l.all.items l.done;
+  table : SitesNext (program_of l.p.program) (choice_of l.p) l.net l.pins.bank.units.items l.pins.bank.sites.items l.returns.ret.items l.goes l.clears l.all.items l.done;
 }

@@ -1,11 +1,12 @@
-use Rattle.std.proofs.Common.{◌≡◌, ℕ, ◌+◌, ◌*◌, [], ◌∷◌, length, Option, refl, sym, ap, subst, ◌∙◌, arith}
-use Rattle.std.proofs.lemmas.Option.{slice_get_read}
+use Rattle.std.proofs.Common.{◌≡◌, ℕ, ◌+◌, ◌*◌, ◌⊎◌, List, [], ◌∷◌, length, Option, None, slice_get, slice_index_or, inl, inr, ⊎_elim, refl, sym, ap, subst, ◌∙◌, arith}
+use Rattle.std.proofs.lemmas.Option.{slice_get_read, slice_get-get_or}
 use Rattle.safl_term.specs.Checked.{program_of}
 use Rattle.safl_net.specs.declared.cell.Sig.{Sig}
 use Rattle.safl_gates.specs.declared.loads.Load.{Load}
 use Rattle.safl_gates.specs.Tables.{load_in, sig_in, FitsIn, IsBitIn}
 use Rattle.safl_gates.proofs.Building.{builds_same, builds_on, builds_within}
 use Rattle.safl_gates.proofs.Kept.{maybe_load_kept, maybe_bit_kept}
+use Rattle.safl_unit.specs.declared.parts.UnitPins.{UnitPins}
 use Rattle.safl_unit.specs.Steps.{UnitsNext}
 use Rattle.safl_unit.proofs.Keeping.{unit_kept}
 use Rattle.safl_unit.proofs.Stepping.{no_units, more_units}
@@ -17,7 +18,7 @@ loop-f-init c =
     record {
       tidy = c.requires.tidy;
       built = builds_same n n refl 0;
-      table = no_units (program_of c.args.p.now.program) n c.args.pins.now.bank.units.items c.args.ends.now.items c.args.starts.now.items c.new-all.result.items c.new-all.ensures.items;
+      table = no_units (program_of c.args.p.now.program) n c.args.pins.now.bank.units.items c.args.ends.now c.args.starts.now c.new-all.result.items c.new-all.ensures.items;
     }
 
 pub unit_after-requires-clause-tidy : goal.unit_after-requires-clause-tidy
@@ -30,14 +31,14 @@ unit_after-requires-clause-fits c =
     let w = c.unit_of-unit.ensures.within in
     let l = c.loop-f-test.true in
     let k = c.function_count-functions.ensures.count in
-    let es = c.args.ends.now.items in
+    let es = c.args.ends.now in
     let us = c.args.pins.now.bank.units.items in
     let m = c.requires.ends_count in
     let j = c.requires.pins.bank.units_length in
-    let e = slice_get_read es (length es) u c.index-end.result.now refl (omega (arith, w, l, k, m)) c.index-end.ensures in
+    let e = slice_get_read es (length es) u c.index-ends-unit.result refl (omega (arith, w, l, k, m)) c.index-ends-unit.is in
     let x = slice_get_read us (length us) u c.index-now.result.now refl (omega (arith, w, l, k, j)) c.index-now.ensures in (
       C.result u,
-      maybe_load_kept c.loop-f.invariant.built c.index-end.result.now (C.result u ∷ []) (subst (λ (o : Option (Option Load)). FitsIn c.args.net.now (load_in o) (C.result u ∷ [])) e (c.requires.ends u)),
+      maybe_load_kept c.loop-f.invariant.built c.index-ends-unit.result (C.result u ∷ []) (subst (λ (o : Option (Option Load)). FitsIn c.args.net.now (load_in o) (C.result u ∷ [])) e (c.requires.ends u)),
       unit_kept c.loop-f.invariant.built (c.requires.pins.bank.units u c.index-now.result.now x),
     )
 
@@ -47,10 +48,10 @@ unit_after-requires-clause-start c =
     let w = c.unit_of-unit.ensures.within in
     let l = c.loop-f-test.true in
     let k = c.function_count-functions.ensures.count in
-    let ss = c.args.starts.now.items in
+    let ss = c.args.starts.now in
     let m = c.requires.starts_count in
-    let s = slice_get_read ss (length ss) u c.index-start.result.now refl (omega (arith, w, l, k, m)) c.index-start.ensures in
-    maybe_bit_kept c.loop-f.invariant.built c.index-start.result.now (subst (λ (o : Option (Option Sig)). IsBitIn c.args.net.now (sig_in o)) s (c.requires.starts u))
+    let s = slice_get-get_or ss u None (omega (arith, w, l, k, m)) in
+    maybe_bit_kept c.loop-f.invariant.built (slice_index_or ss u None) (subst (λ (o : Option (Option Sig)). IsBitIn c.args.net.now (sig_in o)) s (c.requires.starts u))
 
 pub unit_after-requires-clause-room : goal.unit_after-requires-clause-room
 unit_after-requires-clause-room c =
@@ -68,26 +69,27 @@ loop-f-preserved c =
     let w = c.unit_of-unit.ensures.within in
     let l = c.loop-f-test.true in
     let k = c.function_count-functions.ensures.count in
-    let es = c.args.ends.now.items in
-    let ss = c.args.starts.now.items in
+    let es = c.args.ends.now in
+    let ss = c.args.starts.now in
     let us = c.args.pins.now.bank.units.items in
     let m = c.requires.ends_count in
     let n = c.requires.starts_count in
     let j = c.requires.pins.bank.units_length in
-    let e = slice_get_read es (length es) u c.index-end.result.now refl (omega (arith, w, l, k, m)) c.index-end.ensures in
-    let s = slice_get_read ss (length ss) u c.index-start.result.now refl (omega (arith, w, l, k, n)) c.index-start.ensures in
+    let e = slice_get_read es (length es) u c.index-ends-unit.result refl (omega (arith, w, l, k, m)) c.index-ends-unit.is in
+    let s = slice_get-get_or ss u None (omega (arith, w, l, k, n)) in
     let x = slice_get_read us (length us) u c.index-now.result.now refl (omega (arith, w, l, k, j)) c.index-now.ensures in
     let first = c.function_count-functions.ensures.checked.formed.first f (omega (arith, l, k)) in
     let of = c.unit_of-unit.ensures.number in
     let built = c.in_ok-next.ensures.built in
     let done = c.in_ok-next.ensures.done (C.result u)
-    (maybe_load_kept c.loop-f.invariant.built c.index-end.result.now (C.result u ∷ []) (subst (λ (o : Option (Option Load)). FitsIn c.args.net.now (load_in o) (C.result u ∷ [])) e (c.requires.ends u)))
+    (maybe_load_kept c.loop-f.invariant.built c.index-ends-unit.result (C.result u ∷ []) (subst (λ (o : Option (Option Load)). FitsIn c.args.net.now (load_in o) (C.result u ∷ [])) e (c.requires.ends u)))
     (unit_kept c.loop-f.invariant.built (c.requires.pins.bank.units u c.index-now.result.now x)) in
     record {
       tidy = c.unit_after.ensures.tidy;
       built = builds_within (5 * (f + 1)) (builds_on c.loop-f.invariant.built built) (omega arith);
-      table = more_units C c.loop-f.net c.unit_after.new.net us es ss c.loop-f.all.items c.push.new.self.items f u c.index-end.result.now c.index-start.result.now c.index-now.result.now c.in_ok-next.next
-          c.loop-f.invariant.table built of c.unit_of-unit.ensures.width (ap C.unit of ∙ first.1 ∙ sym of) e s x done c.in_ok-push.ensures.items;
+      table = more_units C c.loop-f.net c.unit_after.new.net us es ss c.loop-f.all.items c.push.new.self.items f u c.index-ends-unit.result (slice_index_or ss u None) c.index-now.result.now c.in_ok-next.next
+          c.loop-f.invariant.table built of c.unit_of-unit.ensures.width (ap C.unit of ∙ first.1 ∙ sym of) e s x
+          (⊎_elim (λ q. inl (ap (λ (xs : List UnitPins). slice_get xs u) (sym c.deref.ensures.value) ∙ q)) (λ q. inr q) done) c.in_ok-push.ensures.items;
     }
 
 pub returns-clause-tidy : goal.returns-clause-tidy
@@ -106,4 +108,4 @@ returns-clause-done c =
     let b = c.loop-f.auto.f-end in
     let k = c.function_count-functions.ensures.count in
     let e : c.loop-f.f ≡ C.functions = omega (arith, l, b, k) in
-    subst (λ (m : ℕ). UnitsNext C c.loop-f.net c.args.pins.now.bank.units.items c.args.ends.now.items c.args.starts.now.items c.loop-f.all.items m) e c.loop-f.invariant.table
+    subst (λ (m : ℕ). UnitsNext C c.loop-f.net c.args.pins.now.bank.units.items c.args.ends.now c.args.starts.now c.loop-f.all.items m) e c.loop-f.invariant.table

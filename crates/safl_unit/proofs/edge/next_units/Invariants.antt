@@ -9,5 +9,5 @@ abbrev pub invariant-loop-f : goal.invariant-loop-f
 invariant-loop-f l = record {
   tidy : IsTidy l.net;
   built : Builds l.initial.net l.net (5 * l.f);
-  table : UnitsNext (program_of l.p.program) l.net l.pins.bank.units.items l.ends.items l.starts.items l.all.items l.f;
+  table : UnitsNext (program_of l.p.program) l.net l.pins.bank.units.items l.ends l.starts l.all.items l.f;
 }

@@ -1,8 +1,12 @@
-use Rattle.std.proofs.Common.{ℕ, ◌+◌, ◌*◌, [], ◌∷◌, is_some, arith}
+use Rattle.std.proofs.Common.{ℕ, ◌+◌, ◌*◌, ◌==◌, ◌&&◌, ◌||◌, List, [], ◌∷◌, Option, length, is_some, sym, ap, subst, ◌∙◌, arith}
 use Rattle.safl_term.specs.Checked.{program_of}
+use Rattle.safl_net.specs.declared.cell.Sig.{Sig}
+use Rattle.safl_gates.specs.declared.loads.Load.{Load}
+use Rattle.safl_gates.specs.Tables.{SomeFit, BitsFit, taken_from, on_from}
 use Rattle.safl_gates.proofs.Building.{builds_on, builds_within, source_kept}
 use Rattle.safl_gates.proofs.Kept.{some_kept}
 use Rattle.safl_unit.specs.Cycles.{choice_of}
+use Rattle.safl_unit.specs.Edges.{one_below, rival, ShowsBits, ShowsBelow}
 use Rattle.safl_unit.proofs.Keeping.{outcomes_kept, goes_kept, ends_kept, all_loads_kept, tests_kept}
 use Rattle.safl_circuit.specs.Equations.{starts, clears, starts_it}
 use Rattle.safl_unit.proofs.Crossing.{outcomes_fit_kept, has_ends, has_loads, has_starts, has_clears, has_entries, has_rivals}
@@ -45,13 +49,16 @@ pub unit_clears-requires-clause-outcomes : goal.unit_clears-requires-clause-outc
 unit_clears-requires-clause-outcomes c = outcomes_fit_kept (builds_on (builds_on c.in_ok-ends.ensures.built c.in_ok-loads.ensures.built) c.in_ok-starts.ensures.built) c.requires.outcomes
 
 pub unit_clears-requires-clause-count : goal.unit_clears-requires-clause-count
-unit_clears-requires-clause-count c = c.in_ok-ends.ensures.done.entries
+unit_clears-requires-clause-count c = ap (λ (xs : List (Option Load)). length xs) c.deref.ensures.value ∙ c.in_ok-ends.ensures.done.entries
 
 pub unit_clears-requires-clause-ends : goal.unit_clears-requires-clause-ends
 unit_clears-requires-clause-ends c =
     let C = program_of c.args.p.now.program in
-    let ws = λ (u : ℕ). C.result u ∷ [] in
-    (ws, some_kept (builds_on c.in_ok-loads.ensures.built c.in_ok-starts.ensures.built) c.in_ok-ends.ends.items ws c.in_ok-ends.ensures.done.fits)
+    let ws = λ (u : ℕ). C.result u ∷ [] in (
+      ws,
+      subst (λ (xs : List (Option Load)). SomeFit c.unit_starts.new.net xs ws) (sym c.deref.ensures.value)
+          (some_kept (builds_on c.in_ok-loads.ensures.built c.in_ok-starts.ensures.built) c.in_ok-ends.ends.items ws c.in_ok-ends.ensures.done.fits),
+    )
 
 pub unit_clears-requires-clause-room : goal.unit_clears-requires-clause-room
 unit_clears-requires-clause-room c =
@@ -64,12 +71,15 @@ function_entries-requires-clause-outcomes c =
     outcomes_fit_kept (builds_on (builds_on (builds_on c.in_ok-ends.ensures.built c.in_ok-loads.ensures.built) c.in_ok-starts.ensures.built) c.in_ok-clears.ensures.built) c.requires.outcomes
 
 pub function_entries-requires-clause-count : goal.function_entries-requires-clause-count
-function_entries-requires-clause-count c = c.in_ok-loads.ensures.done.entries
+function_entries-requires-clause-count c = ap (λ (xs : List (Option Load)). length xs) c.deref-2.ensures.value ∙ c.in_ok-loads.ensures.done.entries
 
 pub function_entries-requires-clause-loads : goal.function_entries-requires-clause-loads
 function_entries-requires-clause-loads c =
-    let C = program_of c.args.p.now.program in
-    (C.params, some_kept (builds_on c.in_ok-starts.ensures.built c.in_ok-clears.ensures.built) c.in_ok-loads.loads.items C.params c.in_ok-loads.ensures.done.fits)
+    let C = program_of c.args.p.now.program in (
+      C.params,
+      subst (λ (xs : List (Option Load)). SomeFit c.unit_clears.new.net xs C.params) (sym c.deref-2.ensures.value)
+          (some_kept (builds_on c.in_ok-starts.ensures.built c.in_ok-clears.ensures.built) c.in_ok-loads.loads.items C.params c.in_ok-loads.ensures.done.fits),
+    )
 
 pub function_entries-requires-clause-room : goal.function_entries-requires-clause-room
 function_entries-requires-clause-room c =
@@ -78,10 +88,10 @@ function_entries-requires-clause-room c =
     omega (arith, r, b)
 
 pub function_rivals-requires-clause-count : goal.function_rivals-requires-clause-count
-function_rivals-requires-clause-count c = c.in_ok-entries.ensures.done.entries
+function_rivals-requires-clause-count c = ap (λ (xs : List (Option Sig)). length xs) c.deref-3.ensures.value ∙ c.in_ok-entries.ensures.done.entries
 
 pub function_rivals-requires-clause-entries : goal.function_rivals-requires-clause-entries
-function_rivals-requires-clause-entries c = c.in_ok-entries.ensures.done.fits
+function_rivals-requires-clause-entries c = subst (λ (xs : List (Option Sig)). BitsFit c.function_entries.new.net xs) (sym c.deref-3.ensures.value) c.in_ok-entries.ensures.done.fits
 
 pub function_rivals-requires-clause-room : goal.function_rivals-requires-clause-room
 function_rivals-requires-clause-room c =
@@ -115,9 +125,11 @@ returns-clause-done c = λ p q g.
     let loads = has_loads C P c.function_loads.new.net p o c.args.goes.now c.in_ok-loads.loads.items (outcomes_kept b2 q) (goes_kept b2 g) c.in_ok-loads.ensures.done in
     let started = has_starts C P c.unit_starts.new.net p c.args.goes.now c.in_ok-starts.starts.items (goes_kept b3 g) c.in_ok-starts.ensures.done in
     let mid = builds_on (builds_on c.in_ok-loads.ensures.built c.in_ok-starts.ensures.built) c.in_ok-clears.ensures.built in
-    let cleared = has_clears C P c.unit_clears.new.net p o c.in_ok-ends.ends.items c.in_ok-clears.clears.items (outcomes_kept b4 q) (ends_kept mid ends) c.in_ok-clears.ensures.done in
+    let cleared = has_clears C P c.unit_clears.new.net p o c.in_ok-ends.ends.items c.in_ok-clears.clears.items (outcomes_kept b4 q) (ends_kept mid ends)
+    (subst (λ (xs : List (Option Load)). ShowsBits c.unit_clears.new.net c.in_ok-clears.clears.items C.functions (λ v u. is_some (taken_from v xs u) || one_below (λ h. (u == C.unit h) && is_some (taken_from v o.loops.items h)) C.functions)) c.deref.ensures.value c.in_ok-clears.ensures.done) in
     let front = builds_on (builds_on c.in_ok-starts.ensures.built c.in_ok-clears.ensures.built) c.in_ok-entries.ensures.built in
-    let entries = has_entries C P c.function_entries.new.net p o c.in_ok-loads.loads.items c.in_ok-entries.entries.items (outcomes_kept b5 q) (all_loads_kept front loads) c.in_ok-entries.ensures.done in
+    let entries = has_entries C P c.function_entries.new.net p o c.in_ok-loads.loads.items c.in_ok-entries.entries.items (outcomes_kept b5 q) (all_loads_kept front loads)
+    (subst (λ (xs : List (Option Load)). ShowsBits c.function_entries.new.net c.in_ok-entries.entries.items C.functions (λ v f. is_some (taken_from v xs f) || one_below (λ h. (f == h) && is_some (taken_from v o.loops.items h)) C.functions)) c.deref-2.ensures.value c.in_ok-entries.ensures.done) in
     let kept = tests_kept l6 C P p c.in_ok-entries.entries.items (λ r i f. starts_it C P r i f) entries in
     record {
       ends = ends_kept l2 ends;
@@ -125,5 +137,6 @@ returns-clause-done c = λ p q g.
       starts = tests_kept l4 C P p c.in_ok-starts.starts.items (λ r i u. is_some (starts C P r i u)) started;
       clears = tests_kept l5 C P p c.in_ok-clears.clears.items (λ r i u. clears C P r u) cleared;
       entries = kept;
-      rivals = has_rivals C P c.function_rivals.new.net p c.in_ok-entries.entries.items c.in_ok-rivals.rivals.items kept c.in_ok-rivals.ensures.done;
+      rivals = has_rivals C P c.function_rivals.new.net p c.in_ok-entries.entries.items c.in_ok-rivals.rivals.items kept
+          (subst (λ (xs : List (Option Sig)). ShowsBelow c.function_rivals.new.net c.in_ok-rivals.rivals.items C.functions (λ v f. one_below (rival C (on_from v xs) f) C.functions)) c.deref-3.ensures.value c.in_ok-rivals.ensures.done);
     }

@@ -13,7 +13,7 @@ loop-k-init c =
     let D = names_of c.args.p.now.program in
     let ss = c.args.next.now.sites.items in
     listed_from_one (map sig_of (own_ties C D c.args.next.now)) c.add_functions.new.all.items (site_ties C (choice_of c.args.p.now) ss)
-    (c.in_ok-add_functions.ensures ∙ ap (λ (x : CheckedProgram). c.new-all.result.items ++ map sig_of (own_ties (program_of x) (names_of x) c.args.next.now)) c.checked-c.ensures.same
+    (c.in_ok-add_functions.ensures ∙ ap (λ (x : CheckedProgram). c.new-all.result.items ++ map sig_of (own_ties (program_of x) (names_of x) c.args.next.now)) c.program-c.ensures.same
     ∙ ap (λ l. l ++ map sig_of (own_ties C D c.args.next.now)) c.new-all.ensures.items)
     (no_site_zero C (choice_of c.args.p.now) ss)
 
@@ -26,5 +26,5 @@ pub returns : goal.returns
 returns c =
     let l = c.loop-k-test.false in
     let b = c.loop-k.auto.k-end in
-    let e = c.sites-k-end.ensures.count ∙ ap (λ (x : CheckedProgram). (program_of x).sites) c.checked-c.ensures.same in
+    let e = c.sites-k-end.ensures.count ∙ ap (λ (x : CheckedProgram). (program_of x).sites) c.program-c.ensures.same in
     registers_listed (program_of c.args.p.now.program) (names_of c.args.p.now.program) (choice_of c.args.p.now) c.args.next.now c.loop-k.k c.loop-k.all.items (omega (arith, l, b, e)) c.loop-k.invariant

@@ -11,14 +11,14 @@ loop-k-init c =
     let C = program_of c.args.p.now.program in
     let T = c.args.controls.now in
     listed_from_one (map sig_of (ties (body_ties (names_of c.args.p.now.program) T) C.functions)) c.add_bodies.new.all.items (call_ties C (choice_of c.args.p.now) c.args.first T)
-    (c.in_ok-add_bodies.ensures ∙ ap (λ (x : CheckedProgram). c.new-all.result.items ++ map sig_of (ties (body_ties (names_of x) T) (program_of x).functions)) c.checked-c.ensures.same
+    (c.in_ok-add_bodies.ensures ∙ ap (λ (x : CheckedProgram). c.new-all.result.items ++ map sig_of (ties (body_ties (names_of x) T) (program_of x).functions)) c.program-c.ensures.same
     ∙ ap (λ l. l ++ map sig_of (ties (body_ties (names_of c.args.p.now.program) T) C.functions)) c.new-all.ensures.items)
     refl
 
 pub overflow_cast-place : goal.overflow_cast-place
 overflow_cast-place c =
     let l = c.loop-k-test.true in
-    let e = c.sites-k-end.ensures.count ∙ ap (λ (x : CheckedProgram). (program_of x).sites) c.checked-c.ensures.same in
+    let e = c.sites-k-end.ensures.count ∙ ap (λ (x : CheckedProgram). (program_of x).sites) c.program-c.ensures.same in
     let few = listed_within (program_of c.args.p.now.program) (names_of c.args.p.now.program) (choice_of c.args.p.now) c.args.first c.args.controls.now c.loop-k.k c.loop-k.all.items (omega (arith, l, e)) c.loop-k.invariant in
     let n = c.len.ensures in
     let r = c.requires.room in
@@ -27,7 +27,7 @@ overflow_cast-place c =
 pub overflow_add-place : goal.overflow_add-place
 overflow_add-place c =
     let l = c.loop-k-test.true in
-    let e = c.sites-k-end.ensures.count ∙ ap (λ (x : CheckedProgram). (program_of x).sites) c.checked-c.ensures.same in
+    let e = c.sites-k-end.ensures.count ∙ ap (λ (x : CheckedProgram). (program_of x).sites) c.program-c.ensures.same in
     let few = listed_within (program_of c.args.p.now.program) (names_of c.args.p.now.program) (choice_of c.args.p.now) c.args.first c.args.controls.now c.loop-k.k c.loop-k.all.items (omega (arith, l, e)) c.loop-k.invariant in
     let n = c.len.ensures in
     let r = c.requires.room in

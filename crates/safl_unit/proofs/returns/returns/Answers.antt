@@ -24,11 +24,11 @@ site_return-requires-clause-fits c =
     let f = pins_kept c.loop-done.invariant.built c.requires.pins in (
       C.result (C.callee (suc c.loop-done.done)),
       f.bank.units (C.callee (suc c.loop-done.done)) c.index-unit.result.now
-          (unit_at c.args.p.now.program c.checked-c.result.now c.args.pins.now.bank.units.items c.loop-done.done c.callee.result c.index-unit.result.now c.functions-functions.ensures.checked c.checked-c.ensures.same
+          (unit_at c.args.p.now.program c.program-c.result.now c.args.pins.now.bank.units.items c.loop-done.done c.callee.result c.index-unit.result.now c.sites-sites.ensures.checked c.program-c.ensures.same
           (let l = c.loop-done-test.true in let e = c.sites-sites.ensures.count in omega (arith, l, e)) c.callee.ensures.number c.requires.pins.bank.units_length c.index-unit.ensures),
       f.bank.sites (suc c.loop-done.done) c.index-site.result.now
           (site_at c.args.pins.now.bank.sites.items c.loop-done.done C.sites c.index-site.result.now
-          (let l = c.loop-done-test.true in let e = c.sites-sites.ensures.count ∙ ap (λ (x : CheckedProgram). (program_of x).sites) c.checked-c.ensures.same in omega (arith, l, e)) c.requires.pins.bank.sites_length c.index-site.ensures) (omega arith),
+          (let l = c.loop-done-test.true in let e = c.sites-sites.ensures.count ∙ ap (λ (x : CheckedProgram). (program_of x).sites) c.program-c.ensures.same in omega (arith, l, e)) c.requires.pins.bank.sites_length c.index-site.ensures) (omega arith),
     )
 
 pub site_return-requires-clause-room : goal.site_return-requires-clause-room
@@ -36,7 +36,7 @@ site_return-requires-clause-room c =
     let b = c.loop-done.invariant.built.count in
     let r = c.requires.room in
     let l = c.loop-done-test.true in
-    let e = c.sites-sites.ensures.count ∙ ap (λ (x : CheckedProgram). (program_of x).sites) c.checked-c.ensures.same in
+    let e = c.sites-sites.ensures.count ∙ ap (λ (x : CheckedProgram). (program_of x).sites) c.program-c.ensures.same in
     omega (arith, b, r, l, e)
 
 pub loop-done-preserved : goal.loop-done-preserved
@@ -47,8 +47,8 @@ loop-done-preserved c =
     let f = pins_kept c.loop-done.invariant.built c.requires.pins in
     let l = c.loop-done-test.true in
     let e = c.sites-sites.ensures.count in
-    let k = c.sites-sites.ensures.count ∙ ap (λ (x : CheckedProgram). (program_of x).sites) c.checked-c.ensures.same in
-    let at = unit_at c.args.p.now.program c.checked-c.result.now c.args.pins.now.bank.units.items m c.callee.result c.index-unit.result.now c.functions-functions.ensures.checked c.checked-c.ensures.same (omega (arith, l, e)) c.callee.ensures.number
+    let k = c.sites-sites.ensures.count ∙ ap (λ (x : CheckedProgram). (program_of x).sites) c.program-c.ensures.same in
+    let at = unit_at c.args.p.now.program c.program-c.result.now c.args.pins.now.bank.units.items m c.callee.result c.index-unit.result.now c.sites-sites.ensures.checked c.program-c.ensures.same (omega (arith, l, e)) c.callee.ensures.number
     c.requires.pins.bank.units_length c.index-unit.ensures in
     let own = site_at c.args.pins.now.bank.sites.items m C.sites c.index-site.result.now (omega (arith, l, k)) c.requires.pins.bank.sites_length c.index-site.ensures in
     let x = c.in_ok-next.ensures.fits (C.result (C.callee (suc m))) (f.bank.units (C.callee (suc m)) c.index-unit.result.now at) (f.bank.sites (suc m) c.index-site.result.now own (omega arith)) in
@@ -70,14 +70,14 @@ pub returns-clause-built : goal.returns-clause-built
 returns-clause-built c =
     let l = c.loop-done-test.false in
     let b = c.loop-done.auto.done-end in
-    let e = c.sites-sites.ensures.count ∙ ap (λ (x : CheckedProgram). (program_of x).sites) c.checked-c.ensures.same in
+    let e = c.sites-sites.ensures.count ∙ ap (λ (x : CheckedProgram). (program_of x).sites) c.program-c.ensures.same in
     builds_within (5 * (program_of c.args.p.now.program).sites) c.loop-done.invariant.built (omega (arith, l, b, e))
 
 pub returns-clause-done : goal.returns-clause-done
 returns-clause-done c =
     let l = c.loop-done-test.false in
     let b = c.loop-done.auto.done-end in
-    let e = c.sites-sites.ensures.count ∙ ap (λ (x : CheckedProgram). (program_of x).sites) c.checked-c.ensures.same in
+    let e = c.sites-sites.ensures.count ∙ ap (λ (x : CheckedProgram). (program_of x).sites) c.program-c.ensures.same in
     let k : c.loop-done.done ≡ (program_of c.args.p.now.program).sites = omega (arith, l, b, e) in
     all_returns (program_of c.args.p.now.program) (choice_of c.args.p.now) c.loop-done.net c.args.pins.now c.loop-done.all
     (subst (λ (m : ℕ). SoFar (program_of c.args.p.now.program) (choice_of c.args.p.now) c.loop-done.net c.args.pins.now c.loop-done.all m) k c.loop-done.invariant.so_far)

@@ -11,6 +11,6 @@ abbrev pub invariant-loop-step : goal.invariant-loop-step
 invariant-loop-step l = record {
   tidy : IsTidy l.net;
   built : Builds l.initial.net l.net (2 * l.step);
-  chain : ShowsBits l.net l.chain.items (program_of l.p.program).functions (λ v u. one_below (chain_says (program_of l.p.program) l.entries.items l.falling v u) l.step);
-  table : ShowsBits l.net l.all.items (program_of l.p.program).functions (λ v i. on_from v l.initial.all.items i || one_below (earlier (program_of l.p.program) (on_from v l.entries.items) l.falling i) l.step);
+  chain : ShowsBits l.net l.chain.items (program_of l.p.program).functions (λ v u. one_below (chain_says (program_of l.p.program) l.entries l.falling v u) l.step);
+  table : ShowsBits l.net l.all.items (program_of l.p.program).functions (λ v i. on_from v l.initial.all.items i || one_below (earlier (program_of l.p.program) (on_from v l.entries) l.falling i) l.step);
 }

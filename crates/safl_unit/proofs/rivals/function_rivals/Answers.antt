@@ -20,7 +20,7 @@ pub add_earlier-requires-clause-room : goal.add_earlier-requires-clause-room
 add_earlier-requires-clause-room c = let r = c.requires.room in omega (arith, r)
 
 pub add_earlier-requires-2-clause-entries : goal.add_earlier-requires-2-clause-entries
-add_earlier-requires-2-clause-entries c = bits_kept c.in_ok-add_earlier.ensures.built c.args.entries.now.items c.requires.entries
+add_earlier-requires-2-clause-entries c = bits_kept c.in_ok-add_earlier.ensures.built c.args.entries.now c.requires.entries
 
 pub add_earlier-requires-2-clause-table : goal.add_earlier-requires-2-clause-table
 add_earlier-requires-2-clause-table c =
@@ -41,7 +41,7 @@ returns-clause-built c =
 pub returns-clause-done : goal.returns-clause-done
 returns-clause-done c =
     let C = program_of c.args.p.now.program in
-    let es = c.args.entries.now.items in
+    let es = c.args.entries.now in
     let xs = c.in_ok-all.all.items in
     let bare = bare_bits c.args.net.now xs C.functions (subst (λ (m : ℕ). IsBare xs m) c.function_count-functions.ensures.count c.in_ok-all.ensures.bare) in
     let one = c.in_ok-add_earlier.ensures in

@@ -1,8 +1,0 @@
-use Rattle.std.proofs.Common.{refl}
-use Rattle.safl_term.specs.Tree.{tree}
-use Rattle.safl_lower.proofs.Sample.{can_lower}
-use Rattle.safl_lower.proofs.tests.lowers_a_branch.Goals as goal
-
-pub lower-requires-clause-able : goal.lower-requires-clause-able
-lower-requires-clause-able c d =
-    can_lower d.in_ok-net.net (record { sites = d.in_ok-vec.field-0; first_site = 1; members = 1; first_member = 2; width = 8 }) (tree d.in_ok-body.body) d.in_ok-net.ensures d.in_ok-body.ensures d.in_ok-vec.ensures.items refl refl refl refl
