@@ -23,6 +23,3 @@ pub use crate::shelf::Shelf;
 pub use crate::sink::Sink;
 pub use crate::std_sink::StdSink;
 pub use crate::write::write_file;
-
-#[cfg(test)]
-mod tests;

@@ -102,6 +102,15 @@ pub each_by_index : {X : Type 0} (P : X → Type 0) (xs : List X) → ((i : ℕ)
 each_by_index P [] h = tt
 each_by_index P (x ∷ xs) h = (h 0 x refl, each_by_index P xs (λ i y e. h (suc i) y e))
 
+-- those that pass a test
+pub each_where : {X : Type 0} (P : X → Type 0) (p : X → Bool) (xs : List X) → Each P xs → Each (λ x. P x × (p x ≡ true)) (filter p xs)
+each_where P p [] h = tt
+each_where P p (x ∷ xs) h = go (p x) refl (filter p xs) (each_where P p xs h.1)
+  where
+    go : (c : Bool) → p x ≡ c → (ys : List _) → Each (λ x. P x × (p x ≡ true)) ys → Each (λ x. P x × (p x ≡ true)) (cond c (x ∷ ys) ys)
+    go true e ys more = ((h.0, e), more)
+    go false e ys more = more
+
 pub no_items : {X Y : Type 0} (f : X → List Y) (xs : List X) → Each (λ x. f x ≡ []) xs → flat_map f xs ≡ []
 no_items f [] h = refl
 no_items f (x ∷ xs) h = ap (λ (l : List _). l ++ flat_map f xs) h.0 ∙ no_items f xs h.1

@@ -1,6 +1,6 @@
 -- The file that is written of a netlist, and its text.
-use Rattle.std.proofs.Common.{◌≡◌, ℕ, ◌-◌, List, [], ◌∷◌, ◌++◌, map, Some, None, refl, sym, ap, ◌∙◌, append_assoc}
-use Rattle.std.specs.Prelude.{codes, decimal}
+use Rattle.std.proofs.Common.{◌≡◌, ℕ, ◌-◌, List, [], ◌∷◌, ◌++◌, map, Bool, true, false, cond, Some, None, refl, sym, ap, ◌∙◌, append_assoc}
+use Rattle.std.specs.Prelude.{codes, decimal, filter}
 use Rattle.std.specs.List.{flat_map}
 use Rattle.std.proofs.lemmas.List.{append-nil}
 use Rattle.std.proofs.lemmas.Grind.{flat_map-append}
@@ -17,8 +17,6 @@ use Rattle.safl_verilog.specs.declared.token.Sort.TheVariants as sorts
 use Rattle.safl_verilog.specs.declared.token.Symbol.TheVariants as symbols
 use Rattle.safl_verilog.specs.Tokens.{Piece, text_of_all, symbol_text}
 use Rattle.safl_verilog.specs.Files.{Spot, Expression, Literal, Plain, Inverted, Binary, Choice, Joined, Slice, Declaration, Statement, Assign, Always, File}
-use Rattle.safl_net.specs.Arranged.{IsInput, Each}
-use Rattle.safl_verilog.proofs.WholeNets.{IsUpdated, IsAssigned}
 use Rattle.safl_verilog.proofs.Printed.{sy, symbol_of, line_end, declaration_pieces, expression_pieces, statement_pieces, port_pieces, spot_of, header_end, body_pieces, last_pieces, file_pieces}
 use Rattle.safl_verilog.proofs.PrintedStands.{text_append}
 
@@ -121,15 +119,63 @@ statements_of n rs ws = map (assign_signal n) ws ++ (map (assign_output n) n.out
 abbrev pub file_of : Netlist → (is rs ws : List Signal) → File
 file_of n is rs ws = record { header = clock ∷ reset ∷ ports n is; declarations = declarations_of n is rs ws; statements = statements_of n rs ws }
 
+-- ---- the signals of each kind, in the net's own order
+
+abbrev pub input_kind : Kind → Bool
+input_kind Input = true
+input_kind (Reg init next) = false
+input_kind (Wire cell) = false
+
+abbrev pub register_kind : Kind → Bool
+register_kind Input = false
+register_kind (Reg init next) = true
+register_kind (Wire cell) = false
+
+abbrev pub wire_kind : Kind → Bool
+wire_kind Input = false
+wire_kind (Reg init next) = false
+wire_kind (Wire cell) = true
+
+-- a register that has a next signal, and a wire that has a cell
+abbrev pub updated_kind : Kind → Bool
+updated_kind Input = false
+updated_kind (Reg init None) = false
+updated_kind (Reg init (Some m)) = true
+updated_kind (Wire cell) = false
+
+abbrev pub assigned_kind : Kind → Bool
+assigned_kind Input = false
+assigned_kind (Reg init next) = false
+assigned_kind (Wire None) = false
+assigned_kind (Wire (Some c)) = true
+
+abbrev pub of_kind : (Kind → Bool) → Netlist → List Signal
+of_kind p n = filter (λ (g : Signal). p g.kind) n.signals
+
+-- what is written of a netlist
+abbrev pub written_ports : Netlist → List Spot
+written_ports n = ports n (of_kind input_kind n)
+
+abbrev pub written_declarations : Netlist → List Declaration
+written_declarations n = declarations_of n (of_kind input_kind n) (of_kind register_kind n) (of_kind wire_kind n)
+
+abbrev pub written_statements : Netlist → List Statement
+written_statements n = statements_of n (of_kind updated_kind n) (of_kind assigned_kind n)
+
 -- ---- texts of items
 
-texts : {X Y : Type 0} (item : Y → List Piece) (b : X → Y) (T : X → List ℕ) (P : X → Type 0) → ((x : X) → P x → text_of_all (item (b x)) ≡ T x) → (xs : List X) → Each P xs → text_of_all (flat_map item (map b xs)) ≡ flat_map T xs
-texts item b T P h [] e = refl
-texts item b T P h (x ∷ xs) e = text_append (item (b x)) (flat_map item (map b xs)) ∙ ap (λ (l : List ℕ). l ++ text_of_all (flat_map item (map b xs))) (h x e.0) ∙ ap (λ (l : List ℕ). T x ++ l) (texts item b T P h xs e.1)
+texts : {X Y : Type 0} (item : Y → List Piece) (b : X → Y) (T : X → List ℕ) → ((x : X) → text_of_all (item (b x)) ≡ T x) → (xs : List X) → text_of_all (flat_map item (map b xs)) ≡ flat_map T xs
+texts item b T h [] = refl
+texts item b T h (x ∷ xs) = text_append (item (b x)) (flat_map item (map b xs)) ∙ ap (λ (l : List ℕ). l ++ text_of_all (flat_map item (map b xs))) (h x) ∙ ap (λ (l : List ℕ). T x ++ l) (texts item b T h xs)
 
-nothing : {X : Type 0} (T : X → List ℕ) (P : X → Type 0) → ((x : X) → P x → T x ≡ []) → (xs : List X) → Each P xs → flat_map T xs ≡ []
-nothing T P h [] e = refl
-nothing T P h (x ∷ xs) e = ap (λ (l : List ℕ). l ++ flat_map T xs) (h x e.0) ∙ nothing T P h xs e.1
+-- items of the signals that pass a test, where nothing is written of the others
+texts_where : {Y : Type 0} (item : Y → List Piece) (b : Signal → Y) (T : Signal → List ℕ) (p : Kind → Bool) → ((g : Signal) → p g.kind ≡ true → text_of_all (item (b g)) ≡ T g) → ((g : Signal) → p g.kind ≡ false → T g ≡ []) → (gs : List Signal) → text_of_all (flat_map item (map b (filter (λ (g : Signal). p g.kind) gs))) ≡ flat_map T gs
+texts_where item b T p holds fails [] = refl
+texts_where item b T p holds fails (g ∷ gs) = go (p g.kind) refl (filter (λ (g : Signal). p g.kind) gs) (texts_where item b T p holds fails gs)
+  where
+    go : (c : Bool) → p g.kind ≡ c → (hs : List Signal) → text_of_all (flat_map item (map b hs)) ≡ flat_map T gs → text_of_all (flat_map item (map b (cond c (g ∷ hs) hs))) ≡ T g ++ flat_map T gs
+    go true e hs more = text_append (item (b g)) (flat_map item (map b hs)) ∙ ap (λ (l : List ℕ). l ++ text_of_all (flat_map item (map b hs))) (holds g e) ∙ ap (λ (l : List ℕ). T g ++ l) more
+    go false e hs more = more ∙ ap (λ (l : List ℕ). l ++ flat_map T gs) (sym (fails g e))
 
 port_text : (name : List ℕ) → text_of_all (port_pieces (spot_of name)) ≡ port name
 port_text name = ap (λ (l : List ℕ). 44 ∷ 32 ∷ l) (append-nil name)
@@ -204,69 +250,121 @@ cell_text n ops.Copy xs = one_text n Plain Written.plain refl (λ a b xs. refl) 
 cell_text n ops.Mux xs = choice_text n xs
 cell_text n (ops.Apply p) xs = applied_text n p xs
 
+-- ---- texts by kind
+
+if_input : (k : Kind) (t : List ℕ) → input_kind k ≡ true → Written.if_input k t ≡ t
+if_input Input t e = refl
+if_input (Reg init next) t e = absurd cc
+if_input (Wire cell) t e = absurd cc
+
+not_input : (k : Kind) (t : List ℕ) → input_kind k ≡ false → Written.if_input k t ≡ []
+not_input Input t e = absurd cc
+not_input (Reg init next) t e = refl
+not_input (Wire cell) t e = refl
+
+if_register : (k : Kind) (t : List ℕ) → register_kind k ≡ true → Written.if_register k t ≡ t
+if_register Input t e = absurd cc
+if_register (Reg init next) t e = refl
+if_register (Wire cell) t e = absurd cc
+
+not_register : (k : Kind) (t : List ℕ) → register_kind k ≡ false → Written.if_register k t ≡ []
+not_register Input t e = refl
+not_register (Reg init next) t e = absurd cc
+not_register (Wire cell) t e = refl
+
+if_wire : (k : Kind) (t : List ℕ) → wire_kind k ≡ true → Written.if_wire k t ≡ t
+if_wire Input t e = absurd cc
+if_wire (Reg init next) t e = absurd cc
+if_wire (Wire cell) t e = refl
+
+not_wire : (k : Kind) (t : List ℕ) → wire_kind k ≡ false → Written.if_wire k t ≡ []
+not_wire Input t e = refl
+not_wire (Reg init next) t e = refl
+not_wire (Wire cell) t e = absurd cc
+
+if_assigned : (n : Netlist) (name : List ℕ) (k : Kind) → assigned_kind k ≡ true → text_of_all (statement_pieces (Assign (spot_of name) (driver n k))) ≡ Written.cell_assignment n name k
+if_assigned n name Input e = absurd cc
+if_assigned n name (Reg init next) e = absurd cc
+if_assigned n name (Wire None) e = absurd cc
+if_assigned n name (Wire (Some c)) e = assign_text (spot_of name) (expression_of n c) (operation c.op (names_of n c.operands)) (cell_text n c.op c.operands)
+
+not_assigned : (n : Netlist) (name : List ℕ) (k : Kind) → assigned_kind k ≡ false → Written.cell_assignment n name k ≡ []
+not_assigned n name Input e = refl
+not_assigned n name (Reg init next) e = refl
+not_assigned n name (Wire None) e = refl
+not_assigned n name (Wire (Some c)) e = absurd cc
+
+if_updated : (n : Netlist) (g : Signal) (k : Kind) → updated_kind k ≡ true → text_of_all (statement_pieces (updated_by n g k)) ≡ Written.next_update n g.name g.width k
+if_updated n g Input e = absurd cc
+if_updated n g (Reg init None) e = absurd cc
+if_updated n g (Reg init (Some m)) e = update_text g.name (literal g.width init) (name_of n m)
+if_updated n g (Wire cell) e = absurd cc
+
+not_updated : (n : Netlist) (name : List ℕ) (width : ℕ) (k : Kind) → updated_kind k ≡ false → Written.next_update n name width k ≡ []
+not_updated n name width Input e = refl
+not_updated n name width (Reg init None) e = refl
+not_updated n name width (Reg init (Some m)) e = absurd cc
+not_updated n name width (Wire cell) e = refl
+
 -- ---- the text of the whole
 
-module _ (n : Netlist) (is rs ws : List Signal) (whole : n.signals ≡ is ++ (rs ++ ws)) (inputs : Each IsInput is) (registers : Each IsUpdated rs) (wires : Each IsAssigned ws) where
-  spread : (T : Signal → List ℕ) → flat_map T n.signals ≡ flat_map T is ++ (flat_map T rs ++ flat_map T ws)
-  spread T = ap (flat_map T) whole ∙ flat_map-append T is (rs ++ ws) ∙ ap (λ (l : List ℕ). flat_map T is ++ l) (flat_map-append T rs ws)
-
-  only_inputs : (T : Signal → List ℕ) → ((g : Signal) → IsUpdated g → T g ≡ []) → ((g : Signal) → IsAssigned g → T g ≡ []) → flat_map T n.signals ≡ flat_map T is
-  only_inputs T a b = spread T ∙ ap (λ (l : List ℕ). flat_map T is ++ (l ++ flat_map T ws)) (nothing T IsUpdated a rs registers) ∙ ap (λ (l : List ℕ). flat_map T is ++ l) (nothing T IsAssigned b ws wires) ∙ append-nil (flat_map T is)
-
-  only_registers : (T : Signal → List ℕ) → ((g : Signal) → IsInput g → T g ≡ []) → ((g : Signal) → IsAssigned g → T g ≡ []) → flat_map T n.signals ≡ flat_map T rs
-  only_registers T a b = spread T ∙ ap (λ (l : List ℕ). l ++ (flat_map T rs ++ flat_map T ws)) (nothing T IsInput a is inputs) ∙ ap (λ (l : List ℕ). flat_map T rs ++ l) (nothing T IsAssigned b ws wires) ∙ append-nil (flat_map T rs)
-
-  only_wires : (T : Signal → List ℕ) → ((g : Signal) → IsInput g → T g ≡ []) → ((g : Signal) → IsUpdated g → T g ≡ []) → flat_map T n.signals ≡ flat_map T ws
-  only_wires T a b = spread T ∙ ap (λ (l : List ℕ). l ++ (flat_map T rs ++ flat_map T ws)) (nothing T IsInput a is inputs) ∙ ap (λ (l : List ℕ). l ++ flat_map T ws) (nothing T IsUpdated b rs registers)
-
-  each_unit : {X : Type 0} (xs : List X) → Each (λ x. Unit {0}) xs
-  each_unit [] = tt
-  each_unit (x ∷ xs) = (tt, each_unit xs)
-
-  ports_text : text_of_all (flat_map port_pieces (ports n is)) ≡ flat_map input_port n.signals ++ flat_map output_port n.outputs
+module _ (n : Netlist) where
+  ports_text : text_of_all (flat_map port_pieces (written_ports n)) ≡ flat_map input_port n.signals ++ flat_map output_port n.outputs
   ports_text =
-      let split : text_of_all (flat_map port_pieces (ports n is)) ≡ text_of_all (flat_map port_pieces (map signal_spot is)) ++ text_of_all (flat_map port_pieces (map output_spot n.outputs)) = ap text_of_all (flat_map-append port_pieces (map signal_spot is) (map output_spot n.outputs)) ∙ text_append (flat_map port_pieces (map signal_spot is)) (flat_map port_pieces (map output_spot n.outputs)) in
-      let a : text_of_all (flat_map port_pieces (map signal_spot is)) ≡ flat_map input_port n.signals = texts port_pieces signal_spot input_port IsInput (λ g e. port_text g.name ∙ ap (λ k. Written.if_input k (port g.name)) (sym e)) is inputs ∙ sym (only_inputs input_port (λ g e. ap (λ k. Written.if_input k (port g.name)) e.2) (λ g e. ap (λ k. Written.if_input k (port g.name)) e.1)) in
-      let b : text_of_all (flat_map port_pieces (map output_spot n.outputs)) ≡ flat_map output_port n.outputs = texts port_pieces output_spot output_port (λ o. Unit {0}) (λ o e. port_text o.0) n.outputs (each_unit n.outputs) in
-      split ∙ ap (λ (l : List ℕ). l ++ text_of_all (flat_map port_pieces (map output_spot n.outputs))) a ∙ ap (λ (l : List ℕ). flat_map input_port n.signals ++ l) b
+      let i = map signal_spot (of_kind input_kind n) in
+      let o = map output_spot n.outputs in
+      let a : text_of_all (flat_map port_pieces i) ≡ flat_map input_port n.signals =
+      texts_where port_pieces signal_spot input_port input_kind (λ g e. port_text g.name ∙ sym (if_input g.kind (port g.name) e)) (λ g e. not_input g.kind (port g.name) e) n.signals in
+      let b : text_of_all (flat_map port_pieces o) ≡ flat_map output_port n.outputs = texts port_pieces output_spot output_port (λ o. port_text o.0) n.outputs in
+      ap text_of_all (flat_map-append port_pieces i o) ∙ text_append (flat_map port_pieces i) (flat_map port_pieces o)
+      ∙ ap (λ (l : List ℕ). l ++ text_of_all (flat_map port_pieces o)) a ∙ ap (λ (l : List ℕ). flat_map input_port n.signals ++ l) b
 
-  declarations_text : text_of_all (flat_map declaration_pieces (declarations_of n is rs ws)) ≡ declarations n
+  declarations_text : text_of_all (flat_map declaration_pieces (written_declarations n)) ≡ declarations n
   declarations_text =
-      let i = map (declare_signal sorts.Input) is in
+      let i = map (declare_signal sorts.Input) (of_kind input_kind n) in
       let o = map (declare_output n) n.outputs in
-      let r = map (declare_signal sorts.Reg) rs in
-      let w = map (declare_signal sorts.Wire) ws in
+      let r = map (declare_signal sorts.Reg) (of_kind register_kind n) in
+      let w = map (declare_signal sorts.Wire) (of_kind wire_kind n) in
       let pieces : List Declaration → List ℕ = λ ds. text_of_all (flat_map declaration_pieces ds) in
       let join : (xs ys : List Declaration) → pieces (xs ++ ys) ≡ pieces xs ++ pieces ys = λ xs ys. ap text_of_all (flat_map-append declaration_pieces xs ys) ∙ text_append (flat_map declaration_pieces xs) (flat_map declaration_pieces ys) in
-      let a : pieces i ≡ flat_map input_declaration n.signals = texts declaration_pieces (declare_signal sorts.Input) input_declaration IsInput (λ g e. input_text g.width g.name ∙ ap (λ k. Written.if_input k (declaration (codes "input") g.width g.name)) (sym e)) is inputs ∙ sym (only_inputs input_declaration (λ g e. ap (λ k. Written.if_input k (declaration (codes "input") g.width g.name)) e.2) (λ g e. ap (λ k. Written.if_input k (declaration (codes "input") g.width g.name)) e.1)) in
-      let b : pieces o ≡ flat_map (output_declaration n) n.outputs = texts declaration_pieces (declare_output n) (output_declaration n) (λ o. Unit {0}) (λ o e. output_text (width_of n o.1) o.0) n.outputs (each_unit n.outputs) in
-      let c : pieces r ≡ flat_map register_declaration n.signals = texts declaration_pieces (declare_signal sorts.Reg) register_declaration IsUpdated (λ g e. register_text g.width g.name ∙ ap (λ k. Written.if_register k (declaration (codes "reg") g.width g.name)) (sym e.2)) rs registers ∙ sym (only_registers register_declaration (λ g e. ap (λ k. Written.if_register k (declaration (codes "reg") g.width g.name)) e) (λ g e. ap (λ k. Written.if_register k (declaration (codes "reg") g.width g.name)) e.1)) in
-      let d : pieces w ≡ flat_map wire_declaration n.signals = texts declaration_pieces (declare_signal sorts.Wire) wire_declaration IsAssigned (λ g e. wire_text g.width g.name ∙ ap (λ k. Written.if_wire k (declaration (codes "wire") g.width g.name)) (sym e.1)) ws wires ∙ sym (only_wires wire_declaration (λ g e. ap (λ k. Written.if_wire k (declaration (codes "wire") g.width g.name)) e) (λ g e. ap (λ k. Written.if_wire k (declaration (codes "wire") g.width g.name)) e.2)) in
+      let a : pieces i ≡ flat_map input_declaration n.signals =
+      texts_where declaration_pieces (declare_signal sorts.Input) input_declaration input_kind
+      (λ g e. input_text g.width g.name ∙ sym (if_input g.kind (declaration (codes "input") g.width g.name) e)) (λ g e. not_input g.kind (declaration (codes "input") g.width g.name) e) n.signals in
+      let b : pieces o ≡ flat_map (output_declaration n) n.outputs = texts declaration_pieces (declare_output n) (output_declaration n) (λ o. output_text (width_of n o.1) o.0) n.outputs in
+      let c : pieces r ≡ flat_map register_declaration n.signals =
+      texts_where declaration_pieces (declare_signal sorts.Reg) register_declaration register_kind
+      (λ g e. register_text g.width g.name ∙ sym (if_register g.kind (declaration (codes "reg") g.width g.name) e)) (λ g e. not_register g.kind (declaration (codes "reg") g.width g.name) e) n.signals in
+      let d : pieces w ≡ flat_map wire_declaration n.signals =
+      texts_where declaration_pieces (declare_signal sorts.Wire) wire_declaration wire_kind
+      (λ g e. wire_text g.width g.name ∙ sym (if_wire g.kind (declaration (codes "wire") g.width g.name) e)) (λ g e. not_wire g.kind (declaration (codes "wire") g.width g.name) e) n.signals in
       let all : pieces (i ++ (o ++ (r ++ w))) ≡ flat_map input_declaration n.signals ++ (flat_map (output_declaration n) n.outputs ++ (flat_map register_declaration n.signals ++ flat_map wire_declaration n.signals)) =
       join i (o ++ (r ++ w)) ∙ ap (λ (l : List ℕ). l ++ pieces (o ++ (r ++ w))) a ∙ ap (λ (l : List ℕ). flat_map input_declaration n.signals ++ l) (join o (r ++ w) ∙ ap (λ (l : List ℕ). l ++ pieces (r ++ w)) b ∙ ap (λ (l : List ℕ). flat_map (output_declaration n) n.outputs ++ l) (join r w ∙ ap (λ (l : List ℕ). l ++ pieces w) c ∙ ap (λ (l : List ℕ). flat_map register_declaration n.signals ++ l) d)) in
       ap (λ (l : List ℕ). codes "  input clk;\n  input rst;\n" ++ l) all ∙ simp append_assoc
 
-  statements_text : text_of_all (flat_map statement_pieces (statements_of n rs ws)) ≡ statements n
+  statements_text : text_of_all (flat_map statement_pieces (written_statements n)) ≡ statements n
   statements_text =
-      let w = map (assign_signal n) ws in
+      let w = map (assign_signal n) (of_kind assigned_kind n) in
       let o = map (assign_output n) n.outputs in
-      let r = map (update_signal n) rs in
+      let r = map (update_signal n) (of_kind updated_kind n) in
       let pieces : List Statement → List ℕ = λ ss. text_of_all (flat_map statement_pieces ss) in
       let join : (xs ys : List Statement) → pieces (xs ++ ys) ≡ pieces xs ++ pieces ys = λ xs ys. ap text_of_all (flat_map-append statement_pieces xs ys) ∙ text_append (flat_map statement_pieces xs) (flat_map statement_pieces ys) in
-      let a : pieces w ≡ flat_map (wire_assignment n) n.signals = texts statement_pieces (assign_signal n) (wire_assignment n) IsAssigned (λ g e. ap (λ k. text_of_all (statement_pieces (Assign (signal_spot g) (driver n k)))) e.1 ∙ assign_text (signal_spot g) (expression_of n e.0) (operation e.0.op (names_of n e.0.operands)) (cell_text n e.0.op e.0.operands) ∙ ap (Written.cell_assignment n g.name) (sym e.1)) ws wires ∙ sym (only_wires (wire_assignment n) (λ g e. ap (Written.cell_assignment n g.name) e) (λ g e. ap (Written.cell_assignment n g.name) e.2)) in
-      let b : pieces o ≡ flat_map (output_assignment n) n.outputs = texts statement_pieces (assign_output n) (output_assignment n) (λ o. Unit {0}) (λ o e. assign_text (output_spot o) (Plain (named_spot n o.1)) (name_of n o.1) (append-nil (name_of n o.1))) n.outputs (each_unit n.outputs) in
-      let c : pieces r ≡ flat_map (register_update n) n.signals = texts statement_pieces (update_signal n) (register_update n) IsUpdated (λ g e. ap (λ k. text_of_all (statement_pieces (updated_by n g k))) e.2 ∙ update_text g.name (literal g.width e.0) (name_of n e.1) ∙ ap (Written.next_update n g.name g.width) (sym e.2)) rs registers ∙ sym (only_registers (register_update n) (λ g e. ap (Written.next_update n g.name g.width) e) (λ g e. ap (Written.next_update n g.name g.width) e.1)) in
+      let a : pieces w ≡ flat_map (wire_assignment n) n.signals =
+      texts_where statement_pieces (assign_signal n) (wire_assignment n) assigned_kind (λ g e. if_assigned n g.name g.kind e) (λ g e. not_assigned n g.name g.kind e) n.signals in
+      let b : pieces o ≡ flat_map (output_assignment n) n.outputs =
+      texts statement_pieces (assign_output n) (output_assignment n) (λ o. assign_text (output_spot o) (Plain (named_spot n o.1)) (name_of n o.1) (append-nil (name_of n o.1))) n.outputs in
+      let c : pieces r ≡ flat_map (register_update n) n.signals =
+      texts_where statement_pieces (update_signal n) (register_update n) updated_kind (λ g e. if_updated n g g.kind e) (λ g e. not_updated n g.name g.width g.kind e) n.signals in
       join w (o ++ r) ∙ ap (λ (l : List ℕ). l ++ pieces (o ++ r)) a ∙ ap (λ (l : List ℕ). flat_map (wire_assignment n) n.signals ++ l) (join o r ∙ ap (λ (l : List ℕ). l ++ pieces r) b ∙ ap (λ (l : List ℕ). flat_map (output_assignment n) n.outputs ++ l) c) ∙ simp append_assoc
 
-  pub file_text : text_of_all (file_pieces clock (reset ∷ ports n is) (declarations_of n is rs ws) (statements_of n rs ws)) ≡ written n
+  pub file_text : text_of_all (file_pieces clock (reset ∷ written_ports n) (written_declarations n) (written_statements n)) ≡ written n
   unfolding written
   file_text =
-      let ps = flat_map port_pieces (ports n is) in
-      let ds = flat_map declaration_pieces (declarations_of n is rs ws) in
-      let ss = flat_map statement_pieces (statements_of n rs ws) in
+      let ps = flat_map port_pieces (written_ports n) in
+      let ds = flat_map declaration_pieces (written_declarations n) in
+      let ss = flat_map statement_pieces (written_statements n) in
       let start : List ℕ → List ℕ = λ (l : List ℕ). codes "module safl (clk, rst" ++ l in
-      let a : text_of_all (ps ++ header_end (body_pieces (declarations_of n is rs ws) (statements_of n rs ws))) ≡ text_of_all ps ++ (codes ");\n" ++ (text_of_all ds ++ (text_of_all ss ++ codes "endmodule\n"))) =
-      text_append ps (header_end (body_pieces (declarations_of n is rs ws) (statements_of n rs ws))) ∙ ap (λ (l : List ℕ). text_of_all ps ++ (codes ");\n" ++ l)) (text_append ds (ss ++ last_pieces) ∙ ap (λ (l : List ℕ). text_of_all ds ++ l) (text_append ss last_pieces)) in
+      let a : text_of_all (ps ++ header_end (body_pieces (written_declarations n) (written_statements n))) ≡ text_of_all ps ++ (codes ");\n" ++ (text_of_all ds ++ (text_of_all ss ++ codes "endmodule\n"))) =
+      text_append ps (header_end (body_pieces (written_declarations n) (written_statements n))) ∙ ap (λ (l : List ℕ). text_of_all ps ++ (codes ");\n" ++ l)) (text_append ds (ss ++ last_pieces) ∙ ap (λ (l : List ℕ). text_of_all ds ++ l) (text_append ss last_pieces)) in
       let b : text_of_all ps ++ (codes ");\n" ++ (text_of_all ds ++ (text_of_all ss ++ codes "endmodule\n"))) ≡ (flat_map input_port n.signals ++ flat_map output_port n.outputs) ++ (codes ");\n" ++ (declarations n ++ (statements n ++ codes "endmodule\n"))) =
       ap (λ (l : List ℕ). l ++ (codes ");\n" ++ (text_of_all ds ++ (text_of_all ss ++ codes "endmodule\n")))) ports_text
       ∙ ap (λ (l : List ℕ). (flat_map input_port n.signals ++ flat_map output_port n.outputs) ++ (codes ");\n" ++ (l ++ (text_of_all ss ++ codes "endmodule\n")))) declarations_text

@@ -20,6 +20,7 @@ pub mod Cells
 pub mod WrittenNames
 pub mod WrittenRules
 pub mod WrittenMeans
+pub mod WrittenLaid
 pub mod WrittenReads
 pub mod Fronts
 pub mod Endings

@@ -12,7 +12,7 @@ use Rattle.safl_verilog.specs.declared.token.Keyword.TheVariants as keywords
 use Rattle.safl_verilog.specs.declared.token.Symbol.TheVariants as symbols
 use Rattle.safl_verilog.specs.declared.token.Sort.{Sort}
 use Rattle.safl_verilog.specs.declared.token.Sort.TheVariants as sorts
-use Rattle.safl_verilog.specs.Tokens.{Terminal, Piece, Blank, Line, Block, Lexeme, text_of, text_of_all, tokens_from}
+use Rattle.safl_verilog.specs.Tokens.{Terminal, Piece, Blank, Line, Block, Lexeme, text_of, tokens_from}
 use Rattle.safl_verilog.specs.Files.{Spot, Expression, Literal, Plain, Inverted, Binary, Choice, Joined, Slice, Declaration, Statement, Assign, Always, File}
 use Rattle.safl_verilog.specs.Grammar.{sort_codes}
 use Rattle.safl_verilog.specs.Reader.{comes, read_word, read_symbol, read_constant, read_inverted, read_binary, read_choice, read_joined, read_slice, read_named, read_cell, read_written_range, read_range, read_decl, read_assign, read_otherwise, read_at_reset, read_always, read_stmt, read_another_id, read_ids, read_another_decl, read_decls, read_another_stmt, read_stmts, read_body, read_file, read_text}
@@ -49,9 +49,6 @@ abbrev pub bare_file : File → File
 bare_file f = record { header = map bare f.header; declarations = map bare_declaration f.declarations; statements = map bare_statement f.statements }
 
 -- ---- tokens of pieces
-
-abbrev pub end_of : ℕ → List Piece → ℕ
-end_of p xs = p + length (text_of_all xs)
 
 -- where the tokens of the pieces behind these begin
 abbrev pub behind : ℕ → List Piece → ℕ

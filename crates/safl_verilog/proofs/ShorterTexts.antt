@@ -1,4 +1,4 @@
--- A front of a written text that reads as a netlist is the whole text, with or without its last line feed.
+-- A prefix of a written text that reads as a netlist is the whole text, with or without its last line feed.
 use Rattle.std.proofs.Common.{◌≡◌, ℕ, ◌+◌, ◌≤◌, Bool, true, false, not, ◌==◌, List, [], ◌∷◌, ◌++◌, length, Some, None, refl, sym, ap, subst, ◌∙◌, arith, lit≤, inl, inr, append_assoc, length-append}
 use Rattle.std.specs.Prelude.{◌⊎◌, codes}
 use Rattle.std.specs.List.{flat_map, list_all}
@@ -13,7 +13,6 @@ use Rattle.safl_word.specs.Tokens.{base_of}
 use Rattle.safl_net.specs.Names.{is_start, is_part, are_parts, is_identifier}
 use Rattle.safl_net.specs.Netlist.{Netlist}
 use Rattle.safl_net.specs.Rules.{IsNetlist}
-use Rattle.safl_net.specs.Whole.{IsWhole}
 use Rattle.safl_net.specs.Written.{written}
 use Rattle.safl_verilog.specs.declared.token.Keyword.{Keyword}
 use Rattle.safl_verilog.specs.declared.token.Keyword.TheVariants as keywords
@@ -26,7 +25,6 @@ use Rattle.safl_verilog.specs.Pieces.{named, all_keywords, word_kind}
 use Rattle.safl_verilog.specs.Files.{Spot, Declaration, Statement, File}
 use Rattle.safl_verilog.specs.Grammar.{keyword_code, symbol_code, code_of}
 use Rattle.safl_verilog.specs.Reads.{IsFile, Reads}
-use Rattle.safl_net.specs.Arranged.{IsInOrder}
 use Rattle.safl_verilog.proofs.Runs.{other_than, are_parts-all}
 use Rattle.safl_verilog.proofs.Found.{word_kinds}
 use Rattle.safl_verilog.proofs.Texts.{same_pieces, final_end, split}
@@ -34,7 +32,7 @@ use Rattle.safl_verilog.proofs.Grammar.{no_shorter}
 use Rattle.safl_verilog.proofs.Printed.{space, line_end, kw, sy, id, spot_of, declaration_pieces, statement_pieces, port_pieces, last_pieces, body_pieces, header_end, file_pieces}
 use Rattle.safl_verilog.proofs.PrintedStands.{text_append, stand_append}
 use Rattle.safl_verilog.proofs.PrintedReads.{behind, tokens_append}
-use Rattle.safl_verilog.proofs.WrittenReads.{written_laid}
+use Rattle.safl_verilog.proofs.WrittenLaid.{written_laid}
 use Rattle.safl_verilog.proofs.Fronts.{Front, Inside, front_of}
 use Rattle.safl_verilog.proofs.Endings.{EndsFile, file_ends}
 use Rattle.safl_verilog.proofs.InPlace.{in_place, file_in_place, no_comment, no_name_behind}
@@ -372,8 +370,8 @@ module _ (P : List Piece) (stand : StandAll P []) (b : File) (file : IsFile (tok
       go k (inl e) = at_seam k e
       go k (inr i) = some_part k i k.part refl
 
-pub no_shorter_text : (n m : Netlist) (f r : List ℕ) → IsNetlist n → IsWhole n → IsInOrder n → written n ≡ f ++ r → Reads f m → (r ≡ []) ⊎ (r ≡ 10 ∷ [])
-no_shorter_text n m f r net whole order e h =
-    let l = written_laid n net whole order in
+pub no_shorter_text : (n m : Netlist) (f r : List ℕ) → IsNetlist n → written n ≡ f ++ r → Reads f m → (r ≡ []) ⊎ (r ≡ 10 ∷ [])
+no_shorter_text n m f r net e h =
+    let l = written_laid n net in
     shorter_file (file_pieces l.port l.ports l.declarations l.statements) l.stand l.file l.derived (file_closes l.port l.ports l.declarations l.statements) (file_in_place l.port l.ports l.declarations l.statements)
     f r (l.text ∙ e) h.tokens h.cut h.file h.derived

@@ -106,6 +106,12 @@ named_outputs n (o ∷ os) = ap (λ (l : List Name). o.0 ∷ l) (named_outputs n
 pub names_append : (xs ys : List Declaration) → names (xs ++ ys) ≡ names xs ++ names ys
 names_append xs ys = map-append (λ (d : Declaration). d.name.bytes) xs ys
 
+-- a place in a list has its signal
+pub at_some : (gs : List Signal) (s : ℕ) → s < length gs → (g : Signal) × (slice_get gs s ≡ Some g)
+at_some [] s h = absurd (omega arith)
+at_some (g ∷ gs) zero h = (g, refl)
+at_some (g ∷ gs) (suc s) h = at_some gs s (omega arith)
+
 module _ (n : Netlist) (net : IsNetlist n) (is rs ws : List Signal) (whole : n.signals ≡ is ++ (rs ++ ws)) (inputs : Each IsInput is) (registers : Each IsUpdated rs) (wires : Each IsAssigned ws) where
   abbrev ds : List Declaration
   ds = declarations_of n is rs ws
@@ -242,11 +248,6 @@ module _ (n : Netlist) (net : IsNetlist n) (is rs ws : List Signal) (whole : n.s
     pub width : Faults.width_of ds (name_of n s) ≡ width_of n s
     pub narrow : width_of n s ≤ 128
     pub some : 1 ≤ width_of n s
-
-  at_some : (gs : List Signal) (s : ℕ) → s < length gs → (g : Signal) × (slice_get gs s ≡ Some g)
-  at_some [] s h = absurd (omega arith)
-  at_some (g ∷ gs) zero h = (g, refl)
-  at_some (g ∷ gs) (suc s) h = at_some gs s (omega arith)
 
   pub used_at : (s : ℕ) (g : Signal) → slice_get n.signals s ≡ Some g → Used s
   used_at s g e =

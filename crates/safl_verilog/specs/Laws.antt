@@ -22,7 +22,7 @@ NetlistOrFault = (text : List ℕ) → ((n : Netlist) × Reads text n) ⊎ ((f :
 abbrev pub NotBoth : Type 0
 NotBoth = (text : List ℕ) (n : Netlist) (f : VFault) → Reads text n → HasFault text f → ⊥
 
--- no shorter front of a file is a file
+-- no shorter prefix of a file is a file
 abbrev pub NoShorterFile : Type 0
 NoShorterFile = (u v : List Terminal) (a b : File) → IsFile u a → IsFile (u ++ v) b → v ≡ []
 
@@ -30,6 +30,6 @@ NoShorterFile = (u v : List Terminal) (a b : File) → IsFile u a → IsFile (u 
 abbrev pub WrittenReads : Type 0
 WrittenReads = (n : Netlist) → IsNetlist n → IsWhole n → IsInOrder n → Reads (written n) n
 
--- a front of that text reads as no netlist, but for the whole text, and the text without its last line feed
+-- a prefix of the text that is written of any net reads as no netlist, but for the whole text and the text without its last line feed
 abbrev pub NoShorterText : Type 0
-NoShorterText = (n m : Netlist) (front rest : List ℕ) → IsNetlist n → IsWhole n → IsInOrder n → written n ≡ front ++ rest → Reads front m → (rest ≡ []) ⊎ (rest ≡ codes "\n")
+NoShorterText = (n m : Netlist) (part rest : List ℕ) → IsNetlist n → written n ≡ part ++ rest → Reads part m → (rest ≡ []) ⊎ (rest ≡ codes "\n")

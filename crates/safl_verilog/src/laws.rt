@@ -33,8 +33,8 @@ pub fn written_reads_law()
     ensures { WrittenReads }
 {}
 
-/// A prefix of the text that is written of such a net reads as no netlist, but for the whole text and the text without
-/// its last line feed.
+/// A prefix of the text that is written of a net, whole or not and in any order of its signals, reads as no netlist, but
+/// for the whole text and the text without its last line feed.
 pub fn no_shorter_text_law()
     ensures { NoShorterText }
 {}

@@ -9,10 +9,9 @@ use Rattle.safl_word.specs.Tokens.{is_blank}
 use Rattle.safl_net.specs.Names.{is_start, is_part}
 use Rattle.safl_verilog.specs.declared.token.Keyword.{Keyword}
 use Rattle.safl_verilog.specs.declared.token.Symbol.{Symbol}
-use Rattle.safl_verilog.specs.declared.token.Symbol.TheVariants as symbols
 use Rattle.safl_verilog.specs.declared.token.TokenKind.TheVariants as kinds
 use Rattle.safl_verilog.specs.Tokens.{keyword_text, symbol_text, stops, next_base}
-use Rattle.safl_verilog.specs.Pieces.{run, named, all_keywords, single_symbols, double_symbols, word_kind, first_bytes, first_word, sized_length, first_number, one_symbol, two_symbols, first_symbol, closing, one_more, block, first_comment, first_piece}
+use Rattle.safl_verilog.specs.Pieces.{run, named, all_keywords, single_symbols, double_symbols, word_kind, first_bytes, first_word, sized_length, first_number, one_symbol, two_symbols, first_symbol, closing, one_more, first_comment, first_piece}
 use Rattle.safl_verilog.proofs.Runs.{run_of, named_none}
 use Rattle.safl_verilog.proofs.Symbols.{keyword_named}
 use Rattle.safl_vparse.specs.declared.front.Front.{Front}
@@ -90,38 +89,6 @@ sized_found text n base count h e k =
 
 -- ---- symbols
 
-single_named : (t : Symbol) (c : ℕ) → symbol_text t ≡ c ∷ [] → named symbol_text single_symbols (symbol_text t) ≡ Some t
-single_named symbols.OpenParen c h = refl
-single_named symbols.CloseParen c h = refl
-single_named symbols.Comma c h = refl
-single_named symbols.Semicolon c h = refl
-single_named symbols.OpenBracket c h = refl
-single_named symbols.CloseBracket c h = refl
-single_named symbols.Colon c h = refl
-single_named symbols.Becomes c h = refl
-single_named symbols.Tilde c h = refl
-single_named symbols.Question c h = refl
-single_named symbols.OpenBrace c h = refl
-single_named symbols.CloseBrace c h = refl
-single_named symbols.At c h = refl
-single_named symbols.Plus c h = refl
-single_named symbols.Minus c h = refl
-single_named symbols.Star c h = refl
-single_named symbols.Ampersand c h = refl
-single_named symbols.Bar c h = refl
-single_named symbols.Caret c h = refl
-single_named symbols.Equal c h = absurd cc
-single_named symbols.NotEqual c h = absurd cc
-single_named symbols.Less c h = refl
-single_named symbols.LessEqual c h = absurd cc
-single_named symbols.Greater c h = refl
-single_named symbols.GreaterEqual c h = absurd cc
-single_named symbols.ShiftLeft c h = absurd cc
-single_named symbols.ShiftRight c h = absurd cc
-
-pub one_found : (c : ℕ) (s : Symbol) → c ∷ [] ≡ symbol_text s → measured (one_symbol c (named symbol_text single_symbols (c ∷ []))) ≡ fronts.Found (kinds.Symbol s) 1
-one_found c s e = ap (λ o. measured (one_symbol c o)) (ap (named symbol_text single_symbols) e ∙ single_named s c (sym e))
-
 pub one_missing : (c : ℕ) → ((s : Symbol) → c ∷ [] ≢ symbol_text s) → measured (one_symbol c (named symbol_text single_symbols (c ∷ []))) ≡ fronts.Stuck
 one_missing c h = ap (λ o. measured (one_symbol c o)) (named_none symbol_text single_symbols (c ∷ []) h)
 
@@ -173,9 +140,6 @@ closing_ends text i a h = sym (h ∙ ap (shifted (i - 1)) (short_closing (drop (
 
 pub line_found : (w : List ℕ) (n : ℕ) → IsRun (λ c. not (c == 10)) w n → fronts.Gap (2 + n) ≡ measured (first_comment (47 ∷ w))
 line_found w n h = sym (ap (λ k. fronts.Gap (2 + length (take k w))) (run_is (λ c. not (c == 10)) w n h) ∙ ap (λ k. fronts.Gap (2 + k)) (length-take-le n w h.within))
-
-pub block_found : (w : List ℕ) (n : ℕ) → Some n ≡ closing w → n ≤ length w → fronts.Gap (n + 4) ≡ measured (first_comment (42 ∷ w))
-block_found w n e h = sym (ap (λ o. measured (block w o)) (sym e) ∙ ap (λ k. fronts.Gap (k + 4)) (length-take-le n w h))
 
 -- ---- a symbol at the front
 

@@ -19,16 +19,9 @@ lt_false m n h = grind (arith, nat_tests)
 le_true : (m n : ℕ) → m ≤ n → nat_le m n ≡ true
 le_true m n h = grind (arith, nat_tests)
 
-le_false : (m n : ℕ) → n < m → nat_le m n ≡ false
-le_false m n h = grind (arith, nat_tests)
-
 and_false : (b : Bool) → (b && false) ≡ false
 and_false true = refl
 and_false false = refl
-
--- too many digits
-pub too_long : (b : ℕ) (w : List ℕ) → 128 < length w → None ≡ bounded_value b w
-too_long b w h = sym (ap (λ c. cond (c && nat_lt (value b w) (2 ^ 128)) (Some (value b w)) None) (le_false (length w) 128 h))
 
 -- too great a number, from some digit on
 pub too_great : (b : ℕ) (w : List ℕ) (i n : ℕ) → 1 ≤ b → i < length w → n ≡ value b (take i w) → (n * b + digit (get_or w i 0) < 2 ^ 128 → ⊥) → None ≡ bounded_value b w

@@ -7,11 +7,11 @@ use Rattle.safl_verilog.specs.Reads.{HasFault, lexical, unexpected}
 use Rattle.safl_vparse.specs.declared.error.VErr.{VErr}
 use Rattle.safl_vparse.specs.declared.error.VErr.TheVariants as errors
 use Rattle.safl_vparse.specs.declared.file.File.{File}
-use Rattle.safl_vparse.specs.Shown.{file_at}
+use Rattle.safl_vparse.specs.Shown.{shown_file}
 use Rattle.safl_vparse.specs.Fronts.{RefusesBytes}
 use Rattle.safl_vparse.specs.Parsed.{IsFileText, RefusesText, IsUnparsed, misspelled, ungrammatical, RefusesUnparsed, TokensAnswer}
 
-pub parsed : (text : List ℕ) (ts : List Terminal) (r : Result File VErr) → HasTokens text ts → TokensAnswer text ts r → IfOk r (λ f. IsFileText text (file_at text f))
+pub parsed : (text : List ℕ) (ts : List Terminal) (r : Result File VErr) → HasTokens text ts → TokensAnswer text ts r → IfOk r (λ f. IsFileText text (shown_file text f))
 parsed text ts (Ok f) cut h = record { tokens = ts; cut = cut; derived = h }
 parsed text ts (Err e) cut h = tt
 

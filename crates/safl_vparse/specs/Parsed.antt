@@ -10,7 +10,7 @@ use Rattle.safl_verilog.specs.Reads.{IsFile, HasUnexpected, place_in, HasFault}
 use Rattle.safl_vparse.specs.declared.error.VErr.{VErr}
 use Rattle.safl_vparse.specs.declared.error.VErr.TheVariants as errors
 use Rattle.safl_vparse.specs.declared.file.File.{File}
-use Rattle.safl_vparse.specs.Shown.{file_at}
+use Rattle.safl_vparse.specs.Shown.{shown_file}
 
 -- the text is cut into tokens, which are this file
 pub record IsFileText (text : List ℕ) (f : Files.File) : Type 0 where
@@ -35,6 +35,6 @@ RefusesUnparsed text errors.NoMemory = Unit {0}
 
 -- the file that the tokens are, or V02 at the first unexpected one
 abbrev pub TokensAnswer : List ℕ → List Terminal → Result File VErr → Type 0
-TokensAnswer text ts (Ok f) = IsFile ts (file_at text f)
+TokensAnswer text ts (Ok f) = IsFile ts (shown_file text f)
 TokensAnswer text ts (Err (errors.Refused f)) = (e : Rule) × (rest : List Terminal) × HasUnexpected ts e rest × (f ≡ at rules.V02 (place_in text rest))
 TokensAnswer text ts (Err errors.NoMemory) = Unit {0}

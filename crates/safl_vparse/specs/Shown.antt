@@ -20,37 +20,37 @@ shown text t = record { place = t.start; kind = t.kind; bytes = take (t.stop - t
 abbrev pub shown_all : List ℕ → List Token → List Terminal
 shown_all text ts = map (shown text) ts
 
-abbrev pub spot_at : List ℕ → Span → Spot
-spot_at text s = record { place = s.start; bytes = take (s.stop - s.start) (drop s.start text) }
+abbrev pub shown_spot : List ℕ → Span → Spot
+shown_spot text s = record { place = s.start; bytes = take (s.stop - s.start) (drop s.start text) }
 
-abbrev pub spots_at : List ℕ → List Span → List Spot
-spots_at text xs = map (spot_at text) xs
+abbrev pub shown_spots : List ℕ → List Span → List Spot
+shown_spots text xs = map (shown_spot text) xs
 
-abbrev pub expression_at : List ℕ → Expression → Files.Expression
-expression_at text (parsed.Literal l) = Files.Literal (spot_at text l)
-expression_at text (parsed.Plain a) = Files.Plain (spot_at text a)
-expression_at text (parsed.Inverted a) = Files.Inverted (spot_at text a)
-expression_at text (parsed.Binary p a b) = Files.Binary p (spot_at text a) (spot_at text b)
-expression_at text (parsed.Choice a b c) = Files.Choice (spot_at text a) (spot_at text b) (spot_at text c)
-expression_at text (parsed.Joined a b) = Files.Joined (spot_at text a) (spot_at text b)
-expression_at text (parsed.Slice a high low) = Files.Slice (spot_at text a) (spot_at text high) (spot_at text low)
+abbrev pub shown_expression : List ℕ → Expression → Files.Expression
+shown_expression text (parsed.Literal l) = Files.Literal (shown_spot text l)
+shown_expression text (parsed.Plain a) = Files.Plain (shown_spot text a)
+shown_expression text (parsed.Inverted a) = Files.Inverted (shown_spot text a)
+shown_expression text (parsed.Binary p a b) = Files.Binary p (shown_spot text a) (shown_spot text b)
+shown_expression text (parsed.Choice a b c) = Files.Choice (shown_spot text a) (shown_spot text b) (shown_spot text c)
+shown_expression text (parsed.Joined a b) = Files.Joined (shown_spot text a) (shown_spot text b)
+shown_expression text (parsed.Slice a high low) = Files.Slice (shown_spot text a) (shown_spot text high) (shown_spot text low)
 
-abbrev pub range_at : List ℕ → Option Range → Option (Spot × Spot)
-range_at text None = None
-range_at text (Some r) = Some (spot_at text r.high, spot_at text r.low)
+abbrev pub shown_range : List ℕ → Option Range → Option (Spot × Spot)
+shown_range text None = None
+shown_range text (Some r) = Some (shown_spot text r.high, shown_spot text r.low)
 
-abbrev pub declaration_at : List ℕ → Declaration → Files.Declaration
-declaration_at text d = record { sort = d.sort; range = range_at text d.range; name = spot_at text d.name }
+abbrev pub shown_declaration : List ℕ → Declaration → Files.Declaration
+shown_declaration text d = record { sort = d.sort; range = shown_range text d.range; name = shown_spot text d.name }
 
-abbrev pub declarations_at : List ℕ → List Declaration → List Files.Declaration
-declarations_at text ds = map (declaration_at text) ds
+abbrev pub shown_declarations : List ℕ → List Declaration → List Files.Declaration
+shown_declarations text ds = map (shown_declaration text) ds
 
-abbrev pub statement_at : List ℕ → Statement → Files.Statement
-statement_at text (stated.Assign x e) = Files.Assign (spot_at text x) (expression_at text e)
-statement_at text (stated.Always u) = Files.Always (spot_at text u.clock) (spot_at text u.reset) (spot_at text u.target) (spot_at text u.initial) (spot_at text u.second) (spot_at text u.source)
+abbrev pub shown_statement : List ℕ → Statement → Files.Statement
+shown_statement text (stated.Assign x e) = Files.Assign (shown_spot text x) (shown_expression text e)
+shown_statement text (stated.Always u) = Files.Always (shown_spot text u.clock) (shown_spot text u.reset) (shown_spot text u.target) (shown_spot text u.initial) (shown_spot text u.second) (shown_spot text u.source)
 
-abbrev pub statements_at : List ℕ → List Statement → List Files.Statement
-statements_at text ss = map (statement_at text) ss
+abbrev pub shown_statements : List ℕ → List Statement → List Files.Statement
+shown_statements text ss = map (shown_statement text) ss
 
-abbrev pub file_at : List ℕ → File → Files.File
-file_at text f = record { header = spots_at text f.header.items; declarations = declarations_at text f.declarations.items; statements = statements_at text f.statements.items }
+abbrev pub shown_file : List ℕ → File → Files.File
+shown_file text f = record { header = shown_spots text f.header.items; declarations = shown_declarations text f.declarations.items; statements = shown_statements text f.statements.items }

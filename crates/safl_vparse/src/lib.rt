@@ -15,6 +15,3 @@ pub use crate::error::VErr;
 pub use crate::file::{Declaration, Expression, File, Range, Span, Statement, Update};
 pub use crate::read::parse;
 pub use safl_verilog::{VFault, VRule};
-
-#[cfg(test)]
-mod tests;

@@ -5,7 +5,7 @@ ghost use Rattle.safl_grammar.specs.Sets.{Only, within};
 ghost use Rattle.safl_grammar.specs.Reading.{head_of};
 ghost use Rattle.safl_verilog.specs.Grammar.{keyword_code, symbol_code, code_of, operators, primitive_of, primitive_in, sort_of, sort_in, sort_codes};
 ghost use Rattle.safl_verilog.specs.Reader.{comes, read_code, read_word, read_symbol, read_operator, read_sort};
-ghost use Rattle.safl_vparse.specs.Shown.{shown_all, spot_at};
+ghost use Rattle.safl_vparse.specs.Shown.{shown_all, shown_spot};
 ghost use Rattle.safl_vparse.specs.Gives.{Gives};
 ghost use Rattle.safl_vparse.specs.declared.parser.ReadError.TheVariants as errors;
 
@@ -159,7 +159,7 @@ impl<'s> Parser<'s> {
 
     // A token of this kind.
     fn of_kind<'a>(&self, tokens: &'a [Token], kind: TokenKind) -> Read<'a, Span>
-        ensures { Gives self.now.text.now (λ x. (spot_at self.now.text.now x.0, x.1.now)) result (read_code (code_of kind) (shown_all self.now.text.now tokens.now)) }
+        ensures { Gives self.now.text.now (λ x. (shown_spot self.now.text.now x.0, x.1.now)) result (read_code (code_of kind) (shown_all self.now.text.now tokens.now)) }
     {
         match tokens {
             [first, rest @ ..] if is_of(first, kind) => Ok((span(first), rest)),
@@ -169,35 +169,35 @@ impl<'s> Parser<'s> {
 
     /// A keyword.
     pub fn word<'a>(&self, tokens: &'a [Token], keyword: Keyword) -> Read<'a, Span>
-        ensures { Gives self.now.text.now (λ x. (spot_at self.now.text.now x.0, x.1.now)) result (read_word keyword (shown_all self.now.text.now tokens.now)) }
+        ensures { Gives self.now.text.now (λ x. (shown_spot self.now.text.now x.0, x.1.now)) result (read_word keyword (shown_all self.now.text.now tokens.now)) }
     {
         self.of_kind(tokens, TokenKind::Keyword(keyword))
     }
 
     /// A symbol.
     pub fn symbol<'a>(&self, tokens: &'a [Token], symbol: Symbol) -> Read<'a, Span>
-        ensures { Gives self.now.text.now (λ x. (spot_at self.now.text.now x.0, x.1.now)) result (read_symbol symbol (shown_all self.now.text.now tokens.now)) }
+        ensures { Gives self.now.text.now (λ x. (shown_spot self.now.text.now x.0, x.1.now)) result (read_symbol symbol (shown_all self.now.text.now tokens.now)) }
     {
         self.of_kind(tokens, TokenKind::Symbol(symbol))
     }
 
     /// An identifier.
     pub fn identifier<'a>(&self, tokens: &'a [Token]) -> Read<'a, Span>
-        ensures { Gives self.now.text.now (λ x. (spot_at self.now.text.now x.0, x.1.now)) result (read_code 1 (shown_all self.now.text.now tokens.now)) }
+        ensures { Gives self.now.text.now (λ x. (shown_spot self.now.text.now x.0, x.1.now)) result (read_code 1 (shown_all self.now.text.now tokens.now)) }
     {
         self.of_kind(tokens, TokenKind::Identifier)
     }
 
     /// A number.
     pub fn number<'a>(&self, tokens: &'a [Token]) -> Read<'a, Span>
-        ensures { Gives self.now.text.now (λ x. (spot_at self.now.text.now x.0, x.1.now)) result (read_code 2 (shown_all self.now.text.now tokens.now)) }
+        ensures { Gives self.now.text.now (λ x. (shown_spot self.now.text.now x.0, x.1.now)) result (read_code 2 (shown_all self.now.text.now tokens.now)) }
     {
         self.of_kind(tokens, TokenKind::Number)
     }
 
     /// A sized number.
     pub fn literal<'a>(&self, tokens: &'a [Token]) -> Read<'a, Span>
-        ensures { Gives self.now.text.now (λ x. (spot_at self.now.text.now x.0, x.1.now)) result (read_code 3 (shown_all self.now.text.now tokens.now)) }
+        ensures { Gives self.now.text.now (λ x. (shown_spot self.now.text.now x.0, x.1.now)) result (read_code 3 (shown_all self.now.text.now tokens.now)) }
     {
         self.of_kind(tokens, TokenKind::Sized)
     }

@@ -3,7 +3,7 @@
 ghost use Rattle.std.specs.Prelude.{◌≡◌, ◌<◌, ◌^◌, length, IfOk, IfErr};
 ghost use Rattle.safl_verilog.specs.Tokens.{HasTokens};
 ghost use Rattle.safl_verilog.specs.Reads.{place_in};
-ghost use Rattle.safl_vparse.specs.Shown.{shown_all, file_at};
+ghost use Rattle.safl_vparse.specs.Shown.{shown_all, shown_file};
 ghost use Rattle.safl_vparse.specs.Parsed.{IsFileText, TokensAnswer, RefusesText, RefusesUnparsed};
 
 use crate::error::VErr;
@@ -17,7 +17,7 @@ use std::alloc::Global;
 /// answers no other rule, so it refuses no file of the grammar unless memory runs out.
 pub fn parse(alloc: Global, text: &[u8]) -> Result<File, VErr>
     requires { length text.now < 2 ^ 32 }
-    ensures parsed { IfOk result (λ f. IsFileText text.now (file_at text.now f)) }
+    ensures parsed { IfOk result (λ f. IsFileText text.now (shown_file text.now f)) }
     ensures refused { IfErr result (λ e. RefusesText text.now e) }
     ensures unparsed { IfErr result (λ e. RefusesUnparsed text.now e) }
 {

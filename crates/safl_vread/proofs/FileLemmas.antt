@@ -1,13 +1,11 @@
 -- The faults of a whole file.
 use Rattle.std.proofs.Common.{◌≡◌, ℕ, List, [], ◌∷◌, ◌++◌, None, Some, Result, Ok, Err, append_assoc, refl, sym, ap, subst, ◌∙◌}
-use Rattle.std.specs.Prelude.{OnOk, IfErr}
+use Rattle.std.specs.Prelude.{IfErr}
 use Rattle.std.specs.List.{flat_map}
 use Rattle.safl_verilog.specs.declared.fault.VFault.{VFault}
 use Rattle.safl_verilog.specs.Files.{File}
 use Rattle.safl_verilog.specs.Faults.{faults, all_number_faults, repeat_faults, declared_names, all_port_faults, all_statement_faults, missing_faults}
-use Rattle.safl_net.specs.Netlist.{Netlist}
-use Rattle.safl_verilog.specs.Netlists.{netlist}
-use Rattle.safl_verilog.specs.Reads.{Reads, broken}
+use Rattle.safl_verilog.specs.Reads.{broken}
 use Rattle.safl_vparse.specs.Parsed.{IsFileText, RefusesText}
 use Rattle.safl_vparse.specs.declared.error.VErr.{VErr}
 use Rattle.safl_vparse.specs.declared.error.VErr.TheVariants as errors
@@ -56,11 +54,6 @@ module _ (f : File) where
 first_is : (fs : List VFault) (g : VFault) → Some g ≡ first fs → (more : List VFault) × (fs ≡ g ∷ more)
 first_is [] g h = absurd cc
 first_is (x ∷ fs) g h = let e : x ≡ g = cc in (fs, ap (λ y. y ∷ fs) e)
-
--- the answer on a file is the answer on its text
-pub reads_text : {A : Type 0} (text : List ℕ) (f : File) (r : Result A VErr) → IsFileText text f → Answers (faults f) r → OnOk r ((n : Netlist) × Reads text n)
-reads_text text f (Ok x) d k = (netlist f, record { tokens = d.tokens; cut = d.cut; file = f; derived = d.derived; kept = k; means = refl })
-reads_text text f (Err e) d k = tt
 
 pub refuses_text : {A : Type 0} (text : List ℕ) (f : File) (r : Result A VErr) → IsFileText text f → Answers (faults f) r → IfErr r (λ e. RefusesText text e)
 refuses_text text f (Ok x) d k = tt

@@ -1,5 +1,5 @@
 -- Names that are not driven.
-use Rattle.std.proofs.Common.{◌≡◌, ℕ, ◌+◌, ◌<◌, List, length, get_or, map, Option, None, Some, Bool, true, false, ◌||◌, is_some, refl, sym, ap, ◌∙◌, arith, slice_get}
+use Rattle.std.proofs.Common.{◌≡◌, ℕ, ◌+◌, ◌<◌, List, length, get_or, map, Option, None, Some, true, false, ◌||◌, is_some, refl, sym, ap, ◌∙◌, arith, slice_get}
 use Rattle.std.specs.List.{flat_map}
 use Rattle.std.proofs.lemmas.Option.{slice_get-get_or, slice_get-map}
 use Rattle.std.proofs.lemmas.List.{length-map}
@@ -25,10 +25,6 @@ no_target sorts.Input h = absurd cc
 no_target sorts.Output h = absurd cc
 no_target sorts.Reg h = refl
 no_target sorts.Wire h = absurd cc
-
-or_true : (b : Bool) → (b || true) ≡ true
-or_true true = refl
-or_true false = refl
 
 pub same_faults : (ds : List Declaration) (ss : List Statement) (d : Declaration) (v : Driver) → Drives ds ss d v → open_faults d.sort d.name.place v ≡ missing_faults ss d
 same_faults ds ss d driver.Open h = rw (h.0, h.1) refl

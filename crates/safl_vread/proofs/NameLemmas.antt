@@ -1,7 +1,7 @@
 -- Names that are looked up, and names that stand twice.
-use Rattle.std.proofs.Common.{◌≡◌, ℕ, zero, suc, ◌+◌, ◌<◌, ◌≤◌, List, [], ◌∷◌, ◌++◌, length, take, drop, get_or, map, position, Some, Bool, true, false, not, cond, ◌||◌, Bor, bytes_eq, refl, sym, ap, ◌∙◌, arith, drop-cons, add-one}
+use Rattle.std.proofs.Common.{◌≡◌, ℕ, zero, suc, ◌+◌, ◌<◌, List, [], ◌∷◌, ◌++◌, length, take, drop, get_or, map, position, Some, Bool, true, false, not, cond, ◌||◌, Bor, bytes_eq, refl, sym, ap, ◌∙◌, drop-cons, add-one}
 use Rattle.std.specs.List.{list_any, position_or_len}
-use Rattle.std.proofs.lemmas.List.{drop_all, drop-map, length-map}
+use Rattle.std.proofs.lemmas.List.{drop-map, length-map}
 use Rattle.std.proofs.lemmas.Slice.Eq.{bytes_eq-Decides}
 use Rattle.safl_verilog.specs.declared.fault.VRule.TheVariants as rules
 use Rattle.safl_verilog.specs.Files.{Spot}
@@ -97,16 +97,3 @@ module _ (xs : List Spot) (i : ℕ) (x : Spot) (names : List (List ℕ)) (here :
 
   pub added : (after : List (List ℕ)) → after ≡ with_new names w new → new ≡ true → IsApart xs (i + 1) after
   added after e h = stands_once xs i x names here so_far after (is_false (has names x.bytes) (sym h ∙ known_new)) (e ∙ ap (with_new names w) h ∙ ap (λ v. names ++ v ∷ []) same)
-
-take_none : {X : Type 0} (i : ℕ) (xs : List X) → xs ≡ [] → take i xs ≡ xs
-take_none zero [] h = refl
-take_none (suc i) [] h = refl
-take_none i (x ∷ xs) h = absurd cc
-
-pub take_all : {X : Type 0} (i : ℕ) (xs : List X) → length xs ≤ i → take i xs ≡ xs
-take_all i [] h = take_none i [] refl
-take_all zero (x ∷ xs) h = absurd (omega (arith, h))
-take_all (suc i) (x ∷ xs) h = ap (λ l. x ∷ l) (take_all i xs (omega (arith, h)))
-
-pub all_apart : (xs : List Spot) (i : ℕ) (names : List (List ℕ)) → length xs ≤ i → IsApart xs i names → (repeat_faults [] xs ≡ []) × (names ≡ bytes_of_all xs)
-all_apart xs i names h k = (k.before ∙ ap (repeat_faults (take i xs)) (drop_all i xs h), k.names_are ∙ ap bytes_of_all (take_all i xs h))

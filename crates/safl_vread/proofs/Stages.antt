@@ -7,26 +7,14 @@ use Rattle.std.specs.Option.{option_map}
 use Rattle.safl_net.specs.Netlist.{Netlist, Signal, Kind, Input}
 use Rattle.safl_net.specs.Making.{with_signal, set_kind, with_kind, kind_in, kind_at}
 use Rattle.safl_verilog.specs.declared.token.Sort.{Sort}
-use Rattle.safl_verilog.specs.declared.token.Sort.TheVariants as sorts
 use Rattle.safl_verilog.specs.Files.{Declaration}
 use Rattle.safl_verilog.specs.Faults.{range_width}
 use Rattle.safl_vread.specs.Lists.{widths_of}
 use Rattle.safl_vread.specs.declared.driver.Driver.{Driver}
-use Rattle.safl_vread.specs.declared.driver.Driver.TheVariants as driver
 use Rattle.safl_vread.proofs.ScopeLemmas.{found_at}
 use Rattle.safl_vread.specs.Nets.{Fits, AllFit, kind_with, opened_kind, opened, signal_with, signal_in, signal_at, signals_at, partly}
 
 -- ---- signals that are still open
-
-pub opened_same : (ns ms : List ℕ) (s : Sort) (v : Driver) → opened_kind (kind_with ns s v) ≡ opened_kind (kind_with ms s v)
-opened_same ns ms sorts.Input v = refl
-opened_same ns ms sorts.Output v = refl
-opened_same ns ms sorts.Reg driver.Open = refl
-opened_same ns ms sorts.Reg (driver.Cell op xs) = refl
-opened_same ns ms sorts.Reg (driver.Next w p) = refl
-opened_same ns ms sorts.Wire driver.Open = refl
-opened_same ns ms sorts.Wire (driver.Cell op xs) = refl
-opened_same ns ms sorts.Wire (driver.Next w p) = refl
 
 pub one_more : (F : ℕ → Signal) (order : List ℕ) (i q : ℕ) → i < length order → q ≡ get_or order i q → map opened (map F (take (i + 1) order)) ≡ map opened (map F (take i order)) ++ opened (F q) ∷ []
 one_more F order i q l at =

@@ -1,16 +1,15 @@
 -- Statements one after the other.
-use Rattle.std.proofs.Common.{◌≡◌, ℕ, suc, ◌+◌, ◌<◌, ◌≤◌, List, [], ◌∷◌, ◌++◌, zero, length, get_or, set, map, take, drop, Some, Ok, Err, refl, sym, ap, subst, ◌∙◌, arith, slice_get, drop-cons, add-one}
+use Rattle.std.proofs.Common.{◌≡◌, ℕ, ◌+◌, ◌<◌, List, [], ◌∷◌, ◌++◌, length, get_or, set, map, take, drop, Some, Ok, Err, refl, sym, ap, subst, ◌∙◌, drop-cons, add-one}
 use Rattle.std.specs.List.{flat_map}
-use Rattle.std.proofs.lemmas.List.{map-append, drop_all}
+use Rattle.std.proofs.lemmas.List.{map-append}
 use Rattle.safl_verilog.specs.declared.fault.VFault.{VFault}
 use Rattle.safl_verilog.specs.Files.{Declaration, Statement}
 use Rattle.safl_verilog.specs.Faults.{repeat_faults, declared_names, statement_faults, all_statement_faults, stated_number_faults}
 use Rattle.safl_vread.specs.declared.driver.Driver.{Driver}
-use Rattle.safl_vread.specs.declared.driver.Driver.TheVariants as driver
 use Rattle.safl_vread.specs.Firsts.{first}
-use Rattle.safl_vread.specs.Drivers.{Drives, HasDrivers, Steps}
+use Rattle.safl_vread.specs.Drivers.{HasDrivers, Steps}
 use Rattle.safl_vread.proofs.FirstLemmas.{first_some}
-use Rattle.safl_vread.proofs.NameLemmas.{take_next, take_all}
+use Rattle.safl_vread.proofs.NameLemmas.{take_next}
 use Rattle.safl_vread.proofs.StatementLemmas.{next_drivers}
 
 -- what holds after some of the statements
@@ -48,29 +47,3 @@ module _ {X : Type 0} (ds : List Declaration) (g : X → Statement) (xs : List X
     numbers = numbers_here.1;
     drivers = subst (λ (b : List Statement). HasDrivers ds b (set vs r.0 r.1)) (sym taken) (next_drivers ds (map g (take i xs)) (g (get_or xs i x)) r.0 r.1 vs apart h.drivers k);
   }
-
-pub ends_all : {X : Type 0} (ds : List Declaration) (g : X → Statement) (xs : List X) (i : ℕ) (vs : List Driver) → length xs ≤ i → IsSoFar ds g xs i vs → (all_statement_faults ds [] (map g xs) ≡ []) × HasDrivers ds (map g xs) vs
-ends_all ds g xs i vs l h = (
-  h.faults ∙ ap (λ (k : List Statement). all_statement_faults ds (map g (take i xs)) k) (ap (map g) (drop_all i xs l)),
-  subst (λ (b : List Statement). HasDrivers ds b vs) (ap (map g) (take_all i xs l)) h.drivers,
-)
-
-all_open : (vs : List Driver) → ((i : ℕ) → (d : Driver) → i < length vs → get_or vs i d ≡ driver.Open) → (i : ℕ) (v : Driver) → slice_get vs i ≡ Some v → v ≡ driver.Open
-all_open vs h i v e = sym (there vs i v e) ∙ h i v (within vs i v e)
-  where
-    there : (vs : List Driver) (i : ℕ) (v : Driver) → slice_get vs i ≡ Some v → get_or vs i v ≡ v
-    there [] i v e = absurd cc
-    there (u ∷ vs) zero v e = cc
-    there (u ∷ vs) (suc i) v e = there vs i v e
-
-    within : (vs : List Driver) (i : ℕ) (v : Driver) → slice_get vs i ≡ Some v → i < length vs
-    within [] i v e = absurd cc
-    within (u ∷ vs) zero v e = omega arith
-    within (u ∷ vs) (suc i) v e = omega (arith, within vs i v e)
-
-pub begins_all : {X : Type 0} (ds : List Declaration) (g : X → Statement) (xs : List X) (vs : List Driver) → flat_map stated_number_faults (map g xs) ≡ [] → length vs ≡ length ds → ((i : ℕ) → (d : Driver) → i < length vs → get_or vs i d ≡ driver.Open) → IsSoFar ds g xs 0 vs
-begins_all ds g xs vs numbers full opened = record {
-  faults = refl;
-  numbers = numbers;
-  drivers = record { full = full; each = λ (i : ℕ) (d : Declaration) (v : Driver) a b. subst (Drives ds [] d) (sym (all_open vs opened i v b)) (refl, refl) };
-}

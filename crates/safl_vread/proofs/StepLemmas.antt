@@ -1,5 +1,5 @@
 -- The faults of one statement, and what it drives.
-use Rattle.std.proofs.Common.{◌≡◌, ℕ, ◌<◌, List, [], ◌++◌, length, get_or, Option, None, Some, Ok, Bool, true, false, not, cond, ◌&&◌, ◌||◌, ◌==◌, bytes_eq, refl, sym, ap, ◌∙◌, arith, slice_get}
+use Rattle.std.proofs.Common.{◌≡◌, ℕ, ◌<◌, List, [], ◌++◌, length, get_or, None, Some, Ok, Bool, true, false, not, cond, ◌&&◌, ◌||◌, ◌==◌, bytes_eq, refl, sym, ap, ◌∙◌, arith, slice_get}
 use Rattle.std.specs.List.{flat_map}
 use Rattle.std.proofs.lemmas.Option.{slice_get-get_or}
 use Rattle.std.proofs.lemmas.Bool.Decides.{nat_tests}
@@ -8,7 +8,7 @@ use Rattle.safl_net.specs.declared.cell.Op.{Op}
 use Rattle.safl_verilog.specs.declared.fault.VRule.TheVariants as rules
 use Rattle.safl_verilog.specs.declared.fault.VFault.{VFault}
 use Rattle.safl_verilog.specs.Files.{Spot, Expression, Declaration, Statement, Assign, Always}
-use Rattle.safl_verilog.specs.Faults.{at, find, where_not, passes, is_clock, is_reset, is_target, is_signal, is_reg, is_output, is_plain, is_none, is_literal, literal_width, literal_value, range_width, width_of, expression_width, operation, operands, assigned, updated, may_be_assigned, unfit_faults, width_faults, assign_faults}
+use Rattle.safl_verilog.specs.Faults.{at, find, where_not, passes, is_clock, is_reset, is_target, is_signal, is_reg, is_output, is_plain, is_none, is_literal, literal_width, literal_value, width_of, expression_width, operation, operands, assigned, updated, may_be_assigned, unfit_faults, width_faults, assign_faults}
 use Rattle.safl_vparse.specs.Numbers.{literal_word}
 use Rattle.safl_vread.specs.declared.scope.Item.{Item}
 use Rattle.safl_vread.specs.declared.driver.Operands.{Operands}
@@ -155,10 +155,3 @@ module _ (ds : List Declaration) (before : List Statement) (vs : List Driver) (x
         plain_then : (a b : Bool) → (not a || b) ≡ true → a ≡ true → b ≡ true
         plain_then true b k l = k
         plain_then false b k l = absurd cc
-
-pub some_width : (ds : List Declaration) (x : Spot) (p : Declaration → Bool) (item : Item) → Found ds x p item → item.width ≡ 0 → ⊥
-some_width ds x p item h e = positive h.declared.range (sym h.shown.width ∙ e)
-  where
-    positive : (r : Option (Spot × Spot)) → range_width r ≡ 0 → ⊥
-    positive None k = omega (arith, k)
-    positive (Some q) k = omega (arith, k)

@@ -25,9 +25,6 @@ use Rattle.safl_vread.proofs.StatementLemmas.{found_name, distinct_names, width_
 
 -- ---- each signal is set
 
-true_false : (b : Bool) → b ≡ true → b ≡ false → ⊥
-true_false b h k = cc
-
 register_set : (ds : List Declaration) (u : Option (Spot × Spot)) → not (is_none u) ≡ true → IsSet (register_of ds u)
 register_set ds None h = absurd cc
 register_set ds (Some u) h = tt

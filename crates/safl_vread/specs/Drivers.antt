@@ -9,7 +9,7 @@ use Rattle.safl_verilog.specs.declared.token.Sort.{Sort}
 use Rattle.safl_verilog.specs.Files.{Spot, Expression, Declaration, Statement, Assign, Always}
 use Rattle.safl_verilog.specs.Faults.{at, where_not, is_clock, is_reset, is_none, find, passes, is_signal, is_target, is_output, is_wire, is_reg, is_plain, range_width, width_of, operation, operands, expression_width, assigned, updated, literal_value, statement_faults}
 use Rattle.safl_vparse.specs.declared.file.Update.{Update}
-use Rattle.safl_vparse.specs.Shown.{spot_at}
+use Rattle.safl_vparse.specs.Shown.{shown_spot}
 use Rattle.safl_vread.specs.declared.scope.Item.{Item}
 use Rattle.safl_vread.specs.declared.driver.Operands.{Operands}
 use Rattle.safl_vread.specs.declared.driver.Operands.TheVariants as operand
@@ -122,7 +122,7 @@ Names ds before clock reset target second (Ok item) = (register_faults ds before
 Names ds before clock reset target second (Err f) = Some f ≡ first (register_faults ds before clock reset target second)
 
 abbrev pub always_at : List ℕ → Update → Statement
-always_at text u = Always (spot_at text u.clock) (spot_at text u.reset) (spot_at text u.target) (spot_at text u.initial) (spot_at text u.second) (spot_at text u.source)
+always_at text u = Always (shown_spot text u.clock) (shown_spot text u.reset) (shown_spot text u.target) (shown_spot text u.initial) (shown_spot text u.second) (shown_spot text u.source)
 
 -- the faults of a declaration that is driven or not
 abbrev pub open_faults : Sort → ℕ → Driver → List VFault

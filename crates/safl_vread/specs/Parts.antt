@@ -7,10 +7,10 @@ use Rattle.safl_verilog.specs.Faults.{all_port_faults, all_statement_faults, mis
 use Rattle.safl_vparse.specs.declared.file.Span.{Span}
 use Rattle.safl_vparse.specs.declared.file.Declaration.{Declaration}
 use Rattle.safl_vparse.specs.declared.file.Statement.{Statement}
-use Rattle.safl_vparse.specs.Shown.{spots_at, declarations_at, statements_at}
+use Rattle.safl_vparse.specs.Shown.{shown_spots, shown_declarations, shown_statements}
 
 abbrev pub parts_at : List ℕ → List Span → List Declaration → List Statement → File
-parts_at text hs ds ss = record { header = spots_at text hs; declarations = declarations_at text ds; statements = statements_at text ss }
+parts_at text hs ds ss = record { header = shown_spots text hs; declarations = shown_declarations text ds; statements = shown_statements text ss }
 
 abbrev pub later_faults : File → List VFault
 later_faults f = all_port_faults f ++ all_statement_faults f.declarations [] f.statements ++ flat_map (missing_faults f.statements) f.declarations

@@ -6,7 +6,7 @@ ghost use Rattle.safl_word.specs.Numerals.{value};
 ghost use Rattle.safl_net.specs.Widths.{op_width};
 ghost use Rattle.safl_verilog.specs.declared.fault.VRule.TheVariants as rules;
 ghost use Rattle.safl_verilog.specs.Faults.{at, is_signal, number_faults, expression_number_faults, unfit_faults, operation, operands, expression_width};
-ghost use Rattle.safl_vparse.specs.Shown.{spot_at, declarations_at, expression_at};
+ghost use Rattle.safl_vparse.specs.Shown.{shown_spot, shown_declarations, shown_expression};
 ghost use Rattle.safl_vread.specs.Drivers.{Chosen, AreAt, places_of, Judges};
 
 use crate::driver::Operands;
@@ -20,7 +20,7 @@ use safl_word::Primitive;
 
 /// The signal of a name, or V04 at it.
 pub fn signal(scope: &Scope, name: Span) -> Result<Item, VFault>
-    ensures { Chosen (declarations_at scope.now.text.now scope.now.declarations.now) (spot_at scope.now.text.now name) is_signal (at rules.V04 name.start) result }
+    ensures { Chosen (shown_declarations scope.now.text.now scope.now.declarations.now) (shown_spot scope.now.text.now name) is_signal (at rules.V04 name.start) result }
 {
     match scope.find(bytes_of(scope.text, name)) {
         None => Err(fault_at(VRule::V04, name.start)),
@@ -36,8 +36,8 @@ pub fn signal(scope: &Scope, name: Span) -> Result<Item, VFault>
 
 /// The places of the signals of an expression's names, or V04 at the first that isn't one.
 pub fn operands_of(scope: &Scope, e: &Expression) -> Result<Operands, VFault>
-    ensures faults { Judges (flat_map (unfit_faults (declarations_at scope.now.text.now scope.now.declarations.now)) (operands (expression_at scope.now.text.now e.now))) result }
-    ensures places { IfOk result (λ xs. AreAt (declarations_at scope.now.text.now scope.now.declarations.now) (places_of xs) (operands (expression_at scope.now.text.now e.now))) }
+    ensures faults { Judges (flat_map (unfit_faults (shown_declarations scope.now.text.now scope.now.declarations.now)) (operands (shown_expression scope.now.text.now e.now))) result }
+    ensures places { IfOk result (λ xs. AreAt (shown_declarations scope.now.text.now scope.now.declarations.now) (places_of xs) (operands (shown_expression scope.now.text.now e.now))) }
 {
     match e {
         Expression::Literal(_) => Ok(Operands::None),
@@ -51,16 +51,16 @@ pub fn operands_of(scope: &Scope, e: &Expression) -> Result<Operands, VFault>
 }
 
 fn one_operand(scope: &Scope, a: Span) -> Result<Operands, VFault>
-    ensures faults { Judges (flat_map (unfit_faults (declarations_at scope.now.text.now scope.now.declarations.now)) (spot_at scope.now.text.now a ∷ [])) result }
-    ensures places { IfOk result (λ xs. AreAt (declarations_at scope.now.text.now scope.now.declarations.now) (places_of xs) (spot_at scope.now.text.now a ∷ [])) }
+    ensures faults { Judges (flat_map (unfit_faults (shown_declarations scope.now.text.now scope.now.declarations.now)) (shown_spot scope.now.text.now a ∷ [])) result }
+    ensures places { IfOk result (λ xs. AreAt (shown_declarations scope.now.text.now scope.now.declarations.now) (places_of xs) (shown_spot scope.now.text.now a ∷ [])) }
 {
     let a = signal(scope, a)?;
     Ok(Operands::One(a.place))
 }
 
 fn two_operands(scope: &Scope, a: Span, b: Span) -> Result<Operands, VFault>
-    ensures faults { Judges (flat_map (unfit_faults (declarations_at scope.now.text.now scope.now.declarations.now)) (spot_at scope.now.text.now a ∷ spot_at scope.now.text.now b ∷ [])) result }
-    ensures places { IfOk result (λ xs. AreAt (declarations_at scope.now.text.now scope.now.declarations.now) (places_of xs) (spot_at scope.now.text.now a ∷ spot_at scope.now.text.now b ∷ [])) }
+    ensures faults { Judges (flat_map (unfit_faults (shown_declarations scope.now.text.now scope.now.declarations.now)) (shown_spot scope.now.text.now a ∷ shown_spot scope.now.text.now b ∷ [])) result }
+    ensures places { IfOk result (λ xs. AreAt (shown_declarations scope.now.text.now scope.now.declarations.now) (places_of xs) (shown_spot scope.now.text.now a ∷ shown_spot scope.now.text.now b ∷ [])) }
 {
     let a = signal(scope, a)?;
     let b = signal(scope, b)?;
@@ -68,8 +68,8 @@ fn two_operands(scope: &Scope, a: Span, b: Span) -> Result<Operands, VFault>
 }
 
 fn three_operands(scope: &Scope, a: Span, b: Span, c: Span) -> Result<Operands, VFault>
-    ensures faults { Judges (flat_map (unfit_faults (declarations_at scope.now.text.now scope.now.declarations.now)) (spot_at scope.now.text.now a ∷ spot_at scope.now.text.now b ∷ spot_at scope.now.text.now c ∷ [])) result }
-    ensures places { IfOk result (λ xs. AreAt (declarations_at scope.now.text.now scope.now.declarations.now) (places_of xs) (spot_at scope.now.text.now a ∷ spot_at scope.now.text.now b ∷ spot_at scope.now.text.now c ∷ [])) }
+    ensures faults { Judges (flat_map (unfit_faults (shown_declarations scope.now.text.now scope.now.declarations.now)) (shown_spot scope.now.text.now a ∷ shown_spot scope.now.text.now b ∷ shown_spot scope.now.text.now c ∷ [])) result }
+    ensures places { IfOk result (λ xs. AreAt (shown_declarations scope.now.text.now scope.now.declarations.now) (places_of xs) (shown_spot scope.now.text.now a ∷ shown_spot scope.now.text.now b ∷ shown_spot scope.now.text.now c ∷ [])) }
 {
     let a = signal(scope, a)?;
     let b = signal(scope, b)?;
@@ -80,9 +80,9 @@ fn three_operands(scope: &Scope, a: Span, b: Span, c: Span) -> Result<Operands, 
 /// The operation of an expression whose numbers keep their rules; None only where a slice begins or ends above the
 /// greatest width.
 pub fn operation_of(text: &[u8], e: &Expression) -> Option<Op>
-    requires { expression_number_faults (expression_at text.now e.now) ≡ [] }
-    ensures some { IfSome result (λ op. op ≡ operation (expression_at text.now e.now)) }
-    ensures none { IfNone result ((ws : List ℕ) → All (λ w. w ≤ 128) ws → op_width (operation (expression_at text.now e.now)) ws ≡ None) }
+    requires { expression_number_faults (shown_expression text.now e.now) ≡ [] }
+    ensures some { IfSome result (λ op. op ≡ operation (shown_expression text.now e.now)) }
+    ensures none { IfNone result ((ws : List ℕ) → All (λ w. w ≤ 128) ws → op_width (operation (shown_expression text.now e.now)) ws ≡ None) }
 {
     match e {
         Expression::Literal(l) => match literal(bytes_of(text, *l)) {
@@ -99,10 +99,10 @@ pub fn operation_of(text: &[u8], e: &Expression) -> Option<Op>
 }
 
 fn slice_of(text: &[u8], high: Span, low: Span) -> Option<Op>
-    requires high { number_faults (spot_at text.now high) ≡ [] }
-    requires low { number_faults (spot_at text.now low) ≡ [] }
-    ensures some { IfSome result (λ op. op ≡ Op.Apply (Primitive.Bits (value 10 (spot_at text.now high).bytes) (value 10 (spot_at text.now low).bytes))) }
-    ensures none { IfNone result ((ws : List ℕ) → All (λ w. w ≤ 128) ws → op_width (Op.Apply (Primitive.Bits (value 10 (spot_at text.now high).bytes) (value 10 (spot_at text.now low).bytes))) ws ≡ None) }
+    requires high { number_faults (shown_spot text.now high) ≡ [] }
+    requires low { number_faults (shown_spot text.now low) ≡ [] }
+    ensures some { IfSome result (λ op. op ≡ Op.Apply (Primitive.Bits (value 10 (shown_spot text.now high).bytes) (value 10 (shown_spot text.now low).bytes))) }
+    ensures none { IfNone result ((ws : List ℕ) → All (λ w. w ≤ 128) ws → op_width (Op.Apply (Primitive.Bits (value 10 (shown_spot text.now high).bytes) (value 10 (shown_spot text.now low).bytes))) ws ≡ None) }
 {
     match (index_of(text, high), index_of(text, low)) {
         (Some(high), Some(low)) => Some(Op::Apply(Primitive::Bits(high, low))),
@@ -112,9 +112,9 @@ fn slice_of(text: &[u8], high: Span, low: Span) -> Option<Op>
 
 // A number below 128.
 fn index_of(text: &[u8], number: Span) -> Option<u8>
-    requires { number_faults (spot_at text.now number) ≡ [] }
-    ensures some { IfSome result (λ n. n ≡ value 10 (spot_at text.now number).bytes) }
-    ensures none { IfNone result (128 ≤ value 10 (spot_at text.now number).bytes) }
+    requires { number_faults (shown_spot text.now number) ≡ [] }
+    ensures some { IfSome result (λ n. n ≡ value 10 (shown_spot text.now number).bytes) }
+    ensures none { IfNone result (128 ≤ value 10 (shown_spot text.now number).bytes) }
 {
     match bounded(10, bytes_of(text, number)) {
         Some(n) if n < 128 => Some(n as u8),
@@ -143,10 +143,10 @@ fn width_of(scope: &Scope, op: Op, operands: Operands) -> u8
 
 /// The width of an expression with this operation on the signals of these places, in bits; 0 where they don't fit.
 pub fn expression_width(scope: &Scope, e: &Expression, op: Option<Op>, places: Operands) -> u8
-    requires places { AreAt (declarations_at scope.now.text.now scope.now.declarations.now) (places_of places) (operands (expression_at scope.now.text.now e.now)) }
-    requires some { IfSome op (λ op. op ≡ operation (expression_at scope.now.text.now e.now)) }
-    requires none { IfNone op ((ws : List ℕ) → All (λ w. w ≤ 128) ws → op_width (operation (expression_at scope.now.text.now e.now)) ws ≡ None) }
-    ensures width { result ≡ expression_width (declarations_at scope.now.text.now scope.now.declarations.now) (expression_at scope.now.text.now e.now) }
+    requires places { AreAt (shown_declarations scope.now.text.now scope.now.declarations.now) (places_of places) (operands (shown_expression scope.now.text.now e.now)) }
+    requires some { IfSome op (λ op. op ≡ operation (shown_expression scope.now.text.now e.now)) }
+    requires none { IfNone op ((ws : List ℕ) → All (λ w. w ≤ 128) ws → op_width (operation (shown_expression scope.now.text.now e.now)) ws ≡ None) }
+    ensures width { result ≡ expression_width (shown_declarations scope.now.text.now scope.now.declarations.now) (shown_expression scope.now.text.now e.now) }
     ensures zero { op ≡ None → result ≡ 0 }
 {
     match op {

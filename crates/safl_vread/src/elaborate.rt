@@ -3,7 +3,7 @@
 ghost use Rattle.std.specs.Prelude.{◌≡◌, [], IfOk};
 ghost use Rattle.std.specs.List.{flat_map};
 ghost use Rattle.safl_verilog.specs.Faults.{faults, declared_number_faults, stated_number_faults, repeat_faults, declared_names};
-ghost use Rattle.safl_vparse.specs.Shown.{spots_at, declarations_at, statements_at, file_at};
+ghost use Rattle.safl_vparse.specs.Shown.{shown_spots, shown_declarations, shown_statements, shown_file};
 ghost use Rattle.safl_vread.specs.Drivers.{HasDrivers};
 ghost use Rattle.safl_vread.specs.Firsts.{Answers};
 ghost use Rattle.safl_vread.specs.Lists.{bytes_of_all};
@@ -29,10 +29,10 @@ pub struct Elaborated<'t> {
 /// What a file of the grammar declares and what drives each declared name, where it keeps all rules; else its first
 /// fault.
 pub fn elaborate<'t>(alloc: Global, text: &'t [u8], file: &'t File) -> Result<Elaborated<'t>, VErr>
-    ensures faults { Answers (faults (file_at text.now file.now)) result }
+    ensures faults { Answers (faults (shown_file text.now file.now)) result }
     ensures text { IfOk result (λ e. e.scope.text.now ≡ text.now) }
     ensures declarations { IfOk result (λ e. e.scope.declarations.now ≡ file.now.declarations.items) }
-    ensures drivers { IfOk result (λ e. HasDrivers (file_at text.now file.now).declarations (file_at text.now file.now).statements e.drivers.items) }
+    ensures drivers { IfOk result (λ e. HasDrivers (shown_file text.now file.now).declarations (shown_file text.now file.now).statements e.drivers.items) }
 {
     elaborate_parts(
         alloc,
@@ -53,7 +53,7 @@ fn elaborate_parts<'t>(
     ensures faults { Answers (faults (parts_at text.now header.now declarations.now statements.now)) result }
     ensures text { IfOk result (λ e. e.scope.text.now ≡ text.now) }
     ensures declarations { IfOk result (λ e. e.scope.declarations.now ≡ declarations.now) }
-    ensures drivers { IfOk result (λ e. HasDrivers (declarations_at text.now declarations.now) (statements_at text.now statements.now) e.drivers.items) }
+    ensures drivers { IfOk result (λ e. HasDrivers (shown_declarations text.now declarations.now) (shown_statements text.now statements.now) e.drivers.items) }
 {
     if let Some(fault) = number_fault(text, declarations, statements) {
         return Err(VErr::Refused(fault));
@@ -72,10 +72,10 @@ fn all_drivers(
     listed: &Names,
     statements: &[Statement],
 ) -> Result<Vec<Driver>, VErr>
-    requires numbers { flat_map stated_number_faults (statements_at scope.now.text.now statements.now) ≡ [] }
-    requires listed { listed.now ≡ bytes_of_all (spots_at scope.now.text.now header.now) }
+    requires numbers { flat_map stated_number_faults (shown_statements scope.now.text.now statements.now) ≡ [] }
+    requires listed { listed.now ≡ bytes_of_all (shown_spots scope.now.text.now header.now) }
     ensures faults { Answers (later_faults (parts_at scope.now.text.now header.now scope.now.declarations.now statements.now)) result }
-    ensures drivers { IfOk result (λ v. HasDrivers (declarations_at scope.now.text.now scope.now.declarations.now) (statements_at scope.now.text.now statements.now) v.items) }
+    ensures drivers { IfOk result (λ v. HasDrivers (shown_declarations scope.now.text.now scope.now.declarations.now) (shown_statements scope.now.text.now statements.now) v.items) }
 {
     if let Some(fault) = port_fault(scope, header, listed) {
         return Err(VErr::Refused(fault));
@@ -93,8 +93,8 @@ fn scope_of<'t>(
     text: &'t [u8],
     declarations: &'t [Declaration],
 ) -> Result<Scope<'t>, VErr>
-    requires { flat_map declared_number_faults (declarations_at text.now declarations.now) ≡ [] }
-    ensures faults { Answers (repeat_faults [] (declared_names (declarations_at text.now declarations.now))) result }
+    requires { flat_map declared_number_faults (shown_declarations text.now declarations.now) ≡ [] }
+    ensures faults { Answers (repeat_faults [] (declared_names (shown_declarations text.now declarations.now))) result }
     ensures text { IfOk result (λ scope. scope.text.now ≡ text.now) }
     ensures declarations { IfOk result (λ scope. scope.declarations.now ≡ declarations.now) }
 {

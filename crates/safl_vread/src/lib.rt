@@ -17,6 +17,3 @@ mod statements;
 
 pub use crate::read::read_net;
 pub use safl_vparse::{VErr, VFault, VRule};
-
-#[cfg(test)]
-mod tests;

@@ -8,7 +8,7 @@ ghost use Rattle.safl_net.specs.Widths.{op_width};
 ghost use Rattle.safl_verilog.specs.Files.{File, Declaration as Declared};
 ghost use Rattle.safl_verilog.specs.Faults.{is_output, range_width};
 ghost use Rattle.safl_verilog.specs.Netlists.{signals_of, netlist};
-ghost use Rattle.safl_vparse.specs.Shown.{declaration_at, declarations_at};
+ghost use Rattle.safl_vparse.specs.Shown.{shown_declaration, shown_declarations};
 ghost use Rattle.safl_vread.specs.Drivers.{HasDrivers, places_of};
 ghost use Rattle.safl_vread.specs.Signals.{IsOrder, AreNumbers};
 ghost use Rattle.safl_vread.specs.Nets.{Fits, AllFit, SuitsIn, AllSuit, GoodNames, kind_with, opened_kind, opened, signal_with, signals_at, output_with, outputs_with, with_outputs};
@@ -25,12 +25,12 @@ use std::alloc::{AllocError, Global};
 /// The net of a file that keeps all rules, by what it declares and what drives each declared name.
 pub fn net_of(alloc: Global, scope: &Scope, drivers: &[Driver]) -> Result<Net, AllocError>
     requires full { length drivers.now ≡ length scope.now.declarations.now }
-    requires fit { AllFit (declarations_at scope.now.text.now scope.now.declarations.now) drivers.now }
-    requires suit { AllSuit (declarations_at scope.now.text.now scope.now.declarations.now) drivers.now }
-    requires names { GoodNames (declarations_at scope.now.text.now scope.now.declarations.now) }
-    requires some { 0 < length (signals_of (declarations_at scope.now.text.now scope.now.declarations.now)) }
+    requires fit { AllFit (shown_declarations scope.now.text.now scope.now.declarations.now) drivers.now }
+    requires suit { AllSuit (shown_declarations scope.now.text.now scope.now.declarations.now) drivers.now }
+    requires names { GoodNames (shown_declarations scope.now.text.now scope.now.declarations.now) }
+    requires some { 0 < length (signals_of (shown_declarations scope.now.text.now scope.now.declarations.now)) }
     requires few { length scope.now.declarations.now < 4294967295 }
-    ensures { IfOk result (λ net. (f : File) → f.declarations ≡ declarations_at scope.now.text.now scope.now.declarations.now → HasDrivers f.declarations f.statements drivers.now → net ≡ netlist f) }
+    ensures { IfOk result (λ net. (f : File) → f.declarations ≡ shown_declarations scope.now.text.now scope.now.declarations.now → HasDrivers f.declarations f.statements drivers.now → net ≡ netlist f) }
 {
     let order = order_of(alloc, scope)?;
     let numbers = numbers_of(alloc, scope, &order)?;
@@ -49,12 +49,12 @@ fn declare(
     order: &[usize],
 ) -> Result<(), AllocError>
     requires full { length drivers.now ≡ length scope.now.declarations.now }
-    requires fit { AllFit (declarations_at scope.now.text.now scope.now.declarations.now) drivers.now }
-    requires order { IsOrder (declarations_at scope.now.text.now scope.now.declarations.now) order.now }
-    requires names { GoodNames (declarations_at scope.now.text.now scope.now.declarations.now) }
+    requires fit { AllFit (shown_declarations scope.now.text.now scope.now.declarations.now) drivers.now }
+    requires order { IsOrder (shown_declarations scope.now.text.now scope.now.declarations.now) order.now }
+    requires names { GoodNames (shown_declarations scope.now.text.now scope.now.declarations.now) }
     requires few { length order.now < 4294967295 }
     requires empty { net.old ≡ record { signals = []; outputs = [] } }
-    ensures { OnOk result ((ns : List ℕ) → net.new ≡ record { signals = map opened (signals_at (declarations_at scope.now.text.now scope.now.declarations.now) drivers.now ns order.now); outputs = [] }) }
+    ensures { OnOk result ((ns : List ℕ) → net.new ≡ record { signals = map opened (signals_at (shown_declarations scope.now.text.now scope.now.declarations.now) drivers.now ns order.now); outputs = [] }) }
 {
     for place in order {
         let d = scope.declarations[*place];
@@ -72,13 +72,13 @@ fn declare_one(
     width: u8,
     driver: &Driver,
 ) -> Result<(), AllocError>
-    requires width { width ≡ range_width (declaration_at text.now d.now).range }
+    requires width { width ≡ range_width (shown_declaration text.now d.now).range }
     requires most { width ≤ 128 }
     requires fits { (n : ℕ) × Fits n d.now.sort width driver.now }
-    requires good { is_good (declaration_at text.now d.now).name.bytes ≡ true }
-    requires new { has_name net.old (declaration_at text.now d.now).name.bytes ≡ false }
+    requires good { is_good (shown_declaration text.now d.now).name.bytes ≡ true }
+    requires new { has_name net.old (shown_declaration text.now d.now).name.bytes ≡ false }
     requires room { length net.old.signals < 4294967295 }
-    ensures { OnOk result ((ns : List ℕ) → net.new ≡ with_signal net.old (opened (signal_with ns (declaration_at text.now d.now) driver.now))) }
+    ensures { OnOk result ((ns : List ℕ) → net.new ≡ with_signal net.old (opened (signal_with ns (shown_declaration text.now d.now) driver.now))) }
 {
     let Ok(name) = std::str::from_utf8(bytes_of(text, d.name)) else {
         unreachable!()
@@ -99,13 +99,13 @@ fn declare_one(
 // Sets what drives the signals of these places.
 fn connect(net: &mut Net, scope: &Scope, drivers: &[Driver], order: &[usize], numbers: &[u32])
     requires full { length drivers.now ≡ length scope.now.declarations.now }
-    requires fit { AllFit (declarations_at scope.now.text.now scope.now.declarations.now) drivers.now }
-    requires suit { AllSuit (declarations_at scope.now.text.now scope.now.declarations.now) drivers.now }
-    requires order { IsOrder (declarations_at scope.now.text.now scope.now.declarations.now) order.now }
+    requires fit { AllFit (shown_declarations scope.now.text.now scope.now.declarations.now) drivers.now }
+    requires suit { AllSuit (shown_declarations scope.now.text.now scope.now.declarations.now) drivers.now }
+    requires order { IsOrder (shown_declarations scope.now.text.now scope.now.declarations.now) order.now }
     requires few { length order.now < 4294967295 }
-    requires numbers { AreNumbers (declarations_at scope.now.text.now scope.now.declarations.now) order.now numbers.now }
-    requires opened { net.old.signals ≡ map opened (signals_at (declarations_at scope.now.text.now scope.now.declarations.now) drivers.now numbers.now order.now) }
-    ensures { net.new ≡ record { signals = signals_at (declarations_at scope.now.text.now scope.now.declarations.now) drivers.now numbers.now order.now; outputs = net.old.outputs } }
+    requires numbers { AreNumbers (shown_declarations scope.now.text.now scope.now.declarations.now) order.now numbers.now }
+    requires opened { net.old.signals ≡ map opened (signals_at (shown_declarations scope.now.text.now scope.now.declarations.now) drivers.now numbers.now order.now) }
+    ensures { net.new ≡ record { signals = signals_at (shown_declarations scope.now.text.now scope.now.declarations.now) drivers.now numbers.now order.now; outputs = net.old.outputs } }
 {
     for (i, place) in order.iter().enumerate() {
         let sort = scope.declarations[*place].sort;
@@ -168,14 +168,14 @@ fn set_cell(net: &mut Net, s: Sig, op: Op, operands: Operands, numbers: &[u32])
 // The outputs among the declarations.
 fn show(net: &mut Net, scope: &Scope, drivers: &[Driver], numbers: &[u32]) -> Result<(), AllocError>
     requires full { length drivers.now ≡ length scope.now.declarations.now }
-    requires fit { AllFit (declarations_at scope.now.text.now scope.now.declarations.now) drivers.now }
+    requires fit { AllFit (shown_declarations scope.now.text.now scope.now.declarations.now) drivers.now }
     requires few { length scope.now.declarations.now < 4294967295 }
     requires numbers { length numbers.now ≡ length scope.now.declarations.now }
     requires known { (p : ℕ) → slice_index numbers.now p < length net.old.signals }
-    requires names { GoodNames (declarations_at scope.now.text.now scope.now.declarations.now) }
-    requires new { (i : ℕ) → (d : Declared) → slice_get (declarations_at scope.now.text.now scope.now.declarations.now) i ≡ Some d → is_output d.sort ≡ true → named_signal net.old.signals d.name.bytes ≡ false }
+    requires names { GoodNames (shown_declarations scope.now.text.now scope.now.declarations.now) }
+    requires new { (i : ℕ) → (d : Declared) → slice_get (shown_declarations scope.now.text.now scope.now.declarations.now) i ≡ Some d → is_output d.sort ≡ true → named_signal net.old.signals d.name.bytes ≡ false }
     requires empty { net.old.outputs ≡ [] }
-    ensures { OnOk result (net.new ≡ with_outputs net.old (outputs_with numbers.now (declarations_at scope.now.text.now scope.now.declarations.now) drivers.now)) }
+    ensures { OnOk result (net.new ≡ with_outputs net.old (outputs_with numbers.now (shown_declarations scope.now.text.now scope.now.declarations.now) drivers.now)) }
 {
     for (i, d) in scope.declarations.iter().enumerate() {
         show_one(net, scope.text, d, &drivers[i], numbers)?;
@@ -193,10 +193,10 @@ fn show_one(
 ) -> Result<(), AllocError>
     requires fits { (w : ℕ) × Fits (length numbers.now) d.now.sort w driver.now }
     requires known { (p : ℕ) → slice_index numbers.now p < length net.old.signals }
-    requires good { is_output d.now.sort ≡ true → is_good (declaration_at text.now d.now).name.bytes ≡ true }
-    requires new { is_output d.now.sort ≡ true → has_name net.old (declaration_at text.now d.now).name.bytes ≡ false }
+    requires good { is_output d.now.sort ≡ true → is_good (shown_declaration text.now d.now).name.bytes ≡ true }
+    requires new { is_output d.now.sort ≡ true → has_name net.old (shown_declaration text.now d.now).name.bytes ≡ false }
     requires room { length net.old.outputs < 4294967295 }
-    ensures { OnOk result (net.new ≡ with_outputs net.old (output_with numbers.now (declaration_at text.now d.now) driver.now)) }
+    ensures { OnOk result (net.new ≡ with_outputs net.old (output_with numbers.now (shown_declaration text.now d.now) driver.now)) }
 {
     match (d.sort, driver) {
         (Sort::Output, Driver::Cell(_, Operands::One(place))) => {

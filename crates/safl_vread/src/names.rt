@@ -2,7 +2,7 @@
 
 ghost use Rattle.std.specs.Prelude.{◌≡◌, [], IfOk};
 ghost use Rattle.safl_verilog.specs.Faults.{repeat_faults, declared_names};
-ghost use Rattle.safl_vparse.specs.Shown.{spots_at, declarations_at};
+ghost use Rattle.safl_vparse.specs.Shown.{shown_spots, shown_declarations};
 ghost use Rattle.safl_vread.specs.Firsts.{Answers};
 ghost use Rattle.safl_vread.specs.Lists.{bytes_of_all};
 
@@ -68,8 +68,8 @@ impl<'t> Names<'t> {
 
 /// The names of the header, or V03 at the first that stands twice.
 pub fn header_names<'t>(alloc: Global, text: &'t [u8], header: &[Span]) -> Result<Names<'t>, VErr>
-    ensures faults { Answers (repeat_faults [] (spots_at text.now header.now)) result }
-    ensures names { IfOk result (λ names. names ≡ bytes_of_all (spots_at text.now header.now)) }
+    ensures faults { Answers (repeat_faults [] (shown_spots text.now header.now)) result }
+    ensures names { IfOk result (λ names. names ≡ bytes_of_all (shown_spots text.now header.now)) }
 {
     let mut names = Names::new(alloc);
     for x in header {
@@ -86,8 +86,8 @@ pub fn declared_names<'t>(
     text: &'t [u8],
     declarations: &[Declaration],
 ) -> Result<Names<'t>, VErr>
-    ensures faults { Answers (repeat_faults [] (declared_names (declarations_at text.now declarations.now))) result }
-    ensures names { IfOk result (λ names. names ≡ bytes_of_all (declared_names (declarations_at text.now declarations.now))) }
+    ensures faults { Answers (repeat_faults [] (declared_names (shown_declarations text.now declarations.now))) result }
+    ensures names { IfOk result (λ names. names ≡ bytes_of_all (declared_names (shown_declarations text.now declarations.now))) }
 {
     let mut names = Names::new(alloc);
     for d in declarations {

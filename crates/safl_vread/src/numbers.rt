@@ -4,7 +4,7 @@ ghost use Rattle.std.specs.Prelude.{◌≡◌, ◌==◌, ◌++◌};
 ghost use Rattle.std.specs.List.{flat_map};
 ghost use Rattle.safl_word.specs.Numerals.{value};
 ghost use Rattle.safl_verilog.specs.Faults.{number_faults, literal_faults, range_faults, declared_number_faults, expression_number_faults, stated_number_faults};
-ghost use Rattle.safl_vparse.specs.Shown.{spot_at, range_at, declarations_at, expression_at, statement_at, statements_at};
+ghost use Rattle.safl_vparse.specs.Shown.{shown_spot, shown_range, shown_declarations, shown_expression, shown_statement, shown_statements};
 ghost use Rattle.safl_vread.specs.Firsts.{first};
 
 use crate::spans::{bytes_of, fault_at};
@@ -19,7 +19,7 @@ pub fn number_fault(
     declarations: &[Declaration],
     statements: &[Statement],
 ) -> Option<VFault>
-    ensures { result ≡ first (flat_map declared_number_faults (declarations_at text.now declarations.now) ++ flat_map stated_number_faults (statements_at text.now statements.now)) }
+    ensures { result ≡ first (flat_map declared_number_faults (shown_declarations text.now declarations.now) ++ flat_map stated_number_faults (shown_statements text.now statements.now)) }
 {
     let declared = declared_fault(text, declarations);
     if declared.is_some() {
@@ -30,7 +30,7 @@ pub fn number_fault(
 }
 
 fn declared_fault(text: &[u8], declarations: &[Declaration]) -> Option<VFault>
-    ensures { result ≡ first (flat_map declared_number_faults (declarations_at text.now declarations.now)) }
+    ensures { result ≡ first (flat_map declared_number_faults (shown_declarations text.now declarations.now)) }
 {
     for d in declarations {
         let fault = range_fault(text, d.range);
@@ -42,7 +42,7 @@ fn declared_fault(text: &[u8], declarations: &[Declaration]) -> Option<VFault>
 }
 
 fn stated_fault(text: &[u8], statements: &[Statement]) -> Option<VFault>
-    ensures { result ≡ first (flat_map stated_number_faults (statements_at text.now statements.now)) }
+    ensures { result ≡ first (flat_map stated_number_faults (shown_statements text.now statements.now)) }
 {
     for s in statements {
         let fault = statement_fault(text, s);
@@ -54,7 +54,7 @@ fn stated_fault(text: &[u8], statements: &[Statement]) -> Option<VFault>
 }
 
 fn range_fault(text: &[u8], range: Option<Range>) -> Option<VFault>
-    ensures { result ≡ first (range_faults (range_at text.now range)) }
+    ensures { result ≡ first (range_faults (shown_range text.now range)) }
 {
     let Some(range) = range else {
         return None;
@@ -69,7 +69,7 @@ fn range_fault(text: &[u8], range: Option<Range>) -> Option<VFault>
 }
 
 fn statement_fault(text: &[u8], statement: &Statement) -> Option<VFault>
-    ensures { result ≡ first (stated_number_faults (statement_at text.now statement.now)) }
+    ensures { result ≡ first (stated_number_faults (shown_statement text.now statement.now)) }
 {
     match statement {
         Statement::Assign(_, expression) => expression_fault(text, expression),
@@ -78,7 +78,7 @@ fn statement_fault(text: &[u8], statement: &Statement) -> Option<VFault>
 }
 
 fn expression_fault(text: &[u8], expression: &Expression) -> Option<VFault>
-    ensures { result ≡ first (expression_number_faults (expression_at text.now expression.now)) }
+    ensures { result ≡ first (expression_number_faults (shown_expression text.now expression.now)) }
 {
     match expression {
         Expression::Literal(span) => literal_fault(text, *span),
@@ -95,7 +95,7 @@ fn expression_fault(text: &[u8], expression: &Expression) -> Option<VFault>
 }
 
 fn digits_fault(text: &[u8], number: Span) -> Option<VFault>
-    ensures { result ≡ first (number_faults (spot_at text.now number)) }
+    ensures { result ≡ first (number_faults (shown_spot text.now number)) }
 {
     match bounded(10, bytes_of(text, number)) {
         Some(_) => None,
@@ -104,7 +104,7 @@ fn digits_fault(text: &[u8], number: Span) -> Option<VFault>
 }
 
 fn literal_fault(text: &[u8], number: Span) -> Option<VFault>
-    ensures { result ≡ first (literal_faults (spot_at text.now number)) }
+    ensures { result ≡ first (literal_faults (shown_spot text.now number)) }
 {
     match literal(bytes_of(text, number)) {
         Some(_) => None,

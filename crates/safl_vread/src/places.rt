@@ -2,7 +2,7 @@
 
 ghost use Rattle.std.specs.Prelude.{◌≡◌, ◌<◌, ◌^◌, ◌++◌, map, filter, length, Some, slice_get, IfOk, OnOk};
 ghost use Rattle.safl_verilog.specs.Netlists.{signals_of};
-ghost use Rattle.safl_vparse.specs.Shown.{declaration_at, declarations_at};
+ghost use Rattle.safl_vparse.specs.Shown.{shown_declaration, shown_declarations};
 ghost use Rattle.safl_vread.specs.Signals.{is_of, IsOrder, AreNumbers};
 
 use crate::scope::Scope;
@@ -14,7 +14,7 @@ use std::alloc::{AllocError, Global};
 /// The places of the declarations of signals in the order of the signals' numbers: inputs but for the clock and the
 /// reset, then registers, then wires.
 pub fn order_of(alloc: Global, scope: &Scope) -> Result<Vec<usize>, AllocError>
-    ensures { IfOk result (λ order. IsOrder (declarations_at scope.now.text.now scope.now.declarations.now) order.items) }
+    ensures { IfOk result (λ order. IsOrder (shown_declarations scope.now.text.now scope.now.declarations.now) order.items) }
 {
     let mut order = Vec::new(alloc);
     add_places(scope, Sort::Input, &mut order)?;
@@ -25,7 +25,7 @@ pub fn order_of(alloc: Global, scope: &Scope) -> Result<Vec<usize>, AllocError>
 
 // The places of the signals of this sort, behind those before.
 fn add_places(scope: &Scope, sort: Sort, order: &mut Vec<usize>) -> Result<(), AllocError>
-    ensures { OnOk result (map (slice_get (declarations_at scope.now.text.now scope.now.declarations.now)) order.new.items ≡ map (slice_get (declarations_at scope.now.text.now scope.now.declarations.now)) order.old.items ++ map Some (filter (is_of sort) (declarations_at scope.now.text.now scope.now.declarations.now))) }
+    ensures { OnOk result (map (slice_get (shown_declarations scope.now.text.now scope.now.declarations.now)) order.new.items ≡ map (slice_get (shown_declarations scope.now.text.now scope.now.declarations.now)) order.old.items ++ map Some (filter (is_of sort) (shown_declarations scope.now.text.now scope.now.declarations.now))) }
 {
     for (i, d) in scope.declarations.iter().enumerate() {
         if is_of(scope.text, sort, d) {
@@ -37,7 +37,7 @@ fn add_places(scope: &Scope, sort: Sort, order: &mut Vec<usize>) -> Result<(), A
 
 // Whether a declaration is that of a signal of this sort.
 fn is_of(text: &[u8], sort: Sort, d: &Declaration) -> bool
-    ensures { result ≡ is_of sort (declaration_at text.now d.now) }
+    ensures { result ≡ is_of sort (shown_declaration text.now d.now) }
 {
     let name = bytes_of(text, d.name);
     match (sort, d.sort) {
@@ -49,10 +49,10 @@ fn is_of(text: &[u8], sort: Sort, d: &Declaration) -> bool
 
 /// For each declaration the number of its signal, where it is that of one.
 pub fn numbers_of(alloc: Global, scope: &Scope, order: &[usize]) -> Result<Vec<u32>, AllocError>
-    requires order { IsOrder (declarations_at scope.now.text.now scope.now.declarations.now) order.now }
+    requires order { IsOrder (shown_declarations scope.now.text.now scope.now.declarations.now) order.now }
     requires some { 0 < length order.now }
     requires few { length order.now < 2 ^ 32 }
-    ensures { IfOk result (λ numbers. AreNumbers (declarations_at scope.now.text.now scope.now.declarations.now) order.now numbers.items) }
+    ensures { IfOk result (λ numbers. AreNumbers (shown_declarations scope.now.text.now scope.now.declarations.now) order.now numbers.items) }
 {
     let mut numbers = vec![in alloc; 0u32; scope.declarations.len()]?;
     for (i, place) in order.iter().enumerate() {

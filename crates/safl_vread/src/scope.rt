@@ -3,7 +3,7 @@
 ghost use Rattle.std.specs.Prelude.{◌≡◌, ◌≤◌, ℕ, [], IfOk, None, slice_index};
 ghost use Rattle.std.specs.List.{flat_map};
 ghost use Rattle.safl_verilog.specs.Faults.{declared_number_faults, range_faults, range_width, is_signal, repeat_faults, declared_names};
-ghost use Rattle.safl_vparse.specs.Shown.{declarations_at, range_at};
+ghost use Rattle.safl_vparse.specs.Shown.{shown_declarations, shown_range};
 ghost use Rattle.safl_vread.specs.Lists.{names_of, widths_of};
 
 use crate::names::Names;
@@ -30,9 +30,9 @@ pub struct Scope<'t> {
     pub declarations: &'t [Declaration],
     pub names: Names<'t>,
     pub widths: Vec<u8>,
-    ghost named: { names ≡ names_of (declarations_at text.now declarations.now) },
-    ghost apart: { repeat_faults [] (declared_names (declarations_at text.now declarations.now)) ≡ [] },
-    ghost measured: { widths.items ≡ widths_of (declarations_at text.now declarations.now) },
+    ghost named: { names ≡ names_of (shown_declarations text.now declarations.now) },
+    ghost apart: { repeat_faults [] (declared_names (shown_declarations text.now declarations.now)) ≡ [] },
+    ghost measured: { widths.items ≡ widths_of (shown_declarations text.now declarations.now) },
     ghost small: { (k : ℕ) → slice_index widths.items k ≤ 128 },
 }
 
@@ -43,7 +43,7 @@ impl<'t> Scope<'t> {
 
     /// What a name is declared as.
     pub fn find(&self, name: &[u8]) -> Option<Item>
-        ensures { Describes (declarations_at self.now.text.now self.now.declarations.now) (find (declarations_at self.now.text.now self.now.declarations.now) name.now) result }
+        ensures { Describes (shown_declarations self.now.text.now self.now.declarations.now) (find (shown_declarations self.now.text.now self.now.declarations.now) name.now) result }
     {
         match self.names.place(name) {
             None => None,
@@ -87,8 +87,8 @@ pub fn widths_of(
     text: &[u8],
     declarations: &[Declaration],
 ) -> Result<Vec<u8>, AllocError>
-    requires { flat_map declared_number_faults (declarations_at text.now declarations.now) ≡ [] }
-    ensures { IfOk result (λ widths. widths.items ≡ widths_of (declarations_at text.now declarations.now)) }
+    requires { flat_map declared_number_faults (shown_declarations text.now declarations.now) ≡ [] }
+    ensures { IfOk result (λ widths. widths.items ≡ widths_of (shown_declarations text.now declarations.now)) }
 {
     let mut widths = Vec::new(alloc);
     for d in declarations {
@@ -98,8 +98,8 @@ pub fn widths_of(
 }
 
 fn width_of(text: &[u8], range: Option<Range>) -> u8
-    requires { range_faults (range_at text.now range) ≡ [] }
-    ensures { result ≡ range_width (range_at text.now range) }
+    requires { range_faults (shown_range text.now range) ≡ [] }
+    ensures { result ≡ range_width (shown_range text.now range) }
 {
     let Some(range) = range else {
         return 1;

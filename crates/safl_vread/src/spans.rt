@@ -3,14 +3,14 @@
 ghost use Rattle.std.specs.Prelude.{◌≡◌};
 ghost use Rattle.std.specs.Str.{bytes_eq};
 ghost use Rattle.safl_verilog.specs.Faults.{at, is_clock, is_reset};
-ghost use Rattle.safl_vparse.specs.Shown.{spot_at};
+ghost use Rattle.safl_vparse.specs.Shown.{shown_spot};
 
 use safl_verilog::{VFault, VRule};
 use safl_vparse::Span;
 
 /// The bytes of a name or a number.
 pub fn bytes_of<'t>(text: &'t [u8], span: Span) -> &'t [u8]
-    ensures { result.now ≡ (spot_at text.now span).bytes }
+    ensures { result.now ≡ (shown_spot text.now span).bytes }
 {
     let start = text.len().min(span.start as usize);
     let rest = &text[start..];

@@ -4,9 +4,7 @@ ghost use Rattle.std.specs.Prelude.{◌≡◌, ◌≤◌, OnOk, OnErr, OnSome, I
 ghost use Rattle.safl_io.specs.Counts.{Rose};
 ghost use Rattle.safl_io.specs.Told.{TellsOn};
 ghost use Rattle.safl_io.specs.Shelf.{Leaves, LeavesOldOrPart};
-ghost use Rattle.safl_net.specs.Whole.{IsWhole};
 ghost use Rattle.safl_net.specs.Written.{written};
-ghost use Rattle.safl_net.specs.Arranged.{IsInOrder};
 ghost use Rattle.safl_vwrite.specs.Torn.{LeavesOldOrTorn};
 
 use crate::text::text_of;
@@ -35,12 +33,10 @@ pub fn write_net<S: Shelf>(
     ensures written { OnOk result (TellsOn (Leaves name.now (written net.now)) (S.told shelf.old).holds (S.told shelf.new).holds) }
     ensures failed { IsErrOf result WriteErr.Failed → Rose (S.told shelf.old).write_faults (S.told shelf.new).write_faults }
 
-    // After an error the old file or a front of the text stands there. Such a front reads as no netlist, or is the whole
-    // text, with or without its last line feed, where the net is whole and its signals stand as inputs, then registers,
-    // then wires.
+    // After an error the old file or a prefix of the text stands there. Such a prefix reads as no netlist, or is the whole
+    // text, with or without its last line feed.
     ensures not_written { OnErr result (TellsOn (LeavesOldOrPart name.now (written net.now)) (S.told shelf.old).holds (S.told shelf.new).holds) }
-    ensures torn { OnErr result (IsWhole net.now → IsInOrder net.now →
-        TellsOn (LeavesOldOrTorn name.now net.now) (S.told shelf.old).holds (S.told shelf.new).holds) }
+    ensures torn { OnErr result (TellsOn (LeavesOldOrTorn name.now net.now) (S.told shelf.old).holds (S.told shelf.new).holds) }
 
     ensures same_reads { (S.told shelf.new).read_faults ≡ (S.told shelf.old).read_faults }
     ensures writes_later { (S.told shelf.old).write_faults ≤ (S.told shelf.new).write_faults }

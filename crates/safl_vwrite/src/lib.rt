@@ -6,8 +6,6 @@ mod declarations;
 mod file;
 mod pieces;
 mod statements;
-#[cfg(test)]
-mod tests;
 mod text;
 
 pub use crate::file::{WriteErr, write_net};

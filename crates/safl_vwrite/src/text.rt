@@ -25,9 +25,8 @@ pub fn text_of(alloc: Global, net: &Net) -> Result<Vec<u8>, NoMemory>
     // Read back, it is the net, where the signals stand as inputs, then registers, then wires.
     ensures reads_back { IfOk result (λ text. IsWhole net.now → IsInOrder net.now → Reads text.items net.now) }
 
-    // A front of it reads as no netlist, or is the whole text, with or without its last line feed.
-    ensures torn { IfOk result (λ text. IsWhole net.now → IsInOrder net.now →
-        (front rest : List ℕ) → text.items ≡ front ++ rest → IsTornOrWhole net.now front) }
+    // A prefix of it reads as no netlist, or is the whole text, with or without its last line feed.
+    ensures torn { IfOk result (λ text. (part rest : List ℕ) → text.items ≡ part ++ rest → IsTornOrWhole net.now part) }
 {
     let signals = net.signals() as usize;
     let mut out = Vec::with_capacity(alloc, signals)?;

@@ -3,11 +3,11 @@ use Rattle.safl_grammar.specs.Syntax.{Unexpected}
 use Rattle.safl_verilog.specs.declared.fault.VRule.TheVariants as rules
 use Rattle.safl_verilog.specs.Faults.{at}
 use Rattle.safl_verilog.proofs.Grammar.{spelled, first_fault}
-use Rattle.safl_vparse.specs.Shown.{shown_all, file_at}
+use Rattle.safl_vparse.specs.Shown.{shown_all, shown_file}
 use Rattle.safl_vparse.proofs.read.parse_tokens.Goals as goal
 
 pub returns-in-Ok : goal.returns-in-Ok
-returns-in-Ok c = spelled (shown_all c.args.text.now c.args.tokens.now) (file_at c.args.text.now c.in-Ok.file) (shown_all c.args.text.now c.in-Ok.field-0-1.now) c.in-Ok.ensures
+returns-in-Ok c = spelled (shown_all c.args.text.now c.args.tokens.now) (shown_file c.args.text.now c.in-Ok.file) (shown_all c.args.text.now c.in-Ok.field-0-1.now) c.in-Ok.ensures
 
 pub returns-in-Err-Unexpected : goal.returns-in-Err-Unexpected
 returns-in-Err-Unexpected c =

@@ -7,7 +7,7 @@ use Rattle.safl_vparse.specs.declared.file.Declaration.{Declaration}
 use Rattle.safl_vparse.specs.declared.error.VErr.{VErr}
 use Rattle.safl_vparse.specs.declared.file.Span.{Span}
 use Rattle.safl_vparse.specs.declared.file.Statement.{Statement}
-use Rattle.safl_vparse.specs.Shown.{declarations_at, statements_at}
+use Rattle.safl_vparse.specs.Shown.{shown_declarations, shown_statements}
 use Rattle.safl_vread.specs.declared.driver.Driver.{Driver}
 use Rattle.safl_vread.specs.Drivers.{HasDrivers}
 use Rattle.safl_vread.specs.Firsts.{Answers}
@@ -41,7 +41,7 @@ pub all_drivers-requires-clause-numbers : goal.all_drivers-requires-clause-numbe
 all_drivers-requires-clause-numbers c =
     let f : File = parts_at c.args.text.now c.args.header.now c.args.declarations.now c.args.statements.now in
     let a = empty (all_number_faults f) (sym c.in_default.is ∙ c.number_fault.ensures) in
-    subst (λ (t : List ℕ). flat_map stated_number_faults (statements_at t c.args.statements.now) ≡ []) (sym c.in_ok-scope.ensures.text)
+    subst (λ (t : List ℕ). flat_map stated_number_faults (shown_statements t c.args.statements.now) ≡ []) (sym c.in_ok-scope.ensures.text)
     (both_empty (flat_map declared_number_faults f.declarations) (flat_map stated_number_faults f.statements) a).1
 
 -- the faults behind, of the parts that were passed
@@ -68,5 +68,5 @@ returns-clause-faults c =
 pub returns-clause-drivers : goal.returns-clause-drivers
 returns-clause-drivers c =
     let vs : List Driver = c.in_ok-drivers.drivers.items in
-    let k = subst (λ (t : List ℕ). HasDrivers (declarations_at t c.in_ok-scope.scope.declarations.now) (statements_at t c.args.statements.now) vs) c.in_ok-scope.ensures.text c.in_ok-drivers.ensures.drivers in
-    subst (λ (d : List Declaration). HasDrivers (declarations_at c.args.text.now d) (statements_at c.args.text.now c.args.statements.now) vs) c.in_ok-scope.ensures.declarations k
+    let k = subst (λ (t : List ℕ). HasDrivers (shown_declarations t c.in_ok-scope.scope.declarations.now) (shown_statements t c.args.statements.now) vs) c.in_ok-scope.ensures.text c.in_ok-drivers.ensures.drivers in
+    subst (λ (d : List Declaration). HasDrivers (shown_declarations c.args.text.now d) (shown_statements c.args.text.now c.args.statements.now) vs) c.in_ok-scope.ensures.declarations k

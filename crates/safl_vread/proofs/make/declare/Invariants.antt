@@ -1,7 +1,7 @@
 use Rattle.std.proofs.Common.{◌≡◌, ℕ, List, [], map, take}
-use Rattle.safl_vparse.specs.Shown.{declarations_at}
+use Rattle.safl_vparse.specs.Shown.{shown_declarations}
 use Rattle.safl_vread.specs.Nets.{opened, signals_at}
 use Rattle.safl_vread.proofs.make.declare.Given as goal
 
 abbrev pub invariant-loop-place : goal.invariant-loop-place
-invariant-loop-place l = (ns : List ℕ) → l.net ≡ record { signals = map opened (signals_at (declarations_at l.scope.text.now l.scope.declarations.now) l.drivers ns (take l.place-index l.order)); outputs = [] }
+invariant-loop-place l = (ns : List ℕ) → l.net ≡ record { signals = map opened (signals_at (shown_declarations l.scope.text.now l.scope.declarations.now) l.drivers ns (take l.place-index l.order)); outputs = [] }

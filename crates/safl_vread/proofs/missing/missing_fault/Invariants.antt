@@ -2,12 +2,12 @@ use Rattle.std.proofs.Common.{◌≡◌, List}
 use Rattle.std.specs.List.{flat_map}
 use Rattle.safl_verilog.specs.Files.{Statement}
 use Rattle.safl_verilog.specs.Faults.{missing_faults}
-use Rattle.safl_vparse.specs.Shown.{declaration_at, declarations_at}
+use Rattle.safl_vparse.specs.Shown.{shown_declaration, shown_declarations}
 use Rattle.safl_vread.specs.Firsts.{first}
 use Rattle.safl_vread.specs.Drivers.{HasDrivers}
 use Rattle.safl_vread.proofs.FirstLemmas.{first_from}
 use Rattle.safl_vread.proofs.missing.missing_fault.Given as goal
 
 abbrev pub invariant-loop-i : goal.invariant-loop-i
-invariant-loop-i l = (ss : List Statement) → HasDrivers (declarations_at l.scope.text.now l.scope.declarations.now) ss l.drivers
-    → first_from (declaration_at l.scope.text.now) (missing_faults ss) l.scope.declarations.now l.i ≡ first (flat_map (missing_faults ss) (declarations_at l.scope.text.now l.scope.declarations.now))
+invariant-loop-i l = (ss : List Statement) → HasDrivers (shown_declarations l.scope.text.now l.scope.declarations.now) ss l.drivers
+    → first_from (shown_declaration l.scope.text.now) (missing_faults ss) l.scope.declarations.now l.i ≡ first (flat_map (missing_faults ss) (shown_declarations l.scope.text.now l.scope.declarations.now))

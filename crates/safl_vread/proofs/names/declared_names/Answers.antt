@@ -1,12 +1,12 @@
 use Rattle.std.proofs.Common.{ap, ◌∙◌, Some}
 use Rattle.safl_verilog.specs.Files.{Declaration}
 use Rattle.safl_verilog.specs.Faults.{declared_names}
-use Rattle.safl_vparse.specs.Shown.{declaration_at, declarations_at}
+use Rattle.safl_vparse.specs.Shown.{shown_declaration, shown_declarations}
 use Rattle.safl_vread.proofs.NameLemmas.{item_at_both, refused, added}
 use Rattle.safl_vread.proofs.names.declared_names.Goals as goal
 
 pub returns-then-not-branch-clause-faults : goal.returns-then-not-branch-clause-faults
-returns-then-not-branch-clause-faults c = ap Some c.fault_at.ensures ∙ refused (declared_names (declarations_at c.args.text.now c.args.declarations.now)) c.loop-d.d-index _ c.loop-d.names (item_at_both (λ (d : Declaration). d.name) (declaration_at c.args.text.now) c.args.declarations.now c.loop-d.d-index _ c.loop-d-test.true) c.loop-d.invariant c.bytes_of.result.now c.bytes_of.ensures c.in_ok-add.field-0 c.in_ok-add.ensures.new c.if-not-branch.true
+returns-then-not-branch-clause-faults c = ap Some c.fault_at.ensures ∙ refused (declared_names (shown_declarations c.args.text.now c.args.declarations.now)) c.loop-d.d-index _ c.loop-d.names (item_at_both (λ (d : Declaration). d.name) (shown_declaration c.args.text.now) c.args.declarations.now c.loop-d.d-index _ c.loop-d-test.true) c.loop-d.invariant c.bytes_of.result.now c.bytes_of.ensures c.in_ok-add.field-0 c.in_ok-add.ensures.new c.if-not-branch.true
 
 pub loop-d-preserved : goal.loop-d-preserved
-loop-d-preserved c = added (declared_names (declarations_at c.args.text.now c.args.declarations.now)) c.loop-d.d-index _ c.loop-d.names (item_at_both (λ (d : Declaration). d.name) (declaration_at c.args.text.now) c.args.declarations.now c.loop-d.d-index _ c.loop-d-test.true) c.loop-d.invariant c.bytes_of.result.now c.bytes_of.ensures c.in_ok-add.field-0 c.in_ok-add.ensures.new c.add.new.self c.in_ok-add.ensures.names c.if-not-branch.false
+loop-d-preserved c = added (declared_names (shown_declarations c.args.text.now c.args.declarations.now)) c.loop-d.d-index _ c.loop-d.names (item_at_both (λ (d : Declaration). d.name) (shown_declaration c.args.text.now) c.args.declarations.now c.loop-d.d-index _ c.loop-d-test.true) c.loop-d.invariant c.bytes_of.result.now c.bytes_of.ensures c.in_ok-add.field-0 c.in_ok-add.ensures.new c.add.new.self c.in_ok-add.ensures.names c.if-not-branch.false

@@ -1,7 +1,7 @@
 use Rattle.safl_verilog.specs.Faults.{declared_names}
-use Rattle.safl_vparse.specs.Shown.{declarations_at}
+use Rattle.safl_vparse.specs.Shown.{shown_declarations}
 use Rattle.safl_vread.proofs.NameLemmas.{IsApart}
 use Rattle.safl_vread.proofs.names.declared_names.Given as goal
 
 abbrev pub invariant-loop-d : goal.invariant-loop-d
-invariant-loop-d l = IsApart (declared_names (declarations_at l.text l.declarations)) l.d-index l.names
+invariant-loop-d l = IsApart (declared_names (shown_declarations l.text l.declarations)) l.d-index l.names

@@ -1,6 +1,6 @@
-use Rattle.safl_vparse.specs.Shown.{spots_at}
+use Rattle.safl_vparse.specs.Shown.{shown_spots}
 use Rattle.safl_vread.proofs.NameLemmas.{IsApart}
 use Rattle.safl_vread.proofs.names.header_names.Given as goal
 
 abbrev pub invariant-loop-x : goal.invariant-loop-x
-invariant-loop-x l = IsApart (spots_at l.text l.header) l.x-index l.names
+invariant-loop-x l = IsApart (shown_spots l.text l.header) l.x-index l.names

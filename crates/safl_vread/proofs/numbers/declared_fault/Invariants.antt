@@ -1,10 +1,10 @@
 use Rattle.std.proofs.Common.{◌≡◌}
 use Rattle.std.specs.List.{flat_map}
 use Rattle.safl_verilog.specs.Faults.{declared_number_faults}
-use Rattle.safl_vparse.specs.Shown.{declaration_at, declarations_at}
+use Rattle.safl_vparse.specs.Shown.{shown_declaration, shown_declarations}
 use Rattle.safl_vread.specs.Firsts.{first}
 use Rattle.safl_vread.proofs.FirstLemmas.{first_from}
 use Rattle.safl_vread.proofs.numbers.declared_fault.Given as goal
 
 abbrev pub invariant-loop-d : goal.invariant-loop-d
-invariant-loop-d l = first_from (declaration_at l.text) declared_number_faults l.declarations l.d-index ≡ first (flat_map declared_number_faults (declarations_at l.text l.declarations))
+invariant-loop-d l = first_from (shown_declaration l.text) declared_number_faults l.declarations l.d-index ≡ first (flat_map declared_number_faults (shown_declarations l.text l.declarations))

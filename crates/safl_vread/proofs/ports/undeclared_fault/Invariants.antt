@@ -1,7 +1,7 @@
 use Rattle.std.proofs.Common.{◌≡◌}
 use Rattle.std.specs.List.{flat_map}
 use Rattle.safl_verilog.specs.Faults.{header_faults}
-use Rattle.safl_vparse.specs.Shown.{spot_at, spots_at, declarations_at}
+use Rattle.safl_vparse.specs.Shown.{shown_spot, shown_spots, shown_declarations}
 use Rattle.safl_vread.specs.Firsts.{first}
 use Rattle.safl_vread.specs.Scopes.{without_statements}
 use Rattle.safl_vread.proofs.FirstLemmas.{first_from}
@@ -9,5 +9,5 @@ use Rattle.safl_vread.proofs.ports.undeclared_fault.Given as goal
 
 abbrev pub invariant-loop-x : goal.invariant-loop-x
 invariant-loop-x l =
-    first_from (spot_at l.scope.text.now) (header_faults (without_statements (spots_at l.scope.text.now l.header) (declarations_at l.scope.text.now l.scope.declarations.now))) l.header l.x-index
-    ≡ first (flat_map (header_faults (without_statements (spots_at l.scope.text.now l.header) (declarations_at l.scope.text.now l.scope.declarations.now))) (spots_at l.scope.text.now l.header))
+    first_from (shown_spot l.scope.text.now) (header_faults (without_statements (shown_spots l.scope.text.now l.header) (shown_declarations l.scope.text.now l.scope.declarations.now))) l.header l.x-index
+    ≡ first (flat_map (header_faults (without_statements (shown_spots l.scope.text.now l.header) (shown_declarations l.scope.text.now l.scope.declarations.now))) (shown_spots l.scope.text.now l.header))

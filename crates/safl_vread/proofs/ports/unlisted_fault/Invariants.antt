@@ -1,7 +1,7 @@
 use Rattle.std.proofs.Common.{◌≡◌}
 use Rattle.std.specs.List.{flat_map}
 use Rattle.safl_verilog.specs.Faults.{port_faults}
-use Rattle.safl_vparse.specs.Shown.{spots_at, declaration_at, declarations_at}
+use Rattle.safl_vparse.specs.Shown.{shown_spots, shown_declaration, shown_declarations}
 use Rattle.safl_vread.specs.Firsts.{first}
 use Rattle.safl_vread.specs.Scopes.{without_statements}
 use Rattle.safl_vread.proofs.FirstLemmas.{first_from}
@@ -9,5 +9,5 @@ use Rattle.safl_vread.proofs.ports.unlisted_fault.Given as goal
 
 abbrev pub invariant-loop-d : goal.invariant-loop-d
 invariant-loop-d l =
-    first_from (declaration_at l.scope.text.now) (port_faults (without_statements (spots_at l.scope.text.now l.header) (declarations_at l.scope.text.now l.scope.declarations.now))) l.scope.declarations.now l.d-index
-    ≡ first (flat_map (port_faults (without_statements (spots_at l.scope.text.now l.header) (declarations_at l.scope.text.now l.scope.declarations.now))) (declarations_at l.scope.text.now l.scope.declarations.now))
+    first_from (shown_declaration l.scope.text.now) (port_faults (without_statements (shown_spots l.scope.text.now l.header) (shown_declarations l.scope.text.now l.scope.declarations.now))) l.scope.declarations.now l.d-index
+    ≡ first (flat_map (port_faults (without_statements (shown_spots l.scope.text.now l.header) (shown_declarations l.scope.text.now l.scope.declarations.now))) (shown_declarations l.scope.text.now l.scope.declarations.now))

@@ -2,12 +2,12 @@ use Rattle.std.proofs.Common.{◌≡◌, [], drop}
 use Rattle.std.specs.List.{flat_map}
 use Rattle.std.specs.Prelude.{take, map}
 use Rattle.safl_verilog.specs.Faults.{declared_number_faults}
-use Rattle.safl_vparse.specs.Shown.{declaration_at}
+use Rattle.safl_vparse.specs.Shown.{shown_declaration}
 use Rattle.safl_vread.specs.Lists.{widths_of}
 use Rattle.safl_vread.proofs.scope.widths_of.Given as goal
 
 abbrev pub invariant-loop-d : goal.invariant-loop-d
 invariant-loop-d l = record {
-  so_far : l.widths.items ≡ widths_of (map (declaration_at l.text) (take l.d-index l.declarations));
-  kept : flat_map declared_number_faults (map (declaration_at l.text) (drop l.d-index l.declarations)) ≡ [];
+  so_far : l.widths.items ≡ widths_of (map (shown_declaration l.text) (take l.d-index l.declarations));
+  kept : flat_map declared_number_faults (map (shown_declaration l.text) (drop l.d-index l.declarations)) ≡ [];
 }

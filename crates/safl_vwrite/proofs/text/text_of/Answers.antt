@@ -13,6 +13,6 @@ returns-clause-short c =
 
 pub returns-clause-torn : goal.returns-clause-torn
 unfolding written
-returns-clause-torn c = λ set order front rest e.
+returns-clause-torn c = λ part rest e.
     let whole : c.push.new.out.items ≡ written c.args.net.now = search rules in
-    torn c.no_shorter_text_law.ensures c.args.net.now c.signals-signals.ensures.netlist set order front rest (sym whole ∙ e)
+    torn c.no_shorter_text_law.ensures c.args.net.now c.signals-signals.ensures.netlist part rest (sym whole ∙ e)
