@@ -1,0 +1,10 @@
+use Rattle.std.proofs.Common.{◌≡◌, slice_index}
+use Rattle.safl_sim.specs.Ticks.{IsOff}
+use Rattle.safl_session.proofs.session.watch.Given as goal
+
+abbrev pub invariant-cycles : goal.invariant-cycles
+invariant-cycles l =
+    record {
+      net : l.sim.net ≡ l.fn.sim.net;
+      off : IsOff l.fn.sim.net (slice_index l.fn.sim.state) l.room.first.items l.room.later.items l.signal.0 l.cycle (slice_index l.sim.state);
+    }

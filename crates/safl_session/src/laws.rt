@@ -1,0 +1,28 @@
+//! Laws of sessions and scripts, over the definitions alone.
+
+ghost use Rattle.safl_session.specs.Circuits.{CircuitsReply, CircuitsServe, ResetIsQuiet};
+ghost use Rattle.safl_session.specs.Laws.{NotBoth, OneFault, OneScript, RepliesExist, RepliesJoin, RepliesOnce};
+
+/// A whole net without loops has one list of replies to calls, and more calls add to it.
+pub fn replies_law()
+    ensures exist { RepliesExist }
+    ensures once { RepliesOnce }
+    ensures join { RepliesJoin }
+{}
+
+/// A text is one script at most, has one first fault at most, and not both.
+pub fn script_law()
+    ensures script { OneScript }
+    ensures fault { OneFault }
+    ensures not_both { NotBoth }
+{}
+
+/// A circuit serves calls one after another, from any quiet state: each call starts in a quiet state, and main gives the
+/// reply's word from the call's arguments in `n` calls, where the reply's cycle is below `3n`. Where main gives a value
+/// from each of the arguments in so few calls that `3n` is at most the limit, each call has a reply. The state at reset
+/// is quiet.
+pub fn session_law()
+    ensures serves { CircuitsServe }
+    ensures replies { CircuitsReply }
+    ensures reset { ResetIsQuiet }
+{}
