@@ -16,6 +16,3 @@ pub use crate::literal::Lit;
 pub use crate::read::{AigErr, read_aig};
 pub use crate::reading::AigRule;
 pub use crate::text::aig_text;
-
-#[cfg(test)]
-mod tests;

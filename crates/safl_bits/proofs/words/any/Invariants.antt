@@ -1,0 +1,11 @@
+use Rattle.std.proofs.Common.{◌≡◌, ◌==◌, not, take}
+use Rattle.safl_aig.specs.Literals.{Assignment, on, shown}
+use Rattle.safl_bits.specs.Gates.{IsLiteral, Grows, Holds}
+use Rattle.safl_bits.proofs.words.any.Given as goal
+
+abbrev pub invariant-loop-i : goal.invariant-loop-i
+invariant-loop-i l = record {
+  built : Grows l.initial.g l.g l.i;
+  fits : IsLiteral l.g l.found;
+  value : (m : Assignment) → Holds l.g m → on m l.found ≡ not (shown m (take l.i l.a) == 0);
+}

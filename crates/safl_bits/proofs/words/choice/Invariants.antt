@@ -1,0 +1,12 @@
+use Rattle.std.proofs.Common.{◌≡◌, ◌*◌, cond, length, take}
+use Rattle.safl_aig.specs.Literals.{Assignment, on, shown}
+use Rattle.safl_bits.specs.Gates.{AreLiterals, Grows, Holds}
+use Rattle.safl_bits.proofs.words.choice.Given as goal
+
+abbrev pub invariant-loop-i : goal.invariant-loop-i
+invariant-loop-i l = record {
+  built : Grows l.initial.g l.g (3 * l.i);
+  fits : AreLiterals l.g l.all.items;
+  long : length l.all.items ≡ l.i;
+  value : (m : Assignment) → Holds l.g m → shown m l.all.items ≡ cond (on m l.c) (shown m (take l.i l.a)) (shown m (take l.i l.b));
+}

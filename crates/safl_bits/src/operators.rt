@@ -1,0 +1,114 @@
+//! Operators on words of literals.
+
+ghost use Rattle.std.specs.Prelude.{◌≡◌, ℕ, ◌+◌, ◌*◌, ◌%◌, ◌^◌, ◌<◌, ◌≤◌, [], ◌∷◌, ◌++◌, length, IfOk};
+ghost use Rattle.safl_aig.specs.Literals.{Assignment, on, shown};
+ghost use Rattle.safl_bits.specs.Gates.{Gates, IsLiteral, AreLiterals, HasRoom, Grows, Holds};
+ghost use Rattle.safl_bits.specs.Results.{Makes, MakesOne, MayMake, MayTake, GrowsBy};
+
+use crate::graph::{Graph, inverse};
+use crate::words::{
+    Gate, Side, add, bitwise, complement, covers, equal, multiply, shift, subtract,
+};
+use safl_aig::Lit;
+use safl_word::Primitive;
+use std::alloc::{AllocError, Global};
+
+/// What an operator makes of two words of widths that it takes.
+pub fn apply_to_two(
+    alloc: Global,
+    g: &mut Graph,
+    p: Primitive,
+    a: &[Lit],
+    b: &[Lit],
+) -> Result<Vec<Lit>, AllocError>
+    requires first { AreLiterals g.old a.now }
+    requires second { AreLiterals g.old b.now }
+    requires narrow { length a.now ≤ 128 }
+    requires room { MayMake p g.old (length a.now ∷ length b.now ∷ []) }
+    ensures built { GrowsBy p g.old g.new (length a.now ∷ length b.now ∷ []) }
+    ensures made { IfOk result (λ r. Makes p a.now b.now g.new r.items) }
+{
+    match p {
+        Primitive::Add => total(alloc, g, a, b),
+        Primitive::Sub => subtract(alloc, g, a, b),
+        Primitive::Mul => multiply(alloc, g, a, b),
+        Primitive::And => bitwise(alloc, g, Gate::Both, a, b),
+        Primitive::Or => bitwise(alloc, g, Gate::Either, a, b),
+        Primitive::Xor => bitwise(alloc, g, Gate::Differ, a, b),
+        Primitive::Eq => {
+            let holds = equal(g, a, b)?;
+            single(alloc, holds)
+        }
+        Primitive::Ne => {
+            let fails = equal(g, a, b)?;
+            single(alloc, inverse(fails))
+        }
+        Primitive::Lt => {
+            let fails = covers(g, a, b)?;
+            single(alloc, inverse(fails))
+        }
+        Primitive::Le => {
+            let holds = covers(g, b, a)?;
+            single(alloc, holds)
+        }
+        Primitive::Gt => {
+            let fails = covers(g, b, a)?;
+            single(alloc, inverse(fails))
+        }
+        Primitive::Ge => {
+            let holds = covers(g, a, b)?;
+            single(alloc, holds)
+        }
+        Primitive::Shl => shift(alloc, g, Side::Left, a, b),
+        Primitive::Shr => shift(alloc, g, Side::Right, a, b),
+        Primitive::Cat => joined(alloc, b, a),
+        _ => unreachable!(),
+    }
+}
+
+/// What an operator makes of a word of a width that it takes.
+pub fn apply_to_one(alloc: Global, p: Primitive, a: &[Lit]) -> Result<Vec<Lit>, AllocError>
+    requires taken { MayTake p (length a.now) }
+    ensures made { (g : Gates) → AreLiterals g a.now → IfOk result (λ r. MakesOne p a.now g r.items) }
+{
+    match p {
+        Primitive::Not => complement(alloc, a),
+        Primitive::Bits(high, low) => Vec::from_slice(alloc, &a[low as usize..high as usize + 1]),
+        _ => unreachable!(),
+    }
+}
+
+// One literal as a word.
+fn single(alloc: Global, l: Lit) -> Result<Vec<Lit>, AllocError>
+    ensures { IfOk result (λ r. r.items ≡ l ∷ []) }
+{
+    let mut all = Vec::new(alloc);
+    all.push(l)?;
+    Ok(all)
+}
+
+// Two words, the first in the lower places.
+fn joined(alloc: Global, low: &[Lit], high: &[Lit]) -> Result<Vec<Lit>, AllocError>
+    requires { length low.now + length high.now < 4294967296 }
+    ensures { IfOk result (λ r. r.items ≡ low.now ++ high.now) }
+{
+    let mut all = Vec::from_slice(alloc, low)?;
+    all.extend_from_slice(high)?;
+    Ok(all)
+}
+
+// The bits of a sum.
+fn total(alloc: Global, g: &mut Graph, a: &[Lit], b: &[Lit]) -> Result<Vec<Lit>, AllocError>
+    requires first { AreLiterals g.old a.now }
+    requires second { AreLiterals g.old b.now }
+    requires alike { length a.now ≡ length b.now }
+    requires room { HasRoom g.old (9 * length a.now) }
+    ensures built { Grows g.old g.new (9 * length a.now) }
+    ensures fits { IfOk result (λ r. AreLiterals g.new r.items) }
+    ensures long { IfOk result (λ r. length r.items ≡ length a.now) }
+    ensures value { IfOk result (λ r. (m : Assignment) → Holds g.new m → shown m r.items ≡ (shown m a.now + shown m b.now) % 2 ^ length a.now) }
+{
+    let zero = g.bottom();
+    let sum = add(alloc, g, a, b, zero)?;
+    Ok(sum.bits)
+}

@@ -1,0 +1,464 @@
+//! Words as lists of literals, the lowest bit first, and what operators make of them.
+
+ghost use Rattle.std.specs.Prelude.{◌≡◌, ℕ, ◌+◌, ◌-◌, ◌*◌, ◌/◌, ◌%◌, ◌^◌, ◌<◌, ◌≤◌, ◌==◌, ◌&&◌, ◌||◌, not, false, cond, nat_le, nat_lt, replicate, length, IfOk};
+ghost use Rattle.safl_word.specs.Primitives.{bit_of};
+ghost use Rattle.safl_aig.specs.Literals.{Assignment, on, shown};
+ghost use Rattle.safl_bits.specs.Gates.{Gates, IsLiteral, AreLiterals, HasRoom, Grows, Holds};
+ghost use Rattle.safl_bits.specs.Operators.{gate_bit, gate_number, moved};
+
+use crate::gates::{differ, either, mux};
+use crate::graph::{Graph, inverse};
+use safl_aig::Lit;
+use safl_word::{Raw, Word};
+use std::alloc::{AllocError, Global};
+
+/// A gate of two literals.
+#[derive(Clone, Copy, Debug, PartialEq, Eq)]
+pub enum Gate {
+    Both,
+    Either,
+    Differ,
+}
+
+/// Whither a word is moved.
+#[derive(Clone, Copy, Debug, PartialEq, Eq)]
+pub enum Side {
+    Left,
+    Right,
+}
+
+/// The bit of a place of a sum, and what is carried to the next.
+#[derive(Clone, Copy)]
+pub struct Column {
+    pub bit: Lit,
+    pub carry: Lit,
+}
+
+/// The bits of a sum, and what is carried beyond them.
+#[derive(Drop)]
+pub struct Sum {
+    pub bits: Vec<Lit>,
+    pub carry: Lit,
+}
+
+// One gate.
+fn connect(g: &mut Graph, kind: Gate, a: Lit, b: Lit) -> Result<Lit, AllocError>
+    requires first { IsLiteral g.old a }
+    requires second { IsLiteral g.old b }
+    requires room { HasRoom g.old 3 }
+    ensures built { Grows g.old g.new 3 }
+    ensures fits { IfOk result (IsLiteral g.new) }
+    ensures value { IfOk result (λ l. (m : Assignment) → Holds g.new m → on m l ≡ gate_bit kind (on m a) (on m b)) }
+{
+    match kind {
+        Gate::Both => g.both(a, b),
+        Gate::Either => either(g, a, b),
+        Gate::Differ => differ(g, a, b),
+    }
+}
+
+/// The gate at each place of two words.
+pub fn bitwise(
+    alloc: Global,
+    g: &mut Graph,
+    kind: Gate,
+    a: &[Lit],
+    b: &[Lit],
+) -> Result<Vec<Lit>, AllocError>
+    requires first { AreLiterals g.old a.now }
+    requires second { AreLiterals g.old b.now }
+    requires alike { length a.now ≡ length b.now }
+    requires room { HasRoom g.old (3 * length a.now) }
+    ensures built { Grows g.old g.new (3 * length a.now) }
+    ensures fits { IfOk result (λ r. AreLiterals g.new r.items) }
+    ensures long { IfOk result (λ r. length r.items ≡ length a.now) }
+    ensures value { IfOk result (λ r. (m : Assignment) → Holds g.new m → shown m r.items ≡ gate_number kind (shown m a.now) (shown m b.now)) }
+{
+    let mut all = Vec::new(alloc);
+    for i in 0..a.len() {
+        let next = connect(g, kind, a[i], b[i])?;
+        all.push(next)?;
+    }
+    Ok(all)
+}
+
+/// The word with each bit turned.
+pub fn complement(alloc: Global, a: &[Lit]) -> Result<Vec<Lit>, AllocError>
+    ensures fits { (g : Gates) → AreLiterals g a.now → IfOk result (λ r. AreLiterals g r.items) }
+    ensures long { IfOk result (λ r. length r.items ≡ length a.now) }
+    ensures value { IfOk result (λ r. (m : Assignment) → shown m r.items + shown m a.now + 1 ≡ 2 ^ length a.now) }
+{
+    let mut all = Vec::new(alloc);
+    for i in 0..a.len() {
+        all.push(inverse(a[i]))?;
+    }
+    Ok(all)
+}
+
+/// The word of `a` where `c` is true, else that of `b`.
+pub fn choice(
+    alloc: Global,
+    g: &mut Graph,
+    c: Lit,
+    a: &[Lit],
+    b: &[Lit],
+) -> Result<Vec<Lit>, AllocError>
+    requires test { IsLiteral g.old c }
+    requires first { AreLiterals g.old a.now }
+    requires second { AreLiterals g.old b.now }
+    requires alike { length a.now ≡ length b.now }
+    requires room { HasRoom g.old (3 * length a.now) }
+    ensures built { Grows g.old g.new (3 * length a.now) }
+    ensures fits { IfOk result (λ r. AreLiterals g.new r.items) }
+    ensures long { IfOk result (λ r. length r.items ≡ length a.now) }
+    ensures value { IfOk result (λ r. (m : Assignment) → Holds g.new m → shown m r.items ≡ cond (on m c) (shown m a.now) (shown m b.now)) }
+{
+    let mut all = Vec::new(alloc);
+    for i in 0..a.len() {
+        let next = mux(g, c, a[i], b[i])?;
+        all.push(next)?;
+    }
+    Ok(all)
+}
+
+/// The word where `c` is true, else 0.
+pub fn masked(alloc: Global, g: &mut Graph, c: Lit, a: &[Lit]) -> Result<Vec<Lit>, AllocError>
+    requires test { IsLiteral g.old c }
+    requires word { AreLiterals g.old a.now }
+    requires room { HasRoom g.old (length a.now) }
+    ensures built { Grows g.old g.new (length a.now) }
+    ensures fits { IfOk result (λ r. AreLiterals g.new r.items) }
+    ensures long { IfOk result (λ r. length r.items ≡ length a.now) }
+    ensures value { IfOk result (λ r. (m : Assignment) → Holds g.new m → shown m r.items ≡ cond (on m c) (shown m a.now) 0) }
+{
+    let mut all = Vec::new(alloc);
+    for i in 0..a.len() {
+        let next = g.both(c, a[i])?;
+        all.push(next)?;
+    }
+    Ok(all)
+}
+
+/// The literal that is true where a bit of the word is.
+pub fn any(g: &mut Graph, a: &[Lit]) -> Result<Lit, AllocError>
+    requires word { AreLiterals g.old a.now }
+    requires room { HasRoom g.old (length a.now) }
+    ensures built { Grows g.old g.new (length a.now) }
+    ensures fits { IfOk result (IsLiteral g.new) }
+    ensures value { IfOk result (λ l. (m : Assignment) → Holds g.new m → on m l ≡ not (shown m a.now == 0)) }
+{
+    let mut found = g.bottom();
+    for i in 0..a.len() {
+        found = either(g, found, a[i])?;
+    }
+    Ok(found)
+}
+
+/// The literal that is true where the words are equal.
+pub fn equal(g: &mut Graph, a: &[Lit], b: &[Lit]) -> Result<Lit, AllocError>
+    requires first { AreLiterals g.old a.now }
+    requires second { AreLiterals g.old b.now }
+    requires alike { length a.now ≡ length b.now }
+    requires room { HasRoom g.old (4 * length a.now) }
+    ensures built { Grows g.old g.new (4 * length a.now) }
+    ensures fits { IfOk result (IsLiteral g.new) }
+    ensures value { IfOk result (λ l. (m : Assignment) → Holds g.new m → on m l ≡ (shown m a.now == shown m b.now)) }
+{
+    let mut apart = g.bottom();
+    for i in 0..a.len() {
+        let here = differ(g, a[i], b[i])?;
+        apart = either(g, apart, here)?;
+    }
+    Ok(inverse(apart))
+}
+
+// One place of a sum.
+fn add_place(g: &mut Graph, a: Lit, b: Lit, c: Lit) -> Result<Column, AllocError>
+    requires first { IsLiteral g.old a }
+    requires second { IsLiteral g.old b }
+    requires third { IsLiteral g.old c }
+    requires room { HasRoom g.old 9 }
+    ensures built { Grows g.old g.new 9 }
+    ensures bit { IfOk result (λ r. IsLiteral g.new r.bit) }
+    ensures carry { IfOk result (λ r. IsLiteral g.new r.carry) }
+    ensures value { IfOk result (λ r. (m : Assignment) → Holds g.new m → bit_of (on m r.bit) + 2 * bit_of (on m r.carry) ≡ bit_of (on m a) + bit_of (on m b) + bit_of (on m c)) }
+{
+    let one = differ(g, a, b)?;
+    let two = g.both(a, b)?;
+    let more = g.both(one, c)?;
+    let carry = either(g, two, more)?;
+    let bit = differ(g, one, c)?;
+    Ok(Column { bit, carry })
+}
+
+/// The sum of two words and a bit.
+pub fn add(
+    alloc: Global,
+    g: &mut Graph,
+    a: &[Lit],
+    b: &[Lit],
+    first: Lit,
+) -> Result<Sum, AllocError>
+    requires first { AreLiterals g.old a.now }
+    requires second { AreLiterals g.old b.now }
+    requires third { IsLiteral g.old first }
+    requires alike { length a.now ≡ length b.now }
+    requires room { HasRoom g.old (9 * length a.now) }
+    ensures built { Grows g.old g.new (9 * length a.now) }
+    ensures bits { IfOk result (λ r. AreLiterals g.new r.bits.items) }
+    ensures carry { IfOk result (λ r. IsLiteral g.new r.carry) }
+    ensures long { IfOk result (λ r. length r.bits.items ≡ length a.now) }
+    ensures value { IfOk result (λ r. (m : Assignment) → Holds g.new m →
+        shown m r.bits.items + 2 ^ length a.now * bit_of (on m r.carry) ≡ shown m a.now + shown m b.now + bit_of (on m first)) }
+{
+    let mut bits = Vec::new(alloc);
+    let mut carry = first;
+    for i in 0..a.len() {
+        let next = add_place(g, a[i], b[i], carry)?;
+        bits.push(next.bit)?;
+        carry = next.carry;
+    }
+    Ok(Sum { bits, carry })
+}
+
+/// The difference of two words.
+pub fn subtract(alloc: Global, g: &mut Graph, a: &[Lit], b: &[Lit]) -> Result<Vec<Lit>, AllocError>
+    requires first { AreLiterals g.old a.now }
+    requires second { AreLiterals g.old b.now }
+    requires alike { length a.now ≡ length b.now }
+    requires room { HasRoom g.old (9 * length a.now) }
+    ensures built { Grows g.old g.new (9 * length a.now) }
+    ensures fits { IfOk result (λ r. AreLiterals g.new r.items) }
+    ensures long { IfOk result (λ r. length r.items ≡ length a.now) }
+    ensures value { IfOk result (λ r. (m : Assignment) → Holds g.new m → shown m r.items ≡ (2 ^ length a.now + shown m a.now - shown m b.now) % 2 ^ length a.now) }
+{
+    let other = complement(alloc, b)?;
+    let one = inverse(g.bottom());
+    let sum = add(alloc, g, a, &other, one)?;
+    Ok(sum.bits)
+}
+
+/// The literal that is true where the first word is at least the second.
+pub fn covers(g: &mut Graph, a: &[Lit], b: &[Lit]) -> Result<Lit, AllocError>
+    requires first { AreLiterals g.old a.now }
+    requires second { AreLiterals g.old b.now }
+    requires alike { length a.now ≡ length b.now }
+    requires room { HasRoom g.old (4 * length a.now) }
+    ensures built { Grows g.old g.new (4 * length a.now) }
+    ensures fits { IfOk result (IsLiteral g.new) }
+    ensures value { IfOk result (λ l. (m : Assignment) → Holds g.new m → on m l ≡ nat_le (shown m b.now) (shown m a.now)) }
+{
+    let mut holds = inverse(g.bottom());
+    for i in 0..a.len() {
+        holds = covers_with(g, a[i], b[i], holds)?;
+    }
+    Ok(holds)
+}
+
+// Whether a word is at least another, where their highest bits are these and the bits below are so.
+fn covers_with(g: &mut Graph, a: Lit, b: Lit, below: Lit) -> Result<Lit, AllocError>
+    requires first { IsLiteral g.old a }
+    requires second { IsLiteral g.old b }
+    requires third { IsLiteral g.old below }
+    requires room { HasRoom g.old 4 }
+    ensures built { Grows g.old g.new 4 }
+    ensures fits { IfOk result (IsLiteral g.new) }
+    ensures value { IfOk result (λ l. (m : Assignment) → Holds g.new m → on m l ≡ (on m a && not (on m b) || ((on m a || not (on m b)) && on m below))) }
+{
+    let above = g.both(a, inverse(b))?;
+    let level = either(g, a, inverse(b))?;
+    let kept = g.both(level, below)?;
+    either(g, above, kept)
+}
+
+// A literal so many times.
+fn repeated(alloc: Global, l: Lit, count: usize) -> Result<Vec<Lit>, AllocError>
+    ensures { IfOk result (λ r. r.items ≡ replicate count l) }
+{
+    let all = vec![in alloc; l; count]?;
+    Ok(all)
+}
+
+// The word with zeros below, of the same width.
+fn raise(alloc: Global, zero: Lit, a: &[Lit], by: usize) -> Result<Vec<Lit>, AllocError>
+    ensures fits { (g : Gates) → IsLiteral g zero → AreLiterals g a.now → IfOk result (λ r. AreLiterals g r.items) }
+    ensures long { IfOk result (λ r. length r.items ≡ length a.now) }
+    ensures value { IfOk result (λ r. (m : Assignment) → on m zero ≡ false → shown m r.items ≡ (shown m a.now * 2 ^ by) % 2 ^ length a.now) }
+{
+    let lost = by.min(a.len());
+    let mut all = repeated(alloc, zero, lost)?;
+    all.extend_from_slice(&a[..a.len() - lost])?;
+    Ok(all)
+}
+
+// The word without its lowest bits, with zeros above.
+fn lower(alloc: Global, zero: Lit, a: &[Lit], by: usize) -> Result<Vec<Lit>, AllocError>
+    ensures fits { (g : Gates) → IsLiteral g zero → AreLiterals g a.now → IfOk result (λ r. AreLiterals g r.items) }
+    ensures long { IfOk result (λ r. length r.items ≡ length a.now) }
+    ensures value { IfOk result (λ r. (m : Assignment) → on m zero ≡ false → shown m r.items ≡ shown m a.now / 2 ^ by) }
+{
+    let lost = by.min(a.len());
+    let zeros = repeated(alloc, zero, lost)?;
+    let mut all = Vec::from_slice(alloc, &a[lost..])?;
+    all.extend_from_slice(&zeros)?;
+    Ok(all)
+}
+
+// A row of a product, added to what the rows before it gave.
+fn add_row(
+    alloc: Global,
+    g: &mut Graph,
+    total: &[Lit],
+    a: &[Lit],
+    bit: Lit,
+    place: usize,
+) -> Result<Vec<Lit>, AllocError>
+    requires total { AreLiterals g.old total.now }
+    requires word { AreLiterals g.old a.now }
+    requires bit { IsLiteral g.old bit }
+    requires alike { length total.now ≡ length a.now }
+    requires room { HasRoom g.old (10 * length a.now) }
+    ensures built { Grows g.old g.new (10 * length a.now) }
+    ensures fits { IfOk result (λ r. AreLiterals g.new r.items) }
+    ensures long { IfOk result (λ r. length r.items ≡ length a.now) }
+    ensures value { IfOk result (λ r. (m : Assignment) → Holds g.new m →
+        shown m r.items ≡ (shown m total.now + cond (on m bit) ((shown m a.now * 2 ^ place) % 2 ^ length a.now) 0) % 2 ^ length a.now) }
+{
+    let zero = g.bottom();
+    let raised = raise(alloc, zero, a, place)?;
+    let row = masked(alloc, g, bit, &raised)?;
+    let sum = add(alloc, g, total, &row, zero)?;
+    Ok(sum.bits)
+}
+
+/// The product of two words, of their width.
+pub fn multiply(alloc: Global, g: &mut Graph, a: &[Lit], b: &[Lit]) -> Result<Vec<Lit>, AllocError>
+    requires first { AreLiterals g.old a.now }
+    requires second { AreLiterals g.old b.now }
+    requires alike { length a.now ≡ length b.now }
+    requires room { HasRoom g.old (10 * (length a.now * length a.now)) }
+    ensures built { Grows g.old g.new (10 * (length a.now * length a.now)) }
+    ensures fits { IfOk result (λ r. AreLiterals g.new r.items) }
+    ensures long { IfOk result (λ r. length r.items ≡ length a.now) }
+    ensures value { IfOk result (λ r. (m : Assignment) → Holds g.new m → shown m r.items ≡ (shown m a.now * shown m b.now) % 2 ^ length a.now) }
+{
+    let zero = g.bottom();
+    let mut total = repeated(alloc, zero, a.len())?;
+    for i in 0..b.len() {
+        total = add_row(alloc, g, &total, a, b[i], i)?;
+    }
+    Ok(total)
+}
+
+// The word moved by a number of places.
+fn displace(
+    alloc: Global,
+    zero: Lit,
+    side: Side,
+    a: &[Lit],
+    by: usize,
+) -> Result<Vec<Lit>, AllocError>
+    ensures fits { (g : Gates) → IsLiteral g zero → AreLiterals g a.now → IfOk result (λ r. AreLiterals g r.items) }
+    ensures long { IfOk result (λ r. length r.items ≡ length a.now) }
+    ensures value { IfOk result (λ r. (m : Assignment) → on m zero ≡ false → shown m r.items ≡ moved side (2 ^ length a.now) (shown m a.now) (2 ^ by)) }
+{
+    match side {
+        Side::Left => raise(alloc, zero, a, by),
+        Side::Right => lower(alloc, zero, a, by),
+    }
+}
+
+// The word moved by a number of places where a bit is true.
+fn displace_where(
+    alloc: Global,
+    g: &mut Graph,
+    side: Side,
+    test: Lit,
+    a: &[Lit],
+    by: usize,
+) -> Result<Vec<Lit>, AllocError>
+    requires test { IsLiteral g.old test }
+    requires word { AreLiterals g.old a.now }
+    requires room { HasRoom g.old (3 * length a.now) }
+    ensures built { Grows g.old g.new (3 * length a.now) }
+    ensures fits { IfOk result (λ r. AreLiterals g.new r.items) }
+    ensures long { IfOk result (λ r. length r.items ≡ length a.now) }
+    ensures value { IfOk result (λ r. (m : Assignment) → Holds g.new m →
+        shown m r.items ≡ cond (on m test) (moved side (2 ^ length a.now) (shown m a.now) (2 ^ by)) (shown m a.now)) }
+{
+    let zero = g.bottom();
+    let away = displace(alloc, zero, side, a, by)?;
+    choice(alloc, g, test, &away, a)
+}
+
+// How many bits of an amount are looked at, at most: two to this number is no less than the width.
+fn stages(width: usize) -> usize
+    requires { width ≤ 128 }
+    ensures few { result ≤ 7 }
+    ensures enough { width ≤ 2 ^ result }
+{
+    match width {
+        0 | 1 => 0,
+        2 => 1,
+        3 | 4 => 2,
+        5..=8 => 3,
+        9..=16 => 4,
+        17..=32 => 5,
+        33..=64 => 6,
+        _ => 7,
+    }
+}
+
+/// The word moved by an amount, 0 where the amount is the width or more.
+pub fn shift(
+    alloc: Global,
+    g: &mut Graph,
+    side: Side,
+    a: &[Lit],
+    amount: &[Lit],
+) -> Result<Vec<Lit>, AllocError>
+    requires word { AreLiterals g.old a.now }
+    requires amount { AreLiterals g.old amount.now }
+    requires narrow { length a.now ≤ 128 }
+    requires room { HasRoom g.old (22 * length a.now + length amount.now) }
+    ensures built { Grows g.old g.new (22 * length a.now + length amount.now) }
+    ensures fits { IfOk result (λ r. AreLiterals g.new r.items) }
+    ensures long { IfOk result (λ r. length r.items ≡ length a.now) }
+    ensures value { IfOk result (λ r. (m : Assignment) → Holds g.new m →
+        shown m r.items ≡ cond (nat_lt (shown m amount.now) (length a.now)) (moved side (2 ^ length a.now) (shown m a.now) (2 ^ shown m amount.now)) 0) }
+{
+    let count = stages(a.len()).min(amount.len());
+    let mut all = Vec::from_slice(alloc, a)?;
+    for i in 0..count {
+        all = displace_where(alloc, g, side, amount[i], &all, 1 << i)?;
+    }
+    let over = any(g, &amount[count..])?;
+    masked(alloc, g, inverse(over), &all)
+}
+
+/// A word as literals.
+pub fn constant(alloc: Global, zero: Lit, word: Word) -> Result<Vec<Lit>, AllocError>
+    ensures fits { (g : Gates) → IsLiteral g zero → IfOk result (λ r. AreLiterals g r.items) }
+    ensures long { IfOk result (λ r. length r.items ≡ word.width) }
+    ensures value { IfOk result (λ r. (m : Assignment) → on m zero ≡ false → shown m r.items ≡ word.bits) }
+{
+    let bits = word.bits();
+    let mut all = Vec::new(alloc);
+    for i in 0..word.width() {
+        all.push(constant_bit(zero, bits, i))?;
+    }
+    Ok(all)
+}
+
+// The literal of a bit of a number.
+fn constant_bit(zero: Lit, bits: Raw, place: u8) -> Lit
+    requires { place < 128 }
+    ensures fits { (g : Gates) → IsLiteral g zero → IsLiteral g result }
+    ensures value { (m : Assignment) → on m zero ≡ false → bit_of (on m result) ≡ bits / 2 ^ place % 2 }
+{
+    if (bits >> place) % 2 == 1 {
+        inverse(zero)
+    } else {
+        zero
+    }
+}
