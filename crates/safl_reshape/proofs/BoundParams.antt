@@ -4,7 +4,7 @@ use Rattle.std.specs.Prelude.{◌||◌}
 use Rattle.safl_tree.specs.declared.tree.Param.{Param}
 use Rattle.safl_tree.specs.Tree as source
 use Rattle.safl_tree.specs.Tree.{Tree, Parameter, Bound, Binds, trees_of, binds_of}
-use Rattle.safl_tree.specs.Shown.{shows_params}
+use Rattle.safl_tree.specs.Shown.{shown_parameters}
 use Rattle.safl_reshape.specs.Lists.{zipped}
 use Rattle.safl_reshape.specs.Reshaped.{bound_params, body_under}
 
@@ -13,9 +13,9 @@ zip_binds [] ts = refl
 zip_binds (p ∷ ps) [] = refl
 zip_binds (p ∷ ps) (t ∷ ts) = ap (source.a_bind p.place p.name (Some p.width) t) (zip_binds ps ts)
 
-pub under_done : (p : ℕ) (ps : List Param) (ts : List Tree) (x b body : Tree) (bs : List Bound) → 0 < length ps → 0 < length ts → bs ≡ zipped (shows_params ps) ts → x ≡ source.Binding p (binds_of bs) b → b ≡ body → x ≡ body_under p (shows_params ps) (trees_of ts) body
+pub under_done : (p : ℕ) (ps : List Param) (ts : List Tree) (x b body : Tree) (bs : List Bound) → 0 < length ps → 0 < length ts → bs ≡ zipped (shown_parameters ps) ts → x ≡ source.Let p (binds_of bs) b → b ≡ body → x ≡ body_under p (shown_parameters ps) (trees_of ts) body
 under_done p [] ts x b body bs l m e f g = absurd (omega (arith, l))
 under_done p (q ∷ ps) [] x b body bs l m e f g = absurd (omega (arith, m))
 under_done p (q ∷ ps) (t ∷ us) x b body bs l m e f g =
     let ts = t ∷ us in
-    f ∙ (ap (λ (z : List Bound). source.Binding p (binds_of z) b) e ∙ (ap (λ (z : Binds). source.Binding p z b) (sym (zip_binds (shows_params (q ∷ ps)) ts)) ∙ ap (λ (z : Tree). source.Binding p (bound_params (shows_params (q ∷ ps)) (trees_of ts)) z) g))
+    f ∙ (ap (λ (z : List Bound). source.Let p (binds_of z) b) e ∙ (ap (λ (z : Binds). source.Let p z b) (sym (zip_binds (shown_parameters (q ∷ ps)) ts)) ∙ ap (λ (z : Tree). source.Let p (bound_params (shown_parameters (q ∷ ps)) (trees_of ts)) z) g))

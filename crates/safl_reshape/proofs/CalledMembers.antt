@@ -1,28 +1,13 @@
 -- Whether an expression calls a member of its group, by its parts.
-use Rattle.std.proofs.Common.{◌≡◌, ℕ, ◌+◌, ◌-◌, ◌<◌, List, [], ◌∷◌, ◌++◌, length, Option, Bool, true, false, refl, sym, ap, ◌∙◌, arith, ⊎_elim}
-use Rattle.std.specs.Prelude.{slice_get, ◌||◌}
-use Rattle.std.proofs.lemmas.Option.{slice_get_cases}
+use Rattle.std.proofs.Common.{◌≡◌, ℕ, List, [], ◌∷◌, Bool, true, false, refl, sym, ap, ◌∙◌}
+use Rattle.std.specs.Prelude.{◌||◌}
 use Rattle.safl_word.specs.declared.primitive.Primitive.{Primitive}
 use Rattle.safl_tree.specs.Tree as source
 use Rattle.safl_tree.specs.Tree.{Tree, Bound, Labelled, trees_of, binds_of, arms_of}
 use Rattle.safl_typing.specs.Rewriting.{rewritten, rewritten_all, rewritten_binds, rewritten_arms}
-use Rattle.safl_typing.specs.declared.heads.Head as code
-use Rattle.safl_typing.specs.declared.heads.Callee.TheVariants as codes
-use Rattle.safl_typing.specs.Heads.{Head, Known, Callee, callee}
-use Rattle.safl_typing.specs.PlainHeads.{with_number, a_member, an_earlier, plain_callee}
-use Rattle.safl_reshape.specs.Changed.{calls, calls_in, calls_bound, is_member}
+use Rattle.safl_typing.specs.Heads.{Known, Callee, callee}
+use Rattle.safl_reshape.specs.Changed.{calls, calls_in, calls_bound}
 use Rattle.safl_reshape.specs.Lists.{calls_labelled}
-
-member_number : (hs : List code.Head) (n : ℕ) → n < length hs → (is_member (a_member (with_number n (slice_get hs n))) ≡ true) × (is_member (an_earlier (with_number n (slice_get hs n))) ≡ false)
-member_number hs n lt = ⊎_elim
-    (λ q. (ap (λ (o : Option code.Head). is_member (a_member (with_number n o))) q.2, ap (λ (o : Option code.Head). is_member (an_earlier (with_number n o))) q.2))
-    (λ q. absurd (omega (arith, q.0, lt))) (slice_get_cases hs n).1
-
-pub member_of : (hs : List code.Head) (n : ℕ) → n < length hs → true ≡ is_member (plain_callee hs (codes.Member n))
-member_of hs n lt = sym (member_number hs n lt).0
-
-pub above_of : (hs : List code.Head) (n : ℕ) → n < length hs → false ≡ is_member (plain_callee hs (codes.Above n))
-above_of hs n lt = sym (member_number hs n lt).1
 
 arm_calls : (l v r : Bool) → ((false || (l || false)) || (v || r)) ≡ ((l || v) || r)
 arm_calls true v r = refl
@@ -43,7 +28,7 @@ module _ (test : Callee → Bool) (k : Known) where
       arm_calls (calls test k (rewritten a.label)) (calls test k (rewritten a.value)) (calls test k (rewritten_arms p (arms_of ls t)))
       ∙ (ap (λ (b : Bool). (calls test k (rewritten a.label) || calls test k (rewritten a.value)) || b) (arms_calls p ls t) ∙ sym (or_assoc (calls test k (rewritten a.label) || calls test k (rewritten a.value)) (calls_labelled test k ls) (calls test k (rewritten t))))
 
-  pub let_calls : (p : ℕ) (xs : List Bound) (t n : Tree) (r a b : Bool) → n ≡ source.Binding p (binds_of xs) t → a ≡ calls_bound test k (rewritten_binds (binds_of xs)) → b ≡ calls test k (rewritten t) → r ≡ (a || b) → r ≡ calls test k (rewritten n)
+  pub let_calls : (p : ℕ) (xs : List Bound) (t n : Tree) (r a b : Bool) → n ≡ source.Let p (binds_of xs) t → a ≡ calls_bound test k (rewritten_binds (binds_of xs)) → b ≡ calls test k (rewritten t) → r ≡ (a || b) → r ≡ calls test k (rewritten n)
   let_calls p xs t n r a b e f g h = h ∙ (cc (f, g) ∙ ap (λ (z : Tree). calls test k (rewritten z)) (sym e))
 
   pub case_calls : (p : ℕ) (v : Tree) (ls : List Labelled) (t n : Tree) (r a b c : Bool) → n ≡ source.Cases p v (arms_of ls t) → a ≡ calls test k (rewritten v) → b ≡ calls_labelled test k ls → c ≡ calls test k (rewritten t) → r ≡ (a || (b || c)) → r ≡ calls test k (rewritten n)
@@ -51,8 +36,8 @@ module _ (test : Callee → Bool) (k : Known) where
       i ∙ (ap (λ (z : Bool). z || (b || c)) f ∙ (ap (λ (z : Bool). calls test k (rewritten v) || (z || c)) g ∙ (ap (λ (z : Bool). calls test k (rewritten v) || (calls_labelled test k ls || z)) h
       ∙ (ap (λ (z : Bool). calls test k (rewritten v) || z) (sym (arms_calls p ls t)) ∙ (sym (or_right_false (calls test k (rewritten v)) (calls test k (rewritten_arms p (arms_of ls t)))) ∙ ap (λ (z : Tree). calls test k (rewritten z)) (sym e))))))
 
-  pub op_calls : (p : ℕ) (o : Primitive) (xs : List Tree) (n : Tree) (r : Bool) → n ≡ source.Applied p o (trees_of xs) → r ≡ calls_in test k (rewritten_all (trees_of xs)) → r ≡ calls test k (rewritten n)
+  pub op_calls : (p : ℕ) (o : Primitive) (xs : List Tree) (n : Tree) (r : Bool) → n ≡ source.Op p o (trees_of xs) → r ≡ calls_in test k (rewritten_all (trees_of xs)) → r ≡ calls test k (rewritten n)
   op_calls p o xs n r e f = f ∙ ap (λ (z : Tree). calls test k (rewritten z)) (sym e)
 
-  pub call_calls : (p : ℕ) (x : List ℕ) (xs : List Tree) (n : Tree) (r a b : Bool) → n ≡ source.Called p x (trees_of xs) → a ≡ test (callee k x) → b ≡ calls_in test k (rewritten_all (trees_of xs)) → r ≡ (a || b) → r ≡ calls test k (rewritten n)
+  pub call_calls : (p : ℕ) (x : List ℕ) (xs : List Tree) (n : Tree) (r a b : Bool) → n ≡ source.Call p x (trees_of xs) → a ≡ test (callee k x) → b ≡ calls_in test k (rewritten_all (trees_of xs)) → r ≡ (a || b) → r ≡ calls test k (rewritten n)
   call_calls p x xs n r a b e f g h = h ∙ (cc (f, g) ∙ ap (λ (z : Tree). calls test k (rewritten z)) (sym e))

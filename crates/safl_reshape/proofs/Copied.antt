@@ -74,7 +74,7 @@ module _ (ds : List Definition) (c : Form) (is : IsFormOf ds c) (k j : ℕ) (d :
     site = of.site;
   }
 
-  copied_parts : (end : ℕ) × (gs : List FunctionForm) × AreFunctionsOf (heads es) 0 0 0 1 end es gs × AllCopied C j j c.functions gs
+  pub copied_parts : (end : ℕ) × (gs : List FunctionForm) × AreFunctionsOf (heads es) 0 0 0 1 end es gs × AllCopied C j j c.functions gs
   copied_parts = copied_functions C (heads ds) (heads es) k j new (params_of d) d.width are_copied j 0 0 0 1 (suc is.last_site) 1 1 ds c.functions d (omega arith) (omega arith) of.defined of.alone of.next refl
       (λ i f e. sites_map (IsSiteIn C i) (λ s f. C.callee s ≡ f) (λ s f q. q.0) f.body (function_sites ds c is i f e)) is.functions
 

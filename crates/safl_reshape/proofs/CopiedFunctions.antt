@@ -1,5 +1,5 @@
 -- The functions of a program in which one is copied.
-use Rattle.std.proofs.Common.{◌≡◌, ℕ, zero, suc, ◌+◌, ◌-◌, ◌<◌, ◌≤◌, List, [], ◌∷◌, length, Some, Bool, true, false, cond, refl, sym, ap, ◌∙◌, subst, arith}
+use Rattle.std.proofs.Common.{◌≡◌, ℕ, zero, suc, ◌+◌, ◌<◌, ◌≤◌, List, [], ◌∷◌, length, Some, Bool, true, false, cond, refl, sym, ap, ◌∙◌, subst, arith}
 use Rattle.std.specs.Prelude.{slice_get}
 use Rattle.safl_term.specs.Program.{Program}
 use Rattle.safl_tree.specs.Tree.{Definition}
@@ -45,9 +45,6 @@ AllCopied C j zero (f ∷ fs) (g ∷ (h ∷ gs)) = IsKept C (IsCopied j) no_site
 AllCopied C j (suc t) (f ∷ fs) (g ∷ gs) = IsKept C (IsCopied j) no_site f g × AllCopied C j t fs gs
 
 module _ (C : Program) (all rest : List Head) (k j : ℕ) (new : List ℕ) (ps : List Slot) (width : ℕ) (is : AreCopied C all rest k j new ps width) where
-  ok : ℕ → ℕ → Type 0
-  ok s f = C.callee s ≡ f
-
   copy_moved : (lo hi from : ℕ) (d : Definition) (f : FunctionForm) → Sites (λ s f. C.callee s ≡ f) f.body → IsFunctionOf all j lo hi d f
       → (end : ℕ) × (g : FunctionForm) × IsFunctionOf rest (suc j) from end (copy_of all j new d) g × IsKept C (IsCopied j) no_site f g
   copy_moved lo hi from d f si fd =

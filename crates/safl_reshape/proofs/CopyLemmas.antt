@@ -14,7 +14,7 @@ use Rattle.safl_reshape.specs.Laws.{IsAlike, Spares, CopyIsAlike, UnfoldingSpare
 use Rattle.safl_reshape.specs.Limits.{KeepsLimits}
 use Rattle.safl_reshape.specs.Reshaped.{copy_name, copied, copied_as, copied_under, unfolded, is_recursive}
 use Rattle.safl_reshape.specs.Refusals.{MayCopy, name_at, name_for, RefusesCopy, RefusesLimit, MayUnfold, RefusesUnfolding}
-use Rattle.safl_reshape.proofs.Called.{copyable}
+use Rattle.safl_reshape.proofs.Callees.{copyable}
 use Rattle.safl_reshape.proofs.FormedTrees.{formed_at, copy_named, copy_formed, unfold_formed}
 
 -- each form of the definitions is that of the checked program

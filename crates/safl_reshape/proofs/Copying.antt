@@ -2,11 +2,12 @@
 use Rattle.std.proofs.Common.{◌≡◌, ℕ, suc, ◌+◌, ◌<◌, ◌≤◌, List, [], length, Some, Bool, true, false, cond, refl, sym, ap, ◌∙◌, subst, arith, inl, inr, ◌⊎◌, ⊎_elim}
 use Rattle.std.specs.Prelude.{slice_get, ◌==◌}
 use Rattle.std.proofs.lemmas.Bool.{eqb-true, cases_lt}
-use Rattle.safl_term.specs.Terms.{Term, Call, Terms}
+use Rattle.safl_term.specs.Terms as terms
+use Rattle.safl_term.specs.Terms.{Term, Terms}
 use Rattle.safl_term.specs.Program.{Program, arity}
 use Rattle.safl_term.specs.Slots.{count}
 use Rattle.safl_tree.specs.Tree.{Trees, place_of}
-use Rattle.safl_typing.specs.Rewriting.{Called, Expressions, rewritten, rewritten_all}
+use Rattle.safl_typing.specs.Rewriting.{Call, Expressions, rewritten, rewritten_all}
 use Rattle.safl_typing.specs.Heads.{Slot, Head, Callee, Member, Above, Unknown, callee}
 use Rattle.safl_typing.specs.Typing.{widths_of, Calls, HaveAll}
 use Rattle.safl_reshape.specs.Reshaped.{copying_call, own_call}
@@ -23,14 +24,14 @@ use Rattle.safl_reshape.proofs.Copies.{later_head}
 -- ---- the changes of calls, rewritten
 
 abbrev pub copy_alteration : ℕ → List ℕ → Alteration
-copy_alteration k new (Member i h) lo p x es = Called p x es
-copy_alteration k new (Above i h) lo p x es = Called p (cond (lo == k) new x) es
-copy_alteration k new Unknown lo p x es = Called p x es
+copy_alteration k new (Member i h) lo p x es = Call p x es
+copy_alteration k new (Above i h) lo p x es = Call p (cond (lo == k) new x) es
+copy_alteration k new Unknown lo p x es = Call p x es
 
 abbrev pub own_alteration : List ℕ → Alteration
-own_alteration new (Member i h) lo p x es = Called p new es
-own_alteration new (Above i h) lo p x es = Called p x es
-own_alteration new Unknown lo p x es = Called p x es
+own_alteration new (Member i h) lo p x es = Call p new es
+own_alteration new (Above i h) lo p x es = Call p x es
+own_alteration new Unknown lo p x es = Call p x es
 
 copy_same : (k : ℕ) (new : List ℕ) (f : Callee) (lo p : ℕ) (x : List ℕ) (ts : Trees) → (rewritten (copying_call k new f lo p x ts) ≡ copy_alteration k new f lo p x (rewritten_all ts)) × (place_of (copying_call k new f lo p x ts) ≡ p)
 copy_same k new (Member i h) lo p x ts = (refl, refl)
@@ -102,15 +103,15 @@ module _ (C : Program) (all rest : List Head) (k j : ℕ) (new : List ℕ) (ps :
         let le : i ≤ j = ⊎_elim (λ (y : j < i). absurd (omega (arith, is.later i h ic.0.head y, ic.1, lt))) (λ (y : i ≤ j). y) (cases_lt j i) in
         let cal = callee_member (sees rest (v + 0)) x i h is.differ (is.before i h ic.0.head le) ic.0.name (omega (arith, ic.1)) in
         let ar = have_count (sees all v) s m hi es ws us hs ∙ (ap (λ (z : List ℕ). length z) q.2 ∙ is.arities i h ic.0.head) in
-        subst (λ (z : Term). MovedIn C (IsCopied j) no_site (sees rest (v + 0)) [] s n end from (Called p x fs) w z) (sym q.4)
+        subst (λ (z : Term). MovedIn C (IsCopied j) no_site (sees rest (v + 0)) [] s n end from (Call p x fs) w z) (sym q.4)
         (stays_member C (IsCopied j) no_site (sees rest (v + 0)) [] s n end from p x fs i i h ws us w cal (sym may ∙ q.0) q.2 q.3 (inl (le, refl)) ar (args from))
     first_call s n tail end p x es fs lo m hi ws us w t from first (Above i h) ic si may hs q args f =
         let sc = (subst (λ (z : Term). Sites (λ s f. C.callee s ≡ f) z) q.3 si).0 in
         let le : i ≤ j = ⊎_elim (λ (y : j < i). absurd (omega (arith, is.later i h ic.0.head y, ic.1, lt))) (λ (y : i ≤ j). y) (cases_lt j i) in
         let cal = callee_above (sees rest (v + 0)) x i h is.differ (is.before i h ic.0.head le) ic.0.name (omega (arith, ic.1)) in
         let ar = have_count (sees all v) s m hi es ws us hs ∙ (ap (λ (z : List ℕ). length z) q.1 ∙ is.arities i h ic.0.head) in
-        subst (λ (z : Term). MovedIn C (IsCopied j) no_site (sees rest (v + 0)) [] s n end from (Called p (cond (first == k) new x) fs) w z) (sym q.3)
-        (subst (λ (b : Bool). MovedIn C (IsCopied j) no_site (sees rest (v + 0)) [] s n end from (Called p (cond b new x) fs) w (Call i lo us)) (sym (other (first == k) refl sc))
+        subst (λ (z : Term). MovedIn C (IsCopied j) no_site (sees rest (v + 0)) [] s n end from (Call p (cond (first == k) new x) fs) w z) (sym q.3)
+        (subst (λ (b : Bool). MovedIn C (IsCopied j) no_site (sees rest (v + 0)) [] s n end from (Call p (cond b new x) fs) w (terms.Call i lo us)) (sym (other (first == k) refl sc))
         (stays_above C (IsCopied j) no_site (sees rest (v + 0)) [] s n end from p x fs i i lo h ws us w cal q.1 q.2 refl (inl (le, refl)) ar (args (suc from))))
       where
         other : (b : Bool) → (first == k) ≡ b → C.callee lo ≡ i → (first == k) ≡ false
@@ -127,7 +128,7 @@ module _ (C : Program) (all rest : List Head) (k j : ℕ) (new : List ℕ) (ps :
   -- a body behind that of function j
   module _ (v : ℕ) (lt : j < v) where
     site_call : (s : List Slot) (n : ℕ) (end : Bool) (p : ℕ) (x : List ℕ) (fs : Expressions) (lo : ℕ) (ws : List ℕ) (us : Terms) (w from first i : ℕ) (h : Head) (b : Bool) → (first == k) ≡ b → IsCallee (sees all v) x (Above i h) → C.callee lo ≡ i → count us ≡ arity C i → ws ≡ widths_of h.params → h.width ≡ w
-        → ((z : ℕ) → AllMovedIn C (IsCopied j) no_site (sees rest (v + 1)) [] s n z fs ws us) → first ≡ lo → MovedIn C (IsCopied j) no_site (sees rest (v + 1)) [] s n end from (Called p (cond b new x) fs) w (Call i lo us)
+        → ((z : ℕ) → AllMovedIn C (IsCopied j) no_site (sees rest (v + 1)) [] s n z fs ws us) → first ≡ lo → MovedIn C (IsCopied j) no_site (sees rest (v + 1)) [] s n end from (Call p (cond b new x) fs) w (terms.Call i lo us)
     site_call s n end p x fs lo ws us w from first i h true e ic sc ar ew eh args f =
         let r : i ≡ j = sym sc ∙ (ap C.callee (sym f ∙ eqb-true first k e) ∙ is.site) in
         let o = is.own i h ic.0.head r in
@@ -148,12 +149,12 @@ module _ (C : Program) (all rest : List Head) (k j : ℕ) (new : List ℕ) (ps :
         let gt : j < i = ⊎_elim (λ (y : j < i). y) (λ (y : i ≤ j). absurd (omega (arith, is.least i h ic.0.head, ic.1, lt, y))) (cases_lt j i) in
         let cal = callee_member (sees rest (v + 1)) x (suc i) (later_head h) is.differ (is.behind i h ic.0.head gt) ic.0.name (omega (arith, ic.1)) in
         let ar = have_count (sees all v) s m hi es ws us hs ∙ (ap (λ (z : List ℕ). length z) q.2 ∙ is.arities i h ic.0.head) in
-        subst (λ (z : Term). MovedIn C (IsCopied j) no_site (sees rest (v + 1)) [] s n end from (Called p x fs) w z) (sym q.4)
+        subst (λ (z : Term). MovedIn C (IsCopied j) no_site (sees rest (v + 1)) [] s n end from (Call p x fs) w z) (sym q.4)
         (stays_member C (IsCopied j) no_site (sees rest (v + 1)) [] s n end from p x fs i (suc i) (later_head h) ws us w cal (sym may ∙ q.0) q.2 q.3 (inr (omega (arith, gt), refl)) ar (args from))
     second_call s n tail end p x es fs lo m hi ws us w t from first (Above i h) ic si may hs q args f =
         let sc = (subst (λ (z : Term). Sites (λ s f. C.callee s ≡ f) z) q.3 si).0 in
         let ar = have_count (sees all v) s m hi es ws us hs ∙ (ap (λ (z : List ℕ). length z) q.1 ∙ is.arities i h ic.0.head) in
-        subst (λ (z : Term). MovedIn C (IsCopied j) no_site (sees rest (v + 1)) [] s n end from (Called p (cond (first == k) new x) fs) w z) (sym q.3)
+        subst (λ (z : Term). MovedIn C (IsCopied j) no_site (sees rest (v + 1)) [] s n end from (Call p (cond (first == k) new x) fs) w z) (sym q.3)
         (site_call s n end p x fs lo ws us w from first i h (first == k) refl ic sc ar q.1 q.2 args f)
     second_call s n tail end p x es fs lo m hi ws us w t from first Unknown ic si may hs q args f = absurd q
 
@@ -169,13 +170,13 @@ module _ (C : Program) (all rest : List Head) (k j : ℕ) (new : List ℕ) (ps :
       let o = is.own i h ic.0.head r in
       let cal = callee_member (sees rest (suc j)) new (suc j) (copy_head new ps width j) is.differ is.copy refl refl in
       let ar = have_count (sees all j) s m hi es ws us hs ∙ (ap (λ (z : List ℕ). length z) q.2 ∙ is.arities i h ic.0.head) in
-      subst (λ (z : Term). MovedIn C (IsCopied j) no_site (sees rest (suc j)) [] s n end from (Called p new fs) w z) (sym q.4)
+      subst (λ (z : Term). MovedIn C (IsCopied j) no_site (sees rest (suc j)) [] s n end from (Call p new fs) w z) (sym q.4)
       (stays_member C (IsCopied j) no_site (sees rest (suc j)) [] s n end from p new fs i (suc j) (copy_head new ps width j) ws us w cal (sym may ∙ q.0) (q.2 ∙ ap (λ (z : List Slot). widths_of z) o.1) (sym o.2 ∙ q.3) (inr (omega (arith, r), omega (arith, r))) ar (args from))
   copy_call s n tail end p x es fs lo m hi ws us w t from first (Above i h) ic may hs q args =
       let le : i ≤ j = ⊎_elim (λ (y : j < i). absurd (omega (arith, is.later i h ic.0.head y, ic.1))) (λ (y : i ≤ j). y) (cases_lt j i) in
       let cal = callee_above (sees rest (suc j)) x i h is.differ (is.before i h ic.0.head le) ic.0.name (omega (arith, ic.1)) in
       let ar = have_count (sees all j) s m hi es ws us hs ∙ (ap (λ (z : List ℕ). length z) q.1 ∙ is.arities i h ic.0.head) in
-      subst (λ (z : Term). MovedIn C (IsCopied j) no_site (sees rest (suc j)) [] s n end from (Called p x fs) w z) (sym q.3)
+      subst (λ (z : Term). MovedIn C (IsCopied j) no_site (sees rest (suc j)) [] s n end from (Call p x fs) w z) (sym q.3)
       (stays_above C (IsCopied j) no_site (sees rest (suc j)) [] s n end from p x fs i i lo h ws us w cal q.1 q.2 refl (inl (le, refl)) ar (args (suc from)))
   copy_call s n tail end p x es fs lo m hi ws us w t from first Unknown ic may hs q args = absurd q
 

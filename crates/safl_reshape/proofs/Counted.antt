@@ -7,7 +7,7 @@ use Rattle.safl_tree.specs.declared.tree.Arm.{Arm}
 use Rattle.safl_tree.specs.declared.tree.Def.{Def}
 use Rattle.safl_tree.specs.Tree as source
 use Rattle.safl_tree.specs.Tree.{Tree, Definition, Bound, Labelled, trees_of, binds_of, arms_of}
-use Rattle.safl_tree.specs.Shown.{shows, shows_all, shows_bounds, shows_labelled, shows_def, shows_defs}
+use Rattle.safl_tree.specs.Shown.{shown_tree, shown_trees, shown_bounds, shown_labelled, shown_definition, shown_definitions}
 use Rattle.safl_typing.specs.Rewriting.{rewritten, rewritten_all, rewritten_binds, rewritten_arms, nodes, nodes_in, nodes_bound}
 use Rattle.safl_typing.specs.Forms.{nodes_of}
 use Rattle.safl_typing.specs.Heads.{Head, Known, unit_of, callee, is_site, sites, sites_in, sites_bound}
@@ -46,14 +46,7 @@ pub adds_same : (a b : Counts) (s n t m : ℕ) → Adds a b s n → t ≡ s → 
 adds_same a b s n t m p e f = record { sites = omega (arith, p.sites, e); nodes = omega (arith, p.nodes, f) }
 
 module _ (k : Known) (p : ℕ) (n : Tree) (a b : Counts) (itself : Adds a b 0 1) where
-  pub if_adds : (x y z : Tree) (c d e : Counts) → n ≡ source.Choice p x y z → Adds b c (sites_in_tree k x) (nodes (rewritten x)) → Adds c d (sites_in_tree k y) (nodes (rewritten y)) → Adds d e (sites_in_tree k z) (nodes (rewritten z)) → Adds a e (sites_in_tree k n) (nodes (rewritten n))
-  if_adds x y z c d e is f g h =
-      let r = adds_more a d e _ _ _ _ (adds_more a c d _ _ _ _ (adds_more a b c _ _ _ _ itself f) g) h in
-      let s : sites_in_tree k n ≡ sites_in_tree k x + (sites_in_tree k y + sites_in_tree k z) = ap (sites_in_tree k) is in
-      let t : nodes (rewritten n) ≡ 1 + (nodes (rewritten x) + (nodes (rewritten y) + nodes (rewritten z))) = ap (λ (u : Tree). nodes (rewritten u)) is in
-      adds_same a e _ _ _ _ r (omega (arith, s)) (omega (arith, t))
-
-  pub let_adds : (xs : List Bound) (t : Tree) (c d : Counts) → n ≡ source.Binding p (binds_of xs) t → Adds b c (sites_bounds k xs) (nodes_bounds xs) → Adds c d (sites_in_tree k t) (nodes (rewritten t)) → Adds a d (sites_in_tree k n) (nodes (rewritten n))
+  pub let_adds : (xs : List Bound) (t : Tree) (c d : Counts) → n ≡ source.Let p (binds_of xs) t → Adds b c (sites_bounds k xs) (nodes_bounds xs) → Adds c d (sites_in_tree k t) (nodes (rewritten t)) → Adds a d (sites_in_tree k n) (nodes (rewritten n))
   let_adds xs t c d is f g =
       let r = adds_more a c d _ _ _ _ (adds_more a b c _ _ _ _ itself f) g in
       let s : sites_in_tree k n ≡ sites_bound k (rewritten_binds (binds_of xs)) + sites_in_tree k t = ap (sites_in_tree k) is in
@@ -67,13 +60,13 @@ module _ (k : Known) (p : ℕ) (n : Tree) (a b : Counts) (itself : Adds a b 0 1)
       let m : nodes (rewritten n) ≡ 1 + ((nodes (rewritten v) + 0) + nodes (rewritten_arms p (arms_of xs t))) = ap (λ (u : Tree). nodes (rewritten u)) is in
       adds_same a e _ _ _ _ r (omega (arith, s, arms_sites k p xs t)) (omega (arith, m, arms_nodes p xs t))
 
-  pub op_adds : (o : Primitive) (xs : List Tree) (c : Counts) → n ≡ source.Applied p o (trees_of xs) → Adds b c (sites_list k xs) (nodes_list xs) → Adds a c (sites_in_tree k n) (nodes (rewritten n))
+  pub op_adds : (o : Primitive) (xs : List Tree) (c : Counts) → n ≡ source.Op p o (trees_of xs) → Adds b c (sites_list k xs) (nodes_list xs) → Adds a c (sites_in_tree k n) (nodes (rewritten n))
   op_adds o xs c is f =
       let s : sites_in_tree k n ≡ sites_in k (rewritten_all (trees_of xs)) = ap (sites_in_tree k) is in
       let m : nodes (rewritten n) ≡ 1 + nodes_in (rewritten_all (trees_of xs)) = ap (λ (u : Tree). nodes (rewritten u)) is in
       adds_same a c _ _ _ _ (adds_more a b c _ _ _ _ itself f) (omega (arith, s, list_sites k xs)) (omega (arith, m, list_nodes xs))
 
-  pub call_adds : (x : List ℕ) (xs : List Tree) (c d : Counts) (w : ℕ) → n ≡ source.Called p x (trees_of xs) → w ≡ is_site (callee k x) → Adds b c w 0 → Adds c d (sites_list k xs) (nodes_list xs) → Adds a d (sites_in_tree k n) (nodes (rewritten n))
+  pub call_adds : (x : List ℕ) (xs : List Tree) (c d : Counts) (w : ℕ) → n ≡ source.Call p x (trees_of xs) → w ≡ is_site (callee k x) → Adds b c w 0 → Adds c d (sites_list k xs) (nodes_list xs) → Adds a d (sites_in_tree k n) (nodes (rewritten n))
   call_adds x xs c d w is e f g =
       let r = adds_more a c d _ _ _ _ (adds_more a b c _ _ _ _ itself f) g in
       let s : sites_in_tree k n ≡ is_site (callee k x) + sites_in k (rewritten_all (trees_of xs)) = ap (sites_in_tree k) is in
@@ -106,24 +99,24 @@ all_left first all_sites all_nodes = record { sites_done = 0; nodes_done = 0; co
 pub none_left : (first a : Counts) (all_sites all_nodes : ℕ) → Left first a 0 0 all_sites all_nodes → Adds first a all_sites all_nodes
 none_left first a all_sites all_nodes l = adds_same first a _ _ _ _ l.counted (omega (arith, l.sites)) (omega (arith, l.nodes))
 
-pub list_nodes_left : (es : List Expr) (i : ℕ) (e : Expr) → i < length es → e ≡ get_or es i e → nodes_list (shows_all (drop i es)) ≡ nodes (rewritten (shows e)) + nodes_list (shows_all (drop (i + 1) es))
-list_nodes_left es i e lt is = ap (λ (l : List Expr). nodes_list (shows_all l)) (drop_at es i e lt is)
+pub list_nodes_left : (es : List Expr) (i : ℕ) (e : Expr) → i < length es → e ≡ get_or es i e → nodes_list (shown_trees (drop i es)) ≡ nodes (rewritten (shown_tree e)) + nodes_list (shown_trees (drop (i + 1) es))
+list_nodes_left es i e lt is = ap (λ (l : List Expr). nodes_list (shown_trees l)) (drop_at es i e lt is)
 
-pub bounds_nodes_left : (es : List Bind) (i : ℕ) (e : Bind) → i < length es → e ≡ get_or es i e → nodes_bounds (shows_bounds (drop i es)) ≡ nodes (rewritten (shows e.value)) + nodes_bounds (shows_bounds (drop (i + 1) es))
-bounds_nodes_left es i e lt is = ap (λ (l : List Bind). nodes_bounds (shows_bounds l)) (drop_at es i e lt is)
+pub bounds_nodes_left : (es : List Bind) (i : ℕ) (e : Bind) → i < length es → e ≡ get_or es i e → nodes_bounds (shown_bounds (drop i es)) ≡ nodes (rewritten (shown_tree e.value)) + nodes_bounds (shown_bounds (drop (i + 1) es))
+bounds_nodes_left es i e lt is = ap (λ (l : List Bind). nodes_bounds (shown_bounds l)) (drop_at es i e lt is)
 
-pub arms_nodes_left : (es : List Arm) (i : ℕ) (e : Arm) → i < length es → e ≡ get_or es i e → nodes_labelled (shows_labelled (drop i es)) ≡ (3 + (nodes (rewritten (shows e.label)) + nodes (rewritten (shows e.value)))) + nodes_labelled (shows_labelled (drop (i + 1) es))
-arms_nodes_left es i e lt is = ap (λ (l : List Arm). nodes_labelled (shows_labelled l)) (drop_at es i e lt is)
+pub arms_nodes_left : (es : List Arm) (i : ℕ) (e : Arm) → i < length es → e ≡ get_or es i e → nodes_labelled (shown_labelled (drop i es)) ≡ (3 + (nodes (rewritten (shown_tree e.label)) + nodes (rewritten (shown_tree e.value)))) + nodes_labelled (shown_labelled (drop (i + 1) es))
+arms_nodes_left es i e lt is = ap (λ (l : List Arm). nodes_labelled (shown_labelled l)) (drop_at es i e lt is)
 
 -- ---- definitions
 
-pub total_left : (hs : List Head) (ds : List Def) (n u v : ℕ) (d : Def) → n < length ds → d ≡ get_or ds n d → v ≡ unit_of n u (shows_def d)
-    → site_total hs n u (shows_defs (drop n ds)) ≡ sites_in_tree (record { heads = hs; unit = v }) (shows d.body) + site_total hs (n + 1) v (shows_defs (drop (n + 1) ds))
+pub total_left : (hs : List Head) (ds : List Def) (n u v : ℕ) (d : Def) → n < length ds → d ≡ get_or ds n d → v ≡ unit_of n u (shown_definition d)
+    → site_total hs n u (shown_definitions (drop n ds)) ≡ sites_in_tree (record { heads = hs; unit = v }) (shown_tree d.body) + site_total hs (n + 1) v (shown_definitions (drop (n + 1) ds))
 total_left hs ds n u v d lt is e =
-    let rest : List Definition = shows_defs (drop (n + 1) ds) in
-    ap (λ (l : List Def). site_total hs n u (shows_defs l)) (drop_at ds n d lt is)
-    ∙ (ap (λ (w : ℕ). sites_in_tree (record { heads = hs; unit = w }) (shows d.body) + site_total hs (suc n) w rest) (sym e)
-    ∙ ap (λ (m : ℕ). sites_in_tree (record { heads = hs; unit = v }) (shows d.body) + site_total hs m v rest) (sym (add-one n)))
+    let rest : List Definition = shown_definitions (drop (n + 1) ds) in
+    ap (λ (l : List Def). site_total hs n u (shown_definitions l)) (drop_at ds n d lt is)
+    ∙ (ap (λ (w : ℕ). sites_in_tree (record { heads = hs; unit = w }) (shown_tree d.body) + site_total hs (suc n) w rest) (sym e)
+    ∙ ap (λ (m : ℕ). sites_in_tree (record { heads = hs; unit = v }) (shown_tree d.body) + site_total hs m v rest) (sym (add-one n)))
 
-pub defs_nodes_left : (ds : List Def) (n : ℕ) (d : Def) → n < length ds → d ≡ get_or ds n d → nodes_of (shows_defs (drop n ds)) ≡ nodes (rewritten (shows d.body)) + nodes_of (shows_defs (drop (n + 1) ds))
-defs_nodes_left ds n d lt is = ap (λ (l : List Def). nodes_of (shows_defs l)) (drop_at ds n d lt is)
+pub defs_nodes_left : (ds : List Def) (n : ℕ) (d : Def) → n < length ds → d ≡ get_or ds n d → nodes_of (shown_definitions (drop n ds)) ≡ nodes (rewritten (shown_tree d.body)) + nodes_of (shown_definitions (drop (n + 1) ds))
+defs_nodes_left ds n d lt is = ap (λ (l : List Def). nodes_of (shown_definitions l)) (drop_at ds n d lt is)

@@ -4,7 +4,7 @@ use Rattle.std.specs.Prelude.{slice_get}
 use Rattle.safl_term.specs.declared.checked.Site.{Site}
 use Rattle.safl_term.specs.Terms.{Term, Terms}
 use Rattle.safl_term.specs.Program.{Program}
-use Rattle.safl_typing.specs.Rewriting.{Expression, Number, Sized, Variable, Choice, Binding, Applied, Called, Expressions, no_expression, an_expression, Bindings, no_binding, a_binding}
+use Rattle.safl_typing.specs.Rewriting.{Expression, Number, Sized, Variable, If, Let, Op, Call, Expressions, no_expression, an_expression, Bindings, no_binding, a_binding}
 use Rattle.safl_typing.specs.Heads.{Slot, Known, Callee, Member, Above, Unknown, callee, is_site, sites, sites_in, sites_bound}
 use Rattle.safl_typing.specs.Typing.{Calls, Has, HaveAll, HaveBound}
 use Rattle.safl_typing.specs.Forms.{sites_of, sites_of_all}
@@ -21,12 +21,12 @@ mutual
   has_sites k s tail lo hi (Number p n) w t h = omega (arith, h.0)
   has_sites k s tail lo hi (Sized p v n) w t h = omega (arith, h.0)
   has_sites k s tail lo hi (Variable p x) w t h = omega (arith, h.0)
-  has_sites k s tail lo hi (Choice p c a b) w t (m, n, x, y, z, hc, ha, hb, q) =
+  has_sites k s tail lo hi (If p c a b) w t (m, n, x, y, z, hc, ha, hb, q) =
       omega (arith, has_sites k s _ lo m c 1 x hc, has_sites k s tail m n a w y ha, has_sites k s tail n hi b w z hb)
-  has_sites k s tail lo hi (Binding p bs b) w t (m, ws, us, y, d, hs, hb, q) =
+  has_sites k s tail lo hi (Let p bs b) w t (m, ws, us, y, d, hs, hb, q) =
       omega (arith, have_sites_bound k s lo m bs ws us hs, has_sites k _ tail m hi b w y hb)
-  has_sites k s tail lo hi (Applied p o es) w t (ws, us, hs, su, q) = have_sites k s lo hi es ws us hs
-  has_sites k s tail lo hi (Called p f es) w t (m, ws, us, hs, q) =
+  has_sites k s tail lo hi (Op p o es) w t (ws, us, hs, su, q) = have_sites k s lo hi es ws us hs
+  has_sites k s tail lo hi (Call p f es) w t (m, ws, us, hs, q) =
       omega (arith, have_sites k s m hi es ws us hs, called_sites (callee k f) tail lo m ws us w t q)
 
   pub have_sites : (k : Known) (s : List Slot) (lo hi : ℕ) (es : Expressions) (ws : List ℕ) (us : Terms) → HaveAll k s lo hi es ws us → hi ≡ lo + sites_in k es
@@ -58,12 +58,12 @@ mutual
   has_length g k s tail lo hi (Number p n) w t h = omega (arith, ap (λ (z : Term). length (sites_of g z)) h.2, h.0)
   has_length g k s tail lo hi (Sized p v n) w t h = omega (arith, ap (λ (z : Term). length (sites_of g z)) h.3, h.0)
   has_length g k s tail lo hi (Variable p x) w t (l, i, e, q) = omega (arith, ap (λ (z : Term). length (sites_of g z)) q, l)
-  has_length g k s tail lo hi (Choice p c a b) w t (m, n, x, y, z, hc, ha, hb, q) =
+  has_length g k s tail lo hi (If p c a b) w t (m, n, x, y, z, hc, ha, hb, q) =
       omega (arith, ap (λ (z : Term). length (sites_of g z)) q, append_length (sites_of g x) (sites_of g y ++ sites_of g z), append_length (sites_of g y) (sites_of g z), has_length g k s _ lo m c 1 x hc, has_length g k s tail m n a w y ha, has_length g k s tail n hi b w z hb)
-  has_length g k s tail lo hi (Binding p bs b) w t (m, ws, us, y, d, hs, hb, q) =
+  has_length g k s tail lo hi (Let p bs b) w t (m, ws, us, y, d, hs, hb, q) =
       omega (arith, ap (λ (z : Term). length (sites_of g z)) q, append_length (sites_of_all g us) (sites_of g y), bound_length g k s lo m bs ws us hs, has_length g k _ tail m hi b w y hb)
-  has_length g k s tail lo hi (Applied p o es) w t (ws, us, hs, su, q) = omega (arith, ap (λ (z : Term). length (sites_of g z)) q, have_length g k s lo hi es ws us hs)
-  has_length g k s tail lo hi (Called p f es) w t (m, ws, us, hs, q) = omega (arith, called_length g (callee k f) tail lo m ws us w t q, have_length g k s m hi es ws us hs)
+  has_length g k s tail lo hi (Op p o es) w t (ws, us, hs, su, q) = omega (arith, ap (λ (z : Term). length (sites_of g z)) q, have_length g k s lo hi es ws us hs)
+  has_length g k s tail lo hi (Call p f es) w t (m, ws, us, hs, q) = omega (arith, called_length g (callee k f) tail lo m ws us w t q, have_length g k s m hi es ws us hs)
 
   pub have_length : (g : ℕ) (k : Known) (s : List Slot) (lo hi : ℕ) (es : Expressions) (ws : List ℕ) (us : Terms) → HaveAll k s lo hi es ws us → hi ≡ lo + length (sites_of_all g us)
   have_length g k s lo hi no_expression [] us h = omega (arith, ap (λ (z : Terms). length (sites_of_all g z)) h.1, h.0)

@@ -24,7 +24,6 @@ pub mod Copied
 pub mod Twins
 pub mod Unplaced
 pub mod Checkable
-pub mod HeadsMade
 pub mod Listed
 pub mod ShownNodes
 pub mod NextItems
@@ -33,7 +32,8 @@ pub mod ListsLeft
 pub mod CalledMembers
 pub mod BoundParams
 pub mod Counted
-pub mod Called
+pub mod Callees
 pub mod CopyLemmas
 pub mod Putting
 pub mod FormedTrees
+pub mod KeptLists

@@ -10,7 +10,7 @@ use Rattle.safl_typing.specs.declared.heads.Head as code
 use Rattle.safl_typing.specs.declared.heads.Callee as code_callee
 use Rattle.safl_typing.specs.declared.heads.Callee.TheVariants as codes
 use Rattle.safl_typing.specs.Heads.{Head, Known, Callee, callee, is_site, sites, sites_in, sites_bound}
-use Rattle.safl_typing.specs.PlainHeads.{with_number, a_member, an_earlier, plain_callee, site_of, IsOneOf}
+use Rattle.safl_typing.specs.PlainHeads.{with_number, a_member, an_earlier, shown_callee, site_of, IsOneOf}
 use Rattle.safl_reshape.specs.Changed.{Change, changed, changed_all, changed_binds, changed_arms, sites_in_tree}
 use Rattle.safl_reshape.specs.Lists.{sites_list, changed_list, sites_bounds, changed_bounds, sites_labelled, changed_labelled}
 
@@ -21,7 +21,7 @@ site_number hs n lt = ⊎_elim
     (λ q. (ap (λ (o : Option code.Head). is_site (a_member (with_number n o))) q.2, ap (λ (o : Option code.Head). is_site (an_earlier (with_number n o))) q.2))
     (λ q. absurd (omega (arith, q.0, lt))) (slice_get_cases hs n).1
 
-pub site_plain : (hs : List code.Head) (c : code_callee.Callee) → IsOneOf hs c → is_site (plain_callee hs c) ≡ site_of c
+pub site_plain : (hs : List code.Head) (c : code_callee.Callee) → IsOneOf hs c → is_site (shown_callee hs c) ≡ site_of c
 site_plain hs (codes.Member n) h = (site_number hs n h).0
 site_plain hs (codes.Above n) h = (site_number hs n h).1
 site_plain hs codes.Unknown h = refl
@@ -60,14 +60,14 @@ module _ (k : Known) where
         ap (source.an_arm (changed k ch lo a.label) (changed k ch (lo + la) a.value))
         (ap (λ (n : ℕ). changed_arms k ch n (arms_of ls t)) e ∙ (arms_changed (lo + (la + lv)) ls t ∙ ap (λ (n : ℕ). arms_of (changed_labelled k ch (lo + (la + lv)) ls) (changed k ch n t)) f))
 
-    pub let_tree : (lo p : ℕ) (bs : List Bound) (t : Tree) → changed k ch lo (source.Binding p (binds_of bs) t) ≡ source.Binding p (binds_of (changed_bounds k ch lo bs)) (changed k ch (lo + sites_bounds k bs) t)
-    let_tree lo p bs t = ap (λ (z : Binds). source.Binding p z (changed k ch (lo + sites_bound k (rewritten_binds (binds_of bs))) t)) (bounds_changed lo bs) ∙ ap (λ (n : ℕ). source.Binding p (binds_of (changed_bounds k ch lo bs)) (changed k ch (lo + n) t)) (bounds_sites bs)
+    pub let_tree : (lo p : ℕ) (bs : List Bound) (t : Tree) → changed k ch lo (source.Let p (binds_of bs) t) ≡ source.Let p (binds_of (changed_bounds k ch lo bs)) (changed k ch (lo + sites_bounds k bs) t)
+    let_tree lo p bs t = ap (λ (z : Binds). source.Let p z (changed k ch (lo + sites_bound k (rewritten_binds (binds_of bs))) t)) (bounds_changed lo bs) ∙ ap (λ (n : ℕ). source.Let p (binds_of (changed_bounds k ch lo bs)) (changed k ch (lo + n) t)) (bounds_sites bs)
 
     pub case_tree : (lo p : ℕ) (v : Tree) (ls : List Labelled) (t : Tree) → changed k ch lo (source.Cases p v (arms_of ls t)) ≡ source.Cases p (changed k ch lo v) (arms_of (changed_labelled k ch (lo + sites_in_tree k v) ls) (changed k ch (lo + sites_in_tree k v + sites_labelled k ls) t))
     case_tree lo p v ls t = ap (source.Cases p (changed k ch lo v)) (arms_changed (lo + sites_in_tree k v) ls t)
 
-    pub op_tree : (lo p : ℕ) (o : Primitive) (ts : List Tree) → changed k ch lo (source.Applied p o (trees_of ts)) ≡ source.Applied p o (trees_of (changed_list k ch lo ts))
-    op_tree lo p o ts = ap (source.Applied p o) (list_changed lo ts)
+    pub op_tree : (lo p : ℕ) (o : Primitive) (ts : List Tree) → changed k ch lo (source.Op p o (trees_of ts)) ≡ source.Op p o (trees_of (changed_list k ch lo ts))
+    op_tree lo p o ts = ap (source.Op p o) (list_changed lo ts)
 
-    pub call_tree : (lo p : ℕ) (x : List ℕ) (ts : List Tree) → changed k ch lo (source.Called p x (trees_of ts)) ≡ ch (callee k x) lo p x (trees_of (changed_list k ch (lo + is_site (callee k x)) ts))
+    pub call_tree : (lo p : ℕ) (x : List ℕ) (ts : List Tree) → changed k ch lo (source.Call p x (trees_of ts)) ≡ ch (callee k x) lo p x (trees_of (changed_list k ch (lo + is_site (callee k x)) ts))
     call_tree lo p x ts = ap (ch (callee k x) lo p x) (list_changed (lo + is_site (callee k x)) ts)

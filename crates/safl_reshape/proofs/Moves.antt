@@ -2,10 +2,11 @@
 use Rattle.std.proofs.Common.{◌≡◌, ℕ, suc, ◌+◌, List, [], ◌∷◌, ◌++◌, length, Bool, true, false, refl, sym, ap, ◌∙◌, subst, arith}
 use Rattle.std.specs.Prelude.{◌||◌}
 use Rattle.std.proofs.lemmas.List.{append_assoc, length-append}
-use Rattle.safl_term.specs.Terms.{Term, Const, Var, If, Let, Op, Terms, Nil, Cons}
+use Rattle.safl_term.specs.Terms as terms
+use Rattle.safl_term.specs.Terms.{Term, Const, Var, Terms, Nil, Cons}
 use Rattle.safl_term.specs.Program.{Program}
 use Rattle.safl_term.specs.Slots.{count}
-use Rattle.safl_typing.specs.Rewriting.{Expression, Number, Sized, Variable, Choice, Binding, Applied, Called, Expressions, no_expression, an_expression, Bindings, no_binding, a_binding, shape}
+use Rattle.safl_typing.specs.Rewriting.{Expression, Number, Sized, Variable, If, Let, Op, Call, Expressions, no_expression, an_expression, Bindings, no_binding, a_binding, shape}
 use Rattle.safl_typing.specs.Heads.{Slot, Known, Callee, Member, Above, Unknown, callee, is_site, sites, sites_bound}
 use Rattle.safl_typing.specs.Typing.{word, Differ, slots, Calls, Has, HaveAll, HaveBound}
 use Rattle.safl_reshape.specs.Changed.{calls, calls_in, calls_bound}
@@ -68,7 +69,7 @@ module _ (C : Program) (same : ℕ → ℕ → Type 0) (at : ℕ → Bool) (k b 
           subst (λ (y : Term). Moved s n end from (Sized p x v) w y) (sym h.3) (from, Const (word x v), (refl, h.1, h.2, refl), alike_const)
       moved s n tail end lo hi first (Variable p x) w t f m l nc ins (z, i, e, q) from =
           subst (λ (y : Term). Moved s n end from (Variable p x) w y) (sym q) (from, Var (length pre + i), (refl, length pre + i, seen_behind x pre s i w e, refl), alike_var refl)
-      moved s n tail end lo hi first (Choice p c x y) w t f m l nc ins (i, j, tc, tx, ty, hc, hx, hy, q) from =
+      moved s n tail end lo hi first (If p c x y) w t f m l nc ins (i, j, tc, tx, ty, hc, hx, hy, q) from =
           let no1 = or_none (calls test k c) _ nc in
           let no2 = or_none (calls test k x) _ no1.1 in
           let ec = has_sites k s _ lo i c 1 tc hc in
@@ -77,9 +78,9 @@ module _ (C : Program) (same : ℕ → ℕ → Type 0) (at : ℕ → Bool) (k b 
           let rc = moved s n false false lo i first c 1 tc f still l no1.0 si.0 hc from in
           let rx = moved s n tail end i j (first + sites k c) x w tx (omega (arith, ec, f)) m l no2.0 si.1 hx rc.0 in
           let ry = moved s n tail end j hi (first + sites k c + sites k x) y w ty (omega (arith, ec, ex, f)) m l no2.1 si.2 hy rx.0 in
-          subst (λ (z : Term). Moved s n end from (altered k a first (Choice p c x y)) w z) (sym q)
-          (ry.0, If rc.1 rx.1 ry.1, (rc.0, rx.0, rc.1, rx.1, ry.1, rc.2, rx.2, ry.2, refl), alike_if rc.3 rx.3 ry.3)
-      moved s n tail end lo hi first (Binding p bs y) w t f m l nc ins (i, ws, us, ty, d, hs, hy, q) from =
+          subst (λ (z : Term). Moved s n end from (altered k a first (If p c x y)) w z) (sym q)
+          (ry.0, terms.If rc.1 rx.1 ry.1, (rc.0, rx.0, rc.1, rx.1, ry.1, rc.2, rx.2, ry.2, refl), alike_if rc.3 rx.3 ry.3)
+      moved s n tail end lo hi first (Let p bs y) w t f m l nc ins (i, ws, us, ty, d, hs, hy, q) from =
           let no1 = or_none (calls_bound test k bs) _ nc in
           let es = have_sites_bound k s lo i bs ws us hs in
           let si = subst (λ (z : Term). Sites ok z) q ins in
@@ -87,13 +88,13 @@ module _ (C : Program) (same : ℕ → ℕ → Type 0) (at : ℕ → Bool) (k b 
           let g : pre ++ (s ++ slots bs ws) ≡ (pre ++ s) ++ slots (altered_bound k a first bs) ws = sym (append_assoc pre s (slots bs ws)) ∙ ap (λ (z : List Slot). (pre ++ s) ++ z) (sym (slots_same k a r first bs ws)) in
           let c : length (pre ++ (s ++ slots bs ws)) ≡ n + count us = omega (arith, ap (λ (z : List Slot). length z) (append_assoc pre s (slots bs ws)), length-append (pre ++ s) (slots bs ws), l, bound_count k s lo i bs ws us hs) in
           let ry = moved (s ++ slots bs ws) (n + count us) tail end i hi (first + sites_bound k bs) y w ty (omega (arith, es, f)) m c no1.1 si.1 hy rs.0 in
-          subst (λ (z : Term). Moved s n end from (altered k a first (Binding p bs y)) w z) (sym q)
-          (ry.0, Let rs.1 ry.1, (rs.0, ws, rs.1, ry.1, subst Differ (sym (names_same k a r first bs)) d, rs.2, subst (λ (z : List Slot). Has b z end rs.0 ry.0 (altered k a (first + sites_bound k bs) y) w ry.1) g ry.2, refl), alike_let rs.3 ry.3)
-      moved s n tail end lo hi first (Applied p o es) w t f m l nc ins (ws, us, hs, su, q) from =
+          subst (λ (z : Term). Moved s n end from (altered k a first (Let p bs y)) w z) (sym q)
+          (ry.0, terms.Let rs.1 ry.1, (rs.0, ws, rs.1, ry.1, subst Differ (sym (names_same k a r first bs)) d, rs.2, subst (λ (z : List Slot). Has b z end rs.0 ry.0 (altered k a (first + sites_bound k bs) y) w ry.1) g ry.2, refl), alike_let rs.3 ry.3)
+      moved s n tail end lo hi first (Op p o es) w t f m l nc ins (ws, us, hs, su, q) from =
           let rs = all_moved s n lo hi first es ws us f l nc (subst (λ (z : Term). Sites ok z) q ins) hs from in
-          subst (λ (z : Term). Moved s n end from (altered k a first (Applied p o es)) w z) (sym q)
-          (rs.0, Op o rs.1, (ws, rs.1, rs.2, suits_same k a r first (shape o) o es ws w su, refl), alike_op rs.3)
-      moved s n tail end lo hi first (Called p x es) w t f m l nc ins (i, ws, us, hs, q) from =
+          subst (λ (z : Term). Moved s n end from (altered k a first (Op p o es)) w z) (sym q)
+          (rs.0, terms.Op o rs.1, (ws, rs.1, rs.2, suits_same k a r first (shape o) o es ws w su, refl), alike_op rs.3)
+      moved s n tail end lo hi first (Call p x es) w t f m l nc ins (i, ws, us, hs, q) from =
           let no1 = or_none (test (callee k x)) _ nc in
           let ec = called_sites (callee k x) tail lo i ws us w t q in
           move s n tail end p x es _ lo i hi ws us w t no1.0 ins m l hs q

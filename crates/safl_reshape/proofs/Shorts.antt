@@ -1,6 +1,6 @@
 -- Lets stay short where calls are changed into expressions with short lets. And who calls none.
 use Rattle.std.proofs.Common.{◌≡◌, ℕ, ◌+◌, ◌≤◌, List, Bool, false, refl, sym, subst, length}
-use Rattle.safl_typing.specs.Rewriting.{Expression, Number, Sized, Variable, Choice, Binding, Applied, Called, Expressions, no_expression, an_expression, Bindings, no_binding, a_binding}
+use Rattle.safl_typing.specs.Rewriting.{Expression, Number, Sized, Variable, If, Let, Op, Call, Expressions, no_expression, an_expression, Bindings, no_binding, a_binding}
 use Rattle.safl_typing.specs.Heads.{Known, Callee, callee, is_site, sites, sites_bound}
 use Rattle.safl_term.specs.Sizes.{max_bindings}
 use Rattle.safl_typing.specs.Forms.{HasShortLets, HaveShortLets, HaveShortBound}
@@ -17,11 +17,11 @@ module _ (k : Known) (a : Alteration) (r : IsRigid a) (s : IsShort a) where
     short_altered lo (Number p n) h = tt
     short_altered lo (Sized p w n) h = tt
     short_altered lo (Variable p x) h = tt
-    short_altered lo (Choice p c x y) h = (short_altered lo c h.0, short_altered (lo + sites k c) x h.1, short_altered (lo + sites k c + sites k x) y h.2)
-    short_altered lo (Binding p bs b) h =
+    short_altered lo (If p c x y) h = (short_altered lo c h.0, short_altered (lo + sites k c) x h.1, short_altered (lo + sites k c + sites k x) y h.2)
+    short_altered lo (Let p bs b) h =
         (subst (λ (l : List (List ℕ)). length l ≤ max_bindings) (sym (names_same k a r lo bs)) h.0, short_altered_bound lo bs h.1, short_altered (lo + sites_bound k bs) b h.2)
-    short_altered lo (Applied p o es) h = short_altered_all lo es h
-    short_altered lo (Called p x es) h = s _ _ _ _ _ (short_altered_all (lo + is_site (callee k x)) es h)
+    short_altered lo (Op p o es) h = short_altered_all lo es h
+    short_altered lo (Call p x es) h = s _ _ _ _ _ (short_altered_all (lo + is_site (callee k x)) es h)
 
     short_altered_all : (lo : ℕ) (es : Expressions) → HaveShortLets es → HaveShortLets (altered_all k a lo es)
     short_altered_all lo no_expression h = tt
@@ -40,10 +40,10 @@ mutual
   calls_none k (Number p n) = refl
   calls_none k (Sized p w n) = refl
   calls_none k (Variable p x) = refl
-  calls_none k (Choice p c x y) = rw (calls_none k c, calls_none k x) (calls_none k y)
-  calls_none k (Binding p bs b) = rw (calls_none_bound k bs) (calls_none k b)
-  calls_none k (Applied p o es) = calls_none_in k es
-  calls_none k (Called p x es) = calls_none_in k es
+  calls_none k (If p c x y) = rw (calls_none k c, calls_none k x) (calls_none k y)
+  calls_none k (Let p bs b) = rw (calls_none_bound k bs) (calls_none k b)
+  calls_none k (Op p o es) = calls_none_in k es
+  calls_none k (Call p x es) = calls_none_in k es
 
   calls_none_in : (k : Known) (es : Expressions) → calls_in no_callee k es ≡ false
   calls_none_in k no_expression = refl

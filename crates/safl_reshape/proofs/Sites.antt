@@ -1,9 +1,10 @@
 -- What holds of each site of a term.
 use Rattle.std.proofs.Common.{◌≡◌, ℕ, ◌<◌, List, [], ◌∷◌, ◌++◌, Some, Bool, sym, subst, arith}
 use Rattle.std.specs.Prelude.{slice_get}
-use Rattle.safl_term.specs.Terms.{Term, Const, Var, If, Let, Op, Call, Loop, Terms, Nil, Cons}
+use Rattle.safl_term.specs.Terms as terms
+use Rattle.safl_term.specs.Terms.{Term, Const, Var, Loop, Terms, Nil, Cons}
 use Rattle.safl_term.specs.Program.{Program}
-use Rattle.safl_typing.specs.Rewriting.{Expression, Number, Sized, Variable, Choice, Binding, Applied, Called, Expressions, no_expression, an_expression, Bindings, no_binding, a_binding}
+use Rattle.safl_typing.specs.Rewriting.{Expression, Number, Sized, Variable, If, Let, Op, Call, Expressions, no_expression, an_expression, Bindings, no_binding, a_binding}
 use Rattle.safl_typing.specs.Heads.{Slot, Head, Known, Callee, Member, Above, Unknown, callee}
 use Rattle.safl_typing.specs.Typing.{slots, Calls, Has, HaveAll, HaveBound}
 use Rattle.safl_typing.specs.Forms.{sites_of, sites_of_all}
@@ -15,10 +16,10 @@ abbrev mutual
   pub Sites : (ℕ → ℕ → Type 0) → Term → Type 0
   Sites ok (Const w) = Unit {0}
   Sites ok (Var i) = Unit {0}
-  Sites ok (If c a b) = Sites ok c × Sites ok a × Sites ok b
-  Sites ok (Let ts b) = SitesIn ok ts × Sites ok b
-  Sites ok (Op o ts) = SitesIn ok ts
-  Sites ok (Call f k ts) = ok k f × SitesIn ok ts
+  Sites ok (terms.If c a b) = Sites ok c × Sites ok a × Sites ok b
+  Sites ok (terms.Let ts b) = SitesIn ok ts × Sites ok b
+  Sites ok (terms.Op o ts) = SitesIn ok ts
+  Sites ok (terms.Call f k ts) = ok k f × SitesIn ok ts
   Sites ok (Loop h ts) = SitesIn ok ts
 
   pub SitesIn : (ℕ → ℕ → Type 0) → Terms → Type 0
@@ -39,10 +40,10 @@ mutual
   pub sites_map : (P Q : ℕ → ℕ → Type 0) → ((k f : ℕ) → P k f → Q k f) → (t : Term) → Sites P t → Sites Q t
   sites_map P Q m (Const w) h = tt
   sites_map P Q m (Var i) h = tt
-  sites_map P Q m (If c a b) h = (sites_map P Q m c h.0, sites_map P Q m a h.1, sites_map P Q m b h.2)
-  sites_map P Q m (Let ts b) h = (sites_map_in P Q m ts h.0, sites_map P Q m b h.1)
-  sites_map P Q m (Op o ts) h = sites_map_in P Q m ts h
-  sites_map P Q m (Call f k ts) h = (m k f h.0, sites_map_in P Q m ts h.1)
+  sites_map P Q m (terms.If c a b) h = (sites_map P Q m c h.0, sites_map P Q m a h.1, sites_map P Q m b h.2)
+  sites_map P Q m (terms.Let ts b) h = (sites_map_in P Q m ts h.0, sites_map P Q m b h.1)
+  sites_map P Q m (terms.Op o ts) h = sites_map_in P Q m ts h
+  sites_map P Q m (terms.Call f k ts) h = (m k f h.0, sites_map_in P Q m ts h.1)
   sites_map P Q m (Loop g ts) h = sites_map_in P Q m ts h
 
   sites_map_in : (P Q : ℕ → ℕ → Type 0) → ((k f : ℕ) → P k f → Q k f) → (ts : Terms) → SitesIn P ts → SitesIn Q ts
@@ -68,16 +69,16 @@ module _ (C : Program) (g : ℕ) (k : Known) (units : (i : ℕ) (h : Head) → s
     noted_sites s tail lo hi (Number p n) w t h noted = subst (Sites (IsSiteIn C g)) (sym h.2) tt
     noted_sites s tail lo hi (Sized p v n) w t h noted = subst (Sites (IsSiteIn C g)) (sym h.3) tt
     noted_sites s tail lo hi (Variable p x) w t (l, i, e, q) noted = subst (Sites (IsSiteIn C g)) (sym q) tt
-    noted_sites s tail lo hi (Choice p c a b) w t (m, n, x, y, z, hc, ha, hb, q) noted =
+    noted_sites s tail lo hi (If p c a b) w t (m, n, x, y, z, hc, ha, hb, q) noted =
         let n0 = noted_parts C lo m (sites_of g x) (sites_of g y ++ sites_of g z) (has_length g k s _ lo m c 1 x hc) (subst (λ (u : Term). Noted C lo (sites_of g u)) q noted) in
         let n1 = noted_parts C m n (sites_of g y) (sites_of g z) (has_length g k s tail m n a w y ha) n0.1 in
         subst (Sites (IsSiteIn C g)) (sym q) (noted_sites s _ lo m c 1 x hc n0.0, noted_sites s tail m n a w y ha n1.0, noted_sites s tail n hi b w z hb n1.1)
-    noted_sites s tail lo hi (Binding p bs b) w t (m, ws, us, y, d, hs, hb, q) noted =
+    noted_sites s tail lo hi (Let p bs b) w t (m, ws, us, y, d, hs, hb, q) noted =
         let n0 = noted_parts C lo m (sites_of_all g us) (sites_of g y) (bound_length g k s lo m bs ws us hs) (subst (λ (u : Term). Noted C lo (sites_of g u)) q noted) in
         subst (Sites (IsSiteIn C g)) (sym q) (noted_bound s lo m bs ws us hs n0.0, noted_sites (s ++ slots bs ws) tail m hi b w y hb n0.1)
-    noted_sites s tail lo hi (Applied p o es) w t (ws, us, hs, su, q) noted =
+    noted_sites s tail lo hi (Op p o es) w t (ws, us, hs, su, q) noted =
         subst (Sites (IsSiteIn C g)) (sym q) (noted_all s lo hi es ws us hs (subst (λ (u : Term). Noted C lo (sites_of g u)) q noted))
-    noted_sites s tail lo hi (Called p f es) w t (m, ws, us, hs, q) noted =
+    noted_sites s tail lo hi (Call p f es) w t (m, ws, us, hs, q) noted =
         called_noted f (callee k f) tail lo m ws us w t (is_callee k f) q noted (λ n. noted_all s m hi es ws us hs n)
 
     noted_all : (s : List Slot) (lo hi : ℕ) (es : Expressions) (ws : List ℕ) (us : Terms) → HaveAll k s lo hi es ws us → Noted C lo (sites_of_all g us) → SitesIn (IsSiteIn C g) us

@@ -7,7 +7,7 @@ use Rattle.safl_term.specs.Sizes.{max_bindings}
 use Rattle.safl_tree.specs.Tree as source
 use Rattle.safl_tree.specs.Tree.{Tree, Trees, Binds, Arms, place_of}
 use Rattle.safl_tree.specs.Places.{unplaced, unplaced_trees, unplaced_binds, unplaced_arms}
-use Rattle.safl_typing.specs.Rewriting.{Expression, Number, Sized, Variable, Choice, Binding, Applied, Called, Expressions, no_expression, an_expression, Bindings, no_binding, a_binding, Shape, Alike, Comparing, Shifting, Resizing, shape, flexible, all_flexible, takes_width, nodes, nodes_in, nodes_bound, rewritten, rewritten_all, rewritten_binds, rewritten_arms}
+use Rattle.safl_typing.specs.Rewriting.{Expression, Number, Sized, Variable, If, Let, Op, Call, Expressions, no_expression, an_expression, Bindings, no_binding, a_binding, Shape, Alike, Comparing, Shifting, Resizing, shape, flexible, all_flexible, takes_width, nodes, nodes_in, nodes_bound, rewritten, rewritten_all, rewritten_binds, rewritten_arms}
 use Rattle.safl_typing.specs.Heads.{Slot, Known}
 use Rattle.safl_typing.specs.Typing.{Differ, names, slots, Keeps, AllRigid, RigidOr, Shifts, Suits, Has, HaveAll, HaveBound}
 use Rattle.safl_typing.specs.Forms.{HasShortLets, HaveShortLets, HaveShortBound}
@@ -17,10 +17,10 @@ mutual
     twin_number : {p q n : ℕ} → Twin (Number p n) (Number q n)
     twin_sized : {p q w n : ℕ} → Twin (Sized p w n) (Sized q w n)
     twin_variable : {p q : ℕ} {x : List ℕ} → Twin (Variable p x) (Variable q x)
-    twin_choice : {p q : ℕ} {c a b c' a' b' : Expression} → Twin c c' → Twin a a' → Twin b b' → Twin (Choice p c a b) (Choice q c' a' b')
-    twin_binding : {p q : ℕ} {bs bs' : Bindings} {b b' : Expression} → TwinBound bs bs' → Twin b b' → Twin (Binding p bs b) (Binding q bs' b')
-    twin_applied : {p q : ℕ} {o : Primitive} {es es' : Expressions} → Twins es es' → Twin (Applied p o es) (Applied q o es')
-    twin_called : {p q : ℕ} {x : List ℕ} {es es' : Expressions} → Twins es es' → Twin (Called p x es) (Called q x es')
+    twin_choice : {p q : ℕ} {c a b c' a' b' : Expression} → Twin c c' → Twin a a' → Twin b b' → Twin (If p c a b) (If q c' a' b')
+    twin_binding : {p q : ℕ} {bs bs' : Bindings} {b b' : Expression} → TwinBound bs bs' → Twin b b' → Twin (Let p bs b) (Let q bs' b')
+    twin_applied : {p q : ℕ} {o : Primitive} {es es' : Expressions} → Twins es es' → Twin (Op p o es) (Op q o es')
+    twin_called : {p q : ℕ} {x : List ℕ} {es es' : Expressions} → Twins es es' → Twin (Call p x es) (Call q x es')
 
   pub data Twins : Expressions → Expressions → Type 0 where
     no_twins : Twins no_expression no_expression
@@ -169,11 +169,11 @@ mutual
   unplaced_twin (source.Number p n) = twin_number
   unplaced_twin (source.Sized p w n) = twin_sized
   unplaced_twin (source.Variable p x) = twin_variable
-  unplaced_twin (source.Choice p c a b) = twin_choice (unplaced_twin c) (unplaced_twin a) (unplaced_twin b)
-  unplaced_twin (source.Binding p bs t) = twin_binding (unplaced_bound bs) (unplaced_twin t)
+  unplaced_twin (source.If p c a b) = twin_choice (unplaced_twin c) (unplaced_twin a) (unplaced_twin b)
+  unplaced_twin (source.Let p bs t) = twin_binding (unplaced_bound bs) (unplaced_twin t)
   unplaced_twin (source.Cases p e arms) = twin_binding (more_bound (unplaced_twin e) no_bound) (unplaced_test p 0 arms)
-  unplaced_twin (source.Applied p o ts) = twin_applied (unplaced_twins ts)
-  unplaced_twin (source.Called p x ts) = twin_called (unplaced_twins ts)
+  unplaced_twin (source.Op p o ts) = twin_applied (unplaced_twins ts)
+  unplaced_twin (source.Call p x ts) = twin_called (unplaced_twins ts)
 
   unplaced_twins : (ts : Trees) → Twins (rewritten_all ts) (rewritten_all (unplaced_trees ts))
   unplaced_twins source.no_tree = no_twins

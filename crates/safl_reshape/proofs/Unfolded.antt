@@ -5,7 +5,7 @@ use Rattle.safl_term.specs.Program.{Program, arity}
 use Rattle.safl_term.specs.Sizes.{max_bindings}
 use Rattle.safl_term.specs.Laws.{OneEvaluation}
 use Rattle.safl_tree.specs.Tree.{Definition, Parameter}
-use Rattle.safl_typing.specs.Rewriting.{Expression, Called, Expressions, no_expression, an_expression, rewritten}
+use Rattle.safl_typing.specs.Rewriting.{Expression, Call, Expressions, no_expression, an_expression, rewritten}
 use Rattle.safl_typing.specs.Heads.{Head, Member, Above, Unknown, unit_of, params_of, head_of, heads_from, heads}
 use Rattle.safl_typing.specs.Typing.{Differ, names}
 use Rattle.safl_typing.specs.Forms.{FunctionForm, Form, max_params, HasShortLets, HaveShortLets, HaveShortBound, all_sites, IsLast, function_names, AreFunctionsOf, IsFormOf}
@@ -93,7 +93,7 @@ short_cond false e f h g = g
 
 unfold_short : (ds : List Definition) (k : ℕ) → ((i : ℕ) (d : Definition) → slice_get ds i ≡ Some d → IsShortDefinition d) → IsShort (unfold_alteration ds k)
 unfold_short ds k s (Member i h) lo p x es sh = sh
-unfold_short ds k s (Above i h) lo p x es sh = short_cond (lo == k) (as_expression (slice_get ds i) p x es) (Called p x es) (short_as (slice_get ds i) p x es (s i) sh) sh
+unfold_short ds k s (Above i h) lo p x es sh = short_cond (lo == k) (as_expression (slice_get ds i) p x es) (Call p x es) (short_as (slice_get ds i) p x es (s i) sh) sh
 unfold_short ds k s Unknown lo p x es sh = sh
 
 any_units : (n u : ℕ) (ds : List Definition) → AllUnits (λ v. Unit {0}) n u ds
@@ -102,7 +102,7 @@ any_units n u (d ∷ ds) = (tt, any_units (suc n) (unit_of n u d) ds)
 
 -- ---- the form
 
-module _ (ds : List Definition) (c : Form) (is : IsFormOf ds c) (k : ℕ) (alone : is_recursive ds ((program_in c).callee k) ≡ false) (kept : KeepsLimits (unfolded ds k)) where
+module _ (ds : List Definition) (c : Form) (is : IsFormOf ds c) (k : ℕ) (alone : is_recursive ds ((program_in c).callee k) ≡ false) where
   abbrev C : Program
   C = program_in c
 
@@ -117,8 +117,8 @@ module _ (ds : List Definition) (c : Form) (is : IsFormOf ds c) (k : ℕ) (alone
       (unfold_short ds k (λ i d e. short_at (heads ds) 0 0 0 1 (suc is.last_site) ds c.functions i d is.functions e)) 0 (λ v. Unit {0}) (λ v p. unfold_move ds c is k alone v)
       0 0 0 0 0 1 (suc is.last_site) 1 1 ds c.functions refl refl refl (any_units 0 0 ds) own_sites is.functions
 
-  pub unfolded_form : (e : Form) × IsFormOf (unfolded ds k) e × AllKept C is_same at c.functions e.functions
-  unfolded_form =
+  pub unfolded_form : KeepsLimits (unfolded ds k) → (e : Form) × IsFormOf (unfolded ds k) e × AllKept C is_same at c.functions e.functions
+  unfolded_form kept =
       let r = unfolded_functions in
       let hs : heads ds ≡ heads (unfolded ds k) = sym (heads_changed (heads ds) (unfolding_call ds k) 0 0 0 0 1 ds refl refl) in
       let up = functions_rise (heads ds) 0 0 0 1 r.0 (unfolded ds k) r.1 r.2 in

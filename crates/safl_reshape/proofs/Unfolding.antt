@@ -2,12 +2,13 @@
 use Rattle.std.proofs.Common.{◌≡◌, ℕ, suc, ◌+◌, ◌<◌, List, [], ◌∷◌, length, Option, Some, None, Bool, true, false, cond, refl, sym, ap, ◌∙◌, subst, arith}
 use Rattle.std.specs.Prelude.{slice_get, ◌==◌}
 use Rattle.std.proofs.lemmas.Bool.{eq-eqb, eqb-true, ne_eqb}
-use Rattle.safl_term.specs.Terms.{Term, Call, Terms}
+use Rattle.safl_term.specs.Terms as terms
+use Rattle.safl_term.specs.Terms.{Term, Terms}
 use Rattle.safl_term.specs.Program.{Program}
 use Rattle.safl_term.specs.Slots.{count}
 use Rattle.safl_tree.specs.Tree as source
 use Rattle.safl_tree.specs.Tree.{Definition, Parameter, Trees, place_of}
-use Rattle.safl_typing.specs.Rewriting.{Expression, Called, Expressions, flexible, rewritten, rewritten_all, rewritten_binds}
+use Rattle.safl_typing.specs.Rewriting.{Expression, Call, Expressions, flexible, rewritten, rewritten_all, rewritten_binds}
 use Rattle.safl_typing.specs.Heads.{Slot, Head, Callee, Member, Above, Unknown, callee, heads}
 use Rattle.safl_typing.specs.Typing.{widths_of, Calls, HaveAll}
 use Rattle.safl_typing.specs.Forms.{Form, IsFormOf}
@@ -29,12 +30,12 @@ use Rattle.safl_reshape.proofs.Functions.{same_tail}
 
 abbrev pub as_expression : Option Definition → ℕ → List ℕ → Expressions → Expression
 as_expression (Some d) p x es = unfolded_expression p d.params d.width es (rewritten d.body)
-as_expression None p x es = Called p x es
+as_expression None p x es = Call p x es
 
 abbrev pub unfold_alteration : List Definition → ℕ → Alteration
-unfold_alteration ds k (Member i h) lo p x es = Called p x es
-unfold_alteration ds k (Above i h) lo p x es = cond (lo == k) (as_expression (slice_get ds i) p x es) (Called p x es)
-unfold_alteration ds k Unknown lo p x es = Called p x es
+unfold_alteration ds k (Member i h) lo p x es = Call p x es
+unfold_alteration ds k (Above i h) lo p x es = cond (lo == k) (as_expression (slice_get ds i) p x es) (Call p x es)
+unfold_alteration ds k Unknown lo p x es = Call p x es
 
 params_rewritten : (ps : List Parameter) (ts : Trees) → rewritten_binds (bound_params ps ts) ≡ params_bound ps (rewritten_all ts)
 params_rewritten [] ts = refl
@@ -64,12 +65,12 @@ cond_place false t u p e f = f
 
 unfold_same : (ds : List Definition) (k : ℕ) (f : Callee) (lo p : ℕ) (x : List ℕ) (ts : Trees) → rewritten (unfolding_call ds k f lo p x ts) ≡ unfold_alteration ds k f lo p x (rewritten_all ts)
 unfold_same ds k (Member i h) lo p x ts = refl
-unfold_same ds k (Above i h) lo p x ts = cond_rewritten (lo == k) (unfolded_as (slice_get ds i) p x ts) (source.Called p x ts) (as_expression (slice_get ds i) p x (rewritten_all ts)) (Called p x (rewritten_all ts)) (as_rewritten (slice_get ds i) p x ts) refl
+unfold_same ds k (Above i h) lo p x ts = cond_rewritten (lo == k) (unfolded_as (slice_get ds i) p x ts) (source.Call p x ts) (as_expression (slice_get ds i) p x (rewritten_all ts)) (Call p x (rewritten_all ts)) (as_rewritten (slice_get ds i) p x ts) refl
 unfold_same ds k Unknown lo p x ts = refl
 
 unfold_place : (ds : List Definition) (k : ℕ) (f : Callee) (lo p : ℕ) (x : List ℕ) (ts : Trees) → place_of (unfolding_call ds k f lo p x ts) ≡ p
 unfold_place ds k (Member i h) lo p x ts = refl
-unfold_place ds k (Above i h) lo p x ts = cond_place (lo == k) (unfolded_as (slice_get ds i) p x ts) (source.Called p x ts) p (as_place (slice_get ds i) p x ts) refl
+unfold_place ds k (Above i h) lo p x ts = cond_place (lo == k) (unfolded_as (slice_get ds i) p x ts) (source.Call p x ts) p (as_place (slice_get ds i) p x ts) refl
 unfold_place ds k Unknown lo p x ts = refl
 
 pub unfold_rewriting : (ds : List Definition) (k : ℕ) → IsRewriting (unfolding_call ds k) (unfold_alteration ds k)
@@ -85,7 +86,7 @@ cond_rigid false e f p q = q
 
 pub unfold_rigid : (ds : List Definition) (k : ℕ) → IsRigid (unfold_alteration ds k)
 unfold_rigid ds k (Member i h) lo p x es = refl
-unfold_rigid ds k (Above i h) lo p x es = cond_rigid (lo == k) (as_expression (slice_get ds i) p x es) (Called p x es) (as_rigid (slice_get ds i) p x es) refl
+unfold_rigid ds k (Above i h) lo p x es = cond_rigid (lo == k) (as_expression (slice_get ds i) p x es) (Call p x es) (as_rigid (slice_get ds i) p x es) refl
 unfold_rigid ds k Unknown lo p x es = refl
 
 -- ---- calls
@@ -114,7 +115,7 @@ module _ (ds : List Definition) (c : Form) (is : IsFormOf ds c) (k : ℕ) (alone
 
   module _ (v : ℕ) where
     here_unfolded : (s : List Slot) (n : ℕ) (end : Bool) (p : ℕ) (x : List ℕ) (fs : Expressions) (lo : ℕ) (ws : List ℕ) (us : Terms) (w from i : ℕ) (h : Head) → IsCallee (sees (heads ds) v) x (Above i h) → C.callee lo ≡ i → length s ≡ n → count us ≡ length ws → ws ≡ widths_of h.params → h.width ≡ w
-        → ((z : ℕ) → AllMovedIn C is_same at (sees (heads ds) (v + 0)) [] s n z fs ws us) → lo ≡ k → MovedIn C is_same at (sees (heads ds) (v + 0)) [] s n end from (as_expression (slice_get ds i) p x fs) w (Call i lo us)
+        → ((z : ℕ) → AllMovedIn C is_same at (sees (heads ds) (v + 0)) [] s n z fs ws us) → lo ≡ k → MovedIn C is_same at (sees (heads ds) (v + 0)) [] s n end from (as_expression (slice_get ds i) p x fs) w (terms.Call i lo us)
     here_unfolded s n end p x fs lo ws us w from i h ic sc l ar ew eh args e =
         let st = here ds c is i h ic.0.head in
         let hu : h.unit ≡ st.unit = ap (λ (z : Head). z.unit) st.head in
@@ -126,11 +127,11 @@ module _ (ds : List Definition) (c : Form) (is : IsFormOf ds c) (k : ℕ) (alone
         let on : at lo ≡ true = eq-eqb lo k e in
         let r = call_unfolded C at (heads ds) st.unit (v + 0) (is_program ds c is) lt i st.def.width (rewritten st.def.body) st.def.params (body_of i h st ic.0.head (ap C.callee (sym e) ∙ sc)) [] s end from p fs lo us w on hw
         (λ z. subst (λ (y : List ℕ). AllMovedIn C is_same at (sees (heads ds) (v + 0)) [] s (length s) z fs y us) wp (subst (λ (y : ℕ). AllMovedIn C is_same at (sees (heads ds) (v + 0)) [] s y z fs ws us) (sym l) (args z))) cn in
-        subst (λ (o : Option Definition). MovedIn C is_same at (sees (heads ds) (v + 0)) [] s n end from (as_expression o p x fs) w (Call i lo us)) (sym st.defined)
-        (subst (λ (y : ℕ). MovedIn C is_same at (sees (heads ds) (v + 0)) [] s y end from (unfolded_expression p st.def.params st.def.width fs (rewritten st.def.body)) w (Call i lo us)) l r)
+        subst (λ (o : Option Definition). MovedIn C is_same at (sees (heads ds) (v + 0)) [] s n end from (as_expression o p x fs) w (terms.Call i lo us)) (sym st.defined)
+        (subst (λ (y : ℕ). MovedIn C is_same at (sees (heads ds) (v + 0)) [] s y end from (unfolded_expression p st.def.params st.def.width fs (rewritten st.def.body)) w (terms.Call i lo us)) l r)
 
     if_site : (first : ℕ) (on : Bool) → (first == k) ≡ on → (s : List Slot) (n : ℕ) (end : Bool) (p : ℕ) (x : List ℕ) (fs : Expressions) (lo : ℕ) (ws : List ℕ) (us : Terms) (w from i : ℕ) (h : Head) → callee (sees (heads ds) v) x ≡ Above i h → IsCallee (sees (heads ds) v) x (Above i h) → C.callee lo ≡ i → length s ≡ n → count us ≡ length ws → ws ≡ widths_of h.params → h.width ≡ w
-        → ((z : ℕ) → AllMovedIn C is_same at (sees (heads ds) (v + 0)) [] s n z fs ws us) → first ≡ lo → MovedIn C is_same at (sees (heads ds) (v + 0)) [] s n end from (cond on (as_expression (slice_get ds i) p x fs) (Called p x fs)) w (Call i lo us)
+        → ((z : ℕ) → AllMovedIn C is_same at (sees (heads ds) (v + 0)) [] s n z fs ws us) → first ≡ lo → MovedIn C is_same at (sees (heads ds) (v + 0)) [] s n end from (cond on (as_expression (slice_get ds i) p x fs) (Call p x fs)) w (terms.Call i lo us)
     if_site first true t s n end p x fs lo ws us w from i h cal ic sc l ar ew eh args f = here_unfolded s n end p x fs lo ws us w from i h ic sc l ar ew eh args (sym f ∙ eqb-true first k t)
     if_site first false t s n end p x fs lo ws us w from i h cal ic sc l ar ew eh args f =
         let e0 : v ≡ v + 0 = omega arith in
@@ -148,7 +149,7 @@ module _ (ds : List Definition) (c : Form) (is : IsFormOf ds c) (k : ℕ) (alone
           let e0 : v ≡ v + 0 = omega arith in
           let cal0 = subst (λ (y : ℕ). callee (sees (heads ds) y) x ≡ Member i h) e0 cal in
           let ar = have_count (sees (heads ds) v) s m hi es ws us hs ∙ (ap (λ (z : List ℕ). length z) q.2 ∙ (is_program ds c is).arities i h ic.0.head) in
-          subst (λ (z : Term). MovedIn C is_same at (sees (heads ds) (v + 0)) [] s n end from (Called p x fs) w z) (sym q.4)
+          subst (λ (z : Term). MovedIn C is_same at (sees (heads ds) (v + 0)) [] s n end from (Call p x fs) w z) (sym q.4)
           (stays_member C is_same at (sees (heads ds) (v + 0)) [] s n end from p x fs i i h ws us w cal0 (sym may ∙ q.0) q.2 q.3 refl ar (args from))
       by s n tail end p x es fs lo m hi ws us w t from first (Above i h) cal ic si may l hs q args f =
           let sc = (subst (λ (z : Term). Sites (λ j f. C.callee j ≡ f) z) q.3 si).0 in

@@ -1,11 +1,12 @@
 -- A call that is replaced by the body of its callee.
 use Rattle.std.proofs.Common.{◌≡◌, ℕ, zero, suc, ◌+◌, ◌<◌, List, [], ◌∷◌, ◌++◌, length, map, Some, Bool, true, false, refl, sym, ap, ◌∙◌, subst, arith}
 use Rattle.std.proofs.lemmas.List.{length-append, append-nil}
-use Rattle.safl_term.specs.Terms.{Term, Var, Let, Call, Terms, Nil, Cons}
+use Rattle.safl_term.specs.Terms as terms
+use Rattle.safl_term.specs.Terms.{Term, Var, Terms, Nil, Cons}
 use Rattle.safl_term.specs.Program.{Program}
 use Rattle.safl_term.specs.Slots.{count}
 use Rattle.safl_tree.specs.Tree.{Parameter}
-use Rattle.safl_typing.specs.Rewriting.{Expression, Variable, Binding, Expressions, no_expression, an_expression, Bindings, no_binding, a_binding}
+use Rattle.safl_typing.specs.Rewriting.{Expression, Variable, Let, Expressions, no_expression, an_expression, Bindings, no_binding, a_binding}
 use Rattle.safl_typing.specs.Heads.{Slot, Head, Known, slot_of}
 use Rattle.safl_typing.specs.Typing.{Differ, names, slots, widths_of, innermost, Has, HaveAll, HaveBound}
 use Rattle.safl_reshape.specs.Changed.{is_member, calls}
@@ -24,11 +25,11 @@ params_bound (p ∷ ps) (an_expression e es) = a_binding p.place p.name (Some p.
 abbrev pub under : ℕ → List Parameter → Expressions → Expression → Expression
 under place [] es body = body
 under place (p ∷ ps) no_expression body = body
-under place (p ∷ ps) (an_expression e es) body = Binding place (params_bound (p ∷ ps) (an_expression e es)) body
+under place (p ∷ ps) (an_expression e es) body = Let place (params_bound (p ∷ ps) (an_expression e es)) body
 
 -- the let that stands in place of a call
 abbrev pub unfolded_expression : ℕ → List Parameter → ℕ → Expressions → Expression → Expression
-unfolded_expression place ps width es body = Binding place (a_binding place result_name (Some width) (under place ps es body) no_binding) (Variable place result_name)
+unfolded_expression place ps width es body = Let place (a_binding place result_name (Some width) (under place ps es body) no_binding) (Variable place result_name)
 
 abbrev pub slots_of : List Parameter → List Slot
 slots_of ps = map slot_of ps
@@ -59,7 +60,7 @@ one_name x (suc i) (suc j) y p q = absurd cc
 
 -- `let r:w = B in r`, where the expression B has width w
 under_result : (b : Known) (z : List Slot) (end : Bool) (from hi p : ℕ) (e : Expression) (w width : ℕ) (u : Term) → width ≡ w → Has b z false from hi e w u
-    → Has b z end from hi (Binding p (a_binding p result_name (Some width) e no_binding) (Variable p result_name)) w (Let (Cons u Nil) (Var (length z)))
+    → Has b z end from hi (Let p (a_binding p result_name (Some width) e no_binding) (Variable p result_name)) w (terms.Let (Cons u Nil) (Var (length z)))
 under_result b z end from hi p e w width u eq h =
     let i : innermost result_name 0 (z ++ (record { name = result_name; width = w } ∷ [])) ≡ Some (record { slot = length z + 0; width = w }) = seen_behind result_name z (record { name = result_name; width = w } ∷ []) 0 w refl in
     let n : length z + 0 ≡ length z = omega arith in
@@ -88,13 +89,13 @@ module _ (C : Program) (at : ℕ → Bool) (all : List Head) (u v : ℕ) (is : I
   pub call_unfolded : (ps : List Parameter) (of : IsBodyOf C at all u i ps width body) (pre s : List Slot) (end : Bool) (from p : ℕ) (fs : Expressions) (lo : ℕ) (us : Terms) (w : ℕ) → at lo ≡ true → width ≡ w
       → ((from : ℕ) → AllMovedIn C is_same at b pre s (length (pre ++ s)) from fs (widths_of (slots_of ps)) us)
       → count us ≡ length (slots_of ps)
-      → MovedIn C is_same at b pre s (length (pre ++ s)) end from (unfolded_expression p ps width fs body) w (Call i lo us)
+      → MovedIn C is_same at b pre s (length (pre ++ s)) end from (unfolded_expression p ps width fs body) w (terms.Call i lo us)
   call_unfolded [] of pre s end from p fs lo Nil w on eq args c =
       let z = pre ++ s in
       let r = body_moved [] of z from in
       let h = subst (λ (l : List Slot). Has b l false from r.0 body width r.1) (append-nil z) r.2 in
       let g = subst (λ (l : List Slot). Alike C is_same at (length z) (length l) (C.body i) r.1) (append-nil z) r.3 in
-      (r.0, Let (Cons r.1 Nil) (Var (length z)), under_result b z end from r.0 p body w width r.1 eq (subst (λ (x : ℕ). Has b z false from r.0 body x r.1) eq h), alike_bare on g)
+      (r.0, terms.Let (Cons r.1 Nil) (Var (length z)), under_result b z end from r.0 p body w width r.1 eq (subst (λ (x : ℕ). Has b z false from r.0 body x r.1) eq h), alike_bare on g)
   call_unfolded [] of pre s end from p fs lo (Cons t ts) w on eq args c = absurd (omega (arith, c))
   call_unfolded (q ∷ ps) of pre s end from p no_expression lo us w on eq args c = absurd (args from).2
   call_unfolded (q ∷ ps) of pre s end from p (an_expression e es) lo us w on eq args c =
@@ -105,6 +106,6 @@ module _ (C : Program) (at : ℕ → Bool) (all : List Head) (u v : ℕ) (is : I
       let n : length (z ++ slots_of (q ∷ ps)) ≡ length z + count us = omega (arith, length-append z (slots_of (q ∷ ps)), c) in
       let g = subst (λ (l : ℕ). Alike C is_same at (length z) l (C.body i) r.1) n r.3 in
       let h = subst (λ (l : List Slot). Has b (z ++ l) false a.0 r.0 body width r.1) (sym (params_slots b z from a.0 (q ∷ ps) fs a.1 a.2)) r.2 in
-      let k : Has b z false from r.0 (under p (q ∷ ps) fs body) width (Let a.1 r.1) =
+      let k : Has b z false from r.0 (under p (q ∷ ps) fs body) width (terms.Let a.1 r.1) =
       (a.0, widths_of (slots_of (q ∷ ps)), a.1, r.1, subst Differ (sym (params_names b z from a.0 (q ∷ ps) fs a.1 a.2)) of.differ, params_have b z from a.0 (q ∷ ps) fs a.1 a.2, h, refl) in
-      (r.0, Let (Cons (Let a.1 r.1) Nil) (Var (length z)), under_result b z end from r.0 p (under p (q ∷ ps) fs body) w width (Let a.1 r.1) eq (subst (λ (x : ℕ). Has b z false from r.0 (under p (q ∷ ps) fs body) x (Let a.1 r.1)) eq k), alike_unfolded on a.3 g)
+      (r.0, terms.Let (Cons (terms.Let a.1 r.1) Nil) (Var (length z)), under_result b z end from r.0 p (under p (q ∷ ps) fs body) w width (terms.Let a.1 r.1) eq (subst (λ (x : ℕ). Has b z false from r.0 (under p (q ∷ ps) fs body) x (terms.Let a.1 r.1)) eq k), alike_unfolded on a.3 g)

@@ -2,7 +2,7 @@
 use Rattle.std.proofs.Common.{◌≡◌, ℕ, suc, ◌+◌, ◌≤◌, max, List, [], ◌∷◌, length, map, Bool, true, refl, sym, ap, ◌∙◌, subst, arith}
 use Rattle.std.specs.Prelude.{codes}
 use Rattle.std.specs.List.{AllByRecursion}
-use Rattle.safl_tree.specs.Tree.{Tree, Number, Sized, Variable, Choice, Binding, Cases, Applied, Called, Trees, no_tree, a_tree, Binds, no_bind, a_bind, Arms, default_arm, an_arm, Parameter, Definition, depth, deepest, deepest_bind, deepest_arm}
+use Rattle.safl_tree.specs.Tree.{Tree, Number, Sized, Variable, If, Let, Cases, Op, Call, Trees, no_tree, a_tree, Binds, no_bind, a_bind, Arms, default_arm, an_arm, Parameter, Definition, depth, deepest, deepest_bind, deepest_arm}
 use Rattle.safl_tree.specs.Places.{unplaced, unplaced_trees, unplaced_binds, unplaced_arms, unplaced_parameter, unplaced_definition, unplaced_program}
 use Rattle.safl_typing.specs.Rewriting.{rewritten}
 use Rattle.safl_typing.specs.Heads.{Slot, Head, Known, unit_of, slot_of, params_of, head_of, heads_from, heads}
@@ -166,11 +166,11 @@ mutual
   depth_unplaced (Number p n) = refl
   depth_unplaced (Sized p w n) = refl
   depth_unplaced (Variable p x) = refl
-  depth_unplaced (Choice p c a b) = cc (depth_unplaced c, depth_unplaced a, depth_unplaced b)
-  depth_unplaced (Binding p bs t) = cc (depth_binds bs, depth_unplaced t)
+  depth_unplaced (If p c a b) = cc (depth_unplaced c, depth_unplaced a, depth_unplaced b)
+  depth_unplaced (Let p bs t) = cc (depth_binds bs, depth_unplaced t)
   depth_unplaced (Cases p e arms) = cc (depth_unplaced e, depth_arms arms)
-  depth_unplaced (Applied p o ts) = ap (λ (n : ℕ). 1 + n) (depth_trees ts)
-  depth_unplaced (Called p x ts) = ap (λ (n : ℕ). 1 + n) (depth_trees ts)
+  depth_unplaced (Op p o ts) = ap (λ (n : ℕ). 1 + n) (depth_trees ts)
+  depth_unplaced (Call p x ts) = ap (λ (n : ℕ). 1 + n) (depth_trees ts)
 
   depth_trees : (ts : Trees) → deepest (unplaced_trees ts) ≡ deepest ts
   depth_trees no_tree = refl

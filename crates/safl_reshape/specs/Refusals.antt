@@ -51,7 +51,10 @@ pub record MayCopy (C : Program) (ds : List Definition) (k : ℕ) : Type 0 where
 
 -- the program passes this limit, and none of those before it
 abbrev pub PassesLimit : List Definition → ℕ → Type 0
-PassesLimit ds i = ((i ≡ 1) × (max_functions < length ds)) ⊎ (((i ≡ 4) × (length ds ≤ max_functions) × (max_sites < site_total (heads ds) 0 0 ds)) ⊎ ((i ≡ 5) × (length ds ≤ max_functions) × (site_total (heads ds) 0 0 ds ≤ max_sites) × (max_nodes < nodes_of ds)))
+PassesLimit ds i =
+    ((i ≡ 1) × (max_functions < length ds))
+    ⊎ (((i ≡ 4) × (length ds ≤ max_functions) × (max_sites < site_total (heads ds) 0 0 ds))
+    ⊎ ((i ≡ 5) × (length ds ≤ max_functions) × (site_total (heads ds) 0 0 ds ≤ max_sites) × (max_nodes < nodes_of ds)))
 
 -- why a copy is refused: the first that holds
 abbrev pub RefusesCopy : Program → List Definition → ℕ → ReshapeErr → Type 0
@@ -59,7 +62,8 @@ RefusesCopy C ds k errors.NoSite = HasSite C k → ⊥
 RefusesCopy C ds k errors.Grouped = HasSite C k × (is_grouped ds (C.callee k) ≡ true)
 RefusesCopy C ds k errors.Recursive = ⊥
 RefusesCopy C ds k errors.NameLong = HasSite C k × (is_grouped ds (C.callee k) ≡ false) × (name_max < length (name_for ds k (C.callee k)))
-RefusesCopy C ds k errors.NameTaken = HasSite C k × (is_grouped ds (C.callee k) ≡ false) × (length (name_for ds k (C.callee k)) ≤ name_max) × (is_taken ds (name_for ds k (C.callee k)) ≡ true)
+RefusesCopy C ds k errors.NameTaken =
+    HasSite C k × (is_grouped ds (C.callee k) ≡ false) × (length (name_for ds k (C.callee k)) ≤ name_max) × (is_taken ds (name_for ds k (C.callee k)) ≡ true)
 RefusesCopy C ds k (errors.Limit i) = MayCopy C ds k × PassesLimit (copied ds k (C.callee k)) i
 RefusesCopy C ds k errors.TooDeep = MayCopy C ds k × KeepsLimits (copied ds k (C.callee k)) × (AllKeepLevels (copied ds k (C.callee k)) → ⊥)
 RefusesCopy C ds k errors.NoMemory = Unit {0}

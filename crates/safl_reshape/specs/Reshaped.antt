@@ -1,6 +1,6 @@
 -- Which program a program is reshaped to: a function copied for one of its calls, or a call replaced by the function's body.
 use Rattle.std.specs.Prelude.{◌≡◌, ℕ, zero, suc, ◌<◌, length, List, [], ◌∷◌, ◌++◌, Option, Some, None, Bool, false, ◌==◌, if◌then◌else◌, slice_get, codes, decimal}
-use Rattle.safl_tree.specs.Tree.{Tree, Variable, Binding, Called, Trees, no_tree, a_tree, Binds, no_bind, a_bind, Parameter, Definition}
+use Rattle.safl_tree.specs.Tree.{Tree, Variable, Let, Call, Trees, no_tree, a_tree, Binds, no_bind, a_bind, Parameter, Definition}
 use Rattle.safl_typing.specs.Rewriting.{rewritten}
 use Rattle.safl_typing.specs.Heads.{Head, Member, Above, Unknown, heads}
 use Rattle.safl_typing.specs.Forms.{Form, function_names, IsFormOf}
@@ -19,24 +19,24 @@ bound_params (p ∷ ps) (a_tree t ts) = a_bind p.place p.name (Some p.width) t (
 abbrev pub body_under : ℕ → List Parameter → Trees → Tree → Tree
 body_under place [] ts body = body
 body_under place (p ∷ ps) no_tree body = body
-body_under place (p ∷ ps) (a_tree t ts) body = Binding place (bound_params (p ∷ ps) (a_tree t ts)) body
+body_under place (p ∷ ps) (a_tree t ts) body = Let place (bound_params (p ∷ ps) (a_tree t ts)) body
 
 abbrev pub result_name : List ℕ
 result_name = codes "r"
 
 -- `let r:w = B in r`
 abbrev pub unfolded_call : ℕ → Definition → Trees → Tree
-unfolded_call place d ts = Binding place (a_bind place result_name (Some d.width) (body_under place d.params ts d.body) no_bind) (Variable place result_name)
+unfolded_call place d ts = Let place (a_bind place result_name (Some d.width) (body_under place d.params ts d.body) no_bind) (Variable place result_name)
 
 abbrev pub unfolded_as : Option Definition → ℕ → List ℕ → Trees → Tree
 unfolded_as (Some d) place x ts = unfolded_call place d ts
-unfolded_as None place x ts = Called place x ts
+unfolded_as None place x ts = Call place x ts
 
 -- the call of site k alone is replaced
 abbrev pub unfolding_call : List Definition → ℕ → Change
-unfolding_call ds k (Member i h) lo place x ts = Called place x ts
-unfolding_call ds k (Above i h) lo place x ts = if lo == k then unfolded_as (slice_get ds i) place x ts else Called place x ts
-unfolding_call ds k Unknown lo place x ts = Called place x ts
+unfolding_call ds k (Member i h) lo place x ts = Call place x ts
+unfolding_call ds k (Above i h) lo place x ts = if lo == k then unfolded_as (slice_get ds i) place x ts else Call place x ts
+unfolding_call ds k Unknown lo place x ts = Call place x ts
 
 abbrev pub unfolded : List Definition → ℕ → List Definition
 unfolded ds k = changed_definitions (heads ds) (unfolding_call ds k) 0 0 1 ds
@@ -59,15 +59,15 @@ copy_name name k = name ++ (codes "_" ++ decimal k)
 
 -- the call of site k alone has the new name
 abbrev pub copying_call : ℕ → List ℕ → Change
-copying_call k new (Member i h) lo place x ts = Called place x ts
-copying_call k new (Above i h) lo place x ts = Called place (if lo == k then new else x) ts
-copying_call k new Unknown lo place x ts = Called place x ts
+copying_call k new (Member i h) lo place x ts = Call place x ts
+copying_call k new (Above i h) lo place x ts = Call place (if lo == k then new else x) ts
+copying_call k new Unknown lo place x ts = Call place x ts
 
 -- own calls alone have the new name
 abbrev pub own_call : List ℕ → Change
-own_call new (Member i h) lo place x ts = Called place new ts
-own_call new (Above i h) lo place x ts = Called place x ts
-own_call new Unknown lo place x ts = Called place x ts
+own_call new (Member i h) lo place x ts = Call place new ts
+own_call new (Above i h) lo place x ts = Call place x ts
+own_call new Unknown lo place x ts = Call place x ts
 
 -- the copy of function j under a new name; it is a group by itself
 abbrev pub copy_of : List Head → ℕ → List ℕ → Definition → Definition

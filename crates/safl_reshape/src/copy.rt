@@ -1,13 +1,13 @@
 //! A function that is copied for one of its calls.
 
-ghost use Rattle.std.specs.Prelude.{◌≡◌, ◌<◌, ◌≤◌, ◌^◌, ℕ, Some, IsTrue, length, slice_get, IfOk, IfErr};
-ghost use Rattle.safl_term.specs.Checked.{program_of};
+ghost use Rattle.std.specs.Prelude.{◌≡◌, ◌<◌, ◌≤◌, ◌^◌, ℕ, Some, IsTrue, length, slice_get, IfOk, OnOk, IfErr};
+ghost use Rattle.safl_term.specs.Checked.{IsChecked, program_of};
 ghost use Rattle.safl_tree.specs.Tree.{Definition};
-ghost use Rattle.safl_tree.specs.Shown.{shows_def, shows_defs, shows_program};
+ghost use Rattle.safl_tree.specs.Shown.{shown_definition, shown_definitions, shown_program};
 ghost use Rattle.safl_tree.specs.Printable.{IsFormedProgram, IsPrintable};
 ghost use Rattle.safl_typing.specs.Heads.{Head, heads};
 ghost use Rattle.safl_typing.specs.Forms.{IsFormOf, shown};
-ghost use Rattle.safl_typing.specs.PlainHeads.{plain_heads};
+ghost use Rattle.safl_typing.specs.PlainHeads.{shown_heads};
 ghost use Rattle.safl_reshape.specs.Reshaped.{copy_name, copy_of, copied, copied_under};
 ghost use Rattle.safl_reshape.specs.Refusals.{HasForm, MayCopy, RefusesCopy, CopyRefused, IsCopied, GivesAlike, is_grouped, is_taken};
 
@@ -15,7 +15,7 @@ use crate::change::change;
 use crate::changes::Changes;
 use crate::defs::{change_defs, copy_params};
 use crate::error::ReshapeErr;
-use crate::heads::heads_of;
+use safl_check::heads_of;
 use safl_check::laws::forms_are_numbered_law;
 use safl_term::Checked;
 use safl_tree::{Def, Name, Program};
@@ -33,14 +33,15 @@ pub fn copied_defs(
     defs: &[Def],
     site: u32,
 ) -> Result<Vec<Def>, ReshapeErr>
-    requires form { IsFormOf (shows_defs defs.now) (shown checked.now) }
-    ensures may { IfOk result (λ es. MayCopy (program_of checked.now) (shows_defs defs.now) site) }
-    ensures copied { IfOk result (λ es. shows_defs es.items ≡ copied (shows_defs defs.now) site ((program_of checked.now).callee site)) }
-    ensures refused { IfErr result (RefusesCopy (program_of checked.now) (shows_defs defs.now) site) }
+    requires form { IsFormOf (shown_definitions defs.now) (shown checked.now) }
+    ensures checked { OnOk result (IsChecked checked.now) }
+    ensures may { IfOk result (λ es. MayCopy (program_of checked.now) (shown_definitions defs.now) site) }
+    ensures copied { IfOk result (λ es. shown_definitions es.items ≡ copied (shown_definitions defs.now) site ((program_of checked.now).callee site)) }
+    ensures refused { IfErr result (RefusesCopy (program_of checked.now) (shown_definitions defs.now) site) }
 {
     forms_are_numbered_law();
-    let _functions = checked.functions();
-    if site == 0 || site > checked.sites() {
+    let sites = checked.sites();
+    if site == 0 || site > sites {
         return Err(ReshapeErr::NoSite);
     }
     let callee = checked.callee(site) as usize;
@@ -60,7 +61,7 @@ pub fn copied_defs(
 // Whether the group of this function has two or more members.
 fn is_grouped(defs: &[Def], number: usize) -> bool
     requires { number < length defs.now }
-    ensures { result ≡ is_grouped (shows_defs defs.now) number }
+    ensures { result ≡ is_grouped (shown_definitions defs.now) number }
 {
     if defs[number].joined {
         return true;
@@ -73,7 +74,7 @@ fn is_grouped(defs: &[Def], number: usize) -> bool
 
 // Whether a function has this name.
 fn is_taken(defs: &[Def], name: &Name) -> bool
-    ensures { result ≡ is_taken (shows_defs defs.now) name.now }
+    ensures { result ≡ is_taken (shown_definitions defs.now) name.now }
 {
     for def in defs {
         if name.bytes() == def.name.bytes() {
@@ -104,7 +105,7 @@ fn copy_function(
 ) -> Result<Vec<Def>, NoMemory>
     requires few { length defs.now ≤ 1000 }
     requires within { number < length defs.now }
-    ensures { IfOk result (λ es. (d : Definition) → slice_get (shows_defs defs.now) number ≡ Some d → shows_defs es.items ≡ copied_under name (shows_defs defs.now) site number d) }
+    ensures { IfOk result (λ es. (d : Definition) → slice_get (shown_definitions defs.now) number ≡ Some d → shown_definitions es.items ≡ copied_under name (shown_definitions defs.now) site number d) }
 {
     let all_heads = heads_of(alloc, defs)?;
     let copy = copy_def(alloc, &all_heads, number as u32, &defs[number], &name)?;
@@ -122,7 +123,7 @@ fn copy_def(
     def: &Def,
     name: &Name,
 ) -> Result<Def, NoMemory>
-    ensures { IfOk result (λ d. shows_def d ≡ copy_of (plain_heads all_heads.now) number name.now (shows_def def.now)) }
+    ensures { IfOk result (λ d. shown_definition d ≡ copy_of (shown_heads all_heads.now) number name.now (shown_definition def.now)) }
 {
     let changes = Changes::Own(Name::new(alloc, name.bytes())?);
     let mut left = 0;

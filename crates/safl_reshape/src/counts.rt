@@ -1,6 +1,6 @@
 //! How many call sites and nodes expressions have.
 
-ghost use Rattle.safl_tree.specs.Shown.{shows, shows_all, shows_bounds, shows_labelled};
+ghost use Rattle.safl_tree.specs.Shown.{shown_tree, shown_trees, shown_bounds, shown_labelled};
 ghost use Rattle.safl_typing.specs.Rewriting.{rewritten, nodes};
 ghost use Rattle.safl_typing.specs.PlainHeads.{known};
 ghost use Rattle.safl_reshape.specs.Changed.{sites_in_tree};
@@ -36,7 +36,7 @@ impl Counts {
 /// Those of an expression of a body of this group, and those before it. It recurses as deep as the expression is.
 #[cycle(counting)]
 pub fn count(heads: &Heads, unit: u32, before: Counts, e: &Expr) -> Counts
-    ensures { Adds before result (sites_in_tree (known heads.now unit) (shows e.now)) (nodes (rewritten (shows e.now))) }
+    ensures { Adds before result (sites_in_tree (known heads.now unit) (shown_tree e.now)) (nodes (rewritten (shown_tree e.now))) }
 {
     let itself = before.plus(0, 1);
     match &e.node {
@@ -67,7 +67,7 @@ pub fn count(heads: &Heads, unit: u32, before: Counts, e: &Expr) -> Counts
 // Operands or arguments.
 #[cycle(counting)]
 fn count_all(heads: &Heads, unit: u32, before: Counts, es: &[Expr]) -> Counts
-    ensures { Adds before result (sites_list (known heads.now unit) (shows_all es.now)) (nodes_list (shows_all es.now)) }
+    ensures { Adds before result (sites_list (known heads.now unit) (shown_trees es.now)) (nodes_list (shown_trees es.now)) }
 {
     let mut counts = before;
     for e in es {
@@ -78,7 +78,7 @@ fn count_all(heads: &Heads, unit: u32, before: Counts, es: &[Expr]) -> Counts
 
 #[cycle(counting)]
 fn count_binds(heads: &Heads, unit: u32, before: Counts, binds: &[Bind]) -> Counts
-    ensures { Adds before result (sites_bounds (known heads.now unit) (shows_bounds binds.now)) (nodes_bounds (shows_bounds binds.now)) }
+    ensures { Adds before result (sites_bounds (known heads.now unit) (shown_bounds binds.now)) (nodes_bounds (shown_bounds binds.now)) }
 {
     let mut counts = before;
     for b in binds {
@@ -90,7 +90,7 @@ fn count_binds(heads: &Heads, unit: u32, before: Counts, binds: &[Bind]) -> Coun
 // A labelled arm stands for an if, its test and the test's variable beside its label and its value.
 #[cycle(counting)]
 fn count_arms(heads: &Heads, unit: u32, before: Counts, arms: &[Arm]) -> Counts
-    ensures { Adds before result (sites_labelled (known heads.now unit) (shows_labelled arms.now)) (nodes_labelled (shows_labelled arms.now)) }
+    ensures { Adds before result (sites_labelled (known heads.now unit) (shown_labelled arms.now)) (nodes_labelled (shown_labelled arms.now)) }
 {
     let mut counts = before;
     for arm in arms {

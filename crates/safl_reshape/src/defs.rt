@@ -1,16 +1,16 @@
 //! Definitions in which calls are changed.
 
 ghost use Rattle.std.specs.Prelude.{◌≡◌, ◌≤◌, length, IfOk};
-ghost use Rattle.safl_tree.specs.Shown.{shows, shows_def, shows_defs, shows_params};
+ghost use Rattle.safl_tree.specs.Shown.{shown_tree, shown_definition, shown_definitions, shown_parameters};
 ghost use Rattle.safl_typing.specs.Heads.{heads};
-ghost use Rattle.safl_typing.specs.PlainHeads.{plain_heads};
+ghost use Rattle.safl_typing.specs.PlainHeads.{shown_heads};
 ghost use Rattle.safl_reshape.specs.Changed.{with_body, changed_definitions};
 ghost use Rattle.safl_reshape.specs.Lists.{change_of};
 
 use crate::change::change;
 use crate::changes::Changes;
 use crate::duplicate::copy_expr;
-use crate::heads::next_unit;
+use safl_check::next_unit;
 use safl_tree::{Def, Expr, Name, Param};
 use safl_typing::heads::Heads;
 use safl_word::NoMemory;
@@ -25,8 +25,8 @@ pub fn change_defs(
     defs: &[Def],
 ) -> Result<Vec<Def>, NoMemory>
     requires few { length defs.now ≤ 1000 }
-    requires heads { plain_heads all_heads.now ≡ heads (shows_defs defs.now) }
-    ensures { IfOk result (λ all. shows_defs all.items ≡ changed_definitions (heads (shows_defs defs.now)) (change_of site changes.now) 0 0 1 (shows_defs defs.now)) }
+    requires heads { shown_heads all_heads.now ≡ heads (shown_definitions defs.now) }
+    ensures { IfOk result (λ all. shown_definitions all.items ≡ changed_definitions (heads (shown_definitions defs.now)) (change_of site changes.now) 0 0 1 (shown_definitions defs.now)) }
 {
     let mut all = Vec::new(alloc);
     let mut unit = 0;
@@ -43,7 +43,7 @@ pub fn change_defs(
 
 // The same definition with another body.
 fn with_other_body(alloc: Global, def: &Def, body: Expr) -> Result<Def, NoMemory>
-    ensures { IfOk result (λ d. shows_def d ≡ with_body (shows_def def.now) (shows body)) }
+    ensures { IfOk result (λ d. shown_definition d ≡ with_body (shown_definition def.now) (shown_tree body)) }
 {
     let name = Name::new(alloc, def.name.bytes())?;
     let params = copy_params(alloc, &def.params)?;
@@ -59,7 +59,7 @@ fn with_other_body(alloc: Global, def: &Def, body: Expr) -> Result<Def, NoMemory
 
 /// The same definitions.
 pub fn copy_defs(alloc: Global, defs: &[Def]) -> Result<Vec<Def>, NoMemory>
-    ensures { IfOk result (λ all. shows_defs all.items ≡ shows_defs defs.now) }
+    ensures { IfOk result (λ all. shown_definitions all.items ≡ shown_definitions defs.now) }
 {
     let mut all = Vec::new(alloc);
     for def in defs {
@@ -72,7 +72,7 @@ pub fn copy_defs(alloc: Global, defs: &[Def]) -> Result<Vec<Def>, NoMemory>
 
 /// The same parameters.
 pub fn copy_params(alloc: Global, params: &[Param]) -> Result<Vec<Param>, NoMemory>
-    ensures { IfOk result (λ all. shows_params all.items ≡ shows_params params.now) }
+    ensures { IfOk result (λ all. shown_parameters all.items ≡ shown_parameters params.now) }
 {
     let mut all = Vec::new(alloc);
     for param in params {

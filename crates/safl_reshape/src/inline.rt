@@ -2,7 +2,7 @@
 
 ghost use Rattle.std.specs.Prelude.{◌≡◌, IfOk, IfErr};
 ghost use Rattle.safl_term.specs.Checked.{program_of};
-ghost use Rattle.safl_tree.specs.Shown.{shows_defs};
+ghost use Rattle.safl_tree.specs.Shown.{shown_definitions};
 ghost use Rattle.safl_typing.specs.Forms.{IsFormOf, shown};
 ghost use Rattle.safl_reshape.specs.Reshaped.{unfolded};
 ghost use Rattle.safl_reshape.specs.Refusals.{MayUnfold, RefusesUnfolding};
@@ -10,8 +10,8 @@ ghost use Rattle.safl_reshape.specs.Refusals.{MayUnfold, RefusesUnfolding};
 use crate::changes::Changes;
 use crate::defs::change_defs;
 use crate::error::ReshapeErr;
-use crate::heads::heads_of;
 use crate::own::calls_own;
+use safl_check::heads_of;
 use safl_term::Checked;
 use safl_tree::Def;
 use std::alloc::Global;
@@ -23,13 +23,13 @@ pub fn unfolded_defs(
     defs: &[Def],
     site: u32,
 ) -> Result<Vec<Def>, ReshapeErr>
-    requires form { IsFormOf (shows_defs defs.now) (shown checked.now) }
-    ensures may { IfOk result (λ es. MayUnfold (program_of checked.now) (shows_defs defs.now) site) }
-    ensures unfolded { IfOk result (λ es. shows_defs es.items ≡ unfolded (shows_defs defs.now) site) }
-    ensures refused { IfErr result (RefusesUnfolding (program_of checked.now) (shows_defs defs.now) site) }
+    requires form { IsFormOf (shown_definitions defs.now) (shown checked.now) }
+    ensures may { IfOk result (λ es. MayUnfold (program_of checked.now) (shown_definitions defs.now) site) }
+    ensures unfolded { IfOk result (λ es. shown_definitions es.items ≡ unfolded (shown_definitions defs.now) site) }
+    ensures refused { IfErr result (RefusesUnfolding (program_of checked.now) (shown_definitions defs.now) site) }
 {
-    let _functions = checked.functions();
-    if site == 0 || site > checked.sites() {
+    let sites = checked.sites();
+    if site == 0 || site > sites {
         return Err(ReshapeErr::NoSite);
     }
     let callee = checked.callee(site) as usize;

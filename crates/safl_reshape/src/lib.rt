@@ -8,7 +8,6 @@ mod counts;
 mod defs;
 mod duplicate;
 pub mod error;
-mod heads;
 mod inline;
 pub mod laws;
 mod limits;

@@ -1,9 +1,9 @@
 //! The limits that a reshaped program may pass.
 
 ghost use Rattle.std.specs.Prelude.{◌≡◌, ◌≤◌, length, OnOk, IfErr};
-ghost use Rattle.safl_tree.specs.Shown.{shows_defs};
+ghost use Rattle.safl_tree.specs.Shown.{shown_definitions};
 ghost use Rattle.safl_typing.specs.Heads.{heads};
-ghost use Rattle.safl_typing.specs.PlainHeads.{plain_heads};
+ghost use Rattle.safl_typing.specs.PlainHeads.{shown_heads};
 ghost use Rattle.safl_typing.specs.Forms.{nodes_of};
 ghost use Rattle.safl_reshape.specs.Counting.{saturated};
 ghost use Rattle.safl_reshape.specs.Limits.{KeepsLimits, site_total};
@@ -11,7 +11,7 @@ ghost use Rattle.safl_reshape.specs.Refusals.{RefusesLimit};
 
 use crate::counts::{Counts, count};
 use crate::error::ReshapeErr;
-use crate::heads::{heads_of, next_unit};
+use safl_check::{heads_of, next_unit};
 use safl_tree::Def;
 use safl_typing::heads::Heads;
 use std::alloc::Global;
@@ -24,8 +24,8 @@ const NODES_MAX: u32 = 50_000;
 
 /// Refuses definitions that pass a limit on functions, call sites or nodes: the first of these that is passed.
 pub fn look_at_limits(alloc: Global, defs: &[Def]) -> Result<(), ReshapeErr>
-    ensures kept { OnOk result (KeepsLimits (shows_defs defs.now)) }
-    ensures refused { IfErr result (RefusesLimit (shows_defs defs.now)) }
+    ensures kept { OnOk result (KeepsLimits (shown_definitions defs.now)) }
+    ensures refused { IfErr result (RefusesLimit (shown_definitions defs.now)) }
 {
     if defs.len() > FUNCTIONS_MAX {
         return Err(ReshapeErr::Limit(1));
@@ -44,9 +44,9 @@ pub fn look_at_limits(alloc: Global, defs: &[Def]) -> Result<(), ReshapeErr>
 // The call sites and nodes of all bodies.
 fn count_defs(all_heads: &Heads, defs: &[Def]) -> Counts
     requires few { length defs.now ≤ 1000 }
-    requires heads { plain_heads all_heads.now ≡ heads (shows_defs defs.now) }
-    ensures sites { saturated result.sites ≡ saturated (site_total (heads (shows_defs defs.now)) 0 0 (shows_defs defs.now)) }
-    ensures nodes { saturated result.nodes ≡ saturated (nodes_of (shows_defs defs.now)) }
+    requires heads { shown_heads all_heads.now ≡ heads (shown_definitions defs.now) }
+    ensures sites { saturated result.sites ≡ saturated (site_total (heads (shown_definitions defs.now)) 0 0 (shown_definitions defs.now)) }
+    ensures nodes { saturated result.nodes ≡ saturated (nodes_of (shown_definitions defs.now)) }
 {
     let mut unit = 0;
     let mut counts = Counts { sites: 0, nodes: 0 };

@@ -1,7 +1,7 @@
 //! Programs that are reshaped.
 
 ghost use Rattle.std.specs.Prelude.{◌≡◌, IfOk, IfErr};
-ghost use Rattle.safl_tree.specs.Shown.{shows_defs, shows_program};
+ghost use Rattle.safl_tree.specs.Shown.{shown_definitions, shown_program};
 ghost use Rattle.safl_tree.specs.Printable.{IsFormedProgram, IsPrintable};
 ghost use Rattle.safl_typing.specs.Forms.{IsFormOf, shown};
 ghost use Rattle.safl_reshape.specs.Refusals.{HasForm, CopyRefused, IsCopied, GivesAlike, UnfoldingRefused, IsUnfolded, GivesSparing};
@@ -25,18 +25,17 @@ use std::alloc::Global;
 /// is the callee's, `_` and the number of the site. It has a form, and main gives the same words in as many calls. A
 /// refusal is the first that holds.
 pub fn copy_site(alloc: Global, program: Program, site: u32) -> Result<Program, ReshapeErr>
-    requires printable { IsPrintable (shows_program program) }
-    requires form { HasForm (shows_program program) }
-    ensures copied { IfOk result (λ q. IsCopied (shows_program program) site (shows_program q)) }
-    ensures printable { IfOk result (λ q. IsPrintable (shows_program q)) }
-    ensures alike { IfOk result (λ q. GivesAlike (shows_program program) (shows_program q)) }
-    ensures refused { IfErr result (CopyRefused (shows_program program) site) }
+    requires printable { IsPrintable (shown_program program) }
+    requires form { HasForm (shown_program program) }
+    ensures copied { IfOk result (λ q. IsCopied (shown_program program) site (shown_program q)) }
+    ensures printable { IfOk result (λ q. IsPrintable (shown_program q)) }
+    ensures alike { IfOk result (λ q. GivesAlike (shown_program program) (shown_program q)) }
+    ensures refused { IfErr result (CopyRefused (shown_program program) site) }
 {
     forms_are_numbered_law();
     one_form_law();
     copy_law();
     let checked = checked_of(alloc, &program.defs)?;
-    let _functions = checked.functions();
     let defs = copied_defs(alloc, &checked, &program.defs, site)?;
     look_at_limits(alloc, &defs)?;
     let copy = Program { defs };
@@ -50,18 +49,17 @@ pub fn copy_site(alloc: Global, program: Program, site: u32) -> Result<Program, 
 /// let of its parameters, and w the callee's width. It has a form, and main gives the same words, in one call less for
 /// each time that it made the call. A refusal is the first that holds.
 pub fn unfold_site(alloc: Global, program: Program, site: u32) -> Result<Program, ReshapeErr>
-    requires printable { IsPrintable (shows_program program) }
-    requires form { HasForm (shows_program program) }
-    ensures unfolded { IfOk result (λ q. IsUnfolded (shows_program program) site (shows_program q)) }
-    ensures printable { IfOk result (λ q. IsPrintable (shows_program q)) }
-    ensures sparing { IfOk result (λ q. GivesSparing site (shows_program program) (shows_program q)) }
-    ensures refused { IfErr result (UnfoldingRefused (shows_program program) site) }
+    requires printable { IsPrintable (shown_program program) }
+    requires form { HasForm (shown_program program) }
+    ensures unfolded { IfOk result (λ q. IsUnfolded (shown_program program) site (shown_program q)) }
+    ensures printable { IfOk result (λ q. IsPrintable (shown_program q)) }
+    ensures sparing { IfOk result (λ q. GivesSparing site (shown_program program) (shown_program q)) }
+    ensures refused { IfErr result (UnfoldingRefused (shown_program program) site) }
 {
     forms_are_numbered_law();
     one_form_law();
     unfolding_law();
     let checked = checked_of(alloc, &program.defs)?;
-    let _functions = checked.functions();
     let defs = unfolded_defs(alloc, &checked, &program.defs, site)?;
     look_at_limits(alloc, &defs)?;
     let unfolded = Program { defs };
@@ -74,9 +72,9 @@ pub fn unfold_site(alloc: Global, program: Program, site: u32) -> Result<Program
 // The checked program of printable definitions that have a form. The checker takes a program, so it is given a copy.
 #[tactic(auto, using(crate::proofs::Checkable::never_refused, crate::proofs::Checkable::never_deep))]
 fn checked_of(alloc: Global, defs: &[Def]) -> Result<Checked, NoMemory>
-    requires printable { IsPrintable (shows_defs defs.now) }
-    requires form { HasForm (shows_defs defs.now) }
-    ensures form { IfOk result (λ c. IsFormOf (shows_defs defs.now) (shown c)) }
+    requires printable { IsPrintable (shown_definitions defs.now) }
+    requires form { HasForm (shown_definitions defs.now) }
+    ensures form { IfOk result (λ c. IsFormOf (shown_definitions defs.now) (shown c)) }
 {
     fault_or_form_law();
     printed_law();

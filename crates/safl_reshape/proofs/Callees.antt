@@ -9,9 +9,9 @@ use Rattle.safl_term.specs.Checked.{CheckedProgram, IsChecked, program_of}
 use Rattle.safl_term.specs.declared.checked.Function.{Function}
 use Rattle.safl_tree.specs.declared.tree.Def.{Def}
 use Rattle.safl_tree.specs.Tree.{Definition}
-use Rattle.safl_tree.specs.Shown.{shows, shows_defs}
+use Rattle.safl_tree.specs.Shown.{shown_tree, shown_definitions}
 use Rattle.safl_typing.specs.declared.heads.Head as code
-use Rattle.safl_typing.specs.PlainHeads.{plain_head, plain_heads, known}
+use Rattle.safl_typing.specs.PlainHeads.{shown_head, shown_heads, known}
 use Rattle.safl_typing.specs.Rewriting.{rewritten}
 use Rattle.safl_reshape.specs.Changed.{calls, is_member}
 use Rattle.safl_reshape.proofs.Putting.{def_shown}
@@ -84,21 +84,21 @@ copyable ds c k is ok e may =
 
 -- ---- heads of the code
 
-plain_at : (hs : List code.Head) (i : ℕ) (h : code.Head) → slice_get hs i ≡ Some h → slice_get (plain_heads hs) i ≡ Some (plain_head h)
+plain_at : (hs : List code.Head) (i : ℕ) (h : code.Head) → slice_get hs i ≡ Some h → slice_get (shown_heads hs) i ≡ Some (shown_head h)
 plain_at [] i h e = absurd cc
-plain_at (x ∷ hs) zero h e = let q : x ≡ h = cc in ap (λ (z : code.Head). Some (plain_head z)) q
+plain_at (x ∷ hs) zero h e = let q : x ≡ h = cc in ap (λ (z : code.Head). Some (shown_head z)) q
 plain_at (x ∷ hs) (suc i) h e = plain_at hs i h e
 
-pub plain_length : (hs : List code.Head) → length (plain_heads hs) ≡ length hs
+pub plain_length : (hs : List code.Head) → length (shown_heads hs) ≡ length hs
 plain_length [] = refl
 plain_length (h ∷ hs) = ap (λ (n : ℕ). suc n) (plain_length hs)
 
 -- whether function i calls itself or another member of its group
-pub recursive_shown : (ds : List Def) (hs : List code.Head) (i j : ℕ) (h : code.Head) (d : Def) (r : Bool) → plain_heads hs ≡ heads (shows_defs ds) → slice_get hs i ≡ Some h → i < length ds → d ≡ get_or ds i d → i ≡ j
-    → r ≡ calls is_member (known hs h.unit) (rewritten (shows d.body)) → r ≡ is_recursive (shows_defs ds) j
+pub recursive_shown : (ds : List Def) (hs : List code.Head) (i j : ℕ) (h : code.Head) (d : Def) (r : Bool) → shown_heads hs ≡ heads (shown_definitions ds) → slice_get hs i ≡ Some h → i < length ds → d ≡ get_or ds i d → i ≡ j
+    → r ≡ calls is_member (known hs h.unit) (rewritten (shown_tree d.body)) → r ≡ is_recursive (shown_definitions ds) j
 recursive_shown ds hs i j h d r e g lt is q f =
-    let a : slice_get (heads (shows_defs ds)) i ≡ Some (plain_head h) = sym (ap (λ (l : List Head). slice_get l i) e) ∙ plain_at hs i h g in
+    let a : slice_get (heads (shown_definitions ds)) i ≡ Some (shown_head h) = sym (ap (λ (l : List Head). slice_get l i) e) ∙ plain_at hs i h g in
     let b = def_shown ds i (Some d) (slice_get_read ds (length ds) i d refl lt is) in
-    f ∙ (ap (λ (l : List Head). calls is_member (record { heads = l; unit = h.unit }) (rewritten (shows d.body))) e
-    ∙ (ap (λ (o : Option Definition). calls_group (heads (shows_defs ds)) (Some (plain_head h)) o) (sym b)
-    ∙ (ap (λ (o : Option Head). calls_group (heads (shows_defs ds)) o (slice_get (shows_defs ds) i)) (sym a) ∙ ap (λ (n : ℕ). is_recursive (shows_defs ds) n) q)))
+    f ∙ (ap (λ (l : List Head). calls is_member (record { heads = l; unit = h.unit }) (rewritten (shown_tree d.body))) e
+    ∙ (ap (λ (o : Option Definition). calls_group (heads (shown_definitions ds)) (Some (shown_head h)) o) (sym b)
+    ∙ (ap (λ (o : Option Head). calls_group (heads (shown_definitions ds)) o (slice_get (shown_definitions ds) i)) (sym a) ∙ ap (λ (n : ℕ). is_recursive (shown_definitions ds) n) q)))
