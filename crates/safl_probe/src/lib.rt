@@ -21,6 +21,3 @@ pub use crate::starts_probe::StartsProbe;
 pub use crate::stub_probe::StubProbe;
 pub use crate::toggle_probe::ToggleProbe;
 pub use crate::vcd_probe::VcdProbe;
-
-#[cfg(test)]
-mod tests;
