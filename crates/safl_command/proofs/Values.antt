@@ -7,9 +7,19 @@ use Rattle.clap.specs.Words.{Text, rows_of, first_of, first_value, all_of, raw_v
 use Rattle.clap.specs.declared.parser.matches.Found.{Found}
 use Rattle.clap.proofs.WalkLemmas.{first_value-rows, raw_values-rows}
 use Rattle.safl_word.specs.Numerals.{value}
-use Rattle.safl_command.specs.Commands.{number_if}
+use Rattle.safl_command.specs.Values.{number_if}
 
 module _ (f : Found) (id : Text) where
+  -- the first value, if there is one
+  pub first_shown : (r : Option (Bor Text)) → option_map (λ s. s.now) r ≡ first_value f id → option_map (λ s. s.now) r ≡ first_of id (rows_of f)
+  first_shown r e = e ∙ first_value-rows f id
+
+  pub first_is : (r : Option (Bor Text)) (word : Bor Text) → option_map (λ s. s.now) r ≡ first_value f id → r ≡ Some word → Some word.now ≡ first_of id (rows_of f)
+  first_is r word e is = ap (option_map (λ (s : Bor Text). s.now)) (sym is) ∙ first_shown r e
+
+  pub first_is_not : (r : Option (Bor Text)) → option_map (λ s. s.now) r ≡ first_value f id → r ≡ None → None ≡ first_of id (rows_of f)
+  first_is_not r e is = ap (option_map (λ (s : Bor Text). s.now)) (sym is) ∙ first_shown r e
+
   -- what is made of the first value
   pub value_is : {Y : Type 0} (F : Text → Option Y) (r : Option (Bor Text)) (word : Bor Text) → option_map (λ s. s.now) r ≡ first_value f id → r ≡ Some word → option_and_then F (first_of id (rows_of f)) ≡ F word.now
   value_is F r word e is = ap (option_and_then F) (sym (first_value-rows f id) ∙ sym e ∙ ap (option_map (λ (s : Bor Text). s.now)) is)

@@ -1,70 +1,56 @@
 -- Which words are a command.
-use Rattle.std.specs.Prelude.{ℕ, List, [], ◌∷◌, map, length, Option, Some, None, Bool, ◌&&◌, ◌^◌, option_map, option_and_then, unwrap_or}
-use Rattle.std.specs.Prelude.{nat_le, nat_lt, bytes_eq, if◌then◌else◌, codes, string_bytes}
-use Rattle.std.specs.List.{list_all}
-use Rattle.clap.specs.Words.{Row, fault_of, subcommand_of, first_of, all_of, Kinds}
-use Rattle.safl_word.specs.Numerals.{value, is_digit}
+use Rattle.std.specs.Prelude.{ℕ, List, [], ◌∷◌, map, Option, Some, None, Bool, option_map, option_and_then}
+use Rattle.std.specs.Prelude.{bytes_eq, if◌then◌else◌, codes, string_bytes}
+use Rattle.clap.specs.Words.{Row, Kinds, fault_of, subcommand_of, first_of}
 use Rattle.safl_command.specs.Forms.{app}
-use Rattle.safl_command.specs.Limits.{cycles_max}
+use Rattle.safl_command.specs.Values.{name_in, number_in, number_of, limit_in, count_in, has_flag, args_in}
 use Rattle.safl_command.specs.declared.command.Command as code
 use Rattle.safl_command.specs.declared.command.Command.TheVariants as code_of
 
 pub data Command : Type 0 where
   -- reads the source of the name
   Check : (input : List ℕ) → Command
-  -- reads the source of the first name, and writes the file of the second
+  -- reads the source of the first name, and writes its circuit to the file of the second
   Build : (input output : List ℕ) → Command
+  -- the same with the optimised circuit
+  Optimise : (input output : List ℕ) → Command
   -- reads the source of the name, and runs its circuit for so many cycles with these arguments
   Sim : (input : List ℕ) (limit : ℕ) (args : List (List ℕ)) → Command
   -- reads the source of the name, and walks with these arguments for so many events at most, by the numbers that the seed begins
   Walk : (input : List ℕ) (seed steps : ℕ) (args : List (List ℕ)) → Command
   -- reads the Verilog file of the name, and runs its netlist for so many cycles with these arguments
   Run : (input : List ℕ) (limit : ℕ) (args : List (List ℕ)) → Command
+  -- reads the source of the name, and reports its plan
+  Report : (input : List ℕ) → Command
+  -- makes a source of so many functions from a seed
+  Gen : (seed count : ℕ) → Command
+  -- makes the same, and runs its circuit for so many cycles
+  Bench : (seed count limit : ℕ) → Command
+  -- reads the source of the first name, and writes it to the file of the second with a copy of a function for one site
+  CopySite : (input output : List ℕ) (site : ℕ) → Command
+  -- the same with the body of a function in place of one site
+  UnfoldSite : (input output : List ℕ) (site : ℕ) → Command
+  -- reads the source of the first name, and calls main once for each line of the file of the second, for so many cycles each
+  Session : (input script : List ℕ) (limit : ℕ) → Command
+  -- reads the Verilog file of the first name, and writes its bit-level circuit to the file of the second
+  Aig : (input output : List ℕ) → Command
+  -- reads the bit-level circuit of the name
+  Aigstat : (input : List ℕ) → Command
 
--- ---- what the values of an argument say
+-- ---- the commands, by the values of their arguments
 
--- a name, which is not empty
-abbrev pub filled : List ℕ → Option (List ℕ)
-filled [] = None
-filled (c ∷ cs) = Some (c ∷ cs)
-
--- 1 to 20 digits, whose number is below 2^64
-abbrev pub is_seed : List ℕ → Bool
-is_seed word = nat_le 1 (length word) && (list_all (is_digit 10) word && (nat_le (length word) 20 && nat_lt (value 10 word) (2 ^ 64)))
-
--- 1 to 20 digits, whose number is 1 to the most cycles
-abbrev pub is_limit : List ℕ → Bool
-is_limit word =
-    nat_le 1 (length word) && (list_all (is_digit 10) word && (nat_le (length word) 20 && (nat_le 1 (value 10 word) && nat_le (value 10 word) cycles_max)))
-
-abbrev pub number_if : Bool → List ℕ → Option ℕ
-number_if fits word = if fits then Some (value 10 word) else None
-
-abbrev pub seed_of : List ℕ → Option ℕ
-seed_of word = number_if (is_seed word) word
-
-abbrev pub limit_of : List ℕ → Option ℕ
-limit_of word = number_if (is_limit word) word
-
-abbrev pub name_in : List ℕ → List Row → Option (List ℕ)
-name_in id rows = option_and_then filled (first_of id rows)
-
-abbrev pub seed_in : List ℕ → List Row → Option ℕ
-seed_in id rows = option_and_then seed_of (first_of id rows)
-
-abbrev pub limit_in : List ℕ → List Row → Option ℕ
-limit_in id rows = option_and_then limit_of (first_of id rows)
-
-abbrev pub args_in : List Row → List (List ℕ)
-args_in rows = unwrap_or (all_of (codes "ARG") rows) []
-
--- ---- the commands
+-- a command of two files
+abbrev pub files_in : List ℕ → List ℕ → (List ℕ → List ℕ → Option Command) → List Row → Option Command
+files_in first second make rows = option_and_then (λ input. option_and_then (make input) (name_in second rows)) (name_in first rows)
 
 abbrev pub check_in : List Row → Option Command
 check_in rows = option_map Check (name_in (codes "IN") rows)
 
+abbrev pub build_or_optimise : Bool → List ℕ → List ℕ → Command
+build_or_optimise optimised input output = if optimised then Optimise input output else Build input output
+
 abbrev pub build_in : List Row → Option Command
-build_in rows = option_and_then (λ input. option_map (Build input) (name_in (codes "OUT") rows)) (name_in (codes "IN") rows)
+build_in rows = files_in (codes "IN") (codes "OUT") (λ input output. Some (build_or_optimise (has_flag (codes "opt") rows) input output)) rows
 
 abbrev pub sim_in : List Row → Option Command
 sim_in rows = option_and_then (λ input. option_map (λ limit. Sim input limit (args_in rows)) (limit_in (codes "cycles") rows)) (name_in (codes "IN") rows)
@@ -72,11 +58,54 @@ sim_in rows = option_and_then (λ input. option_map (λ limit. Sim input limit (
 abbrev pub walk_in : List Row → Option Command
 walk_in rows =
     option_and_then (λ input.
-    option_and_then (λ seed. option_map (λ steps. Walk input seed steps (args_in rows)) (limit_in (codes "steps") rows)) (seed_in (codes "order") rows))
+    option_and_then (λ seed. option_map (λ steps. Walk input seed steps (args_in rows)) (limit_in (codes "steps") rows)) (number_in (codes "order") rows))
     (name_in (codes "IN") rows)
 
 abbrev pub run_in : List Row → Option Command
 run_in rows = option_and_then (λ input. option_map (λ limit. Run input limit (args_in rows)) (limit_in (codes "cycles") rows)) (name_in (codes "FILE") rows)
+
+abbrev pub report_in : List Row → Option Command
+report_in rows = option_map Report (name_in (codes "IN") rows)
+
+abbrev pub gen_in : List Row → Option Command
+gen_in rows = option_and_then (λ seed. option_map (Gen seed) (count_in (codes "COUNT") rows)) (number_in (codes "SEED") rows)
+
+abbrev pub bench_in : List Row → Option Command
+bench_in rows =
+    option_and_then (λ seed.
+    option_and_then (λ count. option_map (Bench seed count) (limit_in (codes "cycles") rows)) (count_in (codes "COUNT") rows))
+    (number_in (codes "SEED") rows)
+
+-- exactly one of the two options is given, with the number of a site
+abbrev pub reshaped : List ℕ → List ℕ → Option (List ℕ) → Option (List ℕ) → Option Command
+reshaped input output (Some copied) None = option_map (CopySite input output) (number_of copied)
+reshaped input output None (Some unfolded) = option_map (UnfoldSite input output) (number_of unfolded)
+reshaped input output (Some copied) (Some unfolded) = None
+reshaped input output None None = None
+
+abbrev pub change_in : List ℕ → List ℕ → List Row → Option Command
+change_in input output rows = reshaped input output (first_of (codes "copy") rows) (first_of (codes "unfold") rows)
+
+abbrev pub reshape_in : List Row → Option Command
+reshape_in rows = files_in (codes "IN") (codes "OUT") (λ input output. change_in input output rows) rows
+
+abbrev pub session_in : List Row → Option Command
+session_in rows = files_in (codes "IN") (codes "SCRIPT") (λ input script. option_map (Session input script) (limit_in (codes "cycles") rows)) rows
+
+abbrev pub aig_in : List Row → Option Command
+aig_in rows = files_in (codes "FILE") (codes "OUT") (λ input output. Some (Aig input output)) rows
+
+abbrev pub aigstat_in : List Row → Option Command
+aigstat_in rows = option_map Aigstat (name_in (codes "FILE") rows)
+
+-- the command of a word among the later ones, by what its arguments say
+abbrev pub other_command_in : List ℕ → List Row → Option Command
+other_command_in word rows =
+    if bytes_eq word (codes "reshape") then reshape_in rows
+    else if bytes_eq word (codes "session") then session_in rows
+    else if bytes_eq word (codes "aig") then aig_in rows
+    else if bytes_eq word (codes "aigstat") then aigstat_in rows
+    else None
 
 -- the command of a word, by what its arguments say
 abbrev pub command_in : List ℕ → List Row → Option Command
@@ -86,7 +115,10 @@ command_in word rows =
     else if bytes_eq word (codes "sim") then sim_in rows
     else if bytes_eq word (codes "walk") then walk_in rows
     else if bytes_eq word (codes "run") then run_in rows
-    else None
+    else if bytes_eq word (codes "report") then report_in rows
+    else if bytes_eq word (codes "gen") then gen_in rows
+    else if bytes_eq word (codes "bench") then bench_in rows
+    else other_command_in word rows
 
 -- the command of the subcommand that was entered
 abbrev pub entered_command : Option (List ℕ × List Row) → Option Command
@@ -110,6 +142,15 @@ command_of words = command_of_line (codes "safl" ∷ words)
 abbrev pub shown : code.Command → Command
 shown (code_of.Check input) = Check (string_bytes input)
 shown (code_of.Build input output) = Build (string_bytes input) (string_bytes output)
+shown (code_of.Optimise input output) = Optimise (string_bytes input) (string_bytes output)
 shown (code_of.Sim input limit args) = Sim (string_bytes input) limit (map string_bytes args.items)
 shown (code_of.Walk input turns args) = Walk (string_bytes input) turns.seed turns.steps (map string_bytes args.items)
 shown (code_of.Run input limit args) = Run (string_bytes input) limit (map string_bytes args.items)
+shown (code_of.Report input) = Report (string_bytes input)
+shown (code_of.Gen seed count) = Gen seed count
+shown (code_of.Bench seed count limit) = Bench seed count limit
+shown (code_of.CopySite input output site) = CopySite (string_bytes input) (string_bytes output) site
+shown (code_of.UnfoldSite input output site) = UnfoldSite (string_bytes input) (string_bytes output) site
+shown (code_of.Session input script limit) = Session (string_bytes input) (string_bytes script) limit
+shown (code_of.Aig input output) = Aig (string_bytes input) (string_bytes output)
+shown (code_of.Aigstat input) = Aigstat (string_bytes input)

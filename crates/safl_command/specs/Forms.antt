@@ -1,6 +1,6 @@
 -- The forms of the commands, as `clap` reads them.
 use Rattle.std.specs.Prelude.{ℕ, List, [], ◌∷◌, map, Some, true, codes}
-use Rattle.clap.specs.declared.builder.action.ArgAction.TheVariants.{Append}
+use Rattle.clap.specs.declared.builder.action.ArgAction.TheVariants.{Append, SetTrue}
 use Rattle.clap.specs.Words.{App, Shape, Rule, new_app, new_rule, with_rule, with_subcommand}
 use Rattle.safl_command.specs.declared.forms.Argument as code
 use Rattle.safl_command.specs.declared.forms.Argument.TheVariants as code_of
@@ -12,6 +12,10 @@ pub data Argument : Type 0 where
   Name : (id : List ℕ) → Argument
   -- an option that has to be given, with a value, as `--cycles L`
   Option : (id : List ℕ) → Argument
+  -- an option that may be left out, with a value, as `--copy K`
+  Choice : (id : List ℕ) → Argument
+  -- an option that may be left out, without a value, as `--opt`
+  Flag : (id : List ℕ) → Argument
   -- any words, as `[ARG..]`
   Rest : (id : List ℕ) → Argument
 
@@ -20,19 +24,28 @@ pub record Form : Type 0 where
   pub word : List ℕ
   pub arguments : List Argument
 
--- the commands: `check IN`, `build IN OUT`, `sim IN --cycles L [ARG..]`, `walk IN --order SEED --steps N [ARG..]` and `run FILE --cycles L [ARG..]`
+-- the commands
 abbrev pub forms : List Form
 forms =
     (record { word = codes "check"; arguments = Name (codes "IN") ∷ [] })
-    ∷ (record { word = codes "build"; arguments = Name (codes "IN") ∷ Name (codes "OUT") ∷ [] })
+    ∷ (record { word = codes "build"; arguments = Name (codes "IN") ∷ Name (codes "OUT") ∷ Flag (codes "opt") ∷ [] })
     ∷ (record { word = codes "sim"; arguments = Name (codes "IN") ∷ Option (codes "cycles") ∷ Rest (codes "ARG") ∷ [] })
     ∷ (record { word = codes "walk"; arguments = Name (codes "IN") ∷ Option (codes "order") ∷ Option (codes "steps") ∷ Rest (codes "ARG") ∷ [] })
     ∷ (record { word = codes "run"; arguments = Name (codes "FILE") ∷ Option (codes "cycles") ∷ Rest (codes "ARG") ∷ [] })
+    ∷ (record { word = codes "report"; arguments = Name (codes "IN") ∷ [] })
+    ∷ (record { word = codes "gen"; arguments = Name (codes "SEED") ∷ Name (codes "COUNT") ∷ [] })
+    ∷ (record { word = codes "bench"; arguments = Name (codes "SEED") ∷ Name (codes "COUNT") ∷ Option (codes "cycles") ∷ [] })
+    ∷ (record { word = codes "reshape"; arguments = Name (codes "IN") ∷ Name (codes "OUT") ∷ Choice (codes "copy") ∷ Choice (codes "unfold") ∷ [] })
+    ∷ (record { word = codes "session"; arguments = Name (codes "IN") ∷ Name (codes "SCRIPT") ∷ Option (codes "cycles") ∷ [] })
+    ∷ (record { word = codes "aig"; arguments = Name (codes "FILE") ∷ Name (codes "OUT") ∷ [] })
+    ∷ (record { word = codes "aigstat"; arguments = Name (codes "FILE") ∷ [] })
     ∷ []
 
 abbrev pub rule : Argument → Rule
 rule (Name id) = record (new_rule id) { required = true }
 rule (Option id) = record (new_rule id) { long = Some id; required = true }
+rule (Choice id) = record (new_rule id) { long = Some id }
+rule (Flag id) = record (new_rule id) { long = Some id; action = Some SetTrue }
 rule (Rest id) = record (new_rule id) { action = Some Append }
 
 -- with these arguments, in order
@@ -59,6 +72,8 @@ app = with_forms bare forms
 abbrev pub shown : code.Argument → Argument
 shown (code_of.Name id) = Name id.now
 shown (code_of.Option id) = Option id.now
+shown (code_of.Choice id) = Choice id.now
+shown (code_of.Flag id) = Flag id.now
 shown (code_of.Rest id) = Rest id.now
 
 abbrev pub shown_form : code_form.Form → Form

@@ -3,6 +3,9 @@
 /// The most cycles of a run, and events of a walk.
 pub const CYCLES_MAX: u64 = 1_000_000_000;
 
+/// The most functions of a generated source, besides main.
+pub const FUNCTIONS_MAX: u64 = 900;
+
 /// How a walk goes: for at most `steps` events, 1 to `CYCLES_MAX`, by the numbers that `seed` begins.
 #[derive(Clone, Copy)]
 pub struct Turns {
@@ -19,6 +22,11 @@ pub enum Command {
     },
     /// Reads a source from `input` and writes the Verilog text of its circuit to `output`.
     Build {
+        input: String,
+        output: String,
+    },
+    /// Reads a source from `input` and writes the Verilog text of its optimised circuit to `output`.
+    Optimise {
         input: String,
         output: String,
     },
@@ -39,5 +47,47 @@ pub enum Command {
         input: String,
         limit: u64,
         args: Vec<String>,
+    },
+    /// Reads a source from `input` and reports its plan and its registers.
+    Report {
+        input: String,
+    },
+    /// Makes a source of `count` functions and main, 1 to `FUNCTIONS_MAX`, from the numbers that `seed` begins.
+    Gen {
+        seed: u64,
+        count: u32,
+    },
+    /// Makes the same source, and runs its circuit for at most `limit` cycles, 1 to `CYCLES_MAX`.
+    Bench {
+        seed: u64,
+        count: u32,
+        limit: u64,
+    },
+    /// Reads a source from `input` and writes it to `output` with a copy of the function that a site calls, for this site alone.
+    CopySite {
+        input: String,
+        output: String,
+        site: u64,
+    },
+    /// Reads a source from `input` and writes it to `output` with the body of the function that a site calls in place of the call.
+    UnfoldSite {
+        input: String,
+        output: String,
+        site: u64,
+    },
+    /// Reads a source from `input` and runs its circuit once for each line of `script`, each for at most `limit` cycles.
+    Session {
+        input: String,
+        script: String,
+        limit: u64,
+    },
+    /// Reads a Verilog file from `input` and writes the bit-level circuit of its netlist to `output`.
+    Aig {
+        input: String,
+        output: String,
+    },
+    /// Reads a bit-level circuit from `input` and prints its size.
+    Aigstat {
+        input: String,
     },
 }

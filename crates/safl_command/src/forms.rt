@@ -15,6 +15,10 @@ pub enum Argument<'a> {
     Name(&'a str),
     /// An option that has to be given, with a value, as `--cycles L`.
     Option(&'a str),
+    /// An option that may be left out, with a value, as `--copy K`.
+    Choice(&'a str),
+    /// An option that may be left out, without a value, as `--opt`.
+    Flag(&'a str),
     /// Any words, as `[ARG..]`.
     Rest(&'a str),
 }
@@ -27,14 +31,18 @@ pub struct Form<'a> {
 }
 
 /// The commands.
-static FORMS: [Form<'static>; 5] = [
+static FORMS: [Form<'static>; 12] = [
     Form {
         word: "check",
         arguments: &[Argument::Name("IN")],
     },
     Form {
         word: "build",
-        arguments: &[Argument::Name("IN"), Argument::Name("OUT")],
+        arguments: &[
+            Argument::Name("IN"),
+            Argument::Name("OUT"),
+            Argument::Flag("opt"),
+        ],
     },
     Form {
         word: "sim",
@@ -61,6 +69,47 @@ static FORMS: [Form<'static>; 5] = [
             Argument::Rest("ARG"),
         ],
     },
+    Form {
+        word: "report",
+        arguments: &[Argument::Name("IN")],
+    },
+    Form {
+        word: "gen",
+        arguments: &[Argument::Name("SEED"), Argument::Name("COUNT")],
+    },
+    Form {
+        word: "bench",
+        arguments: &[
+            Argument::Name("SEED"),
+            Argument::Name("COUNT"),
+            Argument::Option("cycles"),
+        ],
+    },
+    Form {
+        word: "reshape",
+        arguments: &[
+            Argument::Name("IN"),
+            Argument::Name("OUT"),
+            Argument::Choice("copy"),
+            Argument::Choice("unfold"),
+        ],
+    },
+    Form {
+        word: "session",
+        arguments: &[
+            Argument::Name("IN"),
+            Argument::Name("SCRIPT"),
+            Argument::Option("cycles"),
+        ],
+    },
+    Form {
+        word: "aig",
+        arguments: &[Argument::Name("FILE"), Argument::Name("OUT")],
+    },
+    Form {
+        word: "aigstat",
+        arguments: &[Argument::Name("FILE")],
+    },
 ];
 
 fn arg_of<'a>(alloc: Global, argument: Argument<'a>) -> Arg<'a>
@@ -70,6 +119,8 @@ fn arg_of<'a>(alloc: Global, argument: Argument<'a>) -> Arg<'a>
     match argument {
         Argument::Name(id) => Arg::new(alloc, id).required(true),
         Argument::Option(id) => Arg::new(alloc, id).long(id).required(true),
+        Argument::Choice(id) => Arg::new(alloc, id).long(id),
+        Argument::Flag(id) => Arg::new(alloc, id).long(id).action(ArgAction::SetTrue),
         Argument::Rest(id) => Arg::new(alloc, id).action(ArgAction::Append),
     }
 }

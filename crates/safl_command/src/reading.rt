@@ -1,15 +1,16 @@
 //! How words are read as a command.
 
-ghost use Rattle.std.specs.Prelude.{◌≡◌, ◌≤◌, ◌↔◌, ◌∷◌, true, IfOk, IsSome, IfSome, map, option_map, string_bytes, codes};
-ghost use Rattle.clap.specs.Words.{found_of, rows_of, kind_of, subcommand_rows_of};
-ghost use Rattle.safl_word.specs.Numerals.{value};
-ghost use Rattle.safl_command.specs.Commands.{command_of, command_of_line, entered_command, command_in, name_in, seed_in, limit_in, args_in, filled, is_seed, is_limit, check_in, build_in, sim_in, walk_in, run_in, shown};
+ghost use Rattle.std.specs.Prelude.{◌≡◌, ◌∷◌, IfOk, map, option_map, string_bytes, codes};
+ghost use Rattle.clap.specs.Words.{found_of, rows_of, subcommand_rows_of};
+ghost use Rattle.safl_command.specs.Commands.{command_of, command_of_line, entered_command, command_in, other_command_in, shown};
+ghost use Rattle.safl_command.specs.Commands.{check_in, build_in, sim_in, walk_in, run_in, report_in, gen_in, bench_in, reshape_in, change_in, reshaped, session_in, aig_in, aigstat_in};
 
-use crate::command::{CYCLES_MAX, Command, Turns};
+use crate::arguments::{args_in, count_in, has_flag, limit_in, name_in, number_in, number_of};
+use crate::command::{Command, Turns};
 use crate::forms::program;
 use clap::ArgMatches;
 use clap::error::ErrorKind;
-use safl_word::{NoMemory, decimal};
+use safl_word::NoMemory;
 use std::alloc::Global;
 
 /// The command that the words say, where they are one.
@@ -72,6 +73,32 @@ fn command_in(
         walk_in(alloc, values)
     } else if word == "run" {
         run_in(alloc, values)
+    } else if word == "report" {
+        report_in(alloc, values)
+    } else if word == "gen" {
+        Ok(gen_in(values))
+    } else if word == "bench" {
+        Ok(bench_in(values))
+    } else {
+        other_command_in(alloc, word, values)
+    }
+}
+
+fn other_command_in(
+    alloc: Global,
+    word: &str,
+    values: &ArgMatches<'_>,
+) -> Result<Option<Command>, NoMemory>
+    ensures { IfOk result (λ c. option_map shown c ≡ other_command_in word.now (rows_of (found_of values.now))) }
+{
+    if word == "reshape" {
+        reshape_in(alloc, values)
+    } else if word == "session" {
+        session_in(alloc, values)
+    } else if word == "aig" {
+        aig_in(alloc, values)
+    } else if word == "aigstat" {
+        aigstat_in(alloc, values)
     } else {
         Ok(None)
     }
@@ -95,6 +122,9 @@ fn build_in(alloc: Global, values: &ArgMatches<'_>) -> Result<Option<Command>, N
     let Some(output) = name_in(alloc, values, "OUT")? else {
         return Ok(None);
     };
+    if has_flag(values, "opt") {
+        return Ok(Some(Command::Optimise { input, output }));
+    }
     Ok(Some(Command::Build { input, output }))
 }
 
@@ -117,7 +147,7 @@ fn walk_in(alloc: Global, values: &ArgMatches<'_>) -> Result<Option<Command>, No
     let Some(input) = name_in(alloc, values, "IN")? else {
         return Ok(None);
     };
-    let Some(seed) = seed_in(values, "order") else {
+    let Some(seed) = number_in(values, "order") else {
         return Ok(None);
     };
     let Some(steps) = limit_in(values, "steps") else {
@@ -144,82 +174,128 @@ fn run_in(alloc: Global, values: &ArgMatches<'_>) -> Result<Option<Command>, NoM
     Ok(Some(Command::Run { input, limit, args }))
 }
 
-// The name that an argument gives.
-fn name_in(alloc: Global, values: &ArgMatches<'_>, id: &str) -> Result<Option<String>, NoMemory>
-    ensures { IfOk result (λ name. option_map string_bytes name ≡ name_in id.now (rows_of (found_of values.now))) }
+fn report_in(alloc: Global, values: &ArgMatches<'_>) -> Result<Option<Command>, NoMemory>
+    ensures { IfOk result (λ c. option_map shown c ≡ report_in (rows_of (found_of values.now))) }
 {
-    match values.get_str(id) {
-        Some(word) => filled(alloc, word),
-        None => Ok(None),
-    }
-}
-
-// A word that is not empty.
-fn filled(alloc: Global, word: &str) -> Result<Option<String>, NoMemory>
-    ensures { IfOk result (λ name. option_map string_bytes name ≡ filled word.now) }
-{
-    if word.is_empty() {
+    let Some(input) = name_in(alloc, values, "IN")? else {
         return Ok(None);
-    }
-    let name = String::from_str(alloc, word)?;
-    Ok(Some(name))
+    };
+    Ok(Some(Command::Report { input }))
 }
 
-// The seed that an argument gives.
-fn seed_in(values: &ArgMatches<'_>, id: &str) -> Option<u64>
-    ensures { result ≡ seed_in id.now (rows_of (found_of values.now)) }
+fn gen_in(values: &ArgMatches<'_>) -> Option<Command>
+    ensures { option_map shown result ≡ gen_in (rows_of (found_of values.now)) }
 {
-    match values.get_str(id) {
-        Some(word) => seed_of(word),
-        None => None,
-    }
+    let Some(seed) = number_in(values, "SEED") else {
+        return None;
+    };
+    let Some(count) = count_in(values, "COUNT") else {
+        return None;
+    };
+    Some(Command::Gen { seed, count })
 }
 
-fn seed_of(word: &str) -> Option<u64>
-    ensures some { IsSome result ↔ (is_seed word.now ≡ true) }
-    ensures number { IfSome result (λ n. n ≡ value 10 word.now) }
+fn bench_in(values: &ArgMatches<'_>) -> Option<Command>
+    ensures { option_map shown result ≡ bench_in (rows_of (found_of values.now)) }
 {
-    decimal(word.as_bytes())
+    let Some(seed) = number_in(values, "SEED") else {
+        return None;
+    };
+    let Some(count) = count_in(values, "COUNT") else {
+        return None;
+    };
+    let Some(limit) = limit_in(values, "cycles") else {
+        return None;
+    };
+    Some(Command::Bench { seed, count, limit })
 }
 
-// The number of cycles or events that an argument gives.
-fn limit_in(values: &ArgMatches<'_>, id: &str) -> Option<u64>
-    ensures number { result ≡ limit_in id.now (rows_of (found_of values.now)) }
-    ensures small { IfSome result (λ n. n ≤ CYCLES_MAX) }
+fn reshape_in(alloc: Global, values: &ArgMatches<'_>) -> Result<Option<Command>, NoMemory>
+    ensures { IfOk result (λ c. option_map shown c ≡ reshape_in (rows_of (found_of values.now))) }
 {
-    match values.get_str(id) {
-        Some(word) => limit_of(word),
-        None => None,
-    }
+    let Some(input) = name_in(alloc, values, "IN")? else {
+        return Ok(None);
+    };
+    let Some(output) = name_in(alloc, values, "OUT")? else {
+        return Ok(None);
+    };
+    Ok(change_in(values, input, output))
 }
 
-fn limit_of(word: &str) -> Option<u64>
-    ensures some { IsSome result ↔ (is_limit word.now ≡ true) }
-    ensures number { IfSome result (λ n. n ≡ value 10 word.now) }
-    ensures small { IfSome result (λ n. n ≤ CYCLES_MAX) }
+// One site is given, of one of the two kinds.
+fn change_in(values: &ArgMatches<'_>, input: String, output: String) -> Option<Command>
+    ensures { option_map shown result ≡ change_in (string_bytes input) (string_bytes output) (rows_of (found_of values.now)) }
 {
-    match decimal(word.as_bytes()) {
-        Some(number) if number != 0 && number <= CYCLES_MAX => Some(number),
+    let copied = values.get_str("copy");
+    let unfolded = values.get_str("unfold");
+    reshaped(input, output, copied, unfolded)
+}
+
+fn reshaped(
+    input: String,
+    output: String,
+    copied: Option<&str>,
+    unfolded: Option<&str>,
+) -> Option<Command>
+    ensures { option_map shown result ≡ reshaped (string_bytes input) (string_bytes output) (option_map (λ w. w.now) copied.entry) (option_map (λ w. w.now) unfolded.entry) }
+{
+    match (copied, unfolded) {
+        (Some(word), None) => {
+            let site = number_of(word)?;
+            Some(Command::CopySite {
+                input,
+                output,
+                site,
+            })
+        }
+        (None, Some(word)) => {
+            let site = number_of(word)?;
+            Some(Command::UnfoldSite {
+                input,
+                output,
+                site,
+            })
+        }
         _ => None,
     }
 }
 
-// The arguments.
-fn args_in(alloc: Global, values: &ArgMatches<'_>) -> Result<Vec<String>, NoMemory>
-    ensures { IfOk result (λ args. map string_bytes args.items ≡ args_in (rows_of (found_of values.now))) }
+fn session_in(alloc: Global, values: &ArgMatches<'_>) -> Result<Option<Command>, NoMemory>
+    ensures { IfOk result (λ c. option_map shown c ≡ session_in (rows_of (found_of values.now))) }
 {
-    match values.get_raw("ARG") {
-        Some(words) => copies(alloc, words),
-        None => Ok(Vec::new(alloc)),
-    }
+    let Some(input) = name_in(alloc, values, "IN")? else {
+        return Ok(None);
+    };
+    let Some(script) = name_in(alloc, values, "SCRIPT")? else {
+        return Ok(None);
+    };
+    let Some(limit) = limit_in(values, "cycles") else {
+        return Ok(None);
+    };
+    Ok(Some(Command::Session {
+        input,
+        script,
+        limit,
+    }))
 }
 
-fn copies(alloc: Global, words: &[&str]) -> Result<Vec<String>, NoMemory>
-    ensures { IfOk result (λ copies. map string_bytes copies.items ≡ map (λ word. word.now) words.now) }
+fn aig_in(alloc: Global, values: &ArgMatches<'_>) -> Result<Option<Command>, NoMemory>
+    ensures { IfOk result (λ c. option_map shown c ≡ aig_in (rows_of (found_of values.now))) }
 {
-    let mut copies = Vec::new(alloc);
-    for word in words {
-        copies.push(String::from_str(alloc, word)?)?;
-    }
-    Ok(copies)
+    let Some(input) = name_in(alloc, values, "FILE")? else {
+        return Ok(None);
+    };
+    let Some(output) = name_in(alloc, values, "OUT")? else {
+        return Ok(None);
+    };
+    Ok(Some(Command::Aig { input, output }))
+}
+
+fn aigstat_in(alloc: Global, values: &ArgMatches<'_>) -> Result<Option<Command>, NoMemory>
+    ensures { IfOk result (λ c. option_map shown c ≡ aigstat_in (rows_of (found_of values.now))) }
+{
+    let Some(input) = name_in(alloc, values, "FILE")? else {
+        return Ok(None);
+    };
+    Ok(Some(Command::Aigstat { input }))
 }

@@ -4,7 +4,5 @@
 mod draws;
 mod lines;
 mod source;
-#[cfg(test)]
-mod tests;
 
 pub use crate::source::{COUNT_MAX, GenErr, generate};

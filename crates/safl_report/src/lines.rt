@@ -2,6 +2,7 @@
 
 ghost use Rattle.std.specs.Prelude.{◌≡◌, ◌++◌, OnOk};
 ghost use Rattle.safl_term.specs.Checked.{program_of};
+ghost use Rattle.safl_sites.specs.Plan.{IsPlan};
 ghost use Rattle.safl_sites.specs.Planned.{arbiter_of, kept_of};
 ghost use Rattle.safl_report.specs.Counting.{AreCalls};
 ghost use Rattle.safl_report.specs.Report.{function_lines, site_lines, arbiters_of};
@@ -13,7 +14,8 @@ use safl_word::NoMemory;
 /// Appends the lines of the functions. The table has for each how many sites call it.
 pub fn push_functions(out: &mut Vec<u8>, p: &Planned, calls: &[u32]) -> Result<(), NoMemory>
     requires { AreCalls (program_of p.now.program) (program_of p.now.program).sites calls.now }
-    ensures { OnOk result (out.new.items ≡ out.old.items ++ function_lines p.now.program (arbiter_of p.now)) }
+    ensures lines { OnOk result (out.new.items ≡ out.old.items ++ function_lines p.now.program (arbiter_of p.now)) }
+    ensures plan { IsPlan (program_of p.now.program) (arbiter_of p.now) (kept_of p.now) }
 {
     let c = p.checked();
     for f in 0..c.functions() {
@@ -38,7 +40,8 @@ pub fn push_sites(out: &mut Vec<u8>, p: &Planned) -> Result<(), NoMemory>
 
 /// Of how many functions the unit has an arbiter.
 pub fn count_arbiters(p: &Planned) -> u32
-    ensures { result ≡ arbiters_of (program_of p.now.program) (arbiter_of p.now) }
+    ensures count { result ≡ arbiters_of (program_of p.now.program) (arbiter_of p.now) }
+    ensures plan { IsPlan (program_of p.now.program) (arbiter_of p.now) (kept_of p.now) }
 {
     let mut count = 0;
     for f in 0..p.checked().functions() {

@@ -3,6 +3,7 @@
 ghost use Rattle.std.specs.Prelude.{◌≡◌, ◌<◌, ◌≤◌, ◌+◌, ◌*◌, length, if◌then◌else◌};
 ghost use Rattle.safl_net.specs.Netlist.{width_of};
 ghost use Rattle.safl_net.specs.Making.{kind_at};
+ghost use Rattle.safl_net.specs.Rules.{IsNetlist};
 ghost use Rattle.safl_report.specs.Report.{is_register, registers, bits_of};
 
 use safl_net::{Net, Sig, SigKind};
@@ -28,6 +29,7 @@ pub fn count_registers(n: &Net) -> Total
 
 // Counts a signal, if it is a register.
 fn with_signal(total: Total, n: &Net, s: Sig) -> Total
+    requires netlist { IsNetlist n.now }
     requires known { s.0 < length n.now.signals }
     requires few { total.count ≤ s.0 }
     requires narrow { total.bits ≤ 255 * s.0 }
@@ -36,7 +38,6 @@ fn with_signal(total: Total, n: &Net, s: Sig) -> Total
     ensures few { result.count ≤ s.0 + 1 }
     ensures narrow { result.bits ≤ 255 * (s.0 + 1) }
 {
-    let _signals = n.signals();
     if !is_register(n, s) {
         return total;
     }

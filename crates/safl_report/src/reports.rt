@@ -17,7 +17,6 @@ use std::alloc::Global;
 pub fn report(alloc: Global, p: &Planned, n: &Net) -> Result<Vec<u8>, NoMemory>
     ensures { IfOk result (λ text. IsReport p.now.program n.now text.items) }
 {
-    let _checked = p.checked();
     let calls = count_calls(alloc, p)?;
     let total = count_registers(n);
     let mut out = Vec::new(alloc);
@@ -33,7 +32,6 @@ pub fn summary(alloc: Global, p: &Planned, n: &Net) -> Result<Vec<u8>, NoMemory>
     ensures { IfOk result (λ text. IsSummary p.now.program n.now text.items) }
 {
     let total = count_registers(n);
-    let _checked = p.checked();
     let mut out = Vec::new(alloc);
     push_number(&mut out, "arbiters ", u64::from(count_arbiters(p)))?;
     push_end(&mut out)?;

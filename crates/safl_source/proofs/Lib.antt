@@ -1,2 +1,3 @@
 mod SourceLemmas
 mod Ports
+pub mod Mirrored

@@ -1,10 +1,10 @@
 -- Which program a source is that of, and its first fault.
-use Rattle.std.specs.Prelude.{◌≡◌, ℕ, List, Some}
+use Rattle.std.specs.Prelude.{◌≡◌, ℕ, ◌≤◌, List, Some}
 use Rattle.safl_word.specs.declared.fault.Fault.{Fault}
 use Rattle.safl_tree.specs.Tree.{Definition}
 use Rattle.safl_tree.specs.Source.{SpellsProgram, SyntaxFault}
 use Rattle.safl_term.specs.Program.{Program}
-use Rattle.safl_typing.specs.Forms.{Form, IsFormOf}
+use Rattle.safl_typing.specs.Forms.{Form, IsFormOf, max_sites}
 use Rattle.safl_typing.specs.Walk.{first_fault}
 use Rattle.safl_typing.specs.declared.typed.CheckErr.{CheckErr}
 use Rattle.safl_typing.specs.declared.typed.CheckErr.TheVariants as errors
@@ -34,3 +34,11 @@ abbrev pub RefusesSource : List ℕ → CheckErr → Type 0
 RefusesSource source (errors.Refused f) = HasFirstFault source f
 RefusesSource source errors.TooDeep = ⊥
 RefusesSource source errors.NoMemory = Unit {0}
+
+-- the definitions have a numbered form
+abbrev pub HasForm : List Definition → Type 0
+HasForm ds = (c : Form) × IsFormOf ds c
+
+-- and no more call sites than a program may have
+abbrev pub HasFewSites : List Definition → Type 0
+HasFewSites ds = (c : Form) → IsFormOf ds c → (program_in c).sites ≤ max_sites

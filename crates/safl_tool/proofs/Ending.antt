@@ -1,18 +1,21 @@
 -- How a command ends, by what its parts answer.
-use Rattle.std.proofs.Common.{◌≡◌, ◌≢◌, ℕ, ◌<◌, ◌≤◌, List, [], ◌∷◌, ◌++◌, length, take, bytes_eq, if◌then◌else◌, Bool, true, false, Option, Some, None, refl, sym, ap, ◌∙◌, subst, inl, inr, arith}
-use Rattle.std.specs.Prelude.{◌⊎◌, IfSome, IsSomeAnd}
+use Rattle.std.proofs.Common.{◌≡◌, ℕ, List, [], ◌∷◌, ◌++◌, length, take, bytes_eq, if◌then◌else◌, Bool, true, false, Option, Some, None, Result, Ok, Err, Contains, refl, sym, ap, ◌∙◌, subst, inl, inr, arith}
+use Rattle.std.specs.Prelude.{◌⊎◌, IfOk, IsSomeAnd, OnSome}
 use Rattle.std.specs.Option.{option_or}
 use Rattle.std.proofs.lemmas.List.{take_all}
 use Rattle.std.proofs.lemmas.Slice.Eq.{bytes_eq-Decides}
-use Rattle.safl_io.specs.Reading.{HasFile}
-use Rattle.safl_io.specs.Shelf.{Files, file_of, Leaves, LeavesOldOrPart}
+use Rattle.safl_io.specs.Counts.{Rose}
+use Rattle.safl_io.specs.Shelf.{Files, ShelfState, file_of, Leaves, LeavesOldOrPart}
 use Rattle.safl_io.specs.Told.{TellsOn}
 use Rattle.safl_io.specs.Sink.{SinkState, Sends, SendsPart}
 use Rattle.safl_tool.specs.Lines.{memory_line, read_line, long_line}
-use Rattle.safl_tool.specs.Tasks.{Input, Given, Task, end_of, files_of, AreContents}
-use Rattle.safl_tool.specs.Endings.{Outside, Untouched, LeavesAll, LeavesParts, Began, Left, Reaches, Stops, refused, unread, long, unwritten, unprinted, starved, Ended, Ends, gave, told, cut, may_give}
-use Rattle.safl_tool.specs.Refusals.{StopsBy, RefusesBy, RefusesReading, Prints, PrintFails, SendsLine, sent, SendsRefusal, made, unmade, status_of, line_of}
+use Rattle.safl_tool.specs.Tasks.{Input, Task, end_of, files_of, AreContents, HoldsInputs}
+use Rattle.safl_tool.specs.Endings.{Outside, outside, Untouched, LeavesAll, LeavesParts, Began, Left, Reaches, Stops, refused, unread, long, unwritten, unprinted, starved, Ended, Ends, gave, told, cut, may_give}
+use Rattle.safl_tool.specs.Refusals.{StopsBy, RefusesBy, RefusesReading, RefusesInputs, SendsLine, sent, SendsRefusal, made, unmade, status_of, line_of}
 use Rattle.safl_tool.specs.Refusals as refusals
+use Rattle.safl_tool.specs.Inputs.{contents_in, AreWithin}
+use Rattle.safl_tool.specs.Answers.{given_of, outputs_of, Answers, IsForOutputs, GivesAll, GivesPart, GivingFails}
+use Rattle.safl_tool.specs.declared.answer.Answer.{Answer}
 use Rattle.safl_tool.specs.declared.status.Status.{Status}
 use Rattle.safl_tool.specs.declared.status.Status.TheVariants as status
 use Rattle.safl_tool.specs.declared.refusal.Refusal.{Refusal}
@@ -72,10 +75,6 @@ leaves_parts name text (Some a) (Some b) t = λ other. go other (bytes_eq name o
 pub first_reached : (t : Task) (holds : Option Files) (i : Input) (after : List Input) → t.inputs ≡ i ∷ after → Reaches t holds i
 first_reached t holds i after is = record { before = []; after = after; is = is; held = ([], tt, tt) }
 
--- the content of the only file, as it was read
-pub only_content : (holds : Option Files) (i : Input) (read content : List ℕ) → content ≡ read → IfSome holds (HasFile i.name read) → length read ≤ i.limit → AreContents holds (i ∷ []) (content ∷ [])
-only_content holds i read content same has small = subst (λ (x : List ℕ). AreContents holds (i ∷ []) (x ∷ [])) (sym same) (small, has, tt)
-
 -- what refuses for one reason refuses for another that follows
 pub refuses_more : (P Q : Status → List ℕ → Type 0) → ((s : Status) (line : List ℕ) → P s line → Q s line) → (r : Refusal) → RefusesBy P r → RefusesBy Q r
 refuses_more P Q f r h = elim h [ inl e ↦ inl e | inr p ↦ inr (f (status_of r) (line_of r) p) ]
@@ -119,20 +118,64 @@ module _ (t : Task) (old new : Outside) where
   pub ended_ends : (before after : SinkState) (s : Status) → Ended t old new s → after ≡ before → Ends t old new before after s
   ended_ends before after s (g, h, is) same = subst (λ (x : Status). Ends t old new before after x) is (gave g h same)
 
--- ---- a command that reads one file, and prints
+-- ---- a command that reads one file or none
 
-abbrev pub printing : Task → Input → Task
-printing t i = record t { inputs = i ∷ []; outputs = [] }
+-- its contents, as they were read
+pub contents_are : (holds : Option Files) (inputs is : List Input) (read content : List ℕ) → inputs ≡ is → content ≡ read → AreContents holds is (contents_in is read) → AreContents holds inputs (contents_in inputs content)
+contents_are holds inputs is read content e same h =
+    subst (λ (b : List ℕ). AreContents holds inputs (contents_in inputs b)) (sym same) (subst (λ (l : List Input). AreContents holds l (contents_in l read)) (sym e) h)
 
-module _ (t : Task) (i : Input) (old new : Outside) (bytes : List ℕ) (are : AreContents old.shelf.holds (i ∷ []) (bytes ∷ [])) (same : new.shelf.holds ≡ old.shelf.holds) (g : Given) (gives : t.Gives (bytes ∷ []) g) where
-  pub printed_ended : (s : Status) → s ≡ end_of g → Prints g.printed old.out new.out → Ended (printing t i) old new s
-  printed_ended s e p = (g, record { given = (bytes ∷ [], are, gives); files = same_all old.shelf.holds new.shelf.holds same; printed = p }, sym e)
+pub contents_within : (holds : Option Files) (inputs : List Input) (content : List ℕ) → AreContents holds inputs (contents_in inputs content) → AreWithin inputs content
+contents_within holds [] content h = tt
+contents_within holds (i ∷ is) content h = h.0
 
-  began : TellsOn (SendsPart g.printed) old.out.sent new.out.sent → Began (printing t i) old new
-  began p = record { whole = g; given = (bytes ∷ [], are, gives); files = same_parts [] old.shelf.holds new.shelf.holds same; printed = p }
+-- no stray name is used, in reading and in giving
+pub strays_after : (old mid new : ShelfState) (inputs is : List Input) → inputs ≡ is → (HoldsInputs old.holds is → OnSome old.holds (mid.strays ≡ old.strays)) → mid.holds ≡ old.holds → OnSome mid.holds (new.strays ≡ mid.strays)
+    → HoldsInputs old.holds inputs → OnSome old.holds (new.strays ≡ old.strays)
+strays_after old mid new inputs is e read same given = λ h.
+    go old.holds (read (subst (λ (l : List Input). HoldsInputs old.holds l) e h)) (subst (λ (o : Option Files). OnSome o (new.strays ≡ mid.strays)) same given)
+  where
+    go : (o : Option Files) → OnSome o (mid.strays ≡ old.strays) → OnSome o (new.strays ≡ mid.strays) → OnSome o (new.strays ≡ old.strays)
+    go None a b = tt
+    go (Some files) a b = b ∙ a
 
-  -- the sink failed, or memory ran out, after a part
-  pub print_stops : (r : Refusal) → PrintFails g.printed old.out new.out r → StopsBy (printing t i) old new r
-  print_stops refusal.Output h = unprinted h.0 (began h.1)
-  print_stops refusal.NoMemory h = starved (inr (began h))
-  print_stops _ never = absurd never
+-- two facts of one result
+pub both_ok : {X : Type 0} (r : Result X Refusal) (P Q R : X → Type 0) → ((x : X) → P x → Q x → R x) → IfOk r P → IfOk r Q → IfOk r R
+both_ok (Ok x) P Q R f p q = f x p q
+both_ok (Err e) P Q R f p q = tt
+
+-- its file was not read
+pub inputs_stop : (t : Task) (old new : Outside) (is : List Input) → t.inputs ≡ is → Untouched old new → (r : Refusal) → RefusesInputs is old.shelf new.shelf r → StopsBy t old new r
+inputs_stop t old new [] e kept r h = subst (λ (x : Refusal). StopsBy t old new x) (sym h) (starved (inl kept))
+inputs_stop t old new (i ∷ is) e kept r h = reading_stops t old new i (first_reached t old.shelf.holds i is e) kept r h
+
+-- its answer is given
+module _ (t : Task) (old new : Outside) (mid : ShelfState) (same : mid.holds ≡ old.shelf.holds) (bytes : List ℕ) (are : AreContents old.shelf.holds t.inputs (contents_in t.inputs bytes)) (a : Answer) (gives : Answers t bytes a) (for_outputs : IsForOutputs t a) where
+  pub answer_ended : (s : Status) → s ≡ end_of (given_of a) → GivesAll (outputs_of a) (given_of a) (outside mid old.out) new → Ended t old new s
+  answer_ended s e h = (
+    given_of a,
+    record {
+      given = (contents_in t.inputs bytes, are, gives);
+      files = subst (λ (x : Option Files). TellsOn (LeavesAll (files_of t.outputs (given_of a).texts)) x new.shelf.holds) same
+          (subst (λ (l : List (List ℕ)). TellsOn (LeavesAll (files_of l (given_of a).texts)) mid.holds new.shelf.holds) (sym for_outputs) h.files);
+      printed = h.printed;
+    },
+    sym e,
+  )
+
+  answer_began : GivesPart (outputs_of a) (given_of a) (outside mid old.out) new → Began t old new
+  answer_began h = record {
+    whole = given_of a;
+    given = (contents_in t.inputs bytes, are, gives);
+    files = subst (λ (x : Option Files). TellsOn (LeavesParts (files_of t.outputs (given_of a).texts)) x new.shelf.holds) same
+        (subst (λ (l : List (List ℕ)). TellsOn (LeavesParts (files_of l (given_of a).texts)) mid.holds new.shelf.holds) (sym for_outputs) h.files);
+    printed = h.printed;
+  }
+
+  -- or a part of it
+  pub answer_stops : mid.write_faults ≡ old.shelf.write_faults → (r : Refusal) → GivingFails (outputs_of a) (given_of a) (outside mid old.out) new r → StopsBy t old new r
+  answer_stops writes refusal.Output h = unprinted h.0 (answer_began h.1)
+  answer_stops writes (refusal.Write name) h =
+      unwritten name.now (subst (λ (l : List (List ℕ)). Contains l name.now) (sym for_outputs) h.0) (subst (λ (k : ℕ). Rose k new.shelf.write_faults) writes h.1) (answer_began h.2)
+  answer_stops writes refusal.NoMemory h = starved (inr (answer_began h))
+  answer_stops writes _ never = absurd never

@@ -1,14 +1,13 @@
 -- What follows of every command, however it ends.
-use Rattle.std.proofs.Common.{◌≡◌, ℕ, ◌<◌, ◌≤◌, List, [], ◌∷◌, ◌++◌, length, take, bytes_eq, if◌then◌else◌, Bool, true, false, Option, Some, None, Contains, refl, sym, ap, ◌∙◌, subst, inl, inr, zero, suc, get_or, arith}
+use Rattle.std.proofs.Common.{◌≡◌, ℕ, ◌<◌, ◌≤◌, List, [], ◌∷◌, ◌++◌, length, take, bytes_eq, if◌then◌else◌, Bool, true, false, Option, Some, None, Contains, refl, sym, ap, ◌∙◌, subst, inl, inr, suc, arith}
 use Rattle.std.specs.Prelude.{◌⊎◌, IfSome, IsSome, IsSomeAnd}
 use Rattle.std.proofs.lemmas.Slice.Eq.{bytes_eq-Decides}
 use Rattle.safl_io.specs.Reading.{HasFile}
 use Rattle.safl_io.specs.Shelf.{Files, file_of}
 use Rattle.safl_io.specs.Told.{TellsOn}
-use Rattle.safl_tool.specs.Lines.{memory_line}
 use Rattle.safl_io.specs.Sink.{SinkState, SendsPart}
 use Rattle.safl_tool.specs.Tasks.{Input, Given, Task, OfFile, end_of, files_of, AreContents, OfInputs}
-use Rattle.safl_tool.specs.Endings.{Outside, Untouched, LeavesParts, Gave, Began, Left, Reaches, Stops, refused, unread, long, unwritten, unprinted, starved, Ends, gave, told, cut, may_give, Got, KeepsAll, KeepsOthers, Tells, NoFault, Completes}
+use Rattle.safl_tool.specs.Endings.{Outside, LeavesParts, Gave, Began, Left, Stops, refused, unread, long, unwritten, unprinted, starved, Ends, gave, told, cut, may_give, Got, KeepsAll, KeepsOthers, Tells, NoFault, Completes}
 use Rattle.safl_tool.specs.declared.status.Status.{Status}
 use Rattle.safl_tool.specs.declared.status.Status.TheVariants as status
 use Rattle.safl_tool.proofs.Ending.{whole_part, all_parts, stop_left, same_parts}

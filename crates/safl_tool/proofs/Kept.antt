@@ -1,25 +1,35 @@
 -- What is promised is kept, command by command.
-use Rattle.std.proofs.Common.{◌≡◌, ℕ, zero, suc, ◌<◌, List, [], ◌∷◌, length, Option, Some, None, true, slice_get, refl, sym, ap, subst, ◌∙◌, arith, inl, inr}
+use Rattle.std.proofs.Common.{◌≡◌, ℕ, zero, suc, List, [], ◌∷◌, length, Option, Some, None, true, slice_get, refl, sym, ap, subst, ◌∙◌, arith, inl, inr, codes}
 use Rattle.safl_word.specs.Words.{Word}
 use Rattle.safl_io.specs.Sink.{SinkState}
 use Rattle.safl_term.specs.Program.{Program}
+use Rattle.safl_term.specs.Checked.{program_of}
+use Rattle.safl_circuit.specs.Names.{names_of}
 use Rattle.safl_term.specs.Fuel.{GivesInCalls}
 use Rattle.safl_term.specs.Laws.{OneAnswer}
 use Rattle.safl_net.specs.Netlist.{Netlist}
 use Rattle.safl_net.specs.Valuations.{IsAcyclic}
 use Rattle.safl_sim.specs.Arguments.{argument_widths}
+use Rattle.safl_sim.specs.declared.done.Done.{Done}
 use Rattle.safl_sim.specs.Outcomes.{IsDone}
 use Rattle.safl_source.specs.Laws.{OneProgram, NotBoth}
 use Rattle.safl_verilog.specs.Laws as verilog
 use Rattle.safl_core.specs.declared.walking.Walked.{Walked}
-use Rattle.safl_tool.specs.Commands.{Command, Check, Build, Sim, Walk, Run}
+use Rattle.safl_command.specs.Commands.{Command, Check, Build, Sim, Walk, Run, Optimise, Report, Gen, Bench, CopySite, UnfoldSite, Session, Aig, Aigstat}
 use Rattle.safl_tool.specs.Sources.{IsAccepted}
 use Rattle.safl_tool.specs.Arguments.{IsRead, AreRead, HaveFault}
 use Rattle.safl_tool.specs.Simulating.{Simulates, IsMisgiven, Evaluates}
 use Rattle.safl_tool.specs.Walking.{MainGives, Walks}
 use Rattle.safl_tool.specs.Running.{RunsText, IsMisrun, IsUnrunnable, faulty, looped, Finishes}
 use Rattle.safl_tool.specs.Tasks.{Given, Only}
-use Rattle.safl_tool.specs.CommandTasks.{usage_task, check_task, build_task, sim_task, walk_task, run_task, task_of, RefusesSourceOf, RefusesGiven, RefusesText, GivesNumbers, GivesCircuit, GivesOutcome, GivesWalk, GivesRun, end_of_walk}
+use Rattle.safl_tool.specs.CommandTasks.{usage_task, check_task, build_task, optimise_task, sim_task, walk_task, run_task, report_task, gen_task, bench_task, reshape_task, task_of}
+use Rattle.safl_tool.specs.CommandTasks.{RefusesSourceOf, RefusesGiven, RefusesText, GivesNumbers, GivesCircuit, GivesOptimised, GivesOutcome, GivesWalk, GivesRun, end_of_walk, IsCount, GivesMeasure, RefusesReshaping}
+use Rattle.safl_tree.specs.Laws.{OneProgram as OneTree}
+use Rattle.safl_check.specs.Numbered.{program_in}
+use Rattle.safl_source.specs.Sources.{names_in}
+use Rattle.safl_tool.specs.Reshaping.{Reshaping, copies, unfolds, IsReshapable, GivesReshaped}
+use Rattle.safl_tool.proofs.Reshaped.{IsOnce, copying_once, unfolding_once, reshapable_not_refused}
+use Rattle.safl_tool.specs.Reporting.{GivesReport, RefusesCount, Measures, made_source, made_args}
 use Rattle.safl_tool.specs.Endings.{Outside, Ends, Completes}
 use Rattle.safl_tool.specs.declared.status.Status.{Status}
 use Rattle.safl_tool.proofs.Following.{IsKept, end_completes}
@@ -139,7 +149,13 @@ check_kept apart input = record {
 build_kept : NotBoth → (input output : List ℕ) → IsKept (build_task input output)
 build_kept apart input output = record {
   refuses = λ contents s line. only IsAccepted (λ source. RefusesSourceOf input source s line) ⊥ (λ source. accepted_not_refused apart input source s line) contents;
-  gives = λ contents g. only IsAccepted (λ source. GivesCircuit source g) (g.comes ≡ true) (λ source a h. ap (λ (x : Given). x.comes) h.is) contents;
+  gives = λ contents g. only IsAccepted (λ source. GivesCircuit source g) (g.comes ≡ true) (λ source a h. ap (λ (x : Given). x.comes) h.1.is) contents;
+}
+
+optimise_kept : NotBoth → (input output : List ℕ) → IsKept (optimise_task input output)
+optimise_kept apart input output = record {
+  refuses = λ contents s line. only IsAccepted (λ source. RefusesSourceOf input source s line) ⊥ (λ source. accepted_not_refused apart input source s line) contents;
+  gives = λ contents g. only IsAccepted (λ source. GivesOptimised source g) (g.comes ≡ true) (λ source a h. ap (λ (x : Given). x.comes) h.1.is) contents;
 }
 
 given_not_refused : OneProgram → NotBoth → (name : List ℕ) (args : List (List ℕ)) (limit : ℕ) (s : Status) (line source : List ℕ) → Evaluates source args limit → RefusesGiven name args source s line → ⊥
@@ -187,6 +203,59 @@ run_kept one apart input limit args = record {
   gives = λ contents g. only (λ text. Finishes text args limit) (λ text. GivesRun args limit text g) (g.comes ≡ true) (run_comes one args limit g) contents;
 }
 
+report_kept : NotBoth → (input : List ℕ) → IsKept (report_task input)
+report_kept apart input = record {
+  refuses = λ contents s line. only IsAccepted (λ source. RefusesSourceOf input source s line) ⊥ (λ source. accepted_not_refused apart input source s line) contents;
+  gives = λ contents g. only IsAccepted (λ source. GivesReport source g) (g.comes ≡ true) (λ source a h. ap (λ (x : Given). x.comes) h.is) contents;
+}
+
+count_not_refused : (count : ℕ) (s : Status) (line : List ℕ) → IsCount count → RefusesCount count s line → ⊥
+count_not_refused count s line c r = let least = c.0 in let most = c.1 in elim r.0 [ inl none ↦ omega (arith, none, least) | inr above ↦ omega (arith, above, most) ]
+
+gen_kept : (seed count : ℕ) → IsKept (gen_task seed count)
+gen_kept seed count = record { refuses = λ contents s line. count_not_refused count s line; gives = λ contents g p h. ap (λ (x : Given). x.comes) h }
+
+-- the run that was measured
+measured_run : (source : List ℕ) (args : List (List ℕ)) (limit : ℕ) (head : List ℕ) (answer : Option Done) → Measures source args limit head answer → Simulates source args limit answer
+measured_run source args limit head answer m = record {
+  program = program_of m.program;
+  names = names_of m.program;
+  net = m.net;
+  words = m.words;
+  source_of = m.source_of;
+  circuit = m.circuit;
+  read = m.read;
+  outcome = m.outcome;
+  value = m.value;
+}
+
+measure_comes : OneProgram → (args : List (List ℕ)) (limit : ℕ) (g : Given) (source : List ℕ) → Evaluates source args limit → GivesMeasure args limit source g → g.comes ≡ true
+measure_comes once args limit g source e (head, None, m, is) = absurd (comes_in_time once source args limit (measured_run source args limit head None m) e)
+measure_comes once args limit g source e (head, Some d, m, is) = ap (λ (x : Given). x.comes) is
+
+bench_kept : OneProgram → NotBoth → (seed count limit : ℕ) → IsKept (bench_task seed count limit)
+bench_kept once apart seed count limit = record {
+  refuses = λ contents s line p r. elim r [
+    | inl n ↦ count_not_refused count s line p.0 n
+    | inr f ↦ given_not_refused once apart (codes "bench") (made_args seed count) limit s line (made_source seed count) p.1 f
+  ];
+  gives = λ contents g p h. measure_comes once (made_args seed count) limit g (made_source seed count) p.1 h;
+}
+
+source_reshapable_not_refused : NotBoth → (r : Reshaping) (source : List ℕ) (name : List ℕ) (s : Status) (line : List ℕ) → IsReshapable r source → RefusesSourceOf name source s line → ⊥
+source_reshapable_not_refused apart r source name s line k f =
+    apart source (program_in k.form.0) (names_in k.form.0) f.1.0
+    (record { definitions = k.definitions; spelled = k.spelled; form = k.form.0; is = k.form.1; program = refl; names = refl }) f.1.1
+
+reshape_kept : NotBoth → OneTree → (r : Reshaping) → IsOnce r → (input output : List ℕ) (site : ℕ) → IsKept (reshape_task r input output site)
+reshape_kept apart trees r o input output site = record {
+  refuses = λ contents s line. only (IsReshapable r) (λ source. RefusesReshaping r input site source s line) ⊥ (λ source k q. elim q [
+    | inl f ↦ source_reshapable_not_refused apart r source input s line k f
+    | inr u ↦ reshapable_not_refused trees r o site source s line k u
+  ]) contents;
+  gives = λ contents g. only (IsReshapable r) (λ source. GivesReshaped r source g) (g.comes ≡ true) (λ source k h. ap (λ (x : Given). x.comes) h.is) contents;
+}
+
 -- what is true of sources and of Verilog texts
 pub record Laws : Type 1 where
   pub once : OneProgram
@@ -194,14 +263,24 @@ pub record Laws : Type 1 where
   pub meaning : (C : Program) → OneAnswer C
   pub one : verilog.OneNetlist
   pub free : verilog.NotBoth
+  pub trees : OneTree
 
 kept : Laws → (command : Option Command) → IsKept (task_of command)
 kept l None = usage_kept
 kept l (Some (Check input)) = check_kept l.apart input
 kept l (Some (Build input output)) = build_kept l.apart input output
+kept l (Some (Optimise input output)) = optimise_kept l.apart input output
 kept l (Some (Sim input limit args)) = sim_kept l.once l.apart input limit args
 kept l (Some (Walk input seed steps args)) = walk_kept l.once l.apart l.meaning input seed steps args
 kept l (Some (Run input limit args)) = run_kept l.one l.free input limit args
+kept l (Some (Report input)) = report_kept l.apart input
+kept l (Some (Gen seed count)) = gen_kept seed count
+kept l (Some (Bench seed count limit)) = bench_kept l.once l.apart seed count limit
+kept l (Some (CopySite input output site)) = reshape_kept l.apart l.trees (copies site) (copying_once site) input output site
+kept l (Some (UnfoldSite input output site)) = reshape_kept l.apart l.trees (unfolds site) (unfolding_once site) input output site
+kept l (Some (Session input script limit)) = usage_kept
+kept l (Some (Aig input output)) = usage_kept
+kept l (Some (Aigstat input)) = usage_kept
 
 pub completes : Laws → (command : Option Command) (old new : Outside) (before after : SinkState) (s : Status) → Ends (task_of command) old new before after s → Completes (task_of command) old new s
 completes l command old new before after s ends = end_completes (task_of command) (kept l command) old new before after s ends

@@ -5,5 +5,7 @@ pub mod Following
 pub mod Simulated
 pub mod Walked
 pub mod Ran
+pub mod Quiet
 pub mod Joining
+pub mod Reshaped
 pub mod Kept

@@ -1,9 +1,7 @@
 -- Arguments that are read one after the other.
-use Rattle.std.proofs.Common.{◌≡◌, ℕ, zero, suc, ◌+◌, ◌<◌, List, [], ◌∷◌, ◌++◌, length, map, get_or, String, string_bytes, Global, Some, Bool, ◌&&◌, not, slice_get, slice_index, refl, sym, ap, subst, ◌∙◌, arith, inl, inr}
+use Rattle.std.proofs.Common.{◌≡◌, ℕ, zero, suc, ◌+◌, ◌<◌, List, [], ◌∷◌, ◌++◌, length, map, get_or, String, string_bytes, Global, Some, slice_get, slice_index, refl, sym, ap, subst, ◌∙◌, arith, inl, inr}
 use Rattle.safl_word.specs.Words.{Word}
 use Rattle.safl_net.proofs.Naming.{pushed}
-use Rattle.std.specs.List.{list_all}
-use Rattle.safl_tool.specs.Commands.{is_trace, are_plain}
 use Rattle.safl_tool.specs.Arguments.{IsRead, AreRead, IsUnread}
 use Rattle.safl_tool.specs.Lines.{argument_line}
 
@@ -81,8 +79,3 @@ text_at (y ∷ xs) (suc i) x t h e f = text_at xs i x t (omega (arith, h)) e f
 pub texts_long : (xs : List (String Global)) → length (map string_bytes xs) ≡ length xs
 texts_long [] = refl
 texts_long (x ∷ xs) = ap suc (texts_long xs)
-
--- none of them asks for a trace
-pub all_plain : (xs : List (String Global)) → list_all (λ (word : String Global). not (is_trace (string_bytes word))) xs ≡ are_plain (map string_bytes xs)
-all_plain [] = refl
-all_plain (x ∷ xs) = ap (λ (b : Bool). not (is_trace (string_bytes x)) && b) (all_plain xs)

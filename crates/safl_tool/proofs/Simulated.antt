@@ -9,14 +9,18 @@ use Rattle.safl_sim.specs.Outcomes.{IsDone, IsOutcome, word_at}
 use Rattle.safl_term.specs.Program.{Program}
 use Rattle.safl_term.specs.Fuel.{GivesInCalls}
 use Rattle.safl_term.specs.WellFormed.{AreWordsOf}
-use Rattle.safl_circuit.specs.Names.{Names, as_word}
+use Rattle.safl_term.specs.Checked.{CheckedProgram, program_of}
+use Rattle.safl_circuit.specs.Names.{Names, names_of, as_word}
 use Rattle.safl_circuit.specs.Correct.{Correct}
 use Rattle.safl_source.specs.Sources.{IsSourceOf}
+use Rattle.safl_source.specs.Circuits.{IsCircuitOf}
 use Rattle.safl_tool.specs.Sources.{IsCompiled}
 use Rattle.safl_tool.specs.Arguments.{AreRead, HaveFault}
 use Rattle.safl_tool.specs.CommandTasks.{RefusesSourceOf, RefusesGiven}
 use Rattle.safl_tool.specs.Endings.{may_give}
-use Rattle.safl_tool.specs.Simulating.{IsValue, HasValue, Simulates, IsMisgiven}
+use Rattle.safl_tool.specs.Reporting.{HasHead, Measures}
+use Rattle.safl_tool.specs.Running.{Gives}
+use Rattle.safl_tool.specs.Simulating.{IsValue, HasValue, Simulates}
 use Rattle.safl_tool.specs.Refusals.{RefusesBy, RefusesArguments}
 use Rattle.safl_tool.specs.declared.status.Status.{Status}
 use Rattle.safl_tool.specs.declared.refusal.Refusal.{Refusal}
@@ -98,6 +102,25 @@ module _ (source : List ℕ) (n : Netlist) (c : IsCompiled source n) (args : Lis
         outcome = q;
         value = has_value c.program c.names n c.circuit.circuit.correct words (read_words (c.program.params c.program.main) args words p) limit answer q;
       }
+
+-- what a run of the circuit of a planned program says, after its head
+pub measures : (source : List ℕ) (p : CheckedProgram) (n : Netlist) → IsSourceOf source (program_of p) (names_of p) → IsCircuitOf (program_of p) (names_of p) n
+    → argument_widths n.signals ≡ (program_of p).params (program_of p).main → (args : List (List ℕ)) (limit : ℕ) (answer : Option Done) → Gives n args limit answer
+    → (head : List ℕ) → HasHead p n head → Measures source args limit head answer
+measures source p n of circuit params args limit answer g head begins =
+    let C = program_of p in
+    let read : AreRead (C.params C.main) args g.words = subst (λ l. AreRead l args g.words) params g.read in
+    record {
+      program = p;
+      net = n;
+      words = g.words;
+      source_of = of;
+      circuit = circuit;
+      begins = begins;
+      read = read;
+      outcome = g.outcome;
+      value = has_value C (names_of p) n circuit.circuit.correct g.words (read_words (C.params C.main) args g.words read) limit answer g.outcome;
+    }
 
 -- what refuses the arguments of a program refuses the source with them
 pub arguments_refused : (name source : List ℕ) (C : Program) (D : Names) (args : List (List ℕ)) (widths : List ℕ) → widths ≡ C.params C.main → IsSourceOf source C D

@@ -1,11 +1,12 @@
 -- What each command reads, refuses and gives.
-use Rattle.std.specs.Prelude.{◌≡◌, ℕ, ◌⊎◌, List, [], ◌∷◌, take, Option, Some, None, true, false}
+use Rattle.std.specs.Prelude.{◌≡◌, ℕ, ◌≤◌, ◌⊎◌, List, [], ◌∷◌, ◌++◌, take, Option, Some, None, is_some, true, false, codes}
 use Rattle.safl_word.specs.Words.{Word}
 use Rattle.safl_net.specs.Netlist.{Netlist}
 use Rattle.safl_net.specs.Written.{written}
 use Rattle.safl_net.specs.Rules.{IsNetlist}
 use Rattle.safl_net.specs.Whole.{IsWhole}
 use Rattle.safl_net.specs.Arranged.{IsInOrder}
+use Rattle.safl_opt.specs.Lean.{Lean}
 use Rattle.safl_verilog.specs.Reads.{Reads}
 use Rattle.safl_vwrite.specs.Torn.{IsTornOrWhole}
 use Rattle.safl_term.specs.Program.{Program}
@@ -15,22 +16,18 @@ use Rattle.safl_circuit.specs.Names.{Names}
 use Rattle.safl_source.specs.Sources.{IsSourceOf}
 use Rattle.safl_source.specs.Circuits.{IsCircuitOf}
 use Rattle.safl_tool.specs.Sources.{IsFaultLine, IsAccepted}
-use Rattle.safl_tool.specs.Commands.{Command, Check, Build, Sim, Walk, Run}
-use Rattle.safl_tool.specs.Limits.{source_max, verilog_max}
-use Rattle.safl_tool.specs.Lines.{usage_line, program_lines, done_lines, late_line, walk_lines, short_line}
+use Rattle.safl_command.specs.Commands.{Command, Check, Build, Sim, Walk, Run, Optimise, Report, Gen, Bench, CopySite, UnfoldSite, Session, Aig, Aigstat}
+use Rattle.safl_tool.specs.Inputs.{source_file, verilog_file}
+use Rattle.safl_tool.specs.Lines.{usage_line, program_lines, outcome_lines, walk_lines, short_line}
 use Rattle.safl_tool.specs.Running.{RunsText, IsMisrun, IsUnrunnable, Finishes}
+use Rattle.safl_tool.specs.Reporting.{GivesReport, RefusesCount, Measures, made_source, made_args}
+use Rattle.safl_tool.specs.Limits.{functions_max}
+use Rattle.safl_tool.specs.Reshaping.{Reshaping, copies, unfolds, IsUnshaped, IsReshapable, GivesReshaped}
 use Rattle.safl_tool.specs.Simulating.{Simulates, IsMisgiven, Evaluates}
 use Rattle.safl_tool.specs.Walking.{Walks}
-use Rattle.safl_tool.specs.Tasks.{Input, Given, Task, Only}
+use Rattle.safl_tool.specs.Tasks.{Given, Task, Only}
 use Rattle.safl_tool.specs.declared.status.Status.{Status}
 use Rattle.safl_tool.specs.declared.status.Status.TheVariants as status
-
--- a file that holds a source, and one that holds a Verilog text
-abbrev pub source_file : List ℕ → Input
-source_file name = record { name = name; limit = source_max }
-
-abbrev pub verilog_file : List ℕ → Input
-verilog_file name = record { name = name; limit = verilog_max }
 
 -- a text that is printed with a result, and one that tells that none came
 abbrev pub result : List ℕ → Given
@@ -78,12 +75,11 @@ check_task input = record {
   Promises = Only IsAccepted;
 }
 
--- What `build` gives of a source: the text of a netlist that is its program's circuit. It is a netlist, whole and in order, and
--- the text reads as it; no prefix of the text reads as a netlist, but for one without the last line feed alone.
-pub record GivesCircuit (source : List ℕ) (g : Given) : Type 0 where
+-- What is given is the text of this netlist, which is the circuit of the source's program. It is a netlist, whole and in order,
+-- and the text reads as it; no prefix of the text reads as a netlist, but for one without the last line feed alone.
+pub record WritesCircuit (source : List ℕ) (net : Netlist) (g : Given) : Type 0 where
   pub program : Program
   pub names : Names
-  pub net : Netlist
   pub source_of : IsSourceOf source program names
   pub circuit : IsCircuitOf program names net
   pub made : IsNetlist net
@@ -92,6 +88,14 @@ pub record GivesCircuit (source : List ℕ) (g : Given) : Type 0 where
   pub reads : Reads (written net) net
   pub torn : (count : ℕ) → IsTornOrWhole net (take count (written net))
   pub is : g ≡ record { comes = true; printed = []; texts = written net ∷ [] }
+
+-- what `build` gives of a source
+abbrev pub GivesCircuit : List ℕ → Given → Type 0
+GivesCircuit source g = (net : Netlist) × WritesCircuit source net g
+
+-- and what it gives with `--opt`: a circuit none of whose temporary wires could be spared
+abbrev pub GivesOptimised : List ℕ → Given → Type 0
+GivesOptimised source g = (net : Netlist) × WritesCircuit source net g × Lean net
 
 abbrev pub build_task : List ℕ → List ℕ → Task
 build_task input output = record {
@@ -102,9 +106,21 @@ build_task input output = record {
   Promises = Only IsAccepted;
 }
 
+abbrev pub optimise_task : List ℕ → List ℕ → Task
+optimise_task input output = record {
+  inputs = source_file input ∷ [];
+  outputs = output ∷ [];
+  Refuses = λ files s line. Only (λ source. RefusesSourceOf input source s line) files;
+  Gives = λ files g. Only (λ source. GivesOptimised source g) files;
+  Promises = Only IsAccepted;
+}
+
+-- some lines, and then those of the outcome of a run, which is a result where done came
+abbrev pub outcome_after : List ℕ → ℕ → Option Done → Given
+outcome_after head limit answer = record { comes = is_some answer; printed = head ++ outcome_lines limit answer; texts = [] }
+
 abbrev pub outcome : ℕ → Option Done → Given
-outcome limit (Some d) = result (done_lines d.result.bits d.cycle)
-outcome limit None = no_result (late_line limit)
+outcome = outcome_after []
 
 -- what a run of the circuit of a source gives
 abbrev pub GivesOutcome : List (List ℕ) → ℕ → List ℕ → Given → Type 0
@@ -149,11 +165,73 @@ run_task input limit args = record {
   Promises = Only (λ text. Finishes text args limit);
 }
 
+abbrev pub report_task : List ℕ → Task
+report_task input = record {
+  inputs = source_file input ∷ [];
+  outputs = [];
+  Refuses = λ files s line. Only (λ source. RefusesSourceOf input source s line) files;
+  Gives = λ files g. Only (λ source. GivesReport source g) files;
+  Promises = Only IsAccepted;
+}
+
+-- a source can be made with so many functions
+abbrev pub IsCount : ℕ → Type 0
+IsCount count = (1 ≤ count) × (count ≤ functions_max)
+
+abbrev pub gen_task : ℕ → ℕ → Task
+gen_task seed count = record {
+  inputs = [];
+  outputs = [];
+  Refuses = λ files s line. RefusesCount count s line;
+  Gives = λ files g. g ≡ result (made_source seed count);
+  Promises = λ files. IsCount count;
+}
+
+-- of a source: the numbers of its program, the summary of its plan, and the outcome of a run of its circuit
+abbrev pub GivesMeasure : List (List ℕ) → ℕ → List ℕ → Given → Type 0
+GivesMeasure args limit source g = (head : List ℕ) × (answer : Option Done) × Measures source args limit head answer × (g ≡ outcome_after head limit answer)
+
+-- a made source is refused as any other; its file would have the name `bench`
+abbrev pub RefusesBench : ℕ → ℕ → Status → List ℕ → Type 0
+RefusesBench seed count s line = RefusesCount count s line ⊎ RefusesGiven (codes "bench") (made_args seed count) (made_source seed count) s line
+
+abbrev pub bench_task : ℕ → ℕ → ℕ → Task
+bench_task seed count limit = record {
+  inputs = [];
+  outputs = [];
+  Refuses = λ files s line. RefusesBench seed count s line;
+  Gives = λ files g. GivesMeasure (made_args seed count) limit (made_source seed count) g;
+  Promises = λ files. IsCount count × Evaluates (made_source seed count) (made_args seed count) limit;
+}
+
+-- the source has a fault, or its program is not reshaped at the site
+abbrev pub RefusesReshaping : Reshaping → List ℕ → ℕ → List ℕ → Status → List ℕ → Type 0
+RefusesReshaping r name site source s line = RefusesSourceOf name source s line ⊎ IsUnshaped r site source s line
+
+abbrev pub reshape_task : Reshaping → List ℕ → List ℕ → ℕ → Task
+reshape_task r input output site = record {
+  inputs = source_file input ∷ [];
+  outputs = output ∷ [];
+  Refuses = λ files s line. Only (λ source. RefusesReshaping r input site source s line) files;
+  Gives = λ files g. Only (λ source. GivesReshaped r source g) files;
+  Promises = Only (IsReshapable r);
+}
+
 -- the task of a command; words that are none are one too
 abbrev pub task_of : Option Command → Task
 task_of None = usage_task
 task_of (Some (Check input)) = check_task input
 task_of (Some (Build input output)) = build_task input output
+task_of (Some (Optimise input output)) = optimise_task input output
 task_of (Some (Sim input limit args)) = sim_task input limit args
 task_of (Some (Walk input seed steps args)) = walk_task input seed steps args
 task_of (Some (Run input limit args)) = run_task input limit args
+task_of (Some (Report input)) = report_task input
+task_of (Some (Gen seed count)) = gen_task seed count
+task_of (Some (Bench seed count limit)) = bench_task seed count limit
+task_of (Some (CopySite input output site)) = reshape_task (copies site) input output site
+task_of (Some (UnfoldSite input output site)) = reshape_task (unfolds site) input output site
+-- not built yet
+task_of (Some (Session input script limit)) = usage_task
+task_of (Some (Aig input output)) = usage_task
+task_of (Some (Aigstat input)) = usage_task

@@ -1,5 +1,5 @@
 -- How a command ends: what it leaves in the files and on its sinks, and why.
-use Rattle.std.specs.Prelude.{◌≡◌, ℕ, ◌<◌, ◌⊎◌, List, [], ◌∷◌, ◌++◌, length, take, Option, Some, IsSome, IsSomeAnd, OnSome, Contains, Bool, true, false}
+use Rattle.std.specs.Prelude.{◌≡◌, ℕ, ◌<◌, ◌⊎◌, List, ◌∷◌, ◌++◌, length, take, Option, Some, IsSome, IsSomeAnd, OnSome, Contains, Bool, true, false}
 use Rattle.std.specs.Option.{option_or}
 use Rattle.safl_io.specs.Counts.{Rose}
 use Rattle.safl_io.specs.Shelf.{Files, ShelfState, file_of}

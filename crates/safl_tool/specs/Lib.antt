@@ -1,14 +1,16 @@
-pub mod Commands
 pub mod Limits
 pub mod Lines
 pub mod Sources
 pub mod Arguments
 pub mod Simulating
+pub mod Reporting
+pub mod Reshaping
 pub mod Walking
 pub mod VerilogLines
 pub mod Running
 pub mod Tasks
 pub mod Endings
+pub mod Inputs
 pub mod CommandTasks
 pub mod Refusals
 pub mod Answers

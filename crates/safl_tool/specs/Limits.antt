@@ -1,4 +1,4 @@
--- The limits of input files.
+-- The limits of input files and of made sources.
 use Rattle.std.specs.Prelude.{ℕ}
 
 -- the most bytes of a source
@@ -9,6 +9,6 @@ source_max = 1048576
 abbrev pub verilog_max : ℕ
 verilog_max = 67108864
 
--- the most cycles of a run, and events of a walk
-abbrev pub cycles_max : ℕ
-cycles_max = 1000000000
+-- the most functions of a made source, besides main
+abbrev pub functions_max : ℕ
+functions_max = 900

@@ -1,7 +1,8 @@
 -- The lines that a refusal sends, each with its line feed.
-use Rattle.std.specs.Prelude.{ℕ, ◌+◌, List, ◌++◌, take, not, ◌==◌, count_by, codes}
+use Rattle.std.specs.Prelude.{ℕ, ◌+◌, List, ◌++◌, Option, Some, None, take, not, ◌==◌, count_by, codes}
 use Rattle.std.specs.List.{suffix_len}
 use Rattle.std.specs.Fmt.{decimal}
+use Rattle.safl_sim.specs.declared.done.Done.{Done}
 use Rattle.safl_word.specs.declared.fault.Fault.{Fault}
 use Rattle.safl_word.specs.Faults.{fault_text}
 
@@ -42,12 +43,21 @@ done_lines result cycle = codes "result " ++ decimal result ++ codes "\ncycle " 
 abbrev pub late_line : ℕ → List ℕ
 late_line limit = codes "no result in " ++ decimal limit ++ codes " cycles\n"
 
+-- what a run prints, by its outcome
+abbrev pub outcome_lines : ℕ → Option Done → List ℕ
+outcome_lines limit (Some d) = done_lines d.result.bits d.cycle
+outcome_lines limit None = late_line limit
+
 -- what a walk prints: main's result, the events and the units that were busy at most, or that no result came in so many events
 abbrev pub walk_lines : ℕ → ℕ → ℕ → List ℕ
 walk_lines result events units = codes "result " ++ decimal result ++ codes "\nevents " ++ decimal events ++ codes "\nunits " ++ decimal units ++ codes "\n"
 
 abbrev pub short_line : ℕ → List ℕ
 short_line steps = codes "no result in " ++ decimal steps ++ codes " events\n"
+
+-- why a site is not reshaped
+abbrev pub site_line : ℕ → List ℕ → List ℕ
+site_line site text = codes "site " ++ decimal site ++ codes ": " ++ text ++ codes "\n"
 
 -- one more than the line feeds before the place
 abbrev pub line_at : List ℕ → ℕ → ℕ

@@ -15,3 +15,4 @@ number_of status.VerilogRefused = 7
 number_of status.BadArgs = 8
 number_of status.ProbeFault = 9
 number_of status.TooLong = 10
+number_of status.ReshapeRefused = 13

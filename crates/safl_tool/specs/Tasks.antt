@@ -25,9 +25,13 @@ pub record Task : Type 1 where
   pub Gives : List (List ℕ) → Given → Type 0
   pub Promises : List (List ℕ) → Type 0
 
+-- the status where a result came, and where none did
+abbrev pub status_if : Bool → Status
+status_if comes = if comes then status.Ok else status.NoResult
+
 -- the status with what is given
 abbrev pub end_of : Given → Status
-end_of g = if g.comes then status.Ok else status.NoResult
+end_of g = status_if g.comes
 
 -- the texts under the names of their files
 abbrev pub files_of : List (List ℕ) → List (List ℕ) → Files

@@ -1,43 +1,69 @@
-//! `build IN OUT`: from a source to the Verilog text of its circuit.
+//! What `build IN OUT [--opt]` writes: the Verilog text of a source's circuit.
 
-ghost use Rattle.std.specs.Prelude.{◌≡◌, IfOk, IfErr};
-ghost use Rattle.safl_io.specs.Sink.{SinkState};
-ghost use Rattle.safl_tool.specs.CommandTasks.{build_task};
-ghost use Rattle.safl_tool.specs.Endings.{Ended, SameStrays, outside};
-ghost use Rattle.safl_tool.specs.Refusals.{StopsBy};
+ghost use Rattle.std.specs.Prelude.{◌≡◌, ◌≤◌, ◌∷◌, [], IfOk, IfErr, length};
+ghost use Rattle.safl_tool.specs.Answers.{given_of, outputs_of};
+ghost use Rattle.safl_tool.specs.CommandTasks.{GivesCircuit, GivesOptimised, RefusesSourceOf};
+ghost use Rattle.safl_tool.specs.Limits.{source_max};
+ghost use Rattle.safl_tool.specs.Refusals.{RefusesBy};
 
+use crate::answer::Answer;
 use crate::refusal::Refusal;
-use crate::source::{SOURCE_MAX, compile, read_input};
-use crate::status::Status;
-use safl_io::Shelf;
+use crate::source::{check_source, compile};
+use safl_source::optimised_circuit_of;
 use safl_verilog::laws::{no_shorter_text_law, written_reads_law};
-use safl_vwrite::{WriteErr, write_net};
+use safl_vwrite::text_of;
+use safl_word::NoMemory;
 use std::alloc::Global;
 
-/// Reads the source of the name `input`, and writes the Verilog text of its circuit to `output`.
-pub fn build<'a, S: Shelf>(
+/// The Verilog text of the circuit of a source for the file `output`, or why the source in the file of this name is refused.
+pub fn circuit<'a>(
     alloc: Global,
-    shelf: &mut S,
-    input: &'a str,
+    name: &'a str,
     output: &'a str,
-) -> Result<Status, Refusal<'a>>
-    ensures ended { (out : SinkState) → IfOk result (Ended (build_task input.now output.now) (outside (S.told shelf.old) out) (outside (S.told shelf.new) out)) }
-    ensures refused { (out : SinkState) → IfErr result (StopsBy (build_task input.now output.now) (outside (S.told shelf.old) out) (outside (S.told shelf.new) out)) }
-    ensures no_stray { SameStrays (build_task input.now output.now) (S.told shelf.old) (S.told shelf.new) }
+    source: &[u8],
+) -> Result<Answer<'a>, Refusal<'a>>
+    requires { length source.now ≤ source_max }
+    ensures gives { IfOk result (λ a. GivesCircuit source.now (given_of a)) }
+    ensures writes { IfOk result (λ a. output.now ∷ [] ≡ outputs_of a) }
+    ensures refused { IfErr result (RefusesBy (RefusesSourceOf name.now source.now)) }
 {
-    let source = match read_input(alloc, shelf, input, SOURCE_MAX) {
-        Ok(source) => source,
-        Err(refusal) => return Err(refusal),
-    };
-    let net = match compile(alloc, input, &source) {
+    let net = match compile(alloc, name, source) {
         Ok(net) => net,
         Err(refusal) => return Err(refusal),
     };
     written_reads_law();
     no_shorter_text_law();
-    match write_net(alloc, &net, shelf, output) {
-        Ok(()) => Ok(Status::Ok),
-        Err(WriteErr::Failed) => Err(Refusal::Write(output)),
-        Err(WriteErr::NoMemory) => Err(Refusal::NoMemory),
+    match text_of(alloc, &net) {
+        Ok(text) => Ok(Answer::File { name: output, text }),
+        Err(NoMemory) => Err(Refusal::NoMemory),
+    }
+}
+
+/// The same for the circuit without the temporary wires that can be spared.
+pub fn optimised<'a>(
+    alloc: Global,
+    name: &'a str,
+    output: &'a str,
+    source: &[u8],
+) -> Result<Answer<'a>, Refusal<'a>>
+    requires { length source.now ≤ source_max }
+    ensures gives { IfOk result (λ a. GivesOptimised source.now (given_of a)) }
+    ensures writes { IfOk result (λ a. output.now ∷ [] ≡ outputs_of a) }
+    ensures refused { IfErr result (RefusesBy (RefusesSourceOf name.now source.now)) }
+{
+    let checked = match check_source(alloc, name, source) {
+        Ok(checked) => checked,
+        Err(refusal) => return Err(refusal),
+    };
+    let net = match optimised_circuit_of(alloc, checked) {
+        Ok(net) => net,
+        Err(NoMemory) => return Err(Refusal::NoMemory),
+    };
+    let _count = net.signals();
+    written_reads_law();
+    no_shorter_text_law();
+    match text_of(alloc, &net) {
+        Ok(text) => Ok(Answer::File { name: output, text }),
+        Err(NoMemory) => Err(Refusal::NoMemory),
     }
 }

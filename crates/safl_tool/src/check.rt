@@ -1,52 +1,25 @@
-//! `check IN`: from a source to the numbers of its program.
+//! What `check IN` prints: the numbers of a source's program.
 
-ghost use Rattle.std.specs.Prelude.{◌≡◌, ◌≤◌, ◌++◌, OnOk, IfOk, IfErr, length};
+ghost use Rattle.std.specs.Prelude.{◌≡◌, ◌≤◌, ◌++◌, [], OnOk, IfOk, IfErr, length};
 ghost use Rattle.safl_term.specs.Checked.{program_of};
-ghost use Rattle.safl_tool.specs.Answers.{given_of};
-ghost use Rattle.safl_tool.specs.CommandTasks.{check_task, GivesNumbers, RefusesSourceOf};
-ghost use Rattle.safl_tool.specs.Endings.{Ended, SameStrays, outside};
+ghost use Rattle.safl_tool.specs.Answers.{given_of, outputs_of};
+ghost use Rattle.safl_tool.specs.CommandTasks.{GivesNumbers, RefusesSourceOf};
 ghost use Rattle.safl_tool.specs.Limits.{source_max};
 ghost use Rattle.safl_tool.specs.Lines.{program_lines};
-ghost use Rattle.safl_tool.specs.Refusals.{StopsBy, RefusesBy};
+ghost use Rattle.safl_tool.specs.Refusals.{RefusesBy};
 
-use crate::print::{Answer, print};
+use crate::answer::Answer;
 use crate::refusal::{Refusal, push};
-use crate::source::{SOURCE_MAX, check_source, read_input};
-use crate::status::Status;
-use safl_io::{Shelf, Sink};
+use crate::source::check_source;
 use safl_term::Checked;
 use safl_word::{NoMemory, Raw, push_decimal};
 use std::alloc::Global;
 
-/// Reads and checks the source of the name `input`, and prints how many functions and how many call sites it has.
-pub fn check<'a, S: Shelf, O: Sink>(
-    alloc: Global,
-    shelf: &mut S,
-    out: &mut O,
-    input: &'a str,
-) -> Result<Status, Refusal<'a>>
-    ensures ended { IfOk result (Ended (check_task input.now) (outside (S.told shelf.old) (O.told out.old)) (outside (S.told shelf.new) (O.told out.new))) }
-    ensures refused { IfErr result (StopsBy (check_task input.now) (outside (S.told shelf.old) (O.told out.old)) (outside (S.told shelf.new) (O.told out.new))) }
-    ensures no_stray { SameStrays (check_task input.now) (S.told shelf.old) (S.told shelf.new) }
-{
-    let source = match read_input(alloc, shelf, input, SOURCE_MAX) {
-        Ok(source) => source,
-        Err(refusal) => return Err(refusal),
-    };
-    let answer = match answer_of(alloc, input, &source) {
-        Ok(answer) => answer,
-        Err(refusal) => return Err(refusal),
-    };
-    match print(out, &answer) {
-        Ok(status) => Ok(status),
-        Err(refusal) => Err(refusal),
-    }
-}
-
-// The numbers of the program of a source, or why the source in the file of this name is refused.
-fn answer_of<'a>(alloc: Global, name: &'a str, source: &[u8]) -> Result<Answer, Refusal<'a>>
+/// How many functions and how many call sites the program of a source has, or why the source in the file of this name is refused.
+pub fn numbers<'a>(alloc: Global, name: &'a str, source: &[u8]) -> Result<Answer<'a>, Refusal<'a>>
     requires { length source.now ≤ source_max }
     ensures gives { IfOk result (λ a. GivesNumbers source.now (given_of a)) }
+    ensures prints { IfOk result (λ a. [] ≡ outputs_of a) }
     ensures refused { IfErr result (RefusesBy (RefusesSourceOf name.now source.now)) }
 {
     let checked = match check_source(alloc, name, source) {
@@ -54,7 +27,7 @@ fn answer_of<'a>(alloc: Global, name: &'a str, source: &[u8]) -> Result<Answer, 
         Err(refusal) => return Err(refusal),
     };
     match text_of(alloc, &checked) {
-        Ok(text) => Ok(Answer { comes: true, text }),
+        Ok(text) => Ok(Answer::Lines { comes: true, text }),
         Err(NoMemory) => Err(Refusal::NoMemory),
     }
 }
@@ -67,7 +40,8 @@ fn text_of(alloc: Global, checked: &Checked) -> Result<Vec<u8>, NoMemory>
     Ok(text)
 }
 
-fn push_program(text: &mut Vec<u8>, functions: u32, sites: u32) -> Result<(), NoMemory>
+/// Appends how many functions and how many call sites a program has.
+pub fn push_program(text: &mut Vec<u8>, functions: u32, sites: u32) -> Result<(), NoMemory>
     ensures { OnOk result (text.new.items ≡ text.old.items ++ program_lines functions sites) }
 {
     push(text, b"functions ")?;

@@ -1,12 +1,15 @@
 //! The top call of the program: from the words of a command line to files, lines and a status.
 #![tactic(auto)]
 
+mod answer;
 mod arguments;
 mod build;
 mod check;
-mod command;
-mod print;
+mod input;
+mod made;
 mod refusal;
+mod report;
+mod reshape;
 mod run_file;
 mod simulate;
 mod source;
@@ -14,9 +17,7 @@ mod status;
 mod top;
 mod verilog_lines;
 mod walk;
+mod work;
 
 pub use crate::status::Status;
 pub use crate::top::run;
-
-#[cfg(test)]
-mod tests;

@@ -1,7 +1,7 @@
 //! Why a command ends without its result, and the line that says so.
 
 ghost use Rattle.std.specs.Prelude.{◌≡◌, ◌++◌, IfOk, OnOk, codes};
-ghost use Rattle.safl_tool.specs.Lines.{line_at, column_at, count_line, argument_line, placed_line, long_line};
+ghost use Rattle.safl_tool.specs.Lines.{line_at, column_at, count_line, argument_line, placed_line, long_line, site_line};
 ghost use Rattle.safl_tool.specs.Refusals.{status_of, line_of};
 ghost use Rattle.safl_word.specs.Faults.{fault_text};
 
@@ -34,6 +34,8 @@ pub enum Refusal<'a> {
     Count(usize, usize),
     /// The argument of this number, from 1, is no number of so many bits.
     Argument(usize, u8),
+    /// The site of this number is not reshaped; this says why.
+    Site(u64, &'static str),
     NoMemory,
 }
 
@@ -52,6 +54,7 @@ impl<'a> Refusal<'a> {
             Refusal::Verilog(_) => Status::VerilogRefused,
             Refusal::Count(_, _) => Status::BadArgs,
             Refusal::Argument(_, _) => Status::BadArgs,
+            Refusal::Site(_, _) => Status::ReshapeRefused,
             Refusal::NoMemory => Status::NoMemory,
         }
     }
@@ -72,6 +75,7 @@ impl<'a> Refusal<'a> {
             Refusal::Verilog(line) => Ok(line),
             Refusal::Count(params, given) => count_line(alloc, params, given),
             Refusal::Argument(index, width) => argument_line(alloc, index, width),
+            Refusal::Site(site, text) => site_line(alloc, site, text),
             Refusal::NoMemory => text_of(alloc, b"out of memory\n"),
         }
     }
@@ -148,6 +152,18 @@ fn argument_line(alloc: Global, index: usize, width: u8) -> Result<Vec<u8>, NoMe
     push(&mut out, b" is no number of ")?;
     push_decimal(Raw::from(width), &mut out)?;
     push(&mut out, b" bits\n")?;
+    Ok(out)
+}
+
+fn site_line(alloc: Global, site: u64, text: &str) -> Result<Vec<u8>, NoMemory>
+    ensures { IfOk result (λ line. line.items ≡ site_line site text.now) }
+{
+    let mut out = Vec::new(alloc);
+    push(&mut out, b"site ")?;
+    push_decimal(Raw::from(site), &mut out)?;
+    push(&mut out, b": ")?;
+    push(&mut out, text.as_bytes())?;
+    push(&mut out, b"\n")?;
     Ok(out)
 }
 

@@ -1,23 +1,20 @@
-//! `run FILE --cycles L [ARG..]`: from a Verilog file to what its netlist gives.
+//! What `run FILE --cycles L [ARG..]` prints: what the netlist of a Verilog file gives.
 
-ghost use Rattle.std.specs.Prelude.{◌≡◌, ◌≤◌, length, map, IfOk, IfErr, string_bytes};
+ghost use Rattle.std.specs.Prelude.{◌≡◌, ◌≤◌, [], length, map, IfOk, IfErr, string_bytes};
 ghost use Rattle.safl_net.specs.Making.{name_at, numbers};
 ghost use Rattle.safl_net.specs.Whole.{IsWhole};
-ghost use Rattle.safl_tool.specs.Answers.{given_of};
-ghost use Rattle.safl_tool.specs.CommandTasks.{run_task, GivesRun, RefusesText, RefusesNet};
-ghost use Rattle.safl_tool.specs.Endings.{Ended, SameStrays, outside};
+ghost use Rattle.safl_tool.specs.Answers.{given_of, outputs_of};
+ghost use Rattle.safl_tool.specs.CommandTasks.{GivesRun, RefusesText, RefusesNet};
 ghost use Rattle.safl_tool.specs.Limits.{verilog_max};
-ghost use Rattle.safl_tool.specs.Refusals.{StopsBy, RefusesBy, HasLine};
+ghost use Rattle.safl_tool.specs.Refusals.{RefusesBy, HasLine};
 ghost use Rattle.safl_tool.specs.Running.{RunsText, IsRunnable};
 ghost use Rattle.safl_tool.specs.VerilogLines.{AreKnown, verilog_line, loop_line};
+ghost use Rattle.safl_tool.specs.declared.status.Status.{Status};
 
-use crate::print::{Answer, print};
+use crate::answer::Answer;
 use crate::refusal::Refusal;
 use crate::simulate::{outcome, run_net};
-use crate::source::read_input;
-use crate::status::Status;
 use crate::verilog_lines::{fault_line, loop_line};
-use safl_io::{Shelf, Sink};
 use safl_net::{Net, Sig};
 use safl_order::laws::loops_are_cyclic;
 use safl_order::{OrderErr, Ordered, order};
@@ -28,49 +25,17 @@ use safl_vread::read_net;
 use safl_word::NoMemory;
 use std::alloc::Global;
 
-/// The most bytes of a Verilog file.
-pub const VERILOG_MAX: u64 = 67_108_864;
-
-/// Reads the Verilog file of the name `input`, runs its netlist with the arguments for at most `limit` cycles, and prints
-/// what it gives. The status is Ok where done came, and else NoResult.
-pub fn run_verilog<'a, S: Shelf, O: Sink>(
-    alloc: Global,
-    shelf: &mut S,
-    out: &mut O,
-    input: &'a str,
-    limit: u64,
-    args: &[String],
-) -> Result<Status, Refusal<'a>>
-    ensures ended { IfOk result (Ended (run_task input.now limit (map string_bytes args.now))
-        (outside (S.told shelf.old) (O.told out.old)) (outside (S.told shelf.new) (O.told out.new))) }
-    ensures refused { IfErr result (StopsBy (run_task input.now limit (map string_bytes args.now))
-        (outside (S.told shelf.old) (O.told out.old)) (outside (S.told shelf.new) (O.told out.new))) }
-    ensures no_stray { SameStrays (run_task input.now limit (map string_bytes args.now)) (S.told shelf.old) (S.told shelf.new) }
-{
-    let text = match read_input(alloc, shelf, input, VERILOG_MAX) {
-        Ok(text) => text,
-        Err(refusal) => return Err(refusal),
-    };
-    let answer = match answer_of(alloc, input, &text, limit, args) {
-        Ok(answer) => answer,
-        Err(refusal) => return Err(refusal),
-    };
-    match print(out, &answer) {
-        Ok(status) => Ok(status),
-        Err(refusal) => Err(refusal),
-    }
-}
-
-// What is printed of a run of the netlist of a text, or why the text in the file of this name is not run.
-fn answer_of<'a>(
+/// What is printed of a run of the netlist of a text, or why the text in the file of this name is not run.
+pub fn netlist_outcome<'a>(
     alloc: Global,
     name: &'a str,
     text: &[u8],
     limit: u64,
     args: &[String],
-) -> Result<Answer, Refusal<'a>>
+) -> Result<Answer<'a>, Refusal<'a>>
     requires { length text.now ≤ verilog_max }
     ensures gives { IfOk result (λ a. GivesRun (map string_bytes args.now) limit text.now (given_of a)) }
+    ensures prints { IfOk result (λ a. [] ≡ outputs_of a) }
     ensures refused { IfErr result (RefusesBy (RefusesText name.now (map string_bytes args.now) text.now)) }
 {
     let done = match run_text(alloc, name, text, limit, args) {

@@ -1,72 +1,39 @@
-//! `sim IN --cycles L [ARG..]`: from a source to what its circuit gives.
+//! What `sim IN --cycles L [ARG..]` prints: what the circuit of a source gives.
 
-ghost use Rattle.std.specs.Prelude.{◌≡◌, ◌≤◌, ◌++◌, length, map, OnOk, IfOk, IfErr, string_bytes};
-ghost use Rattle.safl_net.specs.Netlist.{AllSet};
+ghost use Rattle.std.specs.Prelude.{◌≡◌, ◌≤◌, ◌++◌, [], length, map, is_some, OnOk, IfOk, IfErr, string_bytes};
 ghost use Rattle.safl_net.specs.Valuations.{IsAcyclic};
 ghost use Rattle.safl_net.specs.Whole.{IsWhole};
 ghost use Rattle.safl_sim.specs.Arguments.{argument_widths};
-ghost use Rattle.safl_tool.specs.Answers.{given_of};
-ghost use Rattle.safl_tool.specs.CommandTasks.{sim_task, outcome, GivesOutcome, RefusesGiven};
-ghost use Rattle.safl_tool.specs.Endings.{Ended, SameStrays, outside};
+ghost use Rattle.safl_tool.specs.Answers.{given_of, outputs_of};
+ghost use Rattle.safl_tool.specs.CommandTasks.{outcome, GivesOutcome, RefusesGiven};
 ghost use Rattle.safl_tool.specs.Limits.{source_max};
-ghost use Rattle.safl_tool.specs.Lines.{done_lines, late_line};
-ghost use Rattle.safl_tool.specs.Refusals.{StopsBy, RefusesBy, RefusesArguments};
+ghost use Rattle.safl_tool.specs.Lines.{done_lines, late_line, outcome_lines};
+ghost use Rattle.safl_tool.specs.Refusals.{RefusesBy, RefusesArguments};
 ghost use Rattle.safl_tool.specs.Running.{Gives};
 ghost use Rattle.safl_tool.specs.Simulating.{Simulates};
 
+use crate::answer::Answer;
 use crate::arguments::read_arguments;
-use crate::print::{Answer, print};
 use crate::refusal::{Refusal, push};
-use crate::source::{SOURCE_MAX, compile, read_input};
-use crate::status::Status;
-use safl_io::{Shelf, Sink};
+use crate::source::compile;
 use safl_net::Net;
-use safl_order::laws::loops_are_cyclic;
-use safl_order::{OrderErr, Ordered, order};
+use safl_order::Ordered;
 use safl_sim::{Done, Sim, argument_widths, run_until_done};
+use safl_source::ordered;
 use safl_word::{NoMemory, Raw, push_decimal};
 use std::alloc::Global;
 
-/// Reads the source of the name `input`, runs its circuit with the arguments for at most `limit` cycles, and prints
-/// what it gives. The status is Ok where done came, and else NoResult.
-pub fn sim<'a, S: Shelf, O: Sink>(
-    alloc: Global,
-    shelf: &mut S,
-    out: &mut O,
-    input: &'a str,
-    limit: u64,
-    args: &[String],
-) -> Result<Status, Refusal<'a>>
-    ensures ended { IfOk result (Ended (sim_task input.now limit (map string_bytes args.now))
-        (outside (S.told shelf.old) (O.told out.old)) (outside (S.told shelf.new) (O.told out.new))) }
-    ensures refused { IfErr result (StopsBy (sim_task input.now limit (map string_bytes args.now))
-        (outside (S.told shelf.old) (O.told out.old)) (outside (S.told shelf.new) (O.told out.new))) }
-    ensures no_stray { SameStrays (sim_task input.now limit (map string_bytes args.now)) (S.told shelf.old) (S.told shelf.new) }
-{
-    let source = match read_input(alloc, shelf, input, SOURCE_MAX) {
-        Ok(source) => source,
-        Err(refusal) => return Err(refusal),
-    };
-    let answer = match answer_of(alloc, input, &source, limit, args) {
-        Ok(answer) => answer,
-        Err(refusal) => return Err(refusal),
-    };
-    match print(out, &answer) {
-        Ok(status) => Ok(status),
-        Err(refusal) => Err(refusal),
-    }
-}
-
-// What is printed of a run of the circuit of a source, or why the source in the file of this name is not run.
-fn answer_of<'a>(
+/// What is printed of a run of the circuit of a source, or why the source in the file of this name is not run.
+pub fn circuit_outcome<'a>(
     alloc: Global,
     name: &'a str,
     source: &[u8],
     limit: u64,
     args: &[String],
-) -> Result<Answer, Refusal<'a>>
+) -> Result<Answer<'a>, Refusal<'a>>
     requires { length source.now ≤ source_max }
     ensures gives { IfOk result (λ a. GivesOutcome (map string_bytes args.now) limit source.now (given_of a)) }
+    ensures prints { IfOk result (λ a. [] ≡ outputs_of a) }
     ensures refused { IfErr result (RefusesBy (RefusesGiven name.now (map string_bytes args.now) source.now)) }
 {
     let done = match simulate(alloc, name, source, limit, args) {
@@ -95,28 +62,28 @@ fn simulate<'a>(
         Ok(net) => net,
         Err(refusal) => return Err(refusal),
     };
-    let Ok(ordered) = order_circuit(alloc, net) else {
-        return Err(Refusal::NoMemory);
-    };
-    match run_net(alloc, ordered, limit, args) {
+    match run_circuit(alloc, net, limit, args) {
         Ok(answer) => Ok(answer),
         Err(refusal) => Err(refusal),
     }
 }
 
-// The circuit with its wires in an order of evaluation.
-fn order_circuit(alloc: Global, net: Net) -> Result<Ordered, NoMemory>
-    requires set { AllSet net }
+/// What a circuit gives in at most `limit` cycles with the arguments.
+pub fn run_circuit<'a>(
+    alloc: Global,
+    net: Net,
+    limit: u64,
+    args: &[String],
+) -> Result<Option<Done>, Refusal<'a>>
+    requires whole { IsWhole net }
     requires acyclic { IsAcyclic net }
-    ensures { IfOk result (λ o. o.net ≡ net) }
+    ensures answer { IfOk result (Gives net (map string_bytes args.now) limit) }
+    ensures refused { IfErr result (RefusesBy (RefusesArguments (argument_widths net.signals) (map string_bytes args.now))) }
 {
-    loops_are_cyclic();
-    match order(alloc, net) {
-        Ok(ordered) => Ok(ordered),
-        Err(OrderErr::Loop(_, _)) => unreachable!(),
-        Err(OrderErr::Unset(_, _)) => unreachable!(),
-        Err(OrderErr::NoMemory(_)) => Err(NoMemory),
-    }
+    let Ok(ordered) = ordered(alloc, net) else {
+        return Err(Refusal::NoMemory);
+    };
+    run_net(alloc, ordered, limit, args)
 }
 
 /// What a net gives in at most `limit` cycles with the arguments.
@@ -147,21 +114,30 @@ pub fn run_net<'a>(
 }
 
 /// What is printed of what a run gave.
-pub fn outcome(alloc: Global, limit: u64, done: Option<Done>) -> Result<Answer, NoMemory>
-    ensures { IfOk result (λ a. given_of a ≡ outcome limit done) }
+pub fn outcome<'a>(alloc: Global, limit: u64, done: Option<Done>) -> Result<Answer<'a>, NoMemory>
+    ensures given { IfOk result (λ a. given_of a ≡ outcome limit done) }
+    ensures prints { IfOk result (λ a. [] ≡ outputs_of a) }
 {
     let mut text = Vec::new(alloc);
-    let comes = match done {
+    let comes = push_outcome(&mut text, limit, done)?;
+    Ok(Answer::Lines { comes, text })
+}
+
+/// Appends what is printed of what a run gave, and says whether it is a result.
+pub fn push_outcome(text: &mut Vec<u8>, limit: u64, done: Option<Done>) -> Result<bool, NoMemory>
+    ensures comes { IfOk result (λ comes. comes ≡ is_some done) }
+    ensures lines { OnOk result (text.new.items ≡ text.old.items ++ outcome_lines limit done) }
+{
+    match done {
         Some(done) => {
-            push_done(&mut text, done)?;
-            true
+            push_done(text, done)?;
+            Ok(true)
         }
         None => {
-            push_late(&mut text, limit)?;
-            false
+            push_late(text, limit)?;
+            Ok(false)
         }
-    };
-    Ok(Answer { comes, text })
+    }
 }
 
 fn push_done(text: &mut Vec<u8>, done: Done) -> Result<(), NoMemory>

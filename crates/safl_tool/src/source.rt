@@ -1,50 +1,27 @@
 //! From a source to its program and its circuit.
 
-ghost use Rattle.std.specs.Prelude.{◌≡◌, ◌≤◌, length, OnSome, IfOk, IfErr, IfSome};
+ghost use Rattle.std.specs.Prelude.{◌≡◌, ◌≤◌, length, IfOk, IfErr};
 ghost use Rattle.safl_circuit.specs.Names.{names_of};
-ghost use Rattle.safl_io.specs.Reading.{HasFile};
-ghost use Rattle.safl_source.specs.Sources.{IsSourceOf};
+ghost use Rattle.safl_source.specs.Sources.{HasFewSites, HasForm, IsSourceOf};
+ghost use Rattle.safl_tree.specs.Printable.{IsPrintable};
+ghost use Rattle.safl_tree.specs.Shown.{shown_program};
+ghost use Rattle.safl_tree.specs.Source.{SpellsProgram};
 ghost use Rattle.safl_term.specs.Checked.{program_of};
 ghost use Rattle.safl_tool.specs.CommandTasks.{RefusesSourceOf};
 ghost use Rattle.safl_tool.specs.Limits.{source_max};
 ghost use Rattle.safl_tool.specs.Lines.{source_line};
-ghost use Rattle.safl_tool.specs.Refusals.{RefusesBy, RefusesReading, status_of, line_of};
+ghost use Rattle.safl_tool.specs.Refusals.{RefusesBy, status_of, line_of};
 ghost use Rattle.safl_tool.specs.Sources.{IsCompiled};
-ghost use Rattle.safl_tool.specs.Tasks.{OfFile};
 
 use crate::refusal::{Refusal, column_number, line_number};
 use crate::status::Status;
-use safl_io::{ReadErr, Shelf, read_file};
 use safl_net::Net;
-use safl_source::{CheckErr, accept, circuit_of};
+use safl_sites::Planned;
+use safl_source::{CheckErr, accept, accepted_program, circuit_of, plan_of};
 use safl_term::Checked;
+use safl_tree::Program;
 use safl_word::{Fault, NoMemory};
 use std::alloc::Global;
-
-/// The most bytes of a source.
-pub const SOURCE_MAX: u64 = 1_048_576;
-
-/// Reads the file of a name, of at most `limit` bytes.
-pub fn read_input<'a, S: Shelf>(
-    alloc: Global,
-    shelf: &mut S,
-    input: &'a str,
-    limit: u64,
-) -> Result<Vec<u8>, Refusal<'a>>
-    ensures read { IfOk result (λ bytes. IfSome (S.told shelf.old).holds (HasFile input.now bytes.items)) }
-    ensures small { IfOk result (λ bytes. length bytes.items ≤ limit) }
-    ensures refused { IfErr result (RefusesReading limit (S.told shelf.old) (S.told shelf.new) input.now) }
-    ensures same_files { (S.told shelf.new).holds ≡ (S.told shelf.old).holds }
-    ensures same_writes { (S.told shelf.new).write_faults ≡ (S.told shelf.old).write_faults }
-    ensures no_stray { OfFile (S.told shelf.old).holds input.now (λ bytes. Unit {0}) → OnSome (S.told shelf.old).holds ((S.told shelf.new).strays ≡ (S.told shelf.old).strays) }
-{
-    match read_file(alloc, shelf, input, limit) {
-        Ok(bytes) => Ok(bytes),
-        Err(ReadErr::Failed) => Err(Refusal::Read(input)),
-        Err(ReadErr::TooLong) => Err(Refusal::TooLong(input, limit)),
-        Err(ReadErr::NoMemory) => Err(Refusal::NoMemory),
-    }
-}
 
 /// The checked program of a source, or why the source in the file of this name is refused.
 pub fn check_source<'a>(alloc: Global, name: &'a str, source: &[u8]) -> Result<Checked, Refusal<'a>>
@@ -75,6 +52,38 @@ pub fn compile<'a>(alloc: Global, name: &'a str, source: &[u8]) -> Result<Net, R
             Ok(net)
         }
         Err(NoMemory) => Err(Refusal::NoMemory),
+    }
+}
+
+/// The planned program of a source, or why the source in the file of this name is refused.
+pub fn plan_source<'a>(alloc: Global, name: &'a str, source: &[u8]) -> Result<Planned, Refusal<'a>>
+    requires { length source.now ≤ source_max }
+    ensures planned { IfOk result (λ p. IsSourceOf source.now (program_of p.program) (names_of p.program)) }
+    ensures refused { IfErr result (RefusesBy (RefusesSourceOf name.now source.now)) }
+{
+    let checked = match check_source(alloc, name, source) {
+        Ok(checked) => checked,
+        Err(refusal) => return Err(refusal),
+    };
+    match plan_of(alloc, checked) {
+        Ok(planned) => Ok(planned),
+        Err(NoMemory) => Err(Refusal::NoMemory),
+    }
+}
+
+/// The program that a source spells, or why the source in the file of this name is refused.
+pub fn read_program<'a>(alloc: Global, name: &'a str, source: &[u8]) -> Result<Program, Refusal<'a>>
+    requires { length source.now ≤ source_max }
+    ensures spelled { IfOk result (λ p. SpellsProgram source.now (shown_program p)) }
+    ensures printable { IfOk result (λ p. IsPrintable (shown_program p)) }
+    ensures form { IfOk result (λ p. HasForm (shown_program p)) }
+    ensures few { IfOk result (λ p. HasFewSites (shown_program p)) }
+    ensures refused { IfErr result (RefusesBy (RefusesSourceOf name.now source.now)) }
+{
+    match accepted_program(alloc, source) {
+        Ok(program) => Ok(program),
+        Err(CheckErr::Refused(fault)) => Err(refusal_of(name, source, fault)),
+        Err(CheckErr::TooDeep | CheckErr::NoMemory) => Err(Refusal::NoMemory),
     }
 }
 

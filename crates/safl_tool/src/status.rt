@@ -26,6 +26,8 @@ pub enum Status {
     ProbeFault = 9,
     /// The input file is longer than the limit.
     TooLong = 10,
+    /// The site is not reshaped.
+    ReshapeRefused = 13,
 }
 
 impl Status {

@@ -1,22 +1,19 @@
 //! The top call.
 
-ghost use Rattle.std.specs.Prelude.{IfOk, IfErr, map, string_bytes};
+ghost use Rattle.std.specs.Prelude.{IfOk, IfErr, map, option_map, string_bytes};
+ghost use Rattle.safl_command.specs.Commands.{command_of, shown};
 ghost use Rattle.safl_tool.specs.CommandTasks.{task_of};
-ghost use Rattle.safl_tool.specs.Commands.{command_of, shown};
 ghost use Rattle.safl_tool.specs.Endings.{Ended, Ends, KeepsAll, KeepsOthers, Left, Tells, SameStrays, Completes, outside};
 ghost use Rattle.safl_tool.specs.Refusals.{StopsBy, SendsLine, SendsRefusal};
 
-use crate::build::build;
-use crate::check::check;
-use crate::command::{Command, read_words};
 use crate::refusal::Refusal;
-use crate::run_file::run_verilog;
-use crate::simulate::sim;
 use crate::status::Status;
-use crate::walk::walk_source;
+use crate::work::perform;
+use safl_command::{Command, read_words};
 use safl_io::{OutErr, Shelf, Sink};
 use safl_source::laws::{not_both_law, one_program_law};
 use safl_term::laws::meaning_law;
+use safl_tree::laws as trees;
 use safl_verilog::laws as verilog;
 use safl_word::NoMemory;
 use std::alloc::Global;
@@ -53,6 +50,7 @@ pub fn run<S: Shelf, O: Sink, E: Sink>(
 {
     one_program_law();
     not_both_law();
+    trees::one_program_law();
     meaning_law();
     verilog::one_netlist_law();
     verilog::not_both_law();
@@ -71,37 +69,32 @@ fn dispatch<S: Shelf, O: Sink, E: Sink>(
         (outside (S.told shelf.old) (O.told out.old)) (outside (S.told shelf.new) (O.told out.new)) (E.told err.old) (E.told err.new) result }
     ensures no_stray { SameStrays (task_of (command_of (map string_bytes words.now))) (S.told shelf.old) (S.told shelf.new) }
 {
-    let command = read_words(words);
-    match perform(alloc, command, shelf, out) {
+    let command = match read_words(alloc, words) {
+        Ok(command) => command,
+        Err(NoMemory) => return refuse(alloc, err, Refusal::NoMemory),
+    };
+    match obey(alloc, &command, shelf, out) {
         Ok(status) => status,
         Err(refusal) => refuse(alloc, err, refusal),
     }
 }
 
-// Does what a command asks for.
-fn perform<'a, S: Shelf, O: Sink>(
+// Does what the words ask for, where they are a command.
+fn obey<'a, S: Shelf, O: Sink>(
     alloc: Global,
-    command: Option<Command<'a>>,
+    command: &'a Option<Command>,
     shelf: &mut S,
     out: &mut O,
 ) -> Result<Status, Refusal<'a>>
-    ensures ended { IfOk result (Ended (task_of (shown command.entry))
+    ensures ended { IfOk result (Ended (task_of (option_map shown command.now))
         (outside (S.told shelf.old) (O.told out.old)) (outside (S.told shelf.new) (O.told out.new))) }
-    ensures refused { IfErr result (StopsBy (task_of (shown command.entry))
+    ensures refused { IfErr result (StopsBy (task_of (option_map shown command.now))
         (outside (S.told shelf.old) (O.told out.old)) (outside (S.told shelf.new) (O.told out.new))) }
-    ensures no_stray { SameStrays (task_of (shown command.entry)) (S.told shelf.old) (S.told shelf.new) }
+    ensures no_stray { SameStrays (task_of (option_map shown command.now)) (S.told shelf.old) (S.told shelf.new) }
 {
     match command {
+        Some(command) => perform(alloc, command, shelf, out),
         None => Err(Refusal::Usage),
-        Some(Command::Check { input }) => check(alloc, shelf, out, input),
-        Some(Command::Build { input, output }) => build(alloc, shelf, input, output),
-        Some(Command::Sim { input, limit, args }) => sim(alloc, shelf, out, input, limit, args),
-        Some(Command::Walk { input, turns, args }) => {
-            walk_source(alloc, shelf, out, input, turns, args)
-        }
-        Some(Command::Run { input, limit, args }) => {
-            run_verilog(alloc, shelf, out, input, limit, args)
-        }
     }
 }
 

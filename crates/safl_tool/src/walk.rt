@@ -1,67 +1,35 @@
-//! `walk IN --order SEED --steps N [ARG..]`: from a source to what a walk of its call machine gives.
+//! What `walk IN --order SEED --steps N [ARG..]` prints: what a walk of the call machine of a source gives.
 
-ghost use Rattle.std.specs.Prelude.{◌≡◌, ◌≤◌, ◌++◌, length, map, OnOk, IfOk, IfErr, string_bytes};
+ghost use Rattle.std.specs.Prelude.{◌≡◌, ◌≤◌, ◌++◌, [], length, map, OnOk, IfOk, IfErr, string_bytes};
 ghost use Rattle.safl_term.specs.Checked.{program_of};
-ghost use Rattle.safl_tool.specs.Answers.{given_of};
-ghost use Rattle.safl_tool.specs.CommandTasks.{walk_task, end_of_walk, GivesWalk, RefusesGiven};
-ghost use Rattle.safl_tool.specs.Endings.{Ended, SameStrays, outside};
+ghost use Rattle.safl_tool.specs.Answers.{given_of, outputs_of};
+ghost use Rattle.safl_tool.specs.CommandTasks.{end_of_walk, GivesWalk, RefusesGiven};
 ghost use Rattle.safl_tool.specs.Limits.{source_max};
 ghost use Rattle.safl_tool.specs.Lines.{walk_lines, short_line};
-ghost use Rattle.safl_tool.specs.Refusals.{StopsBy, RefusesBy};
+ghost use Rattle.safl_tool.specs.Refusals.{RefusesBy};
 ghost use Rattle.safl_tool.specs.Walking.{Walks, WalksFrom};
 
+use crate::answer::Answer;
 use crate::arguments::read_arguments;
-use crate::command::Turns;
-use crate::print::{Answer, print};
 use crate::refusal::{Refusal, push};
-use crate::source::{SOURCE_MAX, check_source, read_input};
-use crate::status::Status;
+use crate::source::check_source;
+use safl_command::Turns;
 use safl_core::{Machine, MachineErr, Walked, walk};
-use safl_io::{Shelf, Sink};
 use safl_term::Checked;
 use safl_word::{NoMemory, Raw, Word, push_decimal};
 use std::alloc::{AllocError, Global};
 
-/// Reads the source of the name `input`, fires at most `turns.steps` events of its call machine with the arguments, which the
-/// numbers that `turns.seed` begins pick, and prints what main has returned. The status is Ok where it has, and else NoResult.
-pub fn walk_source<'a, S: Shelf, O: Sink>(
-    alloc: Global,
-    shelf: &mut S,
-    out: &mut O,
-    input: &'a str,
-    turns: Turns,
-    args: &[String],
-) -> Result<Status, Refusal<'a>>
-    ensures ended { IfOk result (Ended (walk_task input.now turns.seed turns.steps (map string_bytes args.now))
-        (outside (S.told shelf.old) (O.told out.old)) (outside (S.told shelf.new) (O.told out.new))) }
-    ensures refused { IfErr result (StopsBy (walk_task input.now turns.seed turns.steps (map string_bytes args.now))
-        (outside (S.told shelf.old) (O.told out.old)) (outside (S.told shelf.new) (O.told out.new))) }
-    ensures no_stray { SameStrays (walk_task input.now turns.seed turns.steps (map string_bytes args.now)) (S.told shelf.old) (S.told shelf.new) }
-{
-    let source = match read_input(alloc, shelf, input, SOURCE_MAX) {
-        Ok(source) => source,
-        Err(refusal) => return Err(refusal),
-    };
-    let answer = match answer_of(alloc, input, &source, turns, args) {
-        Ok(answer) => answer,
-        Err(refusal) => return Err(refusal),
-    };
-    match print(out, &answer) {
-        Ok(status) => Ok(status),
-        Err(refusal) => Err(refusal),
-    }
-}
-
-// What is printed of a walk of the machine of a source, or why the source in the file of this name is not walked.
-fn answer_of<'a>(
+/// What is printed of a walk of the machine of a source, or why the source in the file of this name is not walked.
+pub fn walk_outcome<'a>(
     alloc: Global,
     name: &'a str,
     source: &[u8],
     turns: Turns,
     args: &[String],
-) -> Result<Answer, Refusal<'a>>
+) -> Result<Answer<'a>, Refusal<'a>>
     requires { length source.now ≤ source_max }
     ensures gives { IfOk result (λ a. GivesWalk (map string_bytes args.now) turns.seed turns.steps source.now (given_of a)) }
+    ensures prints { IfOk result (λ a. [] ≡ outputs_of a) }
     ensures refused { IfErr result (RefusesBy (RefusesGiven name.now (map string_bytes args.now) source.now)) }
 {
     let walked = match walk_machine(alloc, name, source, turns, args) {
@@ -134,8 +102,9 @@ fn main_widths(alloc: Global, checked: &Checked) -> Result<Vec<u8>, AllocError>
 }
 
 // What is printed of what a walk gave.
-fn end_of_walk(alloc: Global, steps: u32, walked: Walked) -> Result<Answer, NoMemory>
-    ensures { IfOk result (λ a. given_of a ≡ end_of_walk steps walked walked.result) }
+fn end_of_walk<'a>(alloc: Global, steps: u32, walked: Walked) -> Result<Answer<'a>, NoMemory>
+    ensures given { IfOk result (λ a. given_of a ≡ end_of_walk steps walked walked.result) }
+    ensures prints { IfOk result (λ a. [] ≡ outputs_of a) }
 {
     let mut text = Vec::new(alloc);
     let comes = match walked.result {
@@ -148,7 +117,7 @@ fn end_of_walk(alloc: Global, steps: u32, walked: Walked) -> Result<Answer, NoMe
             false
         }
     };
-    Ok(Answer { comes, text })
+    Ok(Answer::Lines { comes, text })
 }
 
 fn push_walked(text: &mut Vec<u8>, word: Word, events: u64, units: u32) -> Result<(), NoMemory>

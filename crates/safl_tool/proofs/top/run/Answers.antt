@@ -1,6 +1,6 @@
 use Rattle.std.proofs.Common.{map, string_bytes}
 use Rattle.safl_io.specs.Sink.{SinkState}
-use Rattle.safl_tool.specs.Commands.{command_of}
+use Rattle.safl_command.specs.Commands.{command_of}
 use Rattle.safl_tool.specs.CommandTasks.{task_of}
 use Rattle.safl_tool.specs.Tasks.{Task}
 use Rattle.safl_tool.specs.Endings.{Outside, outside}
@@ -51,5 +51,5 @@ returns-clause-completes g c =
     let new : Outside = outside (g.S.Shelf.told c.dispatch.new.shelf) (g.O.Sink.told c.dispatch.new.out) in
     let before : SinkState = g.E.Sink.told c.args.err.now in
     let after : SinkState = g.E.Sink.told c.dispatch.new.err in
-    kept.completes (record { once = c.one_program_law.ensures; apart = c.not_both_law.ensures; meaning = c.meaning_law.ensures.same; one = c.one_netlist_law.ensures; free = c.not_both_law-2.ensures })
+    kept.completes (record { once = c.one_program_law.ensures; apart = c.not_both_law.ensures; meaning = c.meaning_law.ensures.same; one = c.one_netlist_law.ensures; free = c.not_both_law-2.ensures; trees = c.one_program_law-2.ensures })
     (command_of (map string_bytes c.args.words.now)) old new before after c.dispatch.result c.dispatch.ensures.ends

@@ -1,0 +1,126 @@
+//! What the values of the arguments say.
+
+ghost use Rattle.std.specs.Prelude.{◌≡◌, ◌≤◌, ◌↔◌, true, IfOk, IsSome, IfSome, map, option_map, string_bytes, codes, bytes_eq};
+ghost use Rattle.clap.specs.Words.{found_of, rows_of};
+ghost use Rattle.safl_word.specs.Numerals.{value};
+ghost use Rattle.safl_command.specs.Values.{name_in, filled, number_in, within_in, limit_in, count_in, has_flag, args_in, is_number, is_within};
+
+use crate::command::{CYCLES_MAX, FUNCTIONS_MAX};
+use clap::ArgMatches;
+use safl_word::{NoMemory, decimal};
+use std::alloc::Global;
+
+/// The name that an argument gives.
+pub fn name_in(alloc: Global, values: &ArgMatches<'_>, id: &str) -> Result<Option<String>, NoMemory>
+    ensures { IfOk result (λ name. option_map string_bytes name ≡ name_in id.now (rows_of (found_of values.now))) }
+{
+    match values.get_str(id) {
+        Some(word) => filled(alloc, word),
+        None => Ok(None),
+    }
+}
+
+// A word that is not empty.
+fn filled(alloc: Global, word: &str) -> Result<Option<String>, NoMemory>
+    ensures { IfOk result (λ name. option_map string_bytes name ≡ filled word.now) }
+{
+    if word.is_empty() {
+        return Ok(None);
+    }
+    let name = String::from_str(alloc, word)?;
+    Ok(Some(name))
+}
+
+/// The number that an argument gives.
+pub fn number_in(values: &ArgMatches<'_>, id: &str) -> Option<u64>
+    ensures { result ≡ number_in id.now (rows_of (found_of values.now)) }
+{
+    match values.get_str(id) {
+        Some(word) => number_of(word),
+        None => None,
+    }
+}
+
+/// The number of a decimal word.
+pub fn number_of(word: &str) -> Option<u64>
+    ensures some { IsSome result ↔ (is_number word.now ≡ true) }
+    ensures number { IfSome result (λ n. n ≡ value 10 word.now) }
+{
+    decimal(word.as_bytes())
+}
+
+/// The number of cycles or events that an argument gives.
+pub fn limit_in(values: &ArgMatches<'_>, id: &str) -> Option<u64>
+    ensures number { result ≡ limit_in id.now (rows_of (found_of values.now)) }
+    ensures small { IfSome result (λ n. n ≤ CYCLES_MAX) }
+{
+    within_in(values, id, CYCLES_MAX)
+}
+
+/// The number of functions that an argument gives.
+pub fn count_in(values: &ArgMatches<'_>, id: &str) -> Option<u32>
+    ensures { result ≡ count_in id.now (rows_of (found_of values.now)) }
+{
+    match within_in(values, id, FUNCTIONS_MAX) {
+        Some(count) => Some(count as u32),
+        None => None,
+    }
+}
+
+// The number from 1 to `most` that an argument gives.
+fn within_in(values: &ArgMatches<'_>, id: &str, most: u64) -> Option<u64>
+    ensures number { result ≡ within_in most id.now (rows_of (found_of values.now)) }
+    ensures small { IfSome result (λ n. n ≤ most) }
+{
+    match values.get_str(id) {
+        Some(word) => number_within(word, most),
+        None => None,
+    }
+}
+
+fn number_within(word: &str, most: u64) -> Option<u64>
+    ensures some { IsSome result ↔ (is_within most word.now ≡ true) }
+    ensures number { IfSome result (λ n. n ≡ value 10 word.now) }
+    ensures small { IfSome result (λ n. n ≤ most) }
+{
+    match decimal(word.as_bytes()) {
+        Some(number) if number != 0 && number <= most => Some(number),
+        _ => None,
+    }
+}
+
+/// Whether a flag was given.
+pub fn has_flag(values: &ArgMatches<'_>, id: &str) -> bool
+    ensures { result ≡ has_flag id.now (rows_of (found_of values.now)) }
+{
+    match values.get_str(id) {
+        Some(word) => is_true(word),
+        None => false,
+    }
+}
+
+fn is_true(word: &str) -> bool
+    ensures { result ≡ bytes_eq word.now (codes "true") }
+{
+    word == "true"
+}
+
+/// Any words.
+pub fn args_in(alloc: Global, values: &ArgMatches<'_>) -> Result<Vec<String>, NoMemory>
+    ensures { IfOk result (λ args. map string_bytes args.items ≡ args_in (rows_of (found_of values.now))) }
+{
+    match values.get_raw("ARG") {
+        Some(words) => copies(alloc, words),
+        None => Ok(Vec::new(alloc)),
+    }
+}
+
+fn copies(alloc: Global, words: &[&str]) -> Result<Vec<String>, NoMemory>
+    ensures { IfOk result (λ copies. map string_bytes copies.items ≡ map (λ word. word.now) words.now) }
+{
+    let mut copies = Vec::new(alloc);
+    for word in words {
+        copies.push(String::from_str(alloc, word)?)?;
+    }
+    Ok(copies)
+}

@@ -1,0 +1,14 @@
+use Rattle.std.proofs.Common.{map, string_bytes, subst}
+use Rattle.std.specs.Prelude.{IfOk, IfErr}
+use Rattle.safl_net.specs.Netlist.{Netlist}
+use Rattle.safl_sim.specs.Arguments.{argument_widths}
+use Rattle.safl_tool.specs.Refusals.{RefusesBy, RefusesArguments}
+use Rattle.safl_tool.specs.Running.{Gives}
+use Rattle.safl_tool.proofs.simulate.run_circuit.Goals as goal
+
+pub returns-clause-answer : goal.returns-clause-answer
+returns-clause-answer c = subst (λ (x : Netlist). IfOk c.run_net.result (Gives x (map string_bytes c.args.args.now) c.args.limit)) c.in-Ok.ensures c.run_net.ensures.answer
+
+pub returns-clause-refused : goal.returns-clause-refused
+returns-clause-refused c =
+    subst (λ (x : Netlist). IfErr c.run_net.result (RefusesBy (RefusesArguments (argument_widths x.signals) (map string_bytes c.args.args.now)))) c.in-Ok.ensures c.run_net.ensures.refused

@@ -1,0 +1,67 @@
+-- What is printed of a source's plan, and of sources that are made from numbers.
+use Rattle.std.specs.Prelude.{◌≡◌, ℕ, ◌<◌, ◌%◌, ◌⊎◌, ◌++◌, List, [], ◌∷◌, decimal, Option, true}
+use Rattle.safl_word.specs.Words.{Word}
+use Rattle.safl_gen.specs.Draws.{draw}
+use Rattle.safl_gen.specs.Source as made
+use Rattle.safl_net.specs.Netlist.{Netlist}
+use Rattle.safl_sim.specs.declared.done.Done.{Done}
+use Rattle.safl_sim.specs.Outcomes.{IsOutcome}
+use Rattle.safl_term.specs.Checked.{CheckedProgram, program_of}
+use Rattle.safl_report.specs.Report.{IsReport, IsSummary}
+use Rattle.safl_circuit.specs.Names.{names_of}
+use Rattle.safl_source.specs.Sources.{IsSourceOf}
+use Rattle.safl_source.specs.Circuits.{IsCircuitOf}
+use Rattle.safl_tool.specs.Arguments.{AreRead}
+use Rattle.safl_tool.specs.Limits.{functions_max}
+use Rattle.safl_tool.specs.Lines.{usage_line, program_lines}
+use Rattle.safl_tool.specs.Simulating.{HasValue}
+use Rattle.safl_tool.specs.Tasks.{Given}
+use Rattle.safl_tool.specs.declared.status.Status.{Status}
+use Rattle.safl_tool.specs.declared.status.Status.TheVariants as status
+
+-- the text is the report of a program and of a netlist that is its circuit
+pub record Reports (c : CheckedProgram) (text : List ℕ) : Type 0 where
+  pub net : Netlist
+  pub circuit : IsCircuitOf (program_of c) (names_of c) net
+  pub report : IsReport c net text
+
+-- what `report` gives of a source
+pub record GivesReport (source : List ℕ) (g : Given) : Type 0 where
+  pub program : CheckedProgram
+  pub source_of : IsSourceOf source (program_of program) (names_of program)
+  pub text : List ℕ
+  pub reports : Reports program text
+  pub is : g ≡ record { comes = true; printed = text; texts = [] }
+
+-- ---- sources that are made from numbers
+
+-- the source of so many functions from a seed
+abbrev pub made_source : ℕ → ℕ → List ℕ
+made_source seed count = made.source (draw seed) count
+
+-- no source has no function besides main, or more than the most
+abbrev pub RefusesCount : ℕ → Status → List ℕ → Type 0
+RefusesCount count s line = ((count ≡ 0) ⊎ (functions_max < count)) × (s ≡ status.Usage) × (line ≡ usage_line)
+
+-- the arguments with which the circuit of such a source is run
+abbrev pub made_args : ℕ → ℕ → List (List ℕ)
+made_args seed count = decimal (seed % 65536) ∷ decimal count ∷ []
+
+-- the numbers of the program, and the summary of its plan and of the netlist
+pub record HasHead (c : CheckedProgram) (n : Netlist) (head : List ℕ) : Type 0 where
+  pub summary : List ℕ
+  pub is_summary : IsSummary c n summary
+  pub is : head ≡ program_lines (program_of c).functions (program_of c).sites ++ summary
+
+-- Of a source: the numbers of its program and the summary of its plan, and then what the run of its circuit with these arguments
+-- shows, in which all inputs are 0 after cycle 0
+pub record Measures (source : List ℕ) (args : List (List ℕ)) (limit : ℕ) (head : List ℕ) (answer : Option Done) : Type 0 where
+  pub program : CheckedProgram
+  pub net : Netlist
+  pub words : List Word
+  pub source_of : IsSourceOf source (program_of program) (names_of program)
+  pub circuit : IsCircuitOf (program_of program) (names_of program) net
+  pub begins : HasHead program net head
+  pub read : AreRead ((program_of program).params (program_of program).main) args words
+  pub outcome : IsOutcome net words limit answer
+  pub value : HasValue (program_of program) words answer

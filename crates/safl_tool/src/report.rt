@@ -1,0 +1,45 @@
+//! What `report IN` prints: the plan of a source's program and the registers of its circuit.
+
+ghost use Rattle.std.specs.Prelude.{◌≡◌, ◌≤◌, [], IfOk, IfErr, length};
+ghost use Rattle.safl_tool.specs.Answers.{given_of, outputs_of};
+ghost use Rattle.safl_tool.specs.CommandTasks.{RefusesSourceOf};
+ghost use Rattle.safl_tool.specs.Limits.{source_max};
+ghost use Rattle.safl_tool.specs.Refusals.{RefusesBy};
+ghost use Rattle.safl_tool.specs.Reporting.{GivesReport, Reports};
+
+use crate::answer::Answer;
+use crate::refusal::Refusal;
+use crate::source::plan_source;
+use safl_report::report;
+use safl_sites::Planned;
+use safl_source::planned_circuit;
+use safl_word::NoMemory;
+use std::alloc::Global;
+
+/// The report of a source, or why the source in the file of this name is refused.
+pub fn plan_report<'a>(
+    alloc: Global,
+    name: &'a str,
+    source: &[u8],
+) -> Result<Answer<'a>, Refusal<'a>>
+    requires { length source.now ≤ source_max }
+    ensures gives { IfOk result (λ a. GivesReport source.now (given_of a)) }
+    ensures prints { IfOk result (λ a. [] ≡ outputs_of a) }
+    ensures refused { IfErr result (RefusesBy (RefusesSourceOf name.now source.now)) }
+{
+    let planned = match plan_source(alloc, name, source) {
+        Ok(planned) => planned,
+        Err(refusal) => return Err(refusal),
+    };
+    match report_of(alloc, &planned) {
+        Ok(text) => Ok(Answer::Lines { comes: true, text }),
+        Err(NoMemory) => Err(Refusal::NoMemory),
+    }
+}
+
+fn report_of(alloc: Global, p: &Planned) -> Result<Vec<u8>, NoMemory>
+    ensures { IfOk result (λ text. Reports p.now.program text.items) }
+{
+    let net = planned_circuit(alloc, p)?;
+    report(alloc, p, &net)
+}

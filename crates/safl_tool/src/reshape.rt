@@ -1,0 +1,146 @@
+//! What `reshape IN OUT --copy K | --unfold K` writes: a source with a function copied for one site, or with one call unfolded.
+
+ghost use Rattle.std.specs.Prelude.{◌≡◌, ◌≤◌, ◌<◌, ◌∷◌, [], IfOk, IfErr, IfSome, IsNone, OnOk, length};
+ghost use Rattle.safl_tree.specs.Printable.{IsPrintable};
+ghost use Rattle.safl_tree.specs.Printed.{printed};
+ghost use Rattle.safl_tree.specs.Shown.{shown_program};
+ghost use Rattle.safl_tool.specs.Answers.{given_of, outputs_of};
+ghost use Rattle.safl_tool.specs.CommandTasks.{RefusesReshaping};
+ghost use Rattle.safl_tool.specs.Limits.{source_max};
+ghost use Rattle.safl_tool.specs.Refusals.{RefusesBy};
+ghost use Rattle.safl_tool.specs.Reshaping.{GivesReshaped, HasReason, limit_text, TellsReason, TellsLong, copies, unfolds, text_given};
+
+use crate::answer::Answer;
+use crate::refusal::Refusal;
+use crate::source::read_program;
+use safl_reshape::laws::printed_form_law;
+use safl_reshape::{ReshapeErr, copy_site, unfold_site};
+use safl_tree::{Program, print};
+use safl_word::SOURCE_MAX;
+use std::alloc::Global;
+
+/// The text of a source with the callee of a site copied for its call, for the file `output`, or why there is none.
+pub fn copied<'a>(
+    alloc: Global,
+    name: &'a str,
+    output: &'a str,
+    source: &[u8],
+    site: u64,
+) -> Result<Answer<'a>, Refusal<'a>>
+    requires { length source.now ≤ source_max }
+    ensures gives { IfOk result (λ a. GivesReshaped (copies site) source.now (given_of a)) }
+    ensures writes { IfOk result (λ a. output.now ∷ [] ≡ outputs_of a) }
+    ensures refused { IfErr result (RefusesBy (RefusesReshaping (copies site) name.now site source.now)) }
+{
+    printed_form_law();
+    let program = match read_program(alloc, name, source) {
+        Ok(program) => program,
+        Err(refusal) => return Err(refusal),
+    };
+    let number = match site_number(site) {
+        Some(number) => number,
+        None => return Err(refusal_of(site, ReshapeErr::NoSite)),
+    };
+    match copy_site(alloc, program, number) {
+        Ok(copy) => text_of(alloc, output, site, &copy),
+        Err(error) => Err(refusal_of(site, error)),
+    }
+}
+
+/// The text of a source with the body of the callee in place of the call of a site, for the file `output`, or why there is
+/// none.
+pub fn unfolded<'a>(
+    alloc: Global,
+    name: &'a str,
+    output: &'a str,
+    source: &[u8],
+    site: u64,
+) -> Result<Answer<'a>, Refusal<'a>>
+    requires { length source.now ≤ source_max }
+    ensures gives { IfOk result (λ a. GivesReshaped (unfolds site) source.now (given_of a)) }
+    ensures writes { IfOk result (λ a. output.now ∷ [] ≡ outputs_of a) }
+    ensures refused { IfErr result (RefusesBy (RefusesReshaping (unfolds site) name.now site source.now)) }
+{
+    printed_form_law();
+    let program = match read_program(alloc, name, source) {
+        Ok(program) => program,
+        Err(refusal) => return Err(refusal),
+    };
+    let number = match site_number(site) {
+        Some(number) => number,
+        None => return Err(refusal_of(site, ReshapeErr::NoSite)),
+    };
+    match unfold_site(alloc, program, number) {
+        Ok(unfolded) => text_of(alloc, output, site, &unfolded),
+        Err(error) => Err(refusal_of(site, error)),
+    }
+}
+
+// The text of a reshaped program, where it is no longer than a source may be.
+fn text_of<'a>(
+    alloc: Global,
+    output: &'a str,
+    site: u64,
+    program: &Program,
+) -> Result<Answer<'a>, Refusal<'a>>
+    requires { IsPrintable (shown_program program.now) }
+    ensures text { IfOk result (λ a. given_of a ≡ text_given (printed (shown_program program.now))) }
+    ensures short { OnOk result (length (printed (shown_program program.now)) ≤ source_max) }
+    ensures writes { IfOk result (λ a. output.now ∷ [] ≡ outputs_of a) }
+    ensures refused { IfErr result (RefusesBy (TellsLong site (printed (shown_program program.now)))) }
+{
+    let Ok(text) = print(alloc, program) else {
+        return Err(Refusal::NoMemory);
+    };
+    if text.len() > SOURCE_MAX as usize {
+        return Err(Refusal::Site(site, "text too long"));
+    }
+    Ok(Answer::File { name: output, text })
+}
+
+// The number of a site, if a program may have so many.
+fn site_number(site: u64) -> Option<u32>
+    ensures number { IfSome result (λ n. n ≡ site) }
+    ensures none { IsNone result → 4294967295 < site }
+{
+    if site > 4_294_967_295 {
+        None
+    } else {
+        Some(site as u32)
+    }
+}
+
+fn refusal_of<'a>(site: u64, error: ReshapeErr) -> Refusal<'a>
+    ensures { RefusesBy (TellsReason site error) result }
+{
+    match reason(error) {
+        Some(text) => Refusal::Site(site, text),
+        None => Refusal::NoMemory,
+    }
+}
+
+// Why a site is not reshaped, in words.
+fn reason(error: ReshapeErr) -> Option<&'static str>
+    ensures { IfSome result (λ text. HasReason error text.now) }
+{
+    match error {
+        ReshapeErr::NoSite => Some("no such site"),
+        ReshapeErr::Grouped => Some("grouped"),
+        ReshapeErr::Recursive => Some("recursive"),
+        ReshapeErr::NameLong => Some("name too long"),
+        ReshapeErr::NameTaken => Some("name taken"),
+        ReshapeErr::Limit(limit) => Some(limit_text(limit)),
+        ReshapeErr::TooDeep => Some("nesting too deep"),
+        ReshapeErr::NoMemory => None,
+    }
+}
+
+fn limit_text(limit: u32) -> &'static str
+    ensures { result.now ≡ limit_text limit }
+{
+    match limit {
+        1 => "limit: functions 1000",
+        4 => "limit: sites 4000",
+        _ => "limit: nodes 50000",
+    }
+}

@@ -1,0 +1,109 @@
+//! What every command does: it reads its file, works out an answer, and gives it.
+
+ghost use Rattle.std.specs.Prelude.{◌≡◌, IfOk, IfErr, Some};
+ghost use Rattle.safl_command.specs.Commands.{shown};
+ghost use Rattle.safl_tool.specs.Answers.{Answers, Declines, IsForOutputs};
+ghost use Rattle.safl_tool.specs.CommandTasks.{task_of};
+ghost use Rattle.safl_tool.specs.Endings.{Ended, SameStrays, outside};
+ghost use Rattle.safl_tool.specs.Inputs.{AreWithin, inputs_of};
+ghost use Rattle.safl_tool.specs.Refusals.{StopsBy};
+
+use crate::answer::{Answer, give};
+use crate::build::{circuit, optimised};
+use crate::check::numbers;
+use crate::input::{Input, read_content};
+use crate::made::{made, made_outcome};
+use crate::refusal::Refusal;
+use crate::report::plan_report;
+use crate::reshape::{copied, unfolded};
+use crate::run_file::netlist_outcome;
+use crate::simulate::circuit_outcome;
+use crate::status::Status;
+use crate::walk::walk_outcome;
+use safl_command::Command;
+use safl_io::{Shelf, Sink};
+use std::alloc::Global;
+
+/// Does what a command asks for.
+pub fn perform<'a, S: Shelf, O: Sink>(
+    alloc: Global,
+    command: &'a Command,
+    shelf: &mut S,
+    out: &mut O,
+) -> Result<Status, Refusal<'a>>
+    ensures ended { IfOk result (Ended (task_of (Some (shown command.now)))
+        (outside (S.told shelf.old) (O.told out.old)) (outside (S.told shelf.new) (O.told out.new))) }
+    ensures refused { IfErr result (StopsBy (task_of (Some (shown command.now)))
+        (outside (S.told shelf.old) (O.told out.old)) (outside (S.told shelf.new) (O.told out.new))) }
+    ensures no_stray { SameStrays (task_of (Some (shown command.now))) (S.told shelf.old) (S.told shelf.new) }
+{
+    let bytes = match read_content(alloc, shelf, input_of(command)) {
+        Ok(bytes) => bytes,
+        Err(refusal) => return Err(refusal),
+    };
+    let answer = match answer_of(alloc, command, &bytes) {
+        Ok(answer) => answer,
+        Err(refusal) => return Err(refusal),
+    };
+    give(shelf, out, answer)
+}
+
+// The file that a command reads.
+fn input_of(command: &Command) -> Option<Input<'_>>
+    ensures { (task_of (Some (shown command.now))).inputs ≡ inputs_of result }
+{
+    match command {
+        Command::Check { input } => Some(Input::source(input)),
+        Command::Build { input, .. } => Some(Input::source(input)),
+        Command::Optimise { input, .. } => Some(Input::source(input)),
+        Command::Sim { input, .. } => Some(Input::source(input)),
+        Command::Walk { input, .. } => Some(Input::source(input)),
+        Command::Run { input, .. } => Some(Input::verilog(input)),
+        Command::Report { input } => Some(Input::source(input)),
+        Command::Gen { .. } => None,
+        Command::Bench { .. } => None,
+        Command::CopySite { input, .. } => Some(Input::source(input)),
+        Command::UnfoldSite { input, .. } => Some(Input::source(input)),
+        Command::Session { .. } => None,
+        Command::Aig { .. } => None,
+        Command::Aigstat { .. } => None,
+    }
+}
+
+// What a command gives of the bytes of its file, or why it refuses them.
+fn answer_of<'a>(
+    alloc: Global,
+    command: &'a Command,
+    bytes: &[u8],
+) -> Result<Answer<'a>, Refusal<'a>>
+    requires { AreWithin (task_of (Some (shown command.now))).inputs bytes.now }
+    ensures gives { IfOk result (Answers (task_of (Some (shown command.now))) bytes.now) }
+    ensures outputs { IfOk result (IsForOutputs (task_of (Some (shown command.now)))) }
+    ensures refused { IfErr result (Declines (task_of (Some (shown command.now))) bytes.now) }
+{
+    match command {
+        Command::Check { input } => numbers(alloc, input, bytes),
+        Command::Build { input, output } => circuit(alloc, input, output, bytes),
+        Command::Optimise { input, output } => optimised(alloc, input, output, bytes),
+        Command::Sim { input, limit, args } => circuit_outcome(alloc, input, bytes, *limit, args),
+        Command::Walk { input, turns, args } => walk_outcome(alloc, input, bytes, *turns, args),
+        Command::Run { input, limit, args } => netlist_outcome(alloc, input, bytes, *limit, args),
+        Command::Report { input } => plan_report(alloc, input, bytes),
+        Command::Gen { seed, count } => made(alloc, *seed, *count),
+        Command::Bench { seed, count, limit } => made_outcome(alloc, *seed, *count, *limit),
+        Command::CopySite {
+            input,
+            output,
+            site,
+        } => copied(alloc, input, output, bytes, *site),
+        Command::UnfoldSite {
+            input,
+            output,
+            site,
+        } => unfolded(alloc, input, output, bytes, *site),
+        // Not built yet.
+        Command::Session { .. } => Err(Refusal::Usage),
+        Command::Aig { .. } => Err(Refusal::Usage),
+        Command::Aigstat { .. } => Err(Refusal::Usage),
+    }
+}
