@@ -1,1 +1,3 @@
+pub mod NestedForms
 pub mod Words
+pub mod Forms

@@ -1,11 +1,29 @@
-//! Calls of several crates by themselves, on whole programs: their meanings, machines, plans and printed texts.
+//! Calls of several crates by themselves: words, tokens and trees of sources, whole programs with their meanings,
+//! machines, plans and printed texts, sources that are made, and the words of the command line.
 //!
-//! Whole calls of the program are cases (`docs/CASES.md`).
+//! Tests are in a crate above the libraries, since a library with tests is proved twice. Whole calls of the program are
+//! cases (`docs/CASES.md`).
 #![tactic(auto)]
 
+#[cfg(test)]
+mod commands;
+#[cfg(test)]
+mod deep_terms;
+#[cfg(test)]
+mod deep_trees;
+#[cfg(test)]
+mod depths;
+#[cfg(test)]
+mod generated;
 #[cfg(test)]
 mod machines;
 #[cfg(test)]
 mod meanings;
 #[cfg(test)]
-mod prints;
+mod operators;
+#[cfg(test)]
+mod reshapes;
+#[cfg(test)]
+mod sources;
+#[cfg(test)]
+mod tokens;
