@@ -144,13 +144,19 @@ class Circuit:
 
     def run(self, args, cycles):
         """The result and the cycle of the first done below so many cycles, or nothing."""
-        registers = {name: 0 for name, _ in self.registers()}
+        found = self.call(self.reset(), args, cycles)
+        return found[:2] if found else None
+
+    def reset(self):
+        return {name: 0 for name, _ in self.registers()}
+
+    def call(self, registers, args, cycles):
+        """The same from these registers, with the registers after that cycle."""
         u = self.unit_name(self.program.main.group)
         for cycle in range(cycles):
+            after = Cycle(self, registers, 1 if cycle == 0 else 0, args if cycle == 0 else [0] * len(args)).edge()
             if registers[f"fin${u}"]:
-                return registers[f"res${u}"], cycle
-            now = Cycle(self, registers, 1 if cycle == 0 else 0, args if cycle == 0 else [0] * len(args))
-            after = now.edge()
+                return registers[f"res${u}"], cycle, after
             if after == registers and cycle > 0:
                 return None
             registers = after

@@ -3,15 +3,17 @@ import generator
 import language
 import machine
 import report
+import reshape
+import session
 import verilog
 from circuit import Circuit, meaning
 from language import Fault
+from words import NoCommand, in_order
 
 USAGE = (
     "usage: safl check IN | build IN OUT | sim IN --cycles L [ARG..] | run FILE --cycles L [ARG..] | walk IN --order SEED --steps N [ARG..]"
     " | report IN | gen SEED COUNT | bench SEED COUNT --cycles L"
 )
-TRACES = ("--vcd", "--starts", "--toggles")
 
 
 class Refusal(Exception):
@@ -101,6 +103,22 @@ def walk(words, files):
     return 0, [f"result {result}", f"events {events}", f"units {units}"]
 
 
+def called(words, files):
+    limit = decimal(words[4], 1, 1_000_000_000)
+    read(files, words[1], language.SOURCE_MAX)
+    script = read(files, words[2], session.SCRIPT_MAX)
+    program = accept(files, words[1])
+    try:
+        calls = session.calls_of(script, widths_of(program))
+    except session.ScriptFault as fault:
+        raise Refusal(8, str(fault)) from None
+    found = session.replies(Circuit(program), calls, limit)
+    lines = [f"{result} {cycle}" for result, cycle in found]
+    if len(found) < len(calls):
+        return 6, lines + [f"no result in {limit} cycles"]
+    return 0, lines + [f"calls {len(calls)}"]
+
+
 def reported(words, files):
     return 0, report.report_lines(built(words, files))
 
@@ -120,36 +138,53 @@ def bench(words):
 
 
 def built(words, files):
-    """The circuit of IN's program: what of OUT's text is fixed comes from it."""
+    """The circuit of IN's program: what of OUT's text is fixed comes from it, optimised or not."""
     return Circuit(accept(files, words[1]))
+
+
+def reshaped(words, files):
+    change, k = words[3].removeprefix("--"), decimal(words[4], 0, (1 << 64) - 1)
+    accept(files, words[1])
+    try:
+        files[words[2]] = reshape.reshaped(files[words[1]], change, k)
+    except reshape.Reason as reason:
+        raise Refusal(13, f"site {k}: {reason}") from None
+    return 0, []
+
+
+def answered(words, files):
+    """What the words in their order come to."""
+    verb = words[0]
+    if verb == "check":
+        return check(words, files)
+    if verb == "build":
+        files[words[2]] = built(words, files)
+        return 0, []
+    if verb == "sim":
+        return sim(words, files)
+    if verb == "run":
+        return run_file(words, files)
+    if verb == "walk":
+        return walk(words, files)
+    if verb == "session":
+        return called(words, files)
+    if verb == "report":
+        return reported(words, files)
+    if verb == "gen":
+        return 0, generated(words)[2]
+    if verb == "bench":
+        return bench(words)
+    if verb == "reshape":
+        return reshaped(words, files)
+    raise Refusal(2, USAGE)
 
 
 def call(words, files):
     """The status of a call, and the lines that are printed, or the line that is told."""
     try:
-        verb = words[0] if words else ""
-        if any(word in TRACES for word in words[6 if verb == "walk" else 4:]):
-            raise Refusal(2, USAGE)
-        if "" in words[1:2] or verb == "build" and "" in words[2:3]:
-            raise Refusal(2, USAGE)
-        if verb == "check" and len(words) == 2:
-            return check(words, files)
-        if verb == "build" and len(words) == 3:
-            files[words[2]] = built(words, files)
-            return 0, []
-        if verb == "sim" and len(words) >= 4 and words[2] == "--cycles":
-            return sim(words, files)
-        if verb == "run" and len(words) >= 4 and words[2] == "--cycles":
-            return run_file(words, files)
-        if verb == "walk" and len(words) >= 6 and words[2] == "--order" and words[4] == "--steps":
-            return walk(words, files)
-        if verb == "report" and len(words) == 2:
-            return reported(words, files)
-        if verb == "gen" and len(words) == 3:
-            return 0, generated(words)[2]
-        if verb == "bench" and len(words) == 5 and words[3] == "--cycles":
-            return bench(words)
-        raise Refusal(2, USAGE)
+        return answered(in_order(words), files)
+    except NoCommand:
+        return 2, [USAGE]
     except Refusal as refusal:
         return refusal.status, [refusal.line]
 

@@ -100,6 +100,9 @@ class CaseFile:
             self.files[rest] = repeated(body)
         elif word in ("spread", "cut"):
             self.make(word, rest)
+        elif word == "printed":
+            name, _, words = rest.partition(" by ")
+            self.files[name] = joined(self.called(words_of(words), self.files)[1])
         elif word == "fail":
             what, number = rest.split()
             self.failing[what] = int(number)
@@ -107,9 +110,11 @@ class CaseFile:
             return self.call(rest, body)
         elif word in ("begins", "ends", "holds"):
             return head, self.stands(word, rest, body)
+        elif word == "is":
+            return head, self.lines_of(rest)
         elif word == "failing":
             return head, self.failing_rows(rest, body)
-        elif word in ("none", "part", "is", "folder", "shown"):
+        elif word in ("none", "part", "folder", "shown"):
             raise Open
         else:
             return head, [self.row(word, rest, row) for row in body]
@@ -155,18 +160,30 @@ class CaseFile:
             return ["endmodule"]
         return [line for line in body if line in head + outputs]
 
+    def lines_of(self, name):
+        """The lines of a file whose text is known."""
+        text = self.files.get(name)
+        if not isinstance(text, bytes) or not text.endswith(b"\n"):
+            raise Open
+        self.counts["worked out"] += 1
+        return text.decode().splitlines()
+
     def failing_rows(self, rest, body):
         """Which call of a shelf reads and which one writes is left open; what each failure tells is not."""
         what, _, words = rest.partition(": ")
         names = words_of(words)
         whole = self.called(names, dict(self.files))
-        told = {"3": f"cannot read {names[1]}", "4": "cannot write output" if what == "out" else f"cannot write {names[-1]}"}
+        inputs = names[1:3] if names[0] == "session" else names[1:2]
+        written = "output" if what == "out" or len(names) < 3 else names[2]
+        told = {"3": f"cannot read {names[1]}", "4": f"cannot write {written}"}
         found = []
         for row in body:
             which, _, wanted = row.partition(" -> ")
             wanted, semicolon, state = wanted.partition("; ")
             if which == "end" or what == "err":
                 text = row_text(*whole)
+            elif wanted in [f"3 cannot read {name}" for name in inputs]:
+                text = wanted
             else:
                 text = f"{wanted[0]} {told[wanted[0]]}"
             found.append(f"{which} -> {kept_start(wanted, text)}{semicolon}{state}")
@@ -189,7 +206,7 @@ class CaseFile:
             name, _, words = rest.partition(": ")
             status, lines = self.called(words_of(words), {name: changed(self.files[name], left)})
         elif word == "words:":
-            status, lines = self.called(words_of(f"{rest} {left}"), dict(self.files))
+            status, lines = self.called(words_of(f"{rest} {left}"), self.files)
         else:
             raise SystemExit(f"no such entry: {word}")
         text = row_text(status, lines)

@@ -1,6 +1,6 @@
 //! The entries of a case file, done one after the other.
 
-use crate::calls::call;
+use crate::calls::{call, plain_call};
 use crate::entries::Entry;
 use crate::failing::{Failing, fail_in_turn};
 use crate::folder::{compare_with_folder, show_calls};
@@ -47,6 +47,7 @@ pub fn run_entries(
             "file" => place_file(alloc, &mut case, rest, entry)?,
             "pieces" => place(alloc, &mut case, rest, &repeated(alloc, &entry.body)?)?,
             "spread" | "cut" => make_file(alloc, &mut case, word == "spread", rest)?,
+            "printed" => place_printed(alloc, &mut case, rest)?,
             "fail" => fail(&mut case, rest)?,
             "safl" => run_call(alloc, &mut case, rest, entry, tally)?,
             "folder" => compare_with_folder(rt, &case.placed, entry, tally)?,
@@ -81,6 +82,13 @@ fn place(alloc: Global, case: &mut Case, name: &str, bytes: &[u8]) -> Result<(),
         bytes: Vec::from_slice(alloc, bytes)?,
     })?;
     Ok(())
+}
+
+// `A by WORDS`: A is what this call prints.
+fn place_printed(alloc: Global, case: &mut Case, rest: &str) -> Result<(), NoMemory> {
+    let (name, words) = rest.split_once(" by ").unwrap_or((rest, ""));
+    let ended = plain_call(alloc, words, &mut case.shelf)?;
+    place(alloc, case, name, ended.out.bytes())
 }
 
 // `A as B`: B is A spread out; `A as B after PIECE`: B is A up to this piece, which it ends with.

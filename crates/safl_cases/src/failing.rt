@@ -154,11 +154,13 @@ fn has_state(trial: &Trial<'_>, disturbed: &Disturbed, state: &str) -> bool {
     }
 }
 
-// The file that a `build` writes.
+// The file that a command writes, where it writes one: the word behind that of its input.
 fn output_of(words: &str) -> &str {
-    match words.strip_prefix("build ") {
-        Some(names) => names.split_once(' ').map(|pair| pair.1).unwrap_or(""),
-        None => "",
+    let (verb, names) = words.split_once(' ').unwrap_or((words, ""));
+    let (_, rest) = names.split_once(' ').unwrap_or((names, ""));
+    match verb {
+        "build" | "reshape" | "aig" => rest.split_once(' ').map(|pair| pair.0).unwrap_or(rest),
+        _ => "",
     }
 }
 

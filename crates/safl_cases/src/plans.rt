@@ -7,11 +7,11 @@ use safl_word::NoMemory;
 use std::alloc::Global;
 
 /// The sites that have an arbiter's wire and those that have a kept word, by number, and the numbers of registers and of
-/// their bits, as the file says that is built of the source.
-pub fn plan_of(alloc: Global, source: &str) -> Result<String, NoMemory> {
+/// their bits, as the file `v` says that this call builds of the source `p`.
+pub fn plan_of(alloc: Global, build: &str, source: &str) -> Result<String, NoMemory> {
     let mut shelf = MemShelf::new(alloc);
     shelf.add("p", &bytes_of(alloc, source, 0)?)?;
-    let _built = plain_call(alloc, "build p v", &mut shelf)?;
+    let _built = plain_call(alloc, build, &mut shelf)?;
     let text = str::from_utf8(shelf.file("v").unwrap_or(b"")).unwrap_or("");
     let mut told = String::new(alloc);
     told.push_str("arb")?;

@@ -19,9 +19,10 @@ pub enum Rows<'a> {
     Changes(&'a str),
     /// Words that follow those of the table, on the case's own shelf.
     Words,
-    /// Sources that are simulated, and built and run, and run with the built file spread out, all to the same end.
+    /// Sources that are simulated, and built and run, with and without `--opt`, and run with the built file spread out, all to
+    /// the same end.
     Circuits,
-    /// Sources that are built, and what of the file shows their plan.
+    /// Sources that are built, with and without `--opt`, and what of both files shows their plan.
     Plans,
 }
 
@@ -38,10 +39,7 @@ pub fn run_rows(
         let number = entry.number.saturating_add(place).saturating_add(1);
         let (left, right) = row.rsplit_once(" -> ").unwrap_or((*row, ""));
         match rows {
-            Rows::Plans => {
-                let told = plan_of(alloc, left)?;
-                tally.count(number, told.as_str() == right, told.as_str())?;
-            }
+            Rows::Plans => compare_plans(alloc, left, right, number, tally)?,
             Rows::Circuits => run_circuit(alloc, words, left, right, number, tally)?,
             _ => {
                 let wanted = Wanted::of_row(alloc, right)?;
@@ -49,6 +47,20 @@ pub fn run_rows(
                 tally.count_call(number, ended.agrees(&wanted), &ended)?;
             }
         }
+    }
+    Ok(())
+}
+
+fn compare_plans(
+    alloc: Global,
+    source: &str,
+    wanted: &str,
+    number: usize,
+    tally: &mut Tally,
+) -> Result<(), NoMemory> {
+    for build in ["build p v", "build p v --opt"] {
+        let told = plan_of(alloc, build, source)?;
+        tally.count(number, told.as_str() == wanted, told.as_str())?;
     }
     Ok(())
 }
@@ -82,7 +94,7 @@ fn run_row(
     }
 }
 
-// Simulates the source of a row, builds it, runs the file, and runs the file spread out.
+// Simulates the source of a row, builds it with and without `--opt`, runs the files, and runs the plain one spread out.
 fn run_circuit(
     alloc: Global,
     words: &str,
@@ -95,11 +107,13 @@ fn run_circuit(
     let wanted = Wanted::of_row(alloc, right)?;
     let mut shelf = MemShelf::new(alloc);
     shelf.add("p", &bytes_of(alloc, source, 0)?)?;
-    let built = plain_call(alloc, "build p v", &mut shelf)?;
-    tally.count_call(number, built.agrees(&Wanted::of_row(alloc, "0")?), &built)?;
+    for build in ["build p v", "build p o --opt"] {
+        let built = plain_call(alloc, build, &mut shelf)?;
+        tally.count_call(number, built.agrees(&Wanted::of_row(alloc, "0")?), &built)?;
+    }
     let text = spread(alloc, shelf.file("v").unwrap_or(b""))?;
     shelf.add("w", &text)?;
-    for command in ["sim p", "run v", "run w"] {
+    for command in ["sim p", "run v", "run w", "run o"] {
         let words = format!(in alloc; "{command} {words} {args}")?;
         let ended = plain_call(alloc, words.as_str(), &mut shelf)?;
         tally.count_call(number, ended.agrees(&wanted), &ended)?;
