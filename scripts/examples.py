@@ -31,6 +31,7 @@ from gallery import DRAWS, PAGES  # noqa: E402
 
 CASES = f"{TOP}/crates/safl_cases/data/examples.case"
 CALLS_MAX = 1_000_000
+BY_HAND = "by_hand"  # Verilog that was written by hand, to compare with
 
 
 class Example:
@@ -120,10 +121,11 @@ class Example:
         counts = f"functions {len(self.program.functions)}, sites {len(self.program.sites) - 1}"
         lines = [f"# {self.name}", "file p"] + [f"    {line}" for line in self.source.splitlines()]
         lines += ["words:", f"    check p -> 0 {counts}", f"words: sim p --cycles {self.limit}"] + rows
+        lines += ["safl build p o --opt -> 0", f"words: run o --cycles {self.limit}"] + rows
         return lines + ["safl build p v -> 0", f"words: run v --cycles {self.limit}"] + rows
 
     def case_count(self):
-        return 2 + 2 * len(self.rows)
+        return 3 + 3 * len(self.rows)
 
     def blocks(self):
         """What stands between the markers of the page, by the markers' names."""
@@ -277,7 +279,7 @@ def main(words):
         pictures(examples)
         return 0
     target = Target(words == ["--check"])
-    missing = set(name for name in os.listdir(f"{TOP}/examples") if os.path.isdir(f"{TOP}/examples/{name}")) - set(PAGES)
+    missing = set(name for name in os.listdir(f"{TOP}/examples") if os.path.isdir(f"{TOP}/examples/{name}")) - set(PAGES) - {BY_HAND}
     if missing:
         sys.exit(f"no arguments for {', '.join(sorted(missing))}")
     for example in examples:

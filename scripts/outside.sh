@@ -1,8 +1,10 @@
 #!/bin/bash
 # Compares the Verilog that the program writes for all examples with what other tools make of it: Icarus Verilog has to print the
-# same result in the same cycle, Yosys has to synthesise it and Verilator to read it without an error. A refusal has to come on the
-# error output. The arguments of the gallery are those of scripts/examples.py, which also looks at its pages and cases. The last line
-# says how much was compared, and which tools are missing. The program is built if it is missing (SAFL names another one).
+# same result in the same cycle, Yosys has to synthesise it (scripts/cells.py, which prints what it makes) and Verilator to read it
+# without an error. The same goes for what `build --opt` writes. Traces have to be those of Icarus Verilog, and vcd2fst has to read
+# them. The circuits of examples/by_hand have to give the same results. A refusal has to come on the error output. The arguments of
+# the gallery are those of scripts/examples.py, which also looks at its pages and cases. The last line says how much was compared,
+# and what is missing. The program is built if it is missing (SAFL names another one).
 set -u
 cd "$(dirname "$0")/.." || exit 1
 program=$(realpath -m "${SAFL:-crates/safl/out/safl}")
@@ -14,6 +16,7 @@ folder=$(mktemp -d)
 trap 'rm -rf "$folder"' EXIT
 failed=0
 tried=0
+rows=0
 sources=0
 last=""
 seen=""
@@ -27,23 +30,50 @@ has() {
     command -v "$1" >/dev/null
 }
 
-# What Icarus Verilog prints for the built file with this limit of cycles and these arguments.
-simulate() {
-    python3 scripts/bench.py "$folder/built.v" "$@" >"$folder/bench.v" &&
-        iverilog -o "$folder/simulated" "$folder/bench.v" "$folder/built.v" &&
-        vvp -n "$folder/simulated" | grep -v 'finish called'
+# Whether the program has a command: it ends with another status than that of the usage line.
+knows() {
+    "$program" "$@" >"$folder/log" 2>&1
+    [ $? -ne 2 ]
 }
 
-# Builds a source, and has Yosys and Verilator read the file.
+# What Icarus Verilog prints for a file with this limit of cycles and these arguments.
+simulate() {
+    local file=$1
+    shift
+    python3 scripts/bench.py "${dump[@]}" "$file" "$@" >"$folder/bench.v" &&
+        iverilog -o "$folder/simulated" "$folder/bench.v" "$file" &&
+        vvp -n "$folder/simulated" | grep -v -e 'finish called' -e 'VCD info'
+}
+
+# Builds a source, and has Verilator read the files.
 build() {
-    seen="$seen $1 "
+    local source=$1 option
+    seen="$seen $source "
     sources=$((sources + 1))
-    "$program" build "$1" "$folder/built.v" || { say "build of $1 failed"; return 1; }
-    if has yosys; then
-        yosys -q -p "read_verilog $folder/built.v; synth" >"$folder/log" 2>&1 || say "yosys refuses $1"
-    fi
-    if has verilator; then
-        verilator --lint-only -Wno-fatal --top-module safl "$folder/built.v" >"$folder/log" 2>&1 || say "verilator refuses $1"
+    for option in "${options[@]}"; do
+        # shellcheck disable=SC2086
+        "$program" build "$source" "$folder/built$option.v" $option || { say "build $option of $source failed"; return 1; }
+        if has verilator; then
+            verilator --lint-only -Wno-fatal --top-module safl "$folder/built$option.v" >"$folder/log" 2>&1 ||
+                say "verilator refuses $source $option"
+        fi
+    done
+}
+
+# Compares what is wanted with what a simulator says, of what these words name: same WHAT WANTED GOT SIMULATOR
+same() {
+    tried=$((tried + 1))
+    [ "$2" = "$3" ] || say "$1: $2, but $4 says $3"
+}
+
+# Compares the program's trace with that of the last simulation by Icarus Verilog.
+trace() {
+    "$program" sim "$1" --cycles "$2" --vcd "$folder/trace.vcd" "${@:3}" >"$folder/log" || say "sim --vcd of $* failed"
+    traces=$((traces + 1))
+    python3 scripts/same_traces.py "$folder/trace.vcd" "$folder/icarus.vcd" >"$folder/log" || say "$*: $(cat "$folder/log")"
+    if has vcd2fst; then
+        vcd2fst "$folder/trace.vcd" "$folder/trace.fst" >"$folder/log" 2>&1 || say "vcd2fst refuses the trace of $*"
+        [ ! -s "$folder/log" ] || say "vcd2fst complains of the trace of $*"
     fi
 }
 
@@ -57,24 +87,46 @@ refuse() {
     [ ! -s "$folder/printed" ] || say "check of a wrong source prints $(cat "$folder/printed")"
 }
 
-# Compares the file of a source, which is built where the last call was for another one, with a limit of cycles and arguments.
+# Compares the files of a source, which are built where the last call was for another one, with a limit of cycles and arguments.
 compare() {
-    local source=$1 limit=$2 wanted got
+    local source=$1 limit=$2 wanted option hand
     shift 2
-    tried=$((tried + 1))
+    rows=$((rows + 1))
     if [ "$source" != "$last" ]; then
         last=$source
         build "$source" || return
     fi
     wanted=$("$program" sim "$source" --cycles "$limit" "$@") || say "sim of $source $* failed"
-    got=$("$program" run "$folder/built.v" --cycles "$limit" "$@")
-    [ "$got" = "$wanted" ] || say "$source $*: $wanted, but the built file gives $got"
-    if has iverilog && has python3; then
-        got=$(simulate "$limit" "$@")
-        [ "$got" = "$wanted" ] || say "$source $*: $wanted, but Icarus Verilog says $got"
+    for option in "${options[@]}"; do
+        same "$source $option $*" "$wanted" "$("$program" run "$folder/built$option.v" --cycles "$limit" "$@")" "the built file"
+    done
+    has iverilog && has python3 || return
+    hand=examples/by_hand/$(basename "$source" .safl).v
+    if [ -f "$hand" ]; then
+        same "$hand $*" "${wanted%%$'\n'*}" "$(simulate "$hand" "$limit" "$@" | head -1)" "Icarus Verilog"
     fi
+    for option in "${options[@]}"; do
+        same "$source $option $*" "$wanted" "$(simulate "$folder/built$option.v" "$limit" "$@")" "Icarus Verilog"
+        if [ -z "$option" ] && [ ${#dump[@]} -ne 0 ]; then
+            trace "$source" "$limit" "$@"
+        fi
+    done
 }
 
+skipped=""
+options=("")
+dump=()
+traces=0
+if knows build examples/seven.safl "$folder/built.v" --opt; then
+    options=("" --opt)
+else
+    skipped=", the program has no build --opt"
+fi
+if knows sim examples/seven.safl --cycles 10 --vcd "$folder/trace.vcd"; then
+    dump=(--dump "$folder/icarus.vcd")
+else
+    skipped="$skipped, the program has no sim --vcd"
+fi
 refuse
 compare examples/seven.safl 1000
 compare examples/multiply.safl 1000 5 3
@@ -93,9 +145,11 @@ if has python3; then
         [[ "$seen" == *" $source "* ]] || say "$source has no arguments here"
     done
 fi
-skipped=""
-for name in iverilog yosys verilator python3; do
+if has yosys && has python3; then
+    python3 scripts/cells.py "$program" || say "yosys refuses a file"
+fi
+for name in iverilog yosys verilator vcd2fst python3; do
     has "$name" || skipped="$skipped, SKIPPED $name"
 done
-echo "outside: $sources sources with $tried rows of arguments compared, $failed differences$skipped"
+echo "outside: $sources sources with $rows rows of arguments, $tried simulations and $traces traces compared, $failed differences$skipped"
 [ "$failed" -eq 0 ]

@@ -25,9 +25,17 @@ SOURCES = {
 COMMANDS = {
     "check": ["check", "p"],
     "build": ["build", "p", "v"],
+    "build --opt": ["build", "p", "v", "--opt"],
+    "report": ["report", "p"],
+    "reshape --copy": ["reshape", "p", "v", "--copy", "1"],
+    "reshape --unfold": ["reshape", "p", "v", "--unfold", "1"],
     "sim": ["sim", "p", "--cycles", "100"],
     "walk": ["walk", "p", "--order", "1", "--steps", "100"],
     "run": ["run", "built", "--cycles", "100"],
+}
+MAKERS = {
+    "gen": ["gen", "1", "3"],
+    "bench": ["bench", "1", "3", "--cycles", "100"],
 }
 NO_MEMORY, NO_WORDS = 5, 20
 REFUSALS_MAX = 100_000
@@ -84,20 +92,26 @@ def refuse_all(bench, title, words):
     return REFUSALS_MAX, wrong + 1
 
 
+def refuse_commands(bench, title, commands, args):
+    """The same of some commands; prints how many were tried in each."""
+    counts, wrong = {}, 0
+    for name, words in commands.items():
+        counts[name], more = refuse_all(bench, f"{name}, {title}", words + (args if name in ("sim", "walk", "run") else []))
+        wrong += more
+    print(f"refusals: {title}: {', '.join(f'{name} {count}' for name, count in counts.items())}", flush=True)
+    return sum(counts.values()), wrong
+
+
 def main():
-    tried = wrong = 0
     with tempfile.TemporaryDirectory() as room:
         bench = Bench(program_of(), room)
+        found = [refuse_commands(bench, "three functions from a number", MAKERS, [])]
         for title, (args, source) in SOURCES.items():
             with open(f"{room}/p", "w", encoding="utf-8") as file:
                 file.write(source)
             subprocess.run([bench.program, "build", "p", "built"], cwd=room, check=True)
-            counts = []
-            for name, words in COMMANDS.items():
-                found = refuse_all(bench, f"{name}, {title}", words + (args if name in ("sim", "walk", "run") else []))
-                counts.append(f"{name} {found[0]}")
-                tried, wrong = tried + found[0], wrong + found[1]
-            print(f"refusals: {title}: {', '.join(counts)}", flush=True)
+            found.append(refuse_commands(bench, title, COMMANDS, args))
+    tried, wrong = (sum(column) for column in zip(*found))
     print(f"refusals: {tried} tried, {wrong} ended wrongly")
     sys.exit(1 if wrong else 0)
 

@@ -1,161 +1,193 @@
 #!/usr/bin/env python3
-"""Times the program on sources of growing size: `build` and `sim`, and Icarus Verilog on the same files where it is there.
-It prints signals, bytes, and nodes and cycles a second of the processor. Then it times the plan of nearly 4,000 call sites
-alone.
-The programs are crates/safl/out/safl and crates/safl_bench_plan/out/safl_bench_plan, or SAFL and PLAN name them; one
-that isn't built is skipped."""
+"""Times the program on sources of growing size: speed.py [PART..] [--verilator FUNCTIONS]
+
+    compile    nodes, signals, signals with --opt, the longest path, bytes of Verilog, and the time of `build`
+    simulate   the time of a cycle of `sim`, and of Icarus Verilog and Verilator on the same file where they are there
+    plan       the plan of nearly 4,000 call sites alone
+    nets       the simulator on nets in which nearly all wires change in every cycle
+
+All parts are done where none is named. Verilator is left out for sources of more than 100 functions, or of another number, as
+its C++ compiler takes more than a quarter of an hour of the processor for 900. The programs are those of the crates safl,
+safl_bench_plan and safl_bench_sim, as `rt` builds them, or SAFL, PLAN and NETS name them; one that isn't built is skipped.
+"""
+import argparse
 import os
 import re
-import resource
 import shutil
 import subprocess
-import sys
 import tempfile
+import time
 
-sys.path.insert(0, os.path.dirname(os.path.abspath(__file__)))
+import speed_sources
 from bench import bench
+from measure import CRATES, PROGRAM, Ended, Rate, as_memory, as_nanoseconds, as_time, depth_of, ended, is_there, knows, peak, program_of, seconds
+from measure import seconds_between, signals_of, table
+from verilate import verilate
 
-CRATES = os.path.join(os.path.dirname(os.path.abspath(__file__)), "../crates")
-PROGRAM = os.environ.get("SAFL", os.path.join(CRATES, "safl/out/safl"))
-PLAN = os.environ.get("PLAN", os.path.join(CRATES, "safl_bench_plan/out/safl_bench_plan"))
-CYCLES = 5000
-ARGS = ["9999", "3", "200"]
-
-
-def calls(count):
-    """A source of so many functions that call each other, drawn from the numbers that 1 begins, and a main that goes
-    through them again and again; and how many nodes it has."""
-    x, nodes, lines = 1, 0, []
-
-    def draw():
-        nonlocal x
-        x = (x * 1103515245 + 12345) % 2**31
-        return x // 65536
-
-    for i in range(count):
-        d, k, j, p = draw(), draw() % 16 + 1, draw() % 4, i - 1
-        if i < 4:
-            body, size = [
-                (f"x + y * {k}", 5),
-                (f"if y == 0 then x else f{i}(x + {k}, y >> 1)", 12),
-                (f"let p = x ^ y, q = x & {k} in p + q", 10),
-            ][d % 3]
-        else:
-            body, size = [
-                (f"f{p}(x + {k}, y) + f{j}(x, y)", 9),
-                (f"f{j}(f{p}(x, y ^ {k}), y)", 7),
-                (f"let p = f{p}(y, x) in if p < {k} then f{j}(p, x) else p", 12),
-                (f"if f{j}(x, {k}) == y then x else f{p}(y, x + {k})", 12),
-            ][d % 4]
-        nodes += size
-        lines.append(f"fun f{i}(x:16, y:16):16 = {body}\n")
-    return "".join(lines) + main_of(count - 1, 16), nodes + 16
+PLAN = program_of("PLAN", "safl_bench_plan")
+NETS = program_of("NETS", "safl_bench_sim")
+LOOP = ["9999", "3", "200"]
 
 
-def sums(count, terms):
-    """The same with functions that each are a sum of so many products, behind a call of the function before."""
-    lines = []
-    for i in range(count):
-        products = " + ".join(f"(x ^ {j + 1}) * y" for j in range(terms))
-        inner = f"f{i - 1}(x + {i}, y)" if i else "x + y"
-        lines.append(f"fun f{i}(x:32, y:32):32 = let s = {inner} in s + {products}\n")
-    return "".join(lines) + main_of(count - 1, 32), count * (6 * terms + 7) + 14
+class Source:
+    """A source with its number of nodes, main's arguments, and how many functions it has."""
+
+    def __init__(self, name, text, nodes, args, functions):
+        self.name, self.text, self.nodes, self.args, self.functions = name, text, nodes, args, functions
 
 
-def main_of(function, width):
-    return (
-        f"fun main(n:{width}, x:{width}, y:{width}):{width} = "
-        f"let z = f{function}(x, y) in if n == 0 then z else main(n - 1, z, y)\n"
-    )
+def sized():
+    for count in (100, 300, 900):
+        yield Source(f"{count} functions with calls", *speed_sources.calls(count), LOOP, count)
+    for count in (50, 150, 485):
+        yield Source(f"{count} functions of sums", *speed_sources.sums(count, 16), LOOP, count)
 
 
-def run(words):
-    """How many seconds of the processor a command takes, and what it prints."""
-    begun = resource.getrusage(resource.RUSAGE_CHILDREN)
-    ended = subprocess.run(words, capture_output=True, text=True)
-    now = resource.getrusage(resource.RUSAGE_CHILDREN)
-    return now.ru_utime + now.ru_stime - begun.ru_utime - begun.ru_stime, ended
+def loops():
+    yield Source("one multiplication without an end", speed_sources.busy(), 33, ["3000000001", "2863311531"], 2)
+    yield Source("a loop of multiplications", speed_sources.work(), 35, ["4000000000", "3000000001", "7"], 2)
 
 
-def best(words, times=3):
-    return min((run(words) for _ in range(times)), key=lambda told: told[0])
+class Room:
+    """A folder with a source, and with the files that are built of it."""
+
+    def __init__(self, folder, source):
+        self.source, self.path = source, os.path.join(folder, "source.safl")
+        self.built, self.optimised, self.made = (os.path.join(folder, name) for name in ("built.v", "optimised.v", "made"))
+        with open(self.path, "w", encoding="utf-8") as file:
+            file.write(source.text)
+        ended([PROGRAM, "build", self.path, self.built], (0,))
+
+    def text(self):
+        with open(self.built, encoding="utf-8") as file:
+            return file.read()
 
 
-def icarus(folder, built, cycles):
-    """Cycles a second of Icarus Verilog, where it is there."""
-    if not shutil.which("iverilog"):
-        return "no Icarus Verilog"
-    with open(built) as file:
-        text = bench(file.read(), cycles, ARGS)
-    paths = [os.path.join(folder, name) for name in ("bench.v", "simulated")]
-    with open(paths[0], "w") as file:
-        file.write(text)
-    _, compiled = run(["iverilog", "-o", paths[1], paths[0], built])
-    if compiled.returncode != 0:
-        return "Icarus Verilog refuses it"
-    took, ended = run(["vvp", "-n", paths[1]])
-    return f"Icarus Verilog {cycles_of(ended.stdout, cycles) / took:,.0f} cycles/s"
+def optimised_signals(room):
+    """The number of signals with --opt, or a dash where the program doesn't know it."""
+    words = ["build", room.path, room.optimised, "--opt"]
+    return f"{signals_of(room.optimised):,}" if knows(words) else "-"
 
 
-def cycles_of(printed, limit):
+def compile_row(source):
+    with tempfile.TemporaryDirectory() as folder:
+        room = Room(folder, source)
+        took = seconds([PROGRAM, "build", room.path, room.built])
+        signals, size = signals_of(room.built), os.path.getsize(room.built)
+        numbers = (f"{source.nodes:,}", f"{signals:,}", f"{signals / source.nodes:.1f}", optimised_signals(room))
+        return source.name, *numbers, depth_of(room.built), f"{size / 1e3:,.0f} kB", as_time(took), f"{source.nodes / took:,.0f}"
+
+
+def compiling():
+    head = ("source", "nodes", "signals", "a node", "with `--opt`", "longest path, in cells", "Verilog", "`build`", "nodes a second")
+    table("Compiling", head, [compile_row(source) for source in (*sized(), *loops())])
+
+
+def cycles_of(words, limit):
+    """How many cycles a simulation goes: to done, or to its limit."""
+    printed = subprocess.run(words, capture_output=True, text=True, check=False).stdout
     found = re.search(r"^cycle (\d+)$", printed, re.M)
     return int(found.group(1)) + 1 if found else limit
 
 
-def measure(folder, name, source, nodes):
-    path, built = os.path.join(folder, "source.safl"), os.path.join(folder, "built.v")
-    with open(path, "w") as file:
-        file.write(source)
-    took, ended = best([PROGRAM, "build", path, built])
-    if ended.returncode != 0:
-        sys.exit(f"speed: build of {name} failed: {ended.stderr}")
-    with open(built) as file:
-        text = file.read()
-    signals = len(re.findall(r"^  (?:input \[|reg|wire)", text, re.M))
-    begun, _ = best([PROGRAM, "sim", path, "--cycles", "1", *ARGS])
-    whole, ended = best([PROGRAM, "sim", path, "--cycles", str(CYCLES), *ARGS])
-    cycles = cycles_of(ended.stdout, CYCLES)
-    rate = cycles / max(whole - begun, 1e-3)
-    print(
-        f"{name}: {nodes} nodes, {signals} signals, {len(text)} bytes; build {took:.3f} s, "
-        f"{nodes / took:,.0f} nodes/s, {signals / nodes:.1f} signals a node, {len(text) / signals:.0f} bytes a signal; "
-        f"sim {cycles} cycles, {rate:,.0f} cycles/s, {rate * signals / 1e6:,.0f} million signals/s; {icarus(folder, built, cycles)}"
-    )
+def rate_of(words_of, first=1_000):
+    return Rate(words_of, lambda limit: 1 if limit == 1 else cycles_of(words_of(limit), limit), first)
 
 
-def peak(words):
-    """How many seconds of the processor a command takes, and the most memory that it has, in megabytes."""
-    timed = ["/usr/bin/time", "-f", "%U %S %M", *words]
-    told = subprocess.run(timed, stdout=subprocess.DEVNULL, stderr=subprocess.PIPE, text=True)
-    user, system, kilobytes = told.stderr.split()
-    return float(user) + float(system), int(kilobytes) / 1024
+def icarus(room):
+    """Seconds a cycle of Icarus Verilog, or nothing where it is missing. The limit is the bench's, so each has a file."""
+    if not shutil.which("iverilog"):
+        return None
+
+    def words_of(limit):
+        files = [f"{room.made}_{limit}.v", f"{room.made}_{limit}"]
+        if not os.path.exists(files[1]):
+            with open(files[0], "w", encoding="utf-8") as file:
+                file.write(bench(room.text(), limit, room.source.args))
+            subprocess.run(["iverilog", "-o", files[1], files[0], room.built], check=True)
+        return ["vvp", "-n", files[1]]
+
+    return rate_of(words_of, 250).turn
 
 
-def sources():
+def verilator(room, functions):
+    """Seconds a cycle of Verilator, and of its compiling by the clock; or nothing where it is missing or left out."""
+    if not shutil.which("verilator") or room.source.functions > functions:
+        return None, None
+    begun = time.perf_counter()
+    if not verilate(room.built, room.made):
+        return None, None
+    took = time.perf_counter() - begun
+    return rate_of(lambda limit: [room.made, str(limit), *room.source.args]).turn, took
+
+
+def ratio(other, own):
+    """Another simulator's time, and how many times the program's it is."""
+    if not other:
+        return "-"
+    times = other / own
+    return f"{as_nanoseconds(other)} ({times:,.0f} times)" if times >= 10 else f"{as_nanoseconds(other)} ({times:.2f} times)"
+
+
+def simulate_row(source, functions):
     with tempfile.TemporaryDirectory() as folder:
-        for count in (100, 300, 900):
-            source, nodes = calls(count)
-            measure(folder, f"{count} functions with calls", source, nodes)
-        for count in (50, 150, 485):
-            source, nodes = sums(count, 16)
-            measure(folder, f"{count} functions of sums", source, nodes)
+        room = Room(folder, source)
+        own = rate_of(lambda limit: [PROGRAM, "sim", room.path, "--cycles", str(limit), *source.args])
+        verilated, took = verilator(room, functions)
+        others = (ratio(icarus(room), own.turn), ratio(verilated, own.turn), as_time(took) if took else "-")
+        return source.name, f"{signals_of(room.built):,}", as_nanoseconds(own.turn), f"{own.turns:,}", as_time(own.begun), *others
+
+
+def simulating(functions):
+    head = ("source", "signals", "`sim`, ns a cycle", "cycles", "`sim` of one cycle", "Icarus Verilog", "Verilator", "its compiling")
+    table("Simulating", head, [simulate_row(source, functions) for source in (*sized(), *loops())])
 
 
 def plan():
-    if not os.access("/usr/bin/time", os.X_OK):
-        print("speed: the plan is skipped, as there is no /usr/bin/time")
-        return
-    checked = min(peak([PLAN, "check"]) for _ in range(5))
-    planned = min(peak([PLAN]) for _ in range(5))
-    print(f"plan: {planned[0] - checked[0]:.2f} s and {planned[1] - checked[1]:.1f} MB after a check of {checked[0]:.2f} s and {checked[1]:.1f} MB")
+    planned, checked = seconds_between([PLAN], [PLAN, "check"])
+    after, before = peak([PLAN]), peak([PLAN, "check"])
+    more = as_memory(after - before) if after else "-"
+    head = ("check", "its memory", "plan", "its memory")
+    table("The plan of 1,000 functions with 3,981 call sites", head, [(as_time(checked), as_memory(before), as_time(planned - checked), more)])
+
+
+def net_row(folder, number, line):
+    """A net that the benchmark knows by its number, and what it has to print."""
+    out = os.path.join(folder, "printed")
+    Ended([NETS, str(number)], out)
+    with open(out, encoding="utf-8") as file:
+        if file.read() != line:
+            raise SystemExit(f"speed: net {number} does not print {line}")
+    wires, width, cycles, steps = map(int, re.findall(r"\d+", line)[:4])
+    took, most = seconds([NETS, str(number)]), peak([NETS, str(number)])
+    signal = f"{most / wires:.0f}" if most and wires >= 1_000_000 else "-"
+    return f"{wires:,}", width, f"{cycles:,}", as_time(took), f"{steps / took / 1e6:,.0f}", signal
+
+
+def nets():
+    with open(os.path.join(CRATES, "safl_bench_sim", "stdout"), encoding="utf-8") as file:
+        lines = file.read().splitlines(keepends=True)
+    with tempfile.TemporaryDirectory() as folder:
+        rows = [net_row(folder, number, line) for number, line in enumerate(lines, 1)]
+    head = ("wires", "bits", "cycles", "time, set-up counted in", "million steps a second", "bytes a signal")
+    table("Nets that change nearly everywhere", head, rows)
 
 
 def main():
-    for program, measured in ((PROGRAM, sources), (PLAN, plan)):
-        if os.access(program, os.X_OK):
-            measured()
-        else:
-            print(f"speed: skipped, as there is no program {program}")
+    parser = argparse.ArgumentParser(description="Times the program on sources of growing size.")
+    parser.add_argument("parts", nargs="*", metavar="PART", help="compile, simulate, plan or nets; all where none is named")
+    parser.add_argument("--verilator", type=int, default=100, metavar="FUNCTIONS", help="the most functions for Verilator")
+    words = parser.parse_args()
+    parts = words.parts or ["compile", "simulate", "plan", "nets"]
+    if "compile" in parts and is_there(PROGRAM):
+        compiling()
+    if "simulate" in parts and is_there(PROGRAM):
+        simulating(words.verilator)
+    if "plan" in parts and is_there(PLAN):
+        plan()
+    if "nets" in parts and is_there(NETS):
+        nets()
 
 
-main()
+if __name__ == "__main__":
+    main()

@@ -1,0 +1,70 @@
+#!/usr/bin/env python3
+"""Checks that README.md and docs/ have the numbers that the repository has, and names each crate: the crates, the cases by file, and
+the definitions that the contract of `run` reaches (scripts/trusted.py)."""
+import pathlib
+import re
+import subprocess
+import sys
+
+ROOT = pathlib.Path(__file__).resolve().parent.parent
+
+
+def text(path):
+    return (ROOT / path).read_text(encoding="utf-8")
+
+
+def crates():
+    return re.findall(r"^(safl\w*):", text("crates.txt"), re.M)
+
+
+def reached():
+    """How many files and lines of definitions the contract of `run` reaches, as README.md says it."""
+    printed = subprocess.run([sys.executable, ROOT / "scripts/trusted.py"], capture_output=True, text=True, check=True).stdout
+    lines, files = re.search(r"(\d+) lines in (\d+) files", printed).groups()
+    return f"{files} files with {int(lines):,} lines"
+
+
+def cases():
+    """The number of cases of each file, and of all."""
+    found = text("crates/safl_cases/stdout")
+    return [(name, f"{int(n):,}") for name, n in re.findall(r"^(\w+\.case): (\d+) cases", found, re.M)], int(re.search(r"^all: (\d+) cases", found, re.M)[1])
+
+
+def in_table(page, name, number):
+    """Whether a row of the page has the name and, in its next cell, the number at the same place in the list."""
+    for row in page.splitlines():
+        cells = [cell.strip().split(", ") for cell in row.strip("|").split("|")]
+        if len(cells) >= 2 and name in cells[0]:
+            return cells[1][cells[0].index(name)] == number
+    return False
+
+
+def missing():
+    readme, architecture, page = text("README.md"), text("docs/ARCHITECTURE.md"), text("docs/CASES.md")
+    by_file, total = cases()
+    for crate in crates():
+        if not re.search(rf"\b{crate}\b", readme):
+            yield f"README.md does not name {crate}"
+        if f"| {crate} |" not in architecture:
+            yield f"docs/ARCHITECTURE.md has no row for {crate}"
+    if reached() not in readme:
+        yield f"README.md does not say '{reached()}'"
+    for name, where in (("README.md", readme), ("docs/CASES.md", page)):
+        if f"{total:,} cases" not in where:
+            yield f"{name} does not say '{total:,} cases'"
+    for name, number in by_file:
+        if not in_table(page, name, number):
+            yield f"docs/CASES.md does not say that {name} has {number} cases"
+
+
+def main():
+    found = list(missing())
+    for line in found:
+        print(f"numbers: {line}")
+    if not found:
+        print(f"numbers: README.md and docs/ have {len(crates())} crates, {cases()[1]:,} cases and {reached()}")
+    sys.exit(1 if found else 0)
+
+
+if __name__ == "__main__":
+    main()

@@ -1,0 +1,41 @@
+#!/usr/bin/env python3
+"""Compares a trace of the program with one that Icarus Verilog wrote in the bench of scripts/bench.py:
+
+    same_traces.py TRACE.vcd ICARUS.vcd
+
+Every signal of the first has to have the same value in the second one in every cycle, and the second may have no other signals.
+The status is 1 where one differs, and the first difference is printed.
+"""
+import sys
+
+from waves import Trace
+
+PERIOD, FIRST = 2, 2  # the values of cycle c stand at time PERIOD * c + FIRST in the bench
+
+
+def read(path):
+    with open(path, encoding="utf-8") as file:
+        return Trace(file.read())
+
+
+def difference(own, other):
+    """The first difference between the program's trace and the other one."""
+    if set(own.widths) != set(other.widths):
+        return f"signals differ: {' '.join(sorted(set(own.widths) ^ set(other.widths)))}"
+    for cycle in range(own.end):
+        for name in own.widths:
+            values = own.value(name, cycle), other.value(name, PERIOD * cycle + FIRST)
+            if values[0] != values[1] or values[0] is None:
+                return f"{name} in cycle {cycle}: {values[0]} and {values[1]}"
+    return None
+
+
+def main():
+    found = difference(*(read(path) for path in sys.argv[1:3]))
+    if found:
+        print(f"same_traces: {found}")
+    return 1 if found else 0
+
+
+if __name__ == "__main__":
+    sys.exit(main())

@@ -1,0 +1,287 @@
+#!/usr/bin/env python3
+"""Times the commands that speed.py doesn't: speed_tools.py [PART..], with these parts, all where none is named.
+
+    commands   `gen`, `bench`, `report` and `reshape` on sources as large as the language allows
+    optimise   `build --opt` less `build`, and how many signals are left, on the speed sources
+    signals    the same number of signals for the examples
+    files      `run` of a Verilog file of 1,000,000 wires: reading, the set-up of the simulator, and a cycle
+    walk       what an event takes, and apart from it the set-up
+    session    what a cycle of a session takes beside a cycle of `sim`, what a call takes besides, and the reading of a script
+    vcd        what a cycle takes with a trace and without, and in Icarus Verilog with a trace of the same signals
+
+The program is crates/safl/out/safl, or SAFL names it. A command that it doesn't have is skipped.
+"""
+import glob
+import os
+import shutil
+import subprocess
+import sys
+import tempfile
+
+import speed_sources
+from bench import bench
+from measure import NO_RESULT, PROGRAM, Ended, Rate, as_memory, as_nanoseconds, as_time, ended, is_there, knows, peak, seconds
+from measure import seconds_between, signals_of, table
+
+TOP = os.path.dirname(os.path.dirname(os.path.abspath(__file__)))
+LOOP = ["9999", "3", "200"]
+FACTORS = ["4000000000", "3000000001", "7"]
+CALLS = 100_000
+SCRIPT_MAX = 1_048_576
+WRONG_ARGUMENT = 8
+WIRES = 1_000_000
+
+
+def written(folder, name, text):
+    path = os.path.join(folder, name)
+    with open(path, "w", encoding="utf-8") as file:
+        file.write(text)
+    return path
+
+
+def skipped(what):
+    print(f"speed_tools: the program has no {what}, SKIPPED")
+    return []
+
+
+def less(command, what, words, others, wanted, statuses=(0, 6)):
+    """A row: a command's time, that of another one which does a part of it, and what is left."""
+    whole, part = seconds_between([PROGRAM, *words], [PROGRAM, *others], statuses)
+    other = f"`{others[0]}`" if others else "start and usage line"
+    return f"`{command}`", what, as_time(whole), f"{other} {as_time(part)}", as_time(whole - part), wanted
+
+
+def generating():
+    if not knows(["gen", "1", "1"]):
+        return skipped("gen and bench")
+    bench_words = ["bench", "1", "900", "--cycles", "1000"]
+    return [
+        less("gen 1 900", "", ["gen", "1", "900"], [], "5 ms in all", (0, 2)),
+        less("bench 1 900 --cycles 1000", "", bench_words, ["gen", "1", "900"], ""),
+    ]
+
+
+def reporting(folder):
+    path = written(folder, "sites.safl", speed_sources.sites())
+    if not knows(["report", path]):
+        return skipped("report")
+    what = "1,000 functions with 4,000 sites"
+    return [less("report", what, ["report", path], ["check", path], "200 ms in all")]
+
+
+def reshaping(folder):
+    text, nodes = speed_sources.sums(484, 16)
+    path, out = written(folder, "sums.safl", text), os.path.join(folder, "reshaped.safl")
+    if not knows(["reshape", path, out, "--copy", "484"]):
+        return skipped("reshape")
+    words = ["reshape", path, out]
+    return [
+        less(f"reshape {option} {site}", f"{nodes:,} nodes", [*words, option, site], ["check", path], "100 ms less `check`", (0,))
+        for option in ("--copy", "--unfold")
+        for site in ("1", "484")
+    ]
+
+
+def commands():
+    with tempfile.TemporaryDirectory() as folder:
+        rows = generating() + reporting(folder) + reshaping(folder)
+    if rows:
+        table("Commands on large sources", ("command", "on", "time", "less", "is", "wanted"), rows)
+
+
+def speed_list():
+    """The speed sources, by name."""
+    for count in (100, 300, 900):
+        yield f"{count} functions with calls", speed_sources.calls(count)[0]
+    for count in (50, 150, 485):
+        yield f"{count} functions of sums", speed_sources.sums(count, 16)[0]
+    yield "1,000 functions with 4,000 sites", speed_sources.sites()
+    yield "999 functions, 3,981 sites with ten arguments", speed_sources.largest()
+    yield "one multiplication without an end", speed_sources.busy()
+    yield "a loop of multiplications", speed_sources.work()
+
+
+def signals_row(folder, name, path):
+    """The numbers of signals without and with --opt, and by how much the second is less."""
+    files = [os.path.join(folder, each) for each in ("plain.v", "optimised.v")]
+    ended([PROGRAM, "build", path, files[0]], (0,))
+    ended([PROGRAM, "build", path, files[1], "--opt"], (0,))
+    before, after = [signals_of(file) for file in files]
+    return name, f"{before:,}", f"{after:,}", f"{100 * (before - after) / before:.0f} %"
+
+
+def optimise_row(folder, name, text):
+    path, out = written(folder, "source.safl", text), os.path.join(folder, "out.v")
+    words = ["build", path, out]
+    row = signals_row(folder, name, path)
+    whole, plain = seconds_between([PROGRAM, *words, "--opt"], [PROGRAM, *words], (0,))
+    peaks = [as_memory(peak([PROGRAM, *each])) for each in (words, words + ["--opt"])]
+    return *row, as_time(plain), as_time(whole), as_time(whole - plain), *peaks
+
+
+def has_opt(folder):
+    path = written(folder, "seven.safl", "fun main():8 = 7\n")
+    return knows(["build", path, os.path.join(folder, "seven.v"), "--opt"])
+
+
+def optimise():
+    with tempfile.TemporaryDirectory() as folder:
+        if not has_opt(folder):
+            return skipped("build --opt")
+        rows = [optimise_row(folder, *each) for each in speed_list()]
+    head = ("source", "signals", "with `--opt`", "less", "`build`", "`build --opt`", "difference", "memory of `build`", "of `build --opt`")
+    return table("Optimising", head, rows)
+
+
+def signals():
+    with tempfile.TemporaryDirectory() as folder:
+        if not has_opt(folder):
+            return skipped("build --opt")
+        paths = sorted(glob.glob(f"{TOP}/examples/*.safl") + glob.glob(f"{TOP}/examples/*/*.safl"))
+        rows = [signals_row(folder, os.path.basename(path).removesuffix(".safl"), path) for path in paths]
+    return table("Signals of the examples", ("example", "signals", "with `--opt`", "less"), rows)
+
+
+def files():
+    with tempfile.TemporaryDirectory() as folder:
+        path = written(folder, "wires.v", speed_sources.file_of_wires(WIRES))
+        words = [PROGRAM, "run", path, "--cycles"]
+        refused = [*words, "1", "5"]  # an argument too many: the file is read and ordered, and then refused
+        one, read = seconds_between([*words, "1"], refused, (NO_RESULT, WRONG_ARGUMENT))
+        many, _ = seconds_between([*words, "101"], refused, (NO_RESULT, WRONG_ARGUMENT))
+        size = f"{os.path.getsize(path) / 1e6:.0f} MB"
+        numbers = (as_time(read), as_time(one - read), as_time((many - one) / 100), as_memory(peak([*words, "1"])))
+    head = ("file", "reading and ordering", "set-up and first cycle (0.3 s wanted)", "a further cycle", "memory")
+    table(f"`run` of {WIRES:,} wires of 64 bits", head, [(size, *numbers)])
+
+
+def walk_row(folder, name, text, args):
+    path = written(folder, "source.safl", text)
+    checked = seconds([PROGRAM, "check", path])
+    rate = Rate(lambda limit: [PROGRAM, "walk", path, "--order", "1", "--steps", str(limit), *args])
+    return name, f"{rate.turns:,}", f"{rate.turn * 1e6:.2f}", as_time(rate.begun - checked), as_time(checked)
+
+
+def walk():
+    large = [(f"{count} functions with calls", speed_sources.calls(count)[0], LOOP, "1") for count in (100, 300, 900)]
+    large.append(("1,000 functions with 4,000 sites", speed_sources.sites(), ["5"], "1"))
+    small = [
+        ("a loop of multiplications", speed_sources.work(), FACTORS, "0.5"),
+        ("products of 8 bits without an end", speed_sources.products(), ["5", "3"], "0.5"),
+        ("one multiplication without an end", speed_sources.busy(), ["3000000001", "2863311531"], "0.5"),
+    ]
+    with tempfile.TemporaryDirectory() as folder:
+        rows = [(*walk_row(folder, name, text, args), wanted) for name, text, args, wanted in large + small]
+    table("Walks", ("source", "events", "us an event", "set-up after `check`", "`check`", "us wanted"), rows)
+
+
+class Session:
+    """A session of so many equal calls: the time without that of an empty script, and the cycles."""
+
+    def __init__(self, folder, path, line):
+        script, out = written(folder, "script", f"{line}\n" * CALLS), os.path.join(folder, "lines")
+        words, empty = [[PROGRAM, "session", path, each, "--cycles", "1000"] for each in (script, written(folder, "empty", ""))]
+        Ended(words, out)
+        with open(out, encoding="utf-8") as file:
+            self.cycles = sum(int(text.split()[1]) + 1 for text in file.read().splitlines()[:CALLS])
+        whole, begun = seconds_between(words, empty)
+        self.seconds = whole - begun
+
+
+def reading(folder, path):
+    """What it takes to read a script of 1 MiB, whose last line has a wrong argument, so that nothing is simulated."""
+    line = "123 234\n"
+    full = written(folder, "full", line * (SCRIPT_MAX // len(line) - 1) + "123 256\n")
+    empty = written(folder, "empty", "")
+    both = [[PROGRAM, "session", path, each, "--cycles", "1"] for each in (full, empty)]
+    whole, begun = seconds_between(*both, (0, WRONG_ARGUMENT))
+    return whole - begun
+
+
+def session():
+    path = f"{TOP}/examples/multiply.safl"
+    with tempfile.TemporaryDirectory() as folder:
+        if not knows(["session", path, written(folder, "empty", ""), "--cycles", "1"]):
+            return skipped("session")
+        long, short = Session(folder, path, "255 255"), Session(folder, path, "0 0")
+        cycle = (long.seconds - short.seconds) / (long.cycles - short.cycles)
+        call = (short.seconds - cycle * short.cycles) / CALLS
+        loop = written(folder, "products.safl", speed_sources.products())
+        sim = Rate(lambda limit: [PROGRAM, "sim", loop, "--cycles", str(limit), "5", "3"])
+        numbers = (f"{CALLS:,}", f"{long.cycles:,}", as_time(long.seconds), as_nanoseconds(cycle), as_time(call))
+        row = (*numbers, as_nanoseconds(sim.turn), as_time(reading(folder, path)))
+    head = ("calls", "cycles", "time", "ns a cycle", "a call besides", "`sim`, ns a cycle", "reading 1 MiB (20 ms wanted)")
+    return table("A session of the multiplication of 8 bits", head, [row])
+
+
+def icarus_trace(folder, built, args):
+    """Seconds a cycle of Icarus Verilog that traces the named signals, or nothing where it is missing."""
+    if not shutil.which("iverilog"):
+        return None
+    with open(built, encoding="utf-8") as file:
+        text = file.read()
+
+    def words_of(limit):
+        made = os.path.join(folder, f"made_{limit}")
+        if not os.path.exists(made):
+            path = written(folder, "bench.v", bench(text, limit, args, os.path.join(folder, "icarus.vcd")))
+            subprocess.run(["iverilog", "-o", made, path, built], check=True)
+        return ["vvp", "-n", made]
+
+    return Rate(words_of, first=250).turn
+
+
+def vcd_row(name, text, args):
+    with tempfile.TemporaryDirectory() as folder:
+        path, trace, built = written(folder, "source.safl", text), os.path.join(folder, "trace.vcd"), os.path.join(folder, "built.v")
+        plain = Rate(lambda limit: [PROGRAM, "sim", path, "--cycles", str(limit), *args])
+        traced = Rate(lambda limit: [PROGRAM, "sim", path, "--cycles", str(limit), "--vcd", trace, *args])
+        ended([PROGRAM, "build", path, built], (0,))
+        sizes = []
+        for limit in (1, traced.limit):
+            ended([PROGRAM, "sim", path, "--cycles", str(limit), "--vcd", trace, *args])
+            sizes.append(os.path.getsize(trace))
+        size = (sizes[1] - sizes[0]) / traced.turns
+        other = icarus_trace(folder, built, args)
+        numbers = (f"{size:,.0f}", as_nanoseconds(plain.turn), as_nanoseconds(traced.turn), f"{traced.turn / plain.turn:.1f}")
+        return name, *numbers, as_nanoseconds(other) if other else "-"
+
+
+def vcd():
+    with tempfile.TemporaryDirectory() as folder:
+        path = written(folder, "seven.safl", "fun main():8 = 7\n")
+        if not knows(["sim", path, "--cycles", "1", "--vcd", os.path.join(folder, "trace.vcd")]):
+            return skipped("sim --vcd")
+    large = [(f"{count} functions with calls", speed_sources.calls(count)[0], LOOP) for count in (100, 900)]
+    small = [
+        ("a loop of multiplications", speed_sources.work(), FACTORS),
+        ("products of 8 bits without an end", speed_sources.products(), ["5", "3"]),
+        ("50 functions of sums", speed_sources.sums(50, 16)[0], LOOP),
+    ]
+    head = ("source", "bytes a cycle", "`sim`, ns a cycle", "with `--vcd`", "ratio (3 wanted below 1 KiB)", "Icarus Verilog with `$dumpvars`")
+    return table("Traces", head, [vcd_row(*each) for each in large + small])
+
+
+PARTS = {
+    "commands": commands,
+    "optimise": optimise,
+    "signals": signals,
+    "files": files,
+    "walk": walk,
+    "session": session,
+    "vcd": vcd,
+}
+
+
+def main():
+    parts = sys.argv[1:] or list(PARTS)
+    for part in parts:
+        if part not in PARTS:
+            sys.exit(f"speed_tools: there is no part {part}; there are {', '.join(PARTS)}")
+    if is_there(PROGRAM):
+        for part in parts:
+            PARTS[part]()
+
+
+if __name__ == "__main__":
+    main()

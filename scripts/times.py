@@ -1,0 +1,80 @@
+#!/usr/bin/env python3
+"""Prints how long a run of `rt ci` took by crate, as a Markdown table: times.py LOG [HH:MM:SS]
+
+Each line of LOG begins with the time at which it was written, `HH:MM:SS `. Minutes are counted from the given time, or from
+the first line. A crate's lines come when its check has ended, so a row has the minutes from the beginning of the run until
+the crate was proved, until its tests were, and until its first mutation was tried. `kept` means that an earlier run proved it.
+
+To make such a log: rt ci 2>&1 | while IFS= read -r line; do echo "$(date +%T) $line"; done >LOG
+"""
+import re
+import sys
+
+STAMPED = re.compile(r"(\d\d):(\d\d):(\d\d) (.*)")
+EVENTS = (
+    ("proved", re.compile(r"rt: (\w+) proved$")),
+    ("kept", re.compile(r"rt: (\w+) is kept: ")),
+    ("failed", re.compile(r"rt: (\w+) NOT PROVED")),
+    ("tests", re.compile(r"rt: (\w+): its tests are proved$")),
+    ("tests failed", re.compile(r"rt: (\w+): its tests are NOT PROVED")),
+    ("mutations", re.compile(r"rt: (\w+): trying its must-fail edits \((\d+)\)$")),
+)
+
+
+def seconds_of(hours, minutes, seconds):
+    return 3600 * int(hours) + 60 * int(minutes) + int(seconds)
+
+
+def stamped(lines, start):
+    """The seconds since the start, and the text, of each line that has a stamp. The clock may pass midnight once."""
+    for line in lines:
+        found = STAMPED.match(line.rstrip("\n"))
+        if found:
+            now = seconds_of(*found.group(1, 2, 3))
+            start = now if start is None else start
+            yield (now - start) % 86400, found[4]
+
+
+def times_of(lines):
+    """For each crate, in the order in which it is first named, the seconds of its events; and the last line with its seconds."""
+    crates, last = {}, (0, "")
+    for now, text in lines:
+        last = (now, text)
+        for kind, pattern in EVENTS:
+            found = pattern.match(text)
+            if found:
+                crates.setdefault(found[1], {})[kind] = (now, *found.groups()[1:])
+    return crates, last
+
+
+def minutes(seconds):
+    return f"{seconds / 60:.1f}"
+
+
+def cell(events, good, bad):
+    if bad in events:
+        return f"failed after {minutes(events[bad][0])}"
+    return minutes(events[good][0]) if good in events else ""
+
+
+def row(crate, events):
+    proved = f"kept, {minutes(events['kept'][0])}" if "kept" in events else cell(events, "proved", "failed")
+    mutations = f"{events['mutations'][1]} from {minutes(events['mutations'][0])}" if "mutations" in events else ""
+    return f"| {crate} | {proved} | {cell(events, 'tests', 'tests failed')} | {mutations} |"
+
+
+def main():
+    if len(sys.argv) not in (2, 3):
+        sys.exit(__doc__)
+    start = seconds_of(*sys.argv[2].split(":")) if len(sys.argv) == 3 else None
+    with open(sys.argv[1], encoding="utf-8", errors="replace") as log:
+        crates, last = times_of(stamped(log, start))
+    print("| crate | proved after | its tests after | mutations |")
+    print("|---|---|---|---|")
+    for crate, events in crates.items():
+        print(row(crate, events))
+    print(f"\nThe last line came after {minutes(last[0])} minutes: {last[1]}")
+
+
+if __name__ == "__main__":
+    main()
