@@ -10,19 +10,41 @@ _safl_files() {
     done < <(compgen -f -- "$word")
 }
 
+_safl_options() {
+    # the options of a command
+    case "$1" in
+        build) echo --opt ;;
+        sim | run | bench) echo --cycles ;;
+        walk) echo --order --steps ;;
+        reshape) echo --copy --unfold ;;
+    esac
+}
+
 _safl() {
-    local word=${COMP_WORDS[COMP_CWORD]} verb=${COMP_WORDS[1]}
+    local word=${COMP_WORDS[COMP_CWORD]} verb=${COMP_WORDS[1]} before=${COMP_WORDS[COMP_CWORD - 1]} place=0 i
     COMPREPLY=()
     if [ "$COMP_CWORD" -eq 1 ]; then
-        mapfile -t COMPREPLY < <(compgen -W "check build sim run walk" -- "$word")
+        mapfile -t COMPREPLY < <(compgen -W "check build sim run walk report gen bench reshape" -- "$word")
         return
     fi
-    case "$verb:$COMP_CWORD" in
-        run:2 | build:3) _safl_files v "$word" ;;
-        check:2 | build:2 | sim:2 | walk:2) _safl_files safl "$word" ;;
-        sim:3 | run:3) COMPREPLY=(--cycles) ;;
-        walk:3) COMPREPLY=(--order) ;;
-        walk:5) COMPREPLY=(--steps) ;;
+    case "$before" in
+        = | --cycles | --order | --steps | --copy | --unfold) return ;; # a number
+    esac
+    # how many names and arguments there are up to this word, options and their values aside
+    for ((i = 2; i <= COMP_CWORD; i++)); do
+        case "${COMP_WORDS[i - 1]}:${COMP_WORDS[i]}" in
+            --opt:-* | --opt:=) ;;
+            --opt:*) place=$((place + 1)) ;;
+            *:-?* | *:= | =:* | --*:*) ;;
+            *) place=$((place + 1)) ;;
+        esac
+    done
+    case "$verb:$place:$word" in
+        *:-*) mapfile -t COMPREPLY < <(compgen -W "$(_safl_options "$verb")" -- "$word") ;;
+        run:1:* | build:2:*) _safl_files v "$word" ;;
+        check:1:* | build:1:* | sim:1:* | walk:1:* | report:1:* | reshape:[12]:*) _safl_files safl "$word" ;;
+        build:3:* | sim:2:* | run:2:* | walk:2:* | bench:3:* | reshape:3:*)
+            mapfile -t COMPREPLY < <(compgen -W "$(_safl_options "$verb")" -- "$word") ;;
     esac
 }
 
