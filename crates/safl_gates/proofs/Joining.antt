@@ -41,7 +41,7 @@ words_show v xs us o l e q = q ∙ gate_words (on v l.bit) (words v l.words.item
 
 -- ---- an entry is replaced
 
-get_set : {A : Type 0} (xs : List A) (i j : ℕ) (x : A) → i < length xs → slice_get (slice_set xs i x) j ≡ cond (j == i) (Some x) (slice_get xs j)
+pub get_set : {A : Type 0} (xs : List A) (i j : ℕ) (x : A) → i < length xs → slice_get (slice_set xs i x) j ≡ cond (j == i) (Some x) (slice_get xs j)
 get_set [] i j x l = absurd (omega (arith, l))
 get_set (y ∷ xs) zero zero x l = refl
 get_set (y ∷ xs) zero (suc j) x l = ap (λ (b : Bool). cond b (Some x) (slice_get xs j)) (sym (eqb-suc-zero j))
@@ -90,3 +90,10 @@ loads_set_fit n xs p l ws m h q i = subst (λ (o : Option (Option Load)). FitsIn
 
 pub load_at : (n : Netlist) (xs : List (Option Load)) (p : ℕ) (o : Option Load) (ws : List ℕ) → slice_get xs p ≡ Some o → FitsIn n (load_in (slice_get xs p)) ws → FitsIn n o ws
 load_at n xs p o ws e h = subst (λ (x : Option (Option Load)). FitsIn n (load_in x) ws) e h
+
+pub bits_set_fit : (n : Netlist) (xs : List (Option Sig)) (p : ℕ) (s : Sig) → p < length xs → BitsFit n xs → IsSource n s 1 → BitsFit n (slice_set xs p (Some s))
+bits_set_fit n xs p s m h q i = subst (λ (o : Option (Option Sig)). IsBitIn n (sig_in o)) (sym (get_set xs p i (Some s) m)) (by (i == p))
+  where
+    by : (b : Bool) → IsBitIn n (sig_in (cond b (Some (Some s)) (slice_get xs i)))
+    by true = q
+    by false = h i

@@ -1,6 +1,6 @@
 //! Gates: one temporary each, over signals that may be read.
 
-ghost use Rattle.std.specs.Prelude.{◌≡◌, ℕ, ◌+◌, ◌≤◌, ◌&&◌, ◌||◌, List, not, cond, false, length, Some, IfOk};
+ghost use Rattle.std.specs.Prelude.{◌≡◌, ℕ, ◌+◌, ◌≤◌, ◌&&◌, ◌||◌, List, [], ◌∷◌, ◌++◌, not, cond, false, length, Some, IfOk};
 ghost use Rattle.safl_net.specs.Names.{IsTidy};
 ghost use Rattle.safl_word.specs.Primitives.{apply_prim};
 ghost use Rattle.safl_net.specs.Widths.{op_width, prim_width};
@@ -9,6 +9,8 @@ ghost use Rattle.safl_net.specs.Growth.{Val, words, Wired};
 ghost use Rattle.safl_net.specs.Bits.{on};
 ghost use Rattle.safl_gates.specs.Sources.{IsSource, AreSources, Builds, HasRoom};
 ghost use Rattle.safl_gates.specs.Tables.{IsBitIn, on_in};
+ghost use Rattle.safl_gates.specs.Rows.{maybe_one};
+ghost use Rattle.safl_gates.specs.Heights.{IsGateOf, Within, AllWithin};
 
 use safl_net::{Net, Op, Sig};
 use safl_word::{NoMemory, Primitive, Word};
@@ -23,6 +25,7 @@ fn cell(net: &mut Net, op: Op, operands: &[Sig]) -> Result<Sig, NoMemory>
     ensures built { Builds net.old net.new 1 }
     ensures fits { (ws : List ℕ) (w : ℕ) → AreSources net.old operands.now ws → op_width op ws ≡ Some w → IfOk result (λ s. IsSource net.new s w) }
     ensures value { IfOk result (λ s. (v : Val) → Wired net.new v → v s.0 ≡ cell_word op (words v operands.now)) }
+    ensures gate { IfOk result (λ s. IsGateOf net.new s operands.now) }
 {
     net.temp(op, operands)
 }
@@ -48,6 +51,7 @@ pub fn operate(net: &mut Net, primitive: Primitive, operands: &[Sig]) -> Result<
     ensures built { Builds net.old net.new 1 }
     ensures fits { (ws : List ℕ) (w : ℕ) → AreSources net.old operands.now ws → prim_width primitive ws ≡ Some w → IfOk result (λ s. IsSource net.new s w) }
     ensures value { IfOk result (λ s. (v : Val) → Wired net.new v → v s.0 ≡ apply_prim primitive (words v operands.now)) }
+    ensures gate { IfOk result (λ s. IsGateOf net.new s operands.now) }
 {
     cell(net, Op::Apply(primitive), operands)
 }
@@ -73,6 +77,7 @@ pub fn inverse(net: &mut Net, a: Sig) -> Result<Sig, NoMemory>
     ensures built { Builds net.old net.new 1 }
     ensures fits { IfOk result (λ s. IsSource net.new s 1) }
     ensures value { IfOk result (λ s. (v : Val) → Wired net.new v → on v s ≡ not (on v a)) }
+    ensures gate { IfOk result (λ s. IsGateOf net.new s (a ∷ [])) }
 {
     operate(net, Primitive::Not, &[a])
 }
@@ -87,6 +92,7 @@ pub fn both(net: &mut Net, a: Sig, b: Sig) -> Result<Sig, NoMemory>
     ensures built { Builds net.old net.new 1 }
     ensures fits { IfOk result (λ s. IsSource net.new s 1) }
     ensures value { IfOk result (λ s. (v : Val) → Wired net.new v → on v s ≡ (on v a && on v b)) }
+    ensures gate { IfOk result (λ s. IsGateOf net.new s (a ∷ b ∷ [])) }
 {
     operate(net, Primitive::And, &[a, b])
 }
@@ -101,6 +107,7 @@ pub fn either(net: &mut Net, a: Sig, b: Sig) -> Result<Sig, NoMemory>
     ensures built { Builds net.old net.new 1 }
     ensures fits { IfOk result (λ s. IsSource net.new s 1) }
     ensures value { IfOk result (λ s. (v : Val) → Wired net.new v → on v s ≡ (on v a || on v b)) }
+    ensures gate { IfOk result (λ s. IsGateOf net.new s (a ∷ b ∷ [])) }
 {
     operate(net, Primitive::Or, &[a, b])
 }
@@ -145,6 +152,7 @@ pub fn mux(net: &mut Net, c: Sig, a: Sig, b: Sig) -> Result<Sig, NoMemory>
     ensures built { Builds net.old net.new 1 }
     ensures fits { (w : ℕ) → IsSource net.old a w → IsSource net.old b w → IfOk result (λ s. IsSource net.new s w) }
     ensures value { IfOk result (λ s. (v : Val) → Wired net.new v → v s.0 ≡ cond (on v c) (v a.0) (v b.0)) }
+    ensures gate { IfOk result (λ s. IsGateOf net.new s (c ∷ a ∷ b ∷ [])) }
 {
     cell(net, Op::Mux, &[c, a, b])
 }
@@ -165,6 +173,7 @@ pub fn mux_all(
     ensures built { Builds net.old net.new (length a.now) }
     ensures fits { (ws : List ℕ) → AreSources net.old a.now ws → AreSources net.old b.now ws → IfOk result (λ xs. AreSources net.new xs.items ws) }
     ensures value { IfOk result (λ xs. (v : Val) → Wired net.new v → words v xs.items ≡ cond (on v c) (words v a.now) (words v b.now)) }
+    ensures height { IfOk result (λ xs. AllWithin net.new (c ∷ (a.now ++ b.now)) 1 xs.items) }
 {
     let mut all = Vec::new(alloc);
     for i in 0..a.len() {
@@ -184,6 +193,7 @@ pub fn or_some(net: &mut Net, a: Option<Sig>, b: Sig) -> Result<Sig, NoMemory>
     ensures built { Builds net.old net.new 1 }
     ensures fits { IfOk result (λ s. IsSource net.new s 1) }
     ensures value { IfOk result (λ s. (v : Val) → Wired net.new v → on v s ≡ (on_in v a || on v b)) }
+    ensures height { IfOk result (λ s. Within net.new (maybe_one a ++ b ∷ []) 1 s.0) }
 {
     match a {
         None => Ok(b),

@@ -1,11 +1,12 @@
 //! Bits and words by number, to which those of one number after another are joined: of several the first counts.
 
-ghost use Rattle.std.specs.Prelude.{◌≡◌, ℕ, ◌+◌, ◌<◌, ◌==◌, ◌&&◌, ◌||◌, List, Some, length, IfOk, OnOk};
+ghost use Rattle.std.specs.Prelude.{◌≡◌, ℕ, ◌+◌, ◌<◌, ◌==◌, ◌&&◌, ◌||◌, ◌++◌, List, ◌∷◌, Some, length, IfOk, OnOk};
 ghost use Rattle.std.specs.Option.{option_or, unwrap_or};
 ghost use Rattle.safl_net.specs.Names.{IsTidy};
 ghost use Rattle.safl_net.specs.Growth.{Val, words, Wired};
 ghost use Rattle.safl_net.specs.Bits.{on, gate};
 ghost use Rattle.safl_gates.specs.Sources.{IsSource, AreSources, Builds, HasRoom};
+ghost use Rattle.safl_gates.specs.Heights.{AllWithin, own_parts, load_parts};
 ghost use Rattle.safl_gates.specs.Tables.{taken, taken_in, taken_from, on_from, LoadFits, FitsIn, SomeFit, BitsFit};
 
 use crate::gates::{either, mux_all, or_some};
@@ -18,6 +19,15 @@ use std::alloc::Global;
 pub struct Load {
     pub bit: Sig,
     pub words: Vec<Sig>,
+}
+
+/// A load of this bit and these words.
+pub fn load_of(alloc: Global, bit: Sig, operands: &[Sig]) -> Result<Load, NoMemory>
+    ensures bit { IfOk result (λ l. l.bit ≡ bit) }
+    ensures operands { IfOk result (λ l. l.words.items ≡ operands.now) }
+{
+    let words = Vec::from_slice(alloc, operands)?;
+    Ok(Load { bit, words })
 }
 
 /// Joins a bit to that of a number.
@@ -68,8 +78,8 @@ pub fn add_load(
     Ok(())
 }
 
-// A load with another behind it.
-fn joined(
+/// A load with another behind it.
+pub fn joined(
     alloc: Global,
     net: &mut Net,
     load: &Option<Load>,
@@ -84,6 +94,7 @@ fn joined(
     ensures built { Builds net.old net.new (1 + length operands.now) }
     ensures fits { (ws : List ℕ) → FitsIn net.old load.now ws → AreSources net.old operands.now ws → IfOk result (λ l. LoadFits net.new l ws) }
     ensures shows { IfOk result (λ l. (v : Val) → Wired net.new v → taken v l ≡ option_or (taken_in v load.now) (gate (on v bit) (Some (words v operands.now)))) }
+    ensures height { IfOk result (λ l. AllWithin net.new (load_parts load.now ++ (bit ∷ operands.now)) 1 (own_parts l)) }
 {
     match load {
         None => {
@@ -112,6 +123,7 @@ pub fn load_words(
     ensures built { Builds net.old net.new (length operands.now) }
     ensures fits { (ws : List ℕ) → FitsIn net.old load.now ws → AreSources net.old operands.now ws → IfOk result (λ xs. AreSources net.new xs.items ws) }
     ensures shows { IfOk result (λ xs. (v : Val) → Wired net.new v → words v xs.items ≡ unwrap_or (taken_in v load.now) (words v operands.now)) }
+    ensures height { IfOk result (λ xs. AllWithin net.new (load_parts load.now ++ operands.now) 1 xs.items) }
 {
     match load {
         None => {

@@ -12,7 +12,9 @@ pub mod Trees
 pub mod Walk
 pub mod Laid
 pub mod Members
+pub mod Costs
 pub mod Gathering
+pub mod Ending
 pub mod Whole
 pub mod Extending
 pub mod FromProgram

@@ -8,7 +8,7 @@ use Rattle.safl_term.specs.WellFormed.{Spans, SpansAll}
 use Rattle.safl_term.proofs.Places.{fits_le, fits_all_le}
 use Rattle.safl_lower.specs.Typing.{Owner, Typed, TypedAll, sites_of, sites_in}
 use Rattle.safl_lower.specs.Entries.{Between}
-use Rattle.safl_lower.specs.Rows.{Differs, Apart, Listed}
+use Rattle.safl_lower.specs.Loads.{Differs, Apart, Listed}
 
 module _ {F : Owner} {tail : Bool} {env : List ℕ} {w : ℕ} where
   pub test_typed : {c a b : Term} → Typed F tail env (If c a b) w → Typed F false env c 1

@@ -10,8 +10,8 @@ use Rattle.safl_net.proofs.Growth.{grows_on, wired_before}
 use Rattle.safl_lower.specs.declared.parts.Readiness.TheVariants.{Never}
 use Rattle.safl_lower.specs.declared.parts.Ports.{Ports}
 use Rattle.safl_lower.specs.declared.parts.Lowered.{Lowered}
-use Rattle.safl_lower.specs.declared.parts.Rows.{Rows}
 use Rattle.safl_lower.specs.declared.parts.Out.{Out}
+use Rattle.safl_lower.specs.declared.parts.Body.{Body}
 use Rattle.safl_lower.specs.declared.parts.Want.{Want}
 use Rattle.safl_lower.specs.declared.parts.TailCall.{TailCall}
 use Rattle.safl_net.specs.Bits.{on, gate}
@@ -20,14 +20,15 @@ use Rattle.safl_term.specs.Sizes.{nodes}
 use Rattle.safl_lower.specs.Typing.{Owner, sites_of, tails_of}
 use Rattle.safl_lower.specs.Entries.{asked, went, Told, site_of, member_of, Between, OutFits, WantsFit, LoopsFit, cost}
 use Rattle.safl_lower.specs.Lowering.{back_of, open_at, shown, goes_of, Shaped, Lowerable, Lowers}
-use Rattle.safl_lower.specs.Rows.{Apart, Listed, to_member, Spreads, Merged}
+use Rattle.safl_lower.specs.Loads.{Apart, Listed, to_member, Spreads, Merged}
 use Rattle.safl_lower.specs.Bodies.{IsBody, CanLower, Bodies}
-use Rattle.safl_lower.proofs.Kept.{shaped_kept}
 use Rattle.safl_lower.proofs.Typing.{places}
 use Rattle.safl_lower.proofs.Gathered.{wants_kept, loops_kept}
 use Rattle.safl_lower.proofs.Members.{member_told}
-use Rattle.safl_gates.specs.Sources.{IsSource, Builds}
-use Rattle.safl_gates.proofs.Building.{source_grown}
+use Rattle.safl_gates.specs.declared.loads.Load.{Load}
+use Rattle.safl_gates.specs.Sources.{Builds}
+use Rattle.safl_gates.specs.Tables.{taken, one_word, LoadFits}
+use Rattle.safl_gates.proofs.Kept.{load_kept}
 use Rattle.safl_net.proofs.Settling.{settles_on}
 
 pub lowerable : {n : Netlist} {P : Ports} {t : Term} → CanLower n P t → Lowerable n P P.args.items P.run t
@@ -45,6 +46,13 @@ in_range [] i x e = absurd (cc)
 in_range (y ∷ xs) zero x e = omega arith
 in_range (y ∷ xs) (suc i) x e = let h = in_range xs i x e in omega (arith, h)
 
+-- each site of the interval is called
+all_listed : (F : Owner) (P : Ports) (env : List ℕ) (w : ℕ) (t : Term) (es : List Want) → map site_of es ≡ sites_of t → P.first_site ≡ F.first → P.first_site + length P.sites.items ≡ F.last → IsBody F env t w → (i : ℕ) → i < length P.sites.items → Listed (P.first_site + i) (map site_of es)
+all_listed F P env w t es e first last b i l =
+    let low : b.typed.low ≡ P.first_site = b.from ∙ sym first in
+    let high : b.typed.high ≡ P.first_site + length P.sites.items = b.upto ∙ sym last in
+    subst (Listed (P.first_site + i)) (sym e) ((places F.program F.function true b.typed.low b.typed.high t b.typed.spans).listed (P.first_site + i) (omega (arith, low)) (omega (arith, high, l)))
+
 module _ {P : Ports} {n0 n1 : Netlist} {o p : Out} {r : Lowered} {t : Term} (ew : o.wants.items ≡ []) (el : o.loops.items ≡ []) (c : CanLower n0 P t) (h : Lowers P P.args.items P.run n0 n1 o p r t) where
   pub spread_apart : Apart (map site_of p.wants.items)
   spread_apart = let b = c.body.typed in subst Apart (sym (sites_first ew h)) (places c.owner.program c.owner.function true b.low b.high t b.spans).apart
@@ -58,6 +66,9 @@ module _ {P : Ports} {n0 n1 : Netlist} {o p : Out} {r : Lowered} {t : Term} (ew 
       subst (λ (i : ℕ). Between i (P.first_site + length P.sites.items) (map site_of p.wants.items)) (sym low)
       (subst (λ (i : ℕ). Between b.low i (map site_of p.wants.items)) (sym high)
       (subst (Between b.low b.high) (sym (sites_first ew h)) (places c.owner.program c.owner.function true b.low b.high t b.spans).between))
+
+  pub spread_called : (i : ℕ) → i < length P.sites.items → Listed (P.first_site + i) (map site_of p.wants.items)
+  spread_called = all_listed c.owner P c.env c.width t p.wants.items (sites_first ew h) c.setting.first c.setting.last c.body
 
   pub merge_fit : (n : Netlist) → Grows n1 n → (F : Owner) × LoopsFit F n p.loops.items
   merge_fit n g = (c.owner, loops_kept c.owner p.loops.items g (h.fits c.owner true c.env c.width c.setting c.body.typed (empty_fits c.owner n0 o ew el)).loops)
@@ -75,66 +86,44 @@ to_gate : (h : ℕ) (b : Bool) (x : Option (ℕ × List Word)) → to_member h (
 to_gate h true x = refl
 to_gate h false x = refl
 
--- each site of the interval is called
-all_listed : (F : Owner) (P : Ports) (env : List ℕ) (w : ℕ) (t : Term) (es : List Want) → map site_of es ≡ sites_of t → P.first_site ≡ F.first → P.first_site + length P.sites.items ≡ F.last → IsBody F env t w → (i : ℕ) → i < length P.sites.items → Listed (P.first_site + i) (map site_of es)
-all_listed F P env w t es e first last b i l =
-    let low : b.typed.low ≡ P.first_site = b.from ∙ sym first in
-    let high : b.typed.high ≡ P.first_site + length P.sites.items = b.upto ∙ sym last in
-    subst (Listed (P.first_site + i)) (sym e) ((places F.program F.function true b.typed.low b.typed.high t b.typed.spans).listed (P.first_site + i) (omega (arith, low)) (omega (arith, high, l)))
-
-pub bodies : {P : Ports} {n0 n1 n2 n3 n4 : Netlist} {o p : Out} {r : Lowered} {t : Term} (ends value off : Sig) (s m : Rows)
+pub bodies : {P : Ports} {n0 n1 n2 n3 : Netlist} {o p : Out} {r : Lowered} {t : Term} (b : Body)
     → o.wants.items ≡ [] → o.loops.items ≡ [] → CanLower n0 P t
     → Lowers P P.args.items P.run n0 n1 o p r t
-    → Builds n1 n2 1 → IsSource n2 off 1 → ((v : Val) → Wired n2 v → on v off ≡ false)
-    → Builds n2 n3 1 → IsSource n3 ends 1 → ((w : ℕ) → Shaped n2 r w → (r.ready ≡ Never → w ≡ P.width) → IsSource n3 value w)
-    → ((v : Val) → Wired n3 v → gate (on v ends) (Some (v value.0)) ≡ gate (on v P.run) (shown v r))
-    → Spreads off P.first_site (length P.sites.items) p.wants.items s
-    → Builds n3 n4 (cost p.loops.items) → Merged off P.first_member P.members n3 n4 p.loops.items m
-    → Bodies P n0 n4 (record { ends = ends; value = value; wants = s.bits; site_args = s.args; loops = m.bits; loop_args = m.args; zero = off }) t
-bodies {P} {n0} {n1} {n2} {n3} {n4} {o} {p} {r} {t} ends value off s m ew el c h b2 bz z b3 be wide is sp b4 me = let g2 = b2.grows in let g3 = b3.grows in let g4 = b4.grows in record {
-  zero_bit = source_grown (grows_on g3 g4) off 1 bz;
-  zero_off = λ v w4. z v (wired_before g3 (wired_before g4 w4));
-  tails = λ F env w b. let i = h.cheap F true env w b.typed in let j = ap cost el in let k = me.paid in omega (arith, i, j, k);
-  idle = λ F env w b i l a x y no.
-      let to = h.tails F true env w b.typed ∙ ap (λ (q : List TailCall). map member_of q ++ tails_of t) el in
-      me.idle i l a x y (λ q. no (subst (Listed (P.first_member + i)) to q));
+    → Builds n1 n2 2 → ((w : ℕ) → Shaped n1 r w → (r.ready ≡ Never → w ≡ P.width) → LoadFits n2 b.end (w ∷ []))
+    → ((v : Val) → Wired n2 v → taken v b.end ≡ one_word (gate (on v P.run) (shown v r)))
+    → Spreads P.first_site (length P.sites.items) p.wants.items b.wants.items
+    → Builds n2 n3 (cost p.loops.items) → Merged P.first_member P.members n2 n3 p.loops.items b.loops.items
+    → Bodies P n0 n3 b t
+bodies {P} {n0} {n1} {n2} {n3} {o} {p} {r} {t} b ew el c h b2 wide is sp b3 me = record {
   built = record {
-    grows = grows_on h.grows (grows_on g2 (grows_on g3 g4));
-    settles = settles_on h.settles (settles_on b2.settles (settles_on b3.settles b4.settles));
-    count = let i = h.count in let j = merge_cost ew el c h in let c2 = b2.count in let c3 = b3.count in let c4 = b4.count in omega (arith, i, j, c2, c3, c4);
+    grows = grows_on h.grows (grows_on b2.grows b3.grows);
+    settles = settles_on h.settles (settles_on b2.settles b3.settles);
+    count = let i = h.count in let j = merge_cost ew el c h in let c2 = b2.count in let c3 = b3.count in omega (arith, i, j, c2, c3);
   };
-  wants_length = sp.bits_length;
-  site_args_length = sp.args_length;
-  loops_length = me.bits_length;
-  loop_args_length = me.args_length;
-  fits = λ F env w st b.
-      let out = h.fits F true env w st b.typed (empty_fits F n0 o ew el) in
-      let g = grows_on g2 (grows_on g3 g4) in
+  wants_size = sp.size;
+  loops_size = me.size;
+  fits = λ F env w st ib.
+      let out = h.fits F true env w st ib.typed (empty_fits F n0 o ew el) in
       record {
-        ends = source_grown g4 ends 1 be;
-        value = source_grown g4 value w (wide w (shaped_kept g2 r w (h.shape F true env w st b.typed)) (h.wide F true env w st b.typed));
-        wants = λ i l a x y.
-            let n = in_range s.bits.items i l x in
-            let k = sp.bits_length in
-            sp.fits F n4 (wants_kept F p.wants.items g out.wants) i l a (all_listed F P env w t p.wants.items (sites_first ew h) st.first st.last b i (omega (arith, n, k))) x y;
-        loops = λ i l a x y. me.fits F (loops_kept F p.loops.items (grows_on g2 g3) out.loops) i l a x y;
+        end = load_kept b3 (wide w (h.shape F true env w st ib.typed) (h.wide F true env w st ib.typed));
+        wants = sp.fits F n3 (wants_kept F p.wants.items (grows_on b2.grows b3.grows) out.wants);
+        loops = me.fits F (loops_kept F p.loops.items b2.grows out.loops);
       };
-  ends = λ v w4.
-      let w3 = wired_before g4 w4 in
-      let w1 = wired_before g2 (wired_before g3 w3) in
-      is v w3 ∙ ap (gate (on v P.run)) (h.value v w1);
-  wants = λ F env w b v w4 i.
-      let w3 = wired_before g4 w4 in
-      let w1 = wired_before g2 (wired_before g3 w3) in
+  idle = λ F env w ib i no.
+      let to = h.tails F true env w ib.typed ∙ ap (λ (q : List TailCall). map member_of q ++ tails_of t) el in
+      me.idle i (λ q. no (subst (Listed (P.first_member + i)) to q));
+  tails = λ F env w ib. let i = h.cheap F true env w ib.typed in let j = ap cost el in let k = me.paid in omega (arith, i, j, k);
+  end = λ v w3. is v (wired_before b3.grows w3) ∙ ap (λ (x : Option Word). one_word (gate (on v P.run) x)) (h.value v (wired_before b2.grows (wired_before b3.grows w3)));
+  wants = λ F env w ib v w3 i.
+      let w1 = wired_before b2.grows (wired_before b3.grows w3) in
       let k = P.first_site + i in
-      sp.told v (z v (wired_before g3 w3)) i ∙ h.wants F true env w b.typed v w1 k
+      sp.told v i ∙ h.wants F true env w ib.typed v w1 k
       ∙ ap (λ (l : List Want). or_else (asked v l k) (gate (open_at v P P.run k) (wanted (back_of v P) (words v P.args.items) t k))) ew;
-  loops = λ F env w b v w4 i.
-      let w3 = wired_before g4 w4 in
-      let w1 = wired_before g2 (wired_before g3 w3) in
+  loops = λ F env w ib v w3 i.
+      let w1 = wired_before b2.grows (wired_before b3.grows w3) in
       let k = P.first_member + i in
       let x = gate (on v P.run) (goes_of (answer (back_of v P) (words v P.args.items) t)) in
-      let told = subst (λ (l : List TailCall). Told v l x) (sym (h.loops_more ∙ ap (λ (l : List TailCall). l ++ h.more) el)) (h.told F true env w b.typed v w1) in
-      let first = h.loops F true env w b.typed v w1 ∙ ap (λ (l : List TailCall). or_else (went v l) x) el in
-      me.told v w4 (z v (wired_before g3 w3)) i ∙ member_told v p.loops.items x k told first ∙ to_gate k (on v P.run) (goes_of (answer (back_of v P) (words v P.args.items) t));
+      let told = subst (λ (l : List TailCall). Told v l x) (sym (h.loops_more ∙ ap (λ (l : List TailCall). l ++ h.more) el)) (h.told F true env w ib.typed v w1) in
+      let first = h.loops F true env w ib.typed v w1 ∙ ap (λ (l : List TailCall). or_else (went v l) x) el in
+      me.told v w3 i ∙ member_told v p.loops.items x k told first ∙ to_gate k (on v P.run) (goes_of (answer (back_of v P) (words v P.args.items) t));
 }

@@ -2,5 +2,5 @@ pub mod Bits
 pub mod Typing
 pub mod Entries
 pub mod Lowering
-pub mod Rows
+pub mod Loads
 pub mod Bodies

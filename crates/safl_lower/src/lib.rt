@@ -9,6 +9,7 @@ pub mod parts;
 mod primitives;
 mod ready;
 mod spread;
+mod tables;
 mod terms;
 
 pub use crate::body::lower;

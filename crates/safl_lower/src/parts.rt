@@ -1,5 +1,6 @@
 //! What lowering is given, and what it gives.
 
+use safl_gates::loads::Load;
 use safl_net::Sig;
 
 /// The ports of a call site: the bits that say whether its call was sent and whether it has returned, and
@@ -25,21 +26,16 @@ pub struct Ports {
     pub width: u8,
 }
 
-/// The circuit of a body.
+/// The circuit of a body, as loads: words that are taken where a bit is 1.
 ///
-/// `ends` is the bit that the body runs and is ready, and `value` its word then. By own site, `wants` has the
-/// bit that the site is wanted, and `site_args` the arguments then. By member of the group, `loops` has the bit
-/// that the body goes on to it, and `loop_args` the arguments then; a member to which the body has no tail
-/// call has `zero` there, the constant 0, and no arguments.
+/// `end` is taken where the body runs and is ready, with its word. By own site, `wants` is taken where the site is
+/// wanted, with the arguments of its call. By member of the group, `loops` is taken where the body goes on to the
+/// member, with the arguments of the tail call; there is none for a member to which no tail call of the body goes.
 #[derive(Drop)]
 pub struct Body {
-    pub ends: Sig,
-    pub value: Sig,
-    pub wants: Vec<Sig>,
-    pub site_args: Vec<Vec<Sig>>,
-    pub loops: Vec<Sig>,
-    pub loop_args: Vec<Vec<Sig>>,
-    pub zero: Sig,
+    pub end: Load,
+    pub wants: Vec<Load>,
+    pub loops: Vec<Option<Load>>,
 }
 
 /// Where a term is ready: always, as an operator on constants; never, as a tail call; or where a bit is 1.
@@ -85,11 +81,4 @@ pub struct TailCall {
 pub struct Out {
     pub wants: Vec<Want>,
     pub loops: Vec<TailCall>,
-}
-
-/// Bits and arguments by number: of the sites of a body, or of the members of a group.
-#[derive(Drop)]
-pub struct Rows {
-    pub bits: Vec<Sig>,
-    pub args: Vec<Vec<Sig>>,
 }

@@ -1,42 +1,50 @@
 //! The calls of a body, laid out by own site.
 
-ghost use Rattle.std.specs.Prelude.{◌+◌, map, IfOk};
+ghost use Rattle.std.specs.Prelude.{ℕ, ◌+◌, ◌<◌, map, IfOk};
 ghost use Rattle.safl_lower.specs.Entries.{site_of, Between};
-ghost use Rattle.safl_lower.specs.Rows.{Apart, Spreads};
+ghost use Rattle.safl_lower.specs.Loads.{Apart, Listed, Placed, Spreads};
 
-use crate::parts::{Rows, Want};
-use safl_net::Sig;
+use crate::parts::Want;
+use crate::tables::{all_loads, no_loads};
+use safl_gates::loads::Load;
 use std::alloc::{AllocError, Global};
 
-/// The wants and the arguments of `count` sites, numbered from `first`. A site that isn't called has `zero`
-/// and no arguments.
+/// The calls of `count` sites, numbered from `first`, each of which is called once.
 pub fn spread(
     alloc: Global,
     first: u32,
     count: usize,
-    zero: Sig,
     calls: Vec<Want>,
-) -> Result<Rows, AllocError>
+) -> Result<Vec<Load>, AllocError>
     requires apart { Apart (map site_of calls.items) }
     requires within { Between first (first + count) (map site_of calls.items) }
-    ensures { IfOk result (λ s. Spreads zero first count calls.items s) }
+    requires called { (i : ℕ) → i < count → Listed (first + i) (map site_of calls.items) }
+    ensures { IfOk result (λ xs. Spreads first count calls.items xs.items) }
+{
+    let table = placed(alloc, first, count, calls)?;
+    all_loads(alloc, table)
+}
+
+// Each call in its site's place.
+fn placed(
+    alloc: Global,
+    first: u32,
+    count: usize,
+    calls: Vec<Want>,
+) -> Result<Vec<Option<Load>>, AllocError>
+    requires apart { Apart (map site_of calls.items) }
+    requires within { Between first (first + count) (map site_of calls.items) }
+    ensures { IfOk result (λ xs. Placed first count calls.items xs.items) }
 {
     let mut left = calls;
-    let mut bits = Vec::new(alloc);
-    let mut args = Vec::new(alloc);
-    'zeros: for n in 0..count {
-        bits.push(zero)?;
-        args.push(Vec::new(alloc))?;
-    }
+    let mut table = no_loads(alloc, count)?;
     'calls: while let Some(call) = left.pop() {
-        let Want {
-            site,
-            want,
-            args: own,
-        } = call;
+        let Want { site, want, args } = call;
         let place = (site - first) as usize;
-        bits[place] = want;
-        args[place] = own;
+        table[place] = Some(Load {
+            bit: want,
+            words: args,
+        });
     }
-    Ok(Rows { bits, args })
+    Ok(table)
 }

@@ -1,9 +1,8 @@
 -- Tables of bits and loads, by one entry more.
-use Rattle.std.proofs.Common.{◌≡◌, ℕ, zero, suc, ◌+◌, ◌<◌, ◌≤◌, List, [], ◌∷◌, ◌++◌, length, length-append, map, take, Option, Some, None, Bool, true, false, ◌&&◌, ◌||◌, ◌==◌, slice_get, slice_index_or, is_some, refl, sym, ap, subst, ◌∙◌, add-one, arith}
+use Rattle.std.proofs.Common.{◌≡◌, ℕ, zero, suc, ◌+◌, ◌<◌, ◌≤◌, List, [], ◌∷◌, ◌++◌, length, map, take, Option, Some, None, Vec, Global, Bool, true, false, cond, ◌&&◌, ◌||◌, ◌==◌, slice_get, slice_index_or, is_some, refl, sym, ap, subst, ◌∙◌, add-one, arith}
 use Rattle.std.proofs.lemmas.Option.{slice_get_read}
 use Rattle.safl_word.specs.Words.{Word}
 use Rattle.safl_term.specs.Program.{Program, arity}
-use Rattle.std.specs.Option.{option_or}
 use Rattle.safl_term.specs.Readiness.{or_else}
 use Rattle.safl_calls.specs.Picks.{first}
 use Rattle.safl_net.specs.declared.cell.Sig.{Sig}
@@ -13,54 +12,18 @@ use Rattle.safl_net.proofs.Growth.{wired_before}
 use Rattle.safl_net.specs.Bits.{on, gate}
 use Rattle.safl_gates.specs.declared.loads.Load.{Load}
 use Rattle.safl_gates.specs.Sources.{IsSource, AreSources, Builds}
-use Rattle.safl_gates.specs.Tables.{EachAt, load_in, sig_in, taken, taken_in, taken_at, taken_from, on_in, on_from, FitsIn, SomeFit, IsBitIn, BitsFit}
+use Rattle.safl_gates.specs.Tables.{load_in, sig_in, taken, taken_in, taken_at, taken_from, on_in, on_from, FitsIn, LoadFits, SomeFit, IsBitIn, BitsFit}
+use Rattle.safl_gates.specs.Rows.{maybe_one, AreBits, AllFit, on_any, first_taken, bit_joins, total, row_at, any_at, first_at, RowsAreBits, RowsFit}
+use Rattle.safl_gates.specs.Joints.{IsAnyOf, IsFirstOf}
+use Rattle.safl_gates.proofs.Rows.{any_pushed, bits_pushed, first_pushed, fit_pushed}
 use Rattle.safl_gates.proofs.Cells.{sources_length}
 use Rattle.safl_gates.proofs.Joining.{or_false}
 use Rattle.safl_gates.proofs.Building.{sources_kept}
 use Rattle.safl_unit.specs.declared.parts.Outcomes.{Outcomes}
 use Rattle.safl_unit.specs.Stages.{OutcomesFit}
-use Rattle.safl_unit.specs.Edges.{one_below, bit_of, operands_in, IsBare, ShowsBits, ShowsLoads}
-use Rattle.safl_unit.proofs.Tables.{each_none, each_push}
+use Rattle.safl_unit.specs.Edges.{one_below, bit_of, operands_in, ShowsBits, ShowsLoads}
 use Rattle.safl_unit.proofs.Options.{first_is}
-
--- ---- nothing is there
-
-pub bare_none : {A : Type 0} (xs : List (Option A)) → xs ≡ [] → IsBare xs 0
-bare_none {A} xs e = record { entries = ap (λ (l : List (Option A)). length l) e; none = subst (λ (l : List (Option A)). EachAt l (λ i o. o ≡ None)) (sym e) (each_none (λ i o. o ≡ None)) }
-
-pub bare_more : {A : Type 0} (xs ys : List (Option A)) (m : ℕ) → ys ≡ xs ++ None ∷ [] → IsBare xs m → IsBare ys (m + 1)
-bare_more {A} xs ys m e h = record {
-  entries = let f = ap (λ (l : List (Option A)). length l) e in let g = length-append xs (None ∷ []) in let k = h.entries in omega (arith, f, g, k);
-  none = subst (λ (l : List (Option A)). EachAt l (λ i o. o ≡ None)) (sym e) (each_push xs None (λ i o. o ≡ None) h.none refl);
-}
-
-no_sig : (xs : List (Option Sig)) → EachAt xs (λ i o. o ≡ None) → (i : ℕ) → sig_in (slice_get xs i) ≡ None
-no_sig xs h i = by (slice_get xs i) refl
-  where
-    by : (o : Option (Option Sig)) → slice_get xs i ≡ o → sig_in o ≡ None
-    by None e = refl
-    by (Some o) e = h i o e
-
-no_load : (xs : List (Option Load)) → EachAt xs (λ i o. o ≡ None) → (i : ℕ) → load_in (slice_get xs i) ≡ None
-no_load xs h i = by (slice_get xs i) refl
-  where
-    by : (o : Option (Option Load)) → slice_get xs i ≡ o → load_in o ≡ None
-    by None e = refl
-    by (Some o) e = h i o e
-
-pub bare_bits : (n : Netlist) (xs : List (Option Sig)) (count : ℕ) → IsBare xs count → ShowsBits n xs count (λ v i. false)
-bare_bits n xs count h = record {
-  entries = h.entries;
-  fits = λ i. subst (λ (o : Option Sig). IsBitIn n o) (sym (no_sig xs h.none i)) tt;
-  shows = λ v w i. ap (on_in v) (no_sig xs h.none i);
-}
-
-pub bare_loads : (n : Netlist) (xs : List (Option Load)) (count : ℕ) (ws : ℕ → List ℕ) → IsBare xs count → ShowsLoads n xs count ws (λ v i. None)
-bare_loads n xs count ws h = record {
-  entries = h.entries;
-  fits = λ i. subst (λ (o : Option Load). FitsIn n o (ws i)) (sym (no_load xs h.none i)) tt;
-  shows = λ v w i. ap (taken_in v) (no_load xs h.none i);
-}
+use Rattle.safl_unit.proofs.Others.{maybe_fits, any_next}
 
 -- ---- one more
 
@@ -103,20 +66,137 @@ more_bits a b xs ys count place k m new base t built h e f g q = record {
       ∙ ap (λ (x : Bool). base v i || (one_below (t v i) m || x)) (q v i w) ∙ ap (λ (x : Bool). base v i || x) (sym (below_more (t v i) m));
 }
 
-pub start_loads : (n : Netlist) (xs : List (Option Load)) (count : ℕ) (ws : ℕ → List ℕ) (t : Val → ℕ → ℕ → Option (List Word)) → ShowsLoads n xs count ws (λ v i. None) → ShowsLoads n xs count ws (λ v i. first (t v i) 0)
-start_loads n xs count ws t h = record { entries = h.entries; fits = h.fits; shows = λ v w i. h.shows v w i ∙ sym (first_zero (t v i)) }
+pub gates_both : {A : Type 0} (a b : Bool) (o : Option A) → gate (a && b) o ≡ gate a (gate b o)
+gates_both true b o = refl
+gates_both false b o = refl
 
-pub more_loads : (a b : Netlist) (xs ys : List (Option Load)) (count place k m : ℕ) (bit : Sig) (ops : List Sig) (ws : ℕ → List ℕ) (t : Val → ℕ → ℕ → Option (List Word)) → Builds a b k
-    → ShowsLoads a xs count ws (λ v i. first (t v i) m) → length ys ≡ length xs → SomeFit b ys ws
-    → ((v : Val) → Wired b v → (i : ℕ) → taken_from v ys i ≡ option_or (taken_from v xs i) (gate ((i == place) && on v bit) (Some (words v ops))))
-    → ((v : Val) (i : ℕ) → gate ((i == place) && on v bit) (Some (words v ops)) ≡ t v i m) → ShowsLoads b ys count ws (λ v i. first (t v i) (m + 1))
-more_loads a b xs ys count place k m bit ops ws t built h e f g q = record {
-  entries = e ∙ h.entries;
-  fits = f;
-  shows = λ v w i.
-      g v w i ∙ first_is (taken_from v xs i) (gate ((i == place) && on v bit) (Some (words v ops))) ∙ ap (λ (x : Option (List Word)). or_else x (gate ((i == place) && on v bit) (Some (words v ops)))) (h.shows v (wired_before built.grows w) i)
-      ∙ ap (λ (x : Option (List Word)). or_else (first (t v i) m) x) (q v i) ∙ sym (first_next (t v i) m);
+-- ---- rows of loads
+
+-- so many rows of loads, which show this
+pub record LoadRows (n : Netlist) (rows : List (Vec Load Global)) (count : ℕ) (ws : ℕ → List ℕ) (says : Val → ℕ → Option (List Word)) : Type 0 where
+  pub entries : length rows ≡ count
+  pub fits : RowsFit n rows ws
+  pub shows : (v : Val) (i : ℕ) → first_at v rows i ≡ says v i
+
+pub bare_load_rows : (n : Netlist) (rows : List (Vec Load Global)) (count : ℕ) (ws : ℕ → List ℕ) (t : Val → ℕ → ℕ → Option (List Word)) → length rows ≡ count → ((i : ℕ) → row_at rows i ≡ []) → LoadRows n rows count ws (λ v i. first (t v i) 0)
+bare_load_rows n rows count ws t e h = record {
+  entries = e;
+  fits = λ i. subst (λ (l : List Load). AllFit n l (ws i)) (sym (h i)) tt;
+  shows = λ v i. ap (first_taken v) (h i) ∙ sym (first_zero (t v i));
 }
+
+pub more_load_rows : (n : Netlist) (rows after : List (Vec Load Global)) (count place m : ℕ) (l : Load) (ws : ℕ → List ℕ) (t : Val → ℕ → ℕ → Option (List Word)) → LoadRows n rows count ws (λ v i. first (t v i) m) → length after ≡ length rows
+    → ((i : ℕ) → row_at after i ≡ row_at rows i ++ cond (i == place) (l ∷ []) []) → LoadFits n l (ws place) → ((v : Val) (i : ℕ) → gate (i == place) (taken v l) ≡ t v i m) → LoadRows n after count ws (λ v i. first (t v i) (m + 1))
+more_load_rows n rows after count place m l ws t h e r f q = record {
+  entries = e ∙ h.entries;
+  fits = λ i. fit_pushed n (row_at rows i) (row_at after i) i place l ws (r i) (h.fits i) f;
+  shows = λ v i.
+      first_pushed v (row_at rows i) (row_at after i) (i == place) l (r i) ∙ first_is (first_at v rows i) (gate (i == place) (taken v l))
+      ∙ ap (λ (x : Option (List Word)). or_else x (gate (i == place) (taken v l))) (h.shows v i) ∙ ap (λ (x : Option (List Word)). or_else (first (t v i) m) x) (q v i) ∙ sym (first_next (t v i) m);
+}
+
+pub joined_loads : (a b : Netlist) (rows : List (Vec Load Global)) (all : List (Option Load)) (count : ℕ) (ws : ℕ → List ℕ) (says : Val → ℕ → Option (List Word)) → LoadRows a rows count ws says → length all ≡ length rows → SomeFit b all ws
+    → ((i : ℕ) → IsFirstOf b (row_at rows i) (load_in (slice_get all i))) → ShowsLoads b all count ws says
+joined_loads a b rows all count ws says h e f j = record { entries = e ∙ h.entries; fits = f; shows = λ v w i. (j i).shows v w ∙ h.shows v i }
+
+-- a load of this bit and these words
+pub load_fits : (n : Netlist) (l : Load) (bit : Sig) (ops : List Sig) (ws : List ℕ) → l.bit ≡ bit → l.words.items ≡ ops → IsSource n bit 1 → AreSources n ops ws → LoadFits n l ws
+load_fits n l bit ops ws e f p q = record { bit = subst (λ (s : Sig). IsSource n s 1) (sym e) p; words = subst (λ (xs : List Sig). AreSources n xs ws) (sym f) q }
+
+pub taken_shown : (v : Val) (l : Load) (t : Bool) (bit : Sig) (ops : List Sig) → l.bit ≡ bit → l.words.items ≡ ops → gate t (taken v l) ≡ gate (t && on v bit) (Some (words v ops))
+taken_shown v l t bit ops e f =
+    ap (λ (s : Sig). gate t (gate (on v s) (Some (words v l.words.items)))) e ∙ ap (λ (xs : List Sig). gate t (gate (on v bit) (Some (words v xs)))) f
+    ∙ sym (gates_both t (on v bit) (Some (words v ops)))
+
+bit_fits : (n : Netlist) (o : Option Load) (ws : List ℕ) → FitsIn n o ws → IsBitIn n (bit_of o)
+bit_fits n None ws h = tt
+bit_fits n (Some l) ws h = h.bit
+
+gate_some : {A : Type 0} (b : Bool) (x : A) → b ≡ is_some (gate b (Some x))
+gate_some true x = refl
+gate_some false x = refl
+
+bit_shows : (v : Val) (o : Option Load) → on_in v (bit_of o) ≡ is_some (taken_in v o)
+bit_shows v None = refl
+bit_shows v (Some l) = gate_some (on v l.bit) (words v l.words.items)
+
+-- ---- rows of bits
+
+-- so many rows of bits, which show this
+pub record BitRows (n : Netlist) (rows : List (Vec Sig Global)) (count : ℕ) (says : Val → ℕ → Bool) : Type 0 where
+  pub entries : length rows ≡ count
+  pub fits : RowsAreBits n rows
+  pub shows : (v : Val) (i : ℕ) → any_at v rows i ≡ says v i
+
+pub bare_bit_rows : (n : Netlist) (rows : List (Vec Sig Global)) (count : ℕ) (t : Val → ℕ → ℕ → Bool) → length rows ≡ count → ((i : ℕ) → row_at rows i ≡ []) → BitRows n rows count (λ v i. one_below (t v i) 0)
+bare_bit_rows n rows count t e h = record {
+  entries = e;
+  fits = λ i. subst (AreBits n) (sym (h i)) tt;
+  shows = λ v i. ap (on_any v) (h i) ∙ sym (below_none (t v i));
+}
+
+pub more_bit_rows : (n : Netlist) (rows after : List (Vec Sig Global)) (count place m : ℕ) (s : Sig) (t : Val → ℕ → ℕ → Bool) → BitRows n rows count (λ v i. one_below (t v i) m) → length after ≡ length rows
+    → ((i : ℕ) → row_at after i ≡ row_at rows i ++ cond (i == place) (s ∷ []) []) → IsSource n s 1 → ((v : Val) (i : ℕ) → ((i == place) && on v s) ≡ t v i m) → BitRows n after count (λ v i. one_below (t v i) (m + 1))
+more_bit_rows n rows after count place m s t h e r f q = record {
+  entries = e ∙ h.entries;
+  fits = λ i. bits_pushed n (row_at rows i) (row_at after i) (i == place) s (r i) (h.fits i) f;
+  shows = λ v i.
+      any_pushed v (row_at rows i) (row_at after i) (i == place) s (r i) ∙ ap (λ (x : Bool). x || ((i == place) && on v s)) (h.shows v i) ∙ ap (λ (x : Bool). one_below (t v i) m || x) (q v i) ∙ sym (below_more (t v i) m);
+}
+
+-- the bits of loads in rows, one after another
+pub load_rows_more : (rows : List (Vec Sig Global)) (xs : List (Option Load)) (r : Vec Sig Global) (x : Option Load) → length rows ≡ length xs → ((j : ℕ) → row_at rows j ≡ maybe_one (bit_of (load_in (slice_get xs j)))) → r.items ≡ maybe_one (bit_of x)
+    → (j : ℕ) → row_at (rows ++ r ∷ []) j ≡ maybe_one (bit_of (load_in (slice_get (xs ++ x ∷ []) j)))
+load_rows_more [] [] r x e h q zero = q
+load_rows_more [] [] r x e h q (suc j) = refl
+load_rows_more [] (y ∷ xs) r x e h q j = absurd (omega (arith, e))
+load_rows_more (y ∷ rows) [] r x e h q j = absurd (omega (arith, e))
+load_rows_more (y ∷ rows) (z ∷ xs) r x e h q zero = h 0
+load_rows_more (y ∷ rows) (z ∷ xs) r x e h q (suc j) = load_rows_more rows xs r x (omega (arith, e)) (λ i. h (suc i)) q j
+
+maybe_on : (v : Val) (o : Option Sig) → on_any v (maybe_one o) ≡ on_in v o
+maybe_on v None = refl
+maybe_on v (Some s) = sym (or_false (on v s))
+
+maybe_alone : (n : Netlist) (o : Option Sig) → IsBitIn n o → AreBits n (maybe_one o)
+maybe_alone n None h = tt
+maybe_alone n (Some s) h = (h, tt)
+
+pub start_load_rows : (n : Netlist) (rows : List (Vec Sig Global)) (xs : List (Option Load)) (count : ℕ) (ws : ℕ → List ℕ) (t : Val → ℕ → ℕ → Bool) → length rows ≡ count → SomeFit n xs ws → ((i : ℕ) → row_at rows i ≡ maybe_one (bit_of (load_in (slice_get xs i))))
+    → BitRows n rows count (λ v i. is_some (taken_from v xs i) || one_below (t v i) 0)
+start_load_rows n rows xs count ws t e h q = record {
+  entries = e;
+  fits = λ i. subst (AreBits n) (sym (q i)) (maybe_alone n (bit_of (load_in (slice_get xs i))) (bit_fits n (load_in (slice_get xs i)) (ws i) (h i)));
+  shows = λ v i.
+      ap (on_any v) (q i) ∙ maybe_on v (bit_of (load_in (slice_get xs i))) ∙ bit_shows v (load_in (slice_get xs i))
+      ∙ or_false (is_some (taken_from v xs i)) ∙ ap (λ (b : Bool). is_some (taken_from v xs i) || b) (sym (below_none (t v i)));
+}
+
+one_joins : (o : Option Sig) → bit_joins (maybe_one o) ≡ 0
+one_joins None = refl
+one_joins (Some s) = refl
+
+pub load_rows_total : (rows : List (Vec Sig Global)) (bits : ℕ → Option Sig) → ((i : ℕ) → row_at rows i ≡ maybe_one (bits i)) → total bit_joins rows ≡ 0
+load_rows_total [] bits h = refl
+load_rows_total (x ∷ rows) bits h =
+    let a : bit_joins x.items ≡ bit_joins (maybe_one (bits 0)) = ap bit_joins (h 0) in
+    let b = one_joins (bits 0) in
+    let d = load_rows_total rows (λ i. bits (suc i)) (λ i. h (suc i)) in
+    omega (arith, a, b, d)
+
+pub more_some_rows : (n : Netlist) (rows after : List (Vec Sig Global)) (count place m : ℕ) (bit : Option Sig) (base : Val → ℕ → Bool) (t : Val → ℕ → ℕ → Bool) → BitRows n rows count (λ v i. base v i || one_below (t v i) m) → length after ≡ length rows
+    → ((i : ℕ) → row_at after i ≡ row_at rows i ++ cond (i == place) (maybe_one bit) []) → IsBitIn n bit → ((v : Val) (i : ℕ) → ((i == place) && on_in v bit) ≡ t v i m) → BitRows n after count (λ v i. base v i || one_below (t v i) (m + 1))
+more_some_rows n rows after count place m bit base t h e r f q = record {
+  entries = e ∙ h.entries;
+  fits = λ i. subst (AreBits n) (sym (r i)) (maybe_fits n (row_at rows i) (i == place) bit (h.fits i) f);
+  shows = λ v i.
+      any_next v (row_at rows i) (row_at after i) (i == place) bit (r i) ∙ ap (λ (x : Bool). x || ((i == place) && on_in v bit)) (h.shows v i) ∙ or_both (base v i) (one_below (t v i) m) ((i == place) && on_in v bit)
+      ∙ ap (λ (x : Bool). base v i || (one_below (t v i) m || x)) (q v i) ∙ ap (λ (x : Bool). base v i || x) (sym (below_more (t v i) m));
+}
+
+pub joined_bits : (a b : Netlist) (rows : List (Vec Sig Global)) (bits : List (Option Sig)) (count : ℕ) (says : Val → ℕ → Bool) → BitRows a rows count says → length bits ≡ length rows → ((i : ℕ) → IsAnyOf b (row_at rows i) (sig_in (slice_get bits i)))
+    → ShowsBits b bits count says
+joined_bits a b rows bits count says h e j = record { entries = e ∙ h.entries; fits = λ i. (j i).fits; shows = λ v w i. (j i).shows v w ∙ h.shows v i }
 
 -- ---- the outcomes
 
@@ -156,10 +236,6 @@ loop_there C n o f l h m e =
     let k : f < length o.loops.items = omega (arith, a, m) in
     slice_get_read o.loops.items (length o.loops.items) f l refl k e
 
-pub gates_both : {A : Type 0} (a b : Bool) (o : Option A) → gate (a && b) o ≡ gate a (gate b o)
-gates_both true b o = refl
-gates_both false b o = refl
-
 -- what an end adds, and what a want
 pub end_shown : (C : Program) (v : Val) (n : Netlist) (o : Outcomes) (f i place : ℕ) (l : Load) (ops : List Sig) → EndThere C n o f l → ops ≡ l.words.items → place ≡ C.unit f
     → gate ((i == place) && on v l.bit) (Some (words v ops)) ≡ gate (i == C.unit f) (taken_at v o.ends.items f)
@@ -174,18 +250,6 @@ want_shown C v n o k i place l ops bit h d p =
     ∙ ap (λ (x : ℕ). gate ((i == x) && on v bit) (Some (words v l.words.items))) p ∙ ap (λ (x : Option Load). gate ((i == C.callee k) && on v bit) (operands_in v x)) (sym h.get)
 
 -- ---- the bits of loads
-
-bit_fits : (n : Netlist) (o : Option Load) (ws : List ℕ) → FitsIn n o ws → IsBitIn n (bit_of o)
-bit_fits n None ws h = tt
-bit_fits n (Some l) ws h = h.bit
-
-gate_some : {A : Type 0} (b : Bool) (x : A) → b ≡ is_some (gate b (Some x))
-gate_some true x = refl
-gate_some false x = refl
-
-bit_shows : (v : Val) (o : Option Load) → on_in v (bit_of o) ≡ is_some (taken_in v o)
-bit_shows v None = refl
-bit_shows v (Some l) = gate_some (on v l.bit) (words v l.words.items)
 
 pub load_bit_fits : (n : Netlist) (o : Option Load) (b : Option Sig) (ws : List ℕ) → b ≡ bit_of o → FitsIn n o ws → IsBitIn n b
 load_bit_fits n o b ws e h = subst (λ (x : Option Sig). IsBitIn n x) (sym e) (bit_fits n o ws h)

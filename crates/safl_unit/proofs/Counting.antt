@@ -6,7 +6,7 @@ use Rattle.std.proofs.lemmas.List.Sums.{sum_by_push}
 use Rattle.safl_word.specs.Words.{no_word}
 use Rattle.safl_term.specs.declared.checked.Function.{Function}
 use Rattle.safl_term.specs.Checked.{CheckedProgram, IsChecked, program_of}
-use Rattle.safl_term.specs.Terms.{Term, Const}
+use Rattle.safl_term.specs.Terms.{Const}
 use Rattle.safl_term.specs.Tree.{shown_term}
 use Rattle.safl_term.specs.Sizes.{nodes}
 use Rattle.safl_circuit.specs.Equations.{Choice}

@@ -19,7 +19,7 @@ use Rattle.safl_unit.specs.declared.parts.Pins.{Pins}
 use Rattle.safl_unit.specs.Stages.{called, OutcomesFit, HasOutcomes, HasGoes, HasEnds, HasLoads, HasStarts, HasClears, HasEntries, HasRivals}
 use Rattle.safl_unit.specs.Edges.{one_below, operands_in, rival, ShowsBits, ShowsLoads, ShowsBelow}
 use Rattle.safl_unit.proofs.Chains.{gates_both}
-use Rattle.safl_unit.proofs.Earlier.{same_truth, below_true, below_found}
+use Rattle.safl_unit.proofs.Others.{same_truth, below_true, below_found}
 
 -- ---- firsts and tests, number by number
 

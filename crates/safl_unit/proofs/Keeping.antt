@@ -20,9 +20,9 @@ use Rattle.safl_unit.specs.declared.parts.Pins.{Pins}
 use Rattle.safl_unit.specs.declared.parts.Returns.{Returns}
 use Rattle.safl_unit.specs.declared.parts.Outcomes.{Outcomes}
 use Rattle.safl_unit.specs.declared.parts.Controls.{Controls}
-use Rattle.safl_unit.specs.Cycles.{UnitFits, MemberFits, SiteFits, BankFits, PinsFit, Cycle, InEachCycle}
+use Rattle.safl_unit.specs.Cycles.{UnitFits, MemberFits, SiteFits, BankFits, PinsFit, Cycle}
 use Rattle.safl_unit.specs.Stages.{PortFits, HasReturns, HasOutcomes, HasGoes, HasEnds, HasLoads, HasBits, HasNext}
-use Rattle.safl_unit.specs.Finished.{ControlsFit, HasControls}
+use Rattle.safl_unit.specs.Finished.{ControlsFit}
 
 module _ {a b : Netlist} {most : ℕ} (h : Builds a b most) where
   -- ---- widths and sources

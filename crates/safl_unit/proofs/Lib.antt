@@ -26,10 +26,10 @@ pub mod Scheming
 pub mod Counting
 pub mod Slices
 pub mod Lowered
-pub mod Rows
+pub mod Joins
 pub mod Outcoming
 pub mod Chains
-pub mod Earlier
+pub mod Others
 pub mod Crossing
 pub mod Stepping
 pub mod Following
@@ -40,3 +40,4 @@ pub mod Apart
 pub mod Titles
 pub mod Adding
 pub mod Outputs
+pub mod Arbiting

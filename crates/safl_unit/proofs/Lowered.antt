@@ -1,6 +1,5 @@
 -- The circuit of a body shows what the equations say.
-use Rattle.std.proofs.Common.{Vec, ◌≡◌, ℕ, zero, suc, ◌+◌, ◌-◌, ◌*◌, ◌<◌, ◌≤◌, List, Option, Some, None, Result, Ok, Err, IfOk, OnOk, Bool, true, false, not, cond, ◌&&◌, nat_le, ◌⊎◌, inl, inr, ⊎_elim, slice_get, refl, sym, ap, subst, ◌∙◌, arith}
-use Rattle.std.specs.Global.{Global}
+use Rattle.std.proofs.Common.{◌≡◌, ℕ, zero, suc, ◌+◌, ◌-◌, ◌*◌, ◌<◌, ◌≤◌, List, Option, Some, None, Result, Ok, Err, IfOk, OnOk, Bool, true, false, not, cond, ◌&&◌, nat_le, ◌⊎◌, inl, inr, ⊎_elim, slice_get, refl, sym, ap, subst, ◌∙◌, arith}
 use Rattle.std.proofs.lemmas.Bool.{eq-eqb, le-leb}
 use Rattle.std.proofs.lemmas.Option.{slice_get_within}
 use Rattle.safl_word.specs.Words.{Word}
@@ -13,14 +12,13 @@ use Rattle.safl_term.specs.Readiness.{Answer, Ready, LoopTo, NotYet, word_of, an
 use Rattle.safl_term.proofs.CheckedLemmas.{first_site_rises, first_site_past}
 use Rattle.safl_term.proofs.Order.{stands_within}
 use Rattle.safl_calls.proofs.Locality.{answer_local, wanted_local}
-use Rattle.safl_net.specs.declared.cell.Sig.{Sig}
 use Rattle.safl_net.specs.Netlist.{Netlist}
 use Rattle.safl_net.specs.Growth.{Val, words, Wired}
 use Rattle.safl_lower.specs.declared.parts.SitePorts.{SitePorts}
 use Rattle.safl_lower.specs.declared.parts.Ports.{Ports}
 use Rattle.safl_lower.specs.declared.parts.Body.{Body}
 use Rattle.safl_net.specs.Bits.{on, gate}
-use Rattle.safl_lower.specs.Rows.{to_member, RowFits}
+use Rattle.safl_lower.specs.Loads.{to_member}
 use Rattle.safl_term.specs.Sizes.{nodes}
 use Rattle.safl_lower.specs.Typing.{Owner}
 use Rattle.safl_lower.specs.Lowering.{back_of, sent_of, port_of, returned_word, was_sent, goes_of, Setting}
@@ -28,14 +26,14 @@ use Rattle.safl_lower.specs.Bodies.{IsBody, CanLower, Bodies}
 use Rattle.safl_lower.proofs.FromProgram.{one_width}
 use Rattle.safl_circuit.specs.Equations.{Registers, Choice, on_wires, path, body_says, body_wants, end_word, goes_to, loop_from}
 use Rattle.safl_gates.specs.Sources.{IsSource, AreSources, Builds, HasRoom}
-use Rattle.safl_gates.specs.Tables.{LoadFits}
+use Rattle.safl_gates.specs.Tables.{load_in, one_word, FitsIn, LoadFits}
 use Rattle.safl_gates.proofs.Building.{builds_on, builds_within, sources_kept}
 use Rattle.safl_unit.specs.declared.parts.Returns.{Returns}
 use Rattle.safl_unit.specs.declared.parts.MemberPins.{MemberPins}
 use Rattle.safl_unit.specs.declared.parts.Pins.{Pins}
 use Rattle.safl_unit.specs.Cycles.{PinsFit, InEachCycle}
 use Rattle.safl_unit.specs.Stages.{PortFits, ReturnsFit, ReturnsShow, HasReturns}
-use Rattle.safl_unit.specs.Outcomes.{ArePorts, row_load, BodySources, BodyShows, HasBody}
+use Rattle.safl_unit.specs.Outcomes.{ArePorts, BodyHasWidths, BodyShows, HasBody}
 use Rattle.safl_unit.proofs.Keeping.{returns_kept, cycle_before}
 
 -- ---- the sites of a body
@@ -83,11 +81,6 @@ first_site_most c h f l = by ((program_of c).functions - f) f (omega (arith, l))
         let a = by d (suc f) (omega (arith, e)) in
         let b = first_site_rises c f h (omega (arith, e)) in
         omega (arith, a, b)
-
--- ---- rows
-
-row_fits : (n : Netlist) (l : Sig) (a : Vec Sig Global) (ws : List ℕ) → RowFits n l a.items ws → LoadFits n (row_load l a) ws
-row_fits n l a ws h = record { bit = h.bit; words = h.sized }
 
 -- ---- the equations
 
@@ -146,16 +139,14 @@ module _ (c : CheckedProgram) (h : IsChecked c) (f : ℕ) (l : f < (program_of c
       most = let a = h.widths.results f l in let e = ports.width in omega (arith, a.1, e);
     }
 
-    -- what the body gives are sources
-    pub body_sources : (n m : Netlist) (b : Body) → ReturnsFit (program_of c) n s → IsSource n q.run 1 → AreSources n q.args.items ((program_of c).params f) → Bodies q n m b ((program_of c).body f) → BodySources c m f b
-    body_sources n m b fits bit sources done =
+    -- what the body gives has the right widths
+    pub body_widths : (n m : Netlist) (b : Body) → ReturnsFit (program_of c) n s → IsSource n q.run 1 → AreSources n q.args.items ((program_of c).params f) → Bodies q n m b ((program_of c).body f) → BodyHasWidths c m f b
+    body_widths n m b fits bit sources done =
         let k = done.fits (owner c f) ((program_of c).params f) ((program_of c).result f) (body_setting n fits bit sources) own_body in
         record {
-          ends = k.ends;
-          value = k.value;
-          wants = λ i x a p e. row_fits m x a _ (subst (λ j. RowFits m x a.items ((program_of c).params ((program_of c).callee (j + i)))) ports.first (k.wants i x a p e));
-          loops = λ i x a p e. ⊎_elim (λ u. inl u)
-              (λ u. inr (row_fits m x a _ (subst (λ j. RowFits m x a.items ((program_of c).params (j + i))) ports.unit u))) (k.loops i x a p e);
+          end = k.end;
+          wants = λ i x e. subst (λ j. LoadFits m x ((program_of c).params ((program_of c).callee (j + i)))) ports.first (k.wants i x e);
+          loops = λ i. subst (λ j. FitsIn m (load_in (slice_get b.loops.items i)) ((program_of c).params (j + i))) ports.unit (k.loops i);
         }
 
     -- what the ports show
@@ -214,17 +205,17 @@ module _ (c : CheckedProgram) (h : IsChecked c) (f : ℕ) (l : f < (program_of c
           -- the body shows what the equations say
           pub body_shows : (n m : Netlist) (b : Body) → Wired m v → Bodies q n m b ((program_of c).body f) → BodyShows c P f b v r
           body_shows n m b w done = record {
-            ends = done.ends v w ∙ ends_are;
+            end = done.end v w ∙ ap one_word ends_are;
             wants = λ i below.
                 let x = ports.first in
                 let y = ports.last in
-                let z = done.wants_length in
+                let z = done.wants_size in
                 done.wants (owner c f) ((program_of c).params f) ((program_of c).result f) own_body v w i
                 ∙ wants_are (q.first_site + i) (omega (arith, x)) (omega (arith, y, z, below))
                 ∙ ap (λ j. body_wants (program_of c) P r (j + i)) x;
             loops = λ i below.
                 let x = ports.unit in
-                let z = done.loops_length in
+                let z = done.loops_size in
                 let same = ports.inside (q.first_member + i) (omega arith) (omega (arith, z, below)) in
                 done.loops (owner c f) ((program_of c).params f) ((program_of c).result f) own_body v w i
                 ∙ goes_are (q.first_member + i)
@@ -261,24 +252,18 @@ module _ (c : CheckedProgram) (h : IsChecked c) (P : Choice) (f : ℕ) (l : f < 
     has_body : (b : Body) → Bodies q n1 n2 b ((program_of c).body f) → HasBody c P n2 p f b
     has_body b done =
         let k = done in
-        let w = k.wants_length in
-        let a = k.site_args_length in
-        let x = k.loops_length in
-        let y = k.loop_args_length in
+        let w = k.wants_size in
+        let x = k.loops_size in
         let first = ports.first in
         let last = ports.last in
         let unit = ports.unit in
         let most = ports.within in
-        let n0n2 = body_built b done in
         record {
           wants_length = omega (arith, w, first, last);
-          site_args_length = a ∙ sym w;
-          loop_args_length = y ∙ sym x;
           within = omega (arith, x, unit, most);
           members = λ g o e. let z = ports.members g o e in let z0 = z.0 in let z1 = z.1 in (omega (arith, z0, unit), omega (arith, z1, unit, x));
-          zero_off = k.zero_off;
           tails = k.tails (owner c f) ((program_of c).params f) ((program_of c).result f) (own_body c h f l);
-          fits = body_sources c h f l s q ports n1 n2 b returns_fit bit args_fit k;
+          fits = body_widths c h f l s q ports n1 n2 b returns_fit bit args_fit k;
           shows = λ v r i y.
               let y1 = cycle_before k.built y in
               let y0 = cycle_before built y1 in

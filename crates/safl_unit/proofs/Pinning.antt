@@ -1,6 +1,6 @@
 -- The registers of functions, in the order of their lines.
 use Rattle.std.proofs.Common.{◌≡◌, ℕ, zero, suc, ◌+◌, ◌-◌, ◌*◌, ◌<◌, ◌≤◌, List, [], ◌∷◌, ◌++◌, map, length, length-append, Some, Bool, true, false, cond, slice_get, ◌==◌, nat_lt, inl, inr, refl, sym, ap, subst, ◌∙◌, arith}
-use Rattle.std.proofs.lemmas.Bool.{eqb-true, eqb-false, lt-ltb}
+use Rattle.std.proofs.lemmas.Bool.{eqb-true, eqb-false}
 use Rattle.std.proofs.lemmas.Option.{slice_get_within}
 use Rattle.safl_net.proofs.Naming.{pushed}
 use Rattle.safl_term.specs.Program.{Program, arity, unit_for}
@@ -14,9 +14,9 @@ use Rattle.safl_circuit.specs.Layout.{Line, lines, site_lines, function_wires, s
 use Rattle.safl_unit.specs.declared.parts.UnitPins.{UnitPins}
 use Rattle.safl_unit.specs.declared.parts.MemberPins.{MemberPins}
 use Rattle.safl_unit.specs.declared.parts.SitePins.{SitePins}
-use Rattle.safl_unit.specs.Finished.{open_register, open_wire}
+use Rattle.safl_unit.specs.Finished.{open_register}
 use Rattle.safl_unit.specs.Ties.{Tie, sig_of, ties, tied, numbered, unit_ties, member_ties, function_ties, site_ties, call_registers}
-use Rattle.safl_unit.specs.Declaring.{with_signals, unit_head, at_line, argument_lines, function_lines, arbiter_line, Pinned, FunctionsPinned, SitePinned, SitesPinned}
+use Rattle.safl_unit.specs.Declaring.{with_signals, unit_head, at_line, argument_lines, function_lines, Pinned, FunctionsPinned, SitePinned, SitesPinned}
 use Rattle.safl_unit.proofs.Tables.{each_push, get_same, get_end}
 use Rattle.safl_unit.proofs.Declaring.{map_more, lines_count, lines_on, lines_none, numbered_more, param_lines_long}
 

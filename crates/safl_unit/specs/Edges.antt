@@ -1,12 +1,13 @@
 -- What the tables of an edge show under a valuation.
-use Rattle.std.specs.Prelude.{◌≡◌, ℕ, zero, suc, ◌-◌, ◌<◌, ◌==◌, List, length, Option, Some, None, Bool, false, cond, not, ◌&&◌, ◌||◌}
+use Rattle.std.specs.Prelude.{◌≡◌, ℕ, zero, suc, ◌<◌, ◌==◌, ◌++◌, List, [], length, Option, Some, None, Bool, false, cond, not, ◌&&◌, ◌||◌, slice_get}
 use Rattle.safl_word.specs.Words.{Word}
 use Rattle.safl_term.specs.Program.{Program}
 use Rattle.safl_net.specs.declared.cell.Sig.{Sig}
 use Rattle.safl_net.specs.Netlist.{Netlist}
 use Rattle.safl_net.specs.Growth.{Val, Wired, words}
 use Rattle.safl_gates.specs.declared.loads.Load.{Load}
-use Rattle.safl_gates.specs.Tables.{EachAt, taken_from, on_from, SomeFit, BitsFit}
+use Rattle.safl_gates.specs.Tables.{taken_from, sig_in, on_in, on_from, SomeFit, BitsFit}
+use Rattle.safl_gates.specs.Rows.{on_any, on_two, maybe_one}
 
 -- it holds of a number below n
 unfoldable pub one_below : (ℕ → Bool) → ℕ → Bool
@@ -22,11 +23,6 @@ bit_of (Some l) = Some l.bit
 abbrev pub operands_in : Val → Option Load → Option (List Word)
 operands_in v None = None
 operands_in v (Some l) = Some (words v l.words.items)
-
--- so many entries, none of which is there
-pub record IsBare {A : Type 0} (xs : List (Option A)) (count : ℕ) : Type 0 where
-  pub entries : length xs ≡ count
-  pub none : EachAt xs (λ i o. o ≡ None)
 
 -- a table of optional bits, or of optional loads, has so many entries and shows this
 pub record ShowsBits (n : Netlist) (bits : List (Option Sig)) (count : ℕ) (says : Val → ℕ → Bool) : Type 0 where
@@ -45,16 +41,14 @@ pub record ShowsBelow (n : Netlist) (bits : List (Option Sig)) (count : ℕ) (sa
   pub fits : BitsFit n bits
   pub shows : (v : Val) → Wired n v → (i : ℕ) → i < count → on_from v bits i ≡ says v i
 
--- the number of a step, by rising or by falling number
-abbrev pub turn : ℕ → Bool → ℕ → ℕ
-turn n falling d = cond falling (n - 1 - d) d
+-- the bits of the members of a unit, of the functions below a number
+unfoldable pub entry_row : Program → List (Option Sig) → ℕ → ℕ → List Sig
+entry_row C es u zero = []
+entry_row C es u (suc m) = entry_row C es u m ++ cond (u == C.unit m) (maybe_one (sig_in (slice_get es m))) []
 
--- a member of the unit of a step's function came before it, with its bit
-abbrev pub came : Program → (ℕ → Bool) → Bool → ℕ → Bool
-came C e falling d = one_below (λ j. (C.unit (turn C.functions falling d) == C.unit (turn C.functions falling j)) && e (turn C.functions falling j)) d
-
-abbrev pub earlier : Program → (ℕ → Bool) → Bool → ℕ → ℕ → Bool
-earlier C e falling i d = (i == turn C.functions falling d) && came C e falling d
+-- of a row's bits, where own may be one of them: two are 1, or one is and own is not
+abbrev pub others_on : Val → List Sig → Option Sig → Bool
+others_on v row own = on_two v row || (on_any v row && not (on_in v own))
 
 -- it is another member of the unit, with its bit
 abbrev pub rival : Program → (ℕ → Bool) → ℕ → ℕ → Bool

@@ -9,3 +9,4 @@ pub mod Outcomes
 pub mod Edges
 pub mod Steps
 pub mod Coming
+pub mod Arbiters

@@ -10,12 +10,16 @@ ghost use Rattle.safl_net.specs.Growth.{Val, Wired};
 ghost use Rattle.safl_net.specs.Bits.{on, gate};
 ghost use Rattle.safl_calls.specs.Picks.{first};
 ghost use Rattle.safl_gates.specs.Sources.{IsSource, Builds, HasRoom};
-ghost use Rattle.safl_gates.specs.Tables.{pin, taken_at, taken_from, on_in, on_from, IsBitIn, BitsFit, SomeFit};
+ghost use Rattle.safl_gates.specs.Rows.{maybe_one, row_at};
+ghost use Rattle.safl_gates.specs.Tables.{pin, load_in, taken_at, taken_from, on_in, on_from, IsBitIn, BitsFit, SomeFit};
 ghost use Rattle.safl_unit.specs.Stages.{OutcomesFit};
-ghost use Rattle.safl_unit.specs.Edges.{one_below, bit_of, operands_in, IsBare, ShowsBits, ShowsLoads};
+ghost use Rattle.safl_unit.specs.Edges.{one_below, bit_of, operands_in, ShowsBits, ShowsLoads};
 
 use crate::parts::Outcomes;
-use safl_gates::loads::{Load, add_bit, add_load};
+use safl_gates::joins::{
+    join_bits, join_loads, no_load_rows, no_rows, push_at, push_load, push_some,
+};
+use safl_gates::loads::{Load, add_bit, load_of};
 use safl_net::{Net, Sig};
 use safl_sites::Planned;
 use safl_term::Checked;
@@ -37,12 +41,14 @@ pub fn unit_ends(
     ensures done { IfOk result (λ all. ShowsLoads net.new all.items (program_of p.now.program).functions (λ u. (program_of p.now.program).result u ∷ []) (λ v u. first (λ f. gate (u == (program_of p.now.program).unit f) (taken_at v outcomes.now.ends.items f)) (program_of p.now.program).functions)) }
 {
     let functions = function_count(p);
-    let mut all = no_loads(alloc, functions)?;
+    let mut rows = no_load_rows(alloc, functions)?;
     for f in 0..functions {
         let end = &outcomes.ends[f as usize];
         let unit = unit_of(p, f);
-        add_load(alloc, net, &mut all, unit as usize, end.bit, &end.words)?;
+        let load = load_of(alloc, end.bit, &end.words)?;
+        push_load(&mut rows, unit as usize, load)?;
     }
+    let all = join_loads(alloc, net, &rows)?;
     Ok(all)
 }
 
@@ -64,14 +70,16 @@ pub fn function_loads(
     ensures done { IfOk result (λ all. ShowsLoads net.new all.items (program_of p.now.program).functions (program_of p.now.program).params (λ v f. first (λ k. gate ((f == (program_of p.now.program).callee k) && on v (pin goes.now k)) (operands_in v (slice_get outcomes.now.wants.items k))) (suc (program_of p.now.program).sites))) }
 {
     let functions = function_count(p);
-    let mut all = no_loads(alloc, functions)?;
+    let mut rows = no_load_rows(alloc, functions)?;
     let sites = site_count(p);
     for k in 0..sites + 1 {
         let want = &outcomes.wants[k as usize];
         let callee = callee_of(p, k);
         let go = goes[k as usize];
-        add_load(alloc, net, &mut all, callee as usize, go, &want.words)?;
+        let load = load_of(alloc, go, &want.words)?;
+        push_load(&mut rows, callee as usize, load)?;
     }
+    let all = join_loads(alloc, net, &rows)?;
     Ok(all)
 }
 
@@ -91,14 +99,15 @@ pub fn unit_starts(
     ensures done { IfOk result (λ bits. ShowsBits net.new bits.items (program_of p.now.program).functions (λ v u. one_below (λ k. (u == unit_for (program_of p.now.program) k) && on v (pin goes.now k)) (suc (program_of p.now.program).sites))) }
 {
     let functions = function_count(p);
-    let mut all = no_bits(alloc, functions)?;
+    let mut rows = no_rows(alloc, functions)?;
     let sites = site_count(p);
     for k in 0..sites + 1 {
         let callee = callee_of(p, k);
         let unit = unit_of(p, callee);
         let go = goes[k as usize];
-        add_bit(net, &mut all, unit as usize, go)?;
+        push_at(&mut rows, unit as usize, go)?;
     }
+    let all = join_bits(alloc, net, &rows)?;
     Ok(all)
 }
 
@@ -120,12 +129,13 @@ pub fn unit_clears(
     ensures done { IfOk result (λ bits. ShowsBits net.new bits.items (program_of p.now.program).functions (λ v u. is_some (taken_from v ends.now u) || one_below (λ h. (u == (program_of p.now.program).unit h) && is_some (taken_from v outcomes.now.loops.items h)) (program_of p.now.program).functions)) }
 {
     let functions = function_count(p);
-    let mut all = load_bits(alloc, ends, functions)?;
+    let mut rows = load_rows(alloc, ends, functions)?;
     for h in 0..functions {
         let bit = load_bit(&outcomes.loops[h as usize]);
         let unit = unit_of(p, h);
-        add_some(net, &mut all, unit as usize, bit)?;
+        push_some(&mut rows, unit as usize, bit)?;
     }
+    let all = join_bits(alloc, net, &rows)?;
     Ok(all)
 }
 
@@ -212,28 +222,6 @@ pub fn caller_of(p: &Planned, k: u32) -> u32
     program(p).caller(k)
 }
 
-/// So many bits, of which none is there.
-pub fn no_bits(alloc: Global, count: u32) -> Result<Vec<Option<Sig>>, AllocError>
-    ensures bare { IfOk result (λ bits. IsBare bits.items count) }
-{
-    let mut bits = Vec::new(alloc);
-    for _ in 0..count {
-        bits.push(None)?;
-    }
-    Ok(bits)
-}
-
-// So many loads, of which none is there.
-fn no_loads(alloc: Global, count: u32) -> Result<Vec<Option<Load>>, AllocError>
-    ensures bare { IfOk result (λ all. IsBare all.items count) }
-{
-    let mut all = Vec::new(alloc);
-    for _ in 0..count {
-        all.push(None)?;
-    }
-    Ok(all)
-}
-
 /// The bit of a load, where there is one.
 pub fn load_bit(load: &Option<Load>) -> Option<Sig>
     ensures { result ≡ bit_of load.now }
@@ -259,6 +247,34 @@ fn load_bits(
         bits.push(bit)?;
     }
     Ok(bits)
+}
+
+// By number, the bit of a load, where there is one.
+fn load_rows(alloc: Global, loads: &[Option<Load>], count: u32) -> Result<Vec<Vec<Sig>>, NoMemory>
+    requires { length loads.now ≡ count }
+    ensures count { IfOk result (λ rows. length rows.items ≡ count) }
+    ensures rows { IfOk result (λ rows. (i : ℕ) → row_at rows.items i ≡ maybe_one (bit_of (load_in (slice_get loads.now i)))) }
+{
+    let mut rows = Vec::new(alloc);
+    for i in 0..count {
+        let bit = load_bit(&loads[i as usize]);
+        let row = one_row(alloc, bit)?;
+        rows.push(row)?;
+    }
+    Ok(rows)
+}
+
+// A bit alone, where there is one.
+fn one_row(alloc: Global, bit: Option<Sig>) -> Result<Vec<Sig>, NoMemory>
+    ensures bit { IfOk result (λ row. row.items ≡ maybe_one bit) }
+{
+    match bit {
+        None => Ok(Vec::new(alloc)),
+        Some(bit) => {
+            let row = vec![in alloc; bit]?;
+            Ok(row)
+        }
+    }
 }
 
 /// Joins a bit, where there is one, to that of a number.

@@ -1,32 +1,39 @@
 //! The circuits of all bodies, and what they come to.
 
-ghost use Rattle.std.specs.Prelude.{◌≡◌, ℕ, suc, ◌+◌, ◌*◌, ◌<◌, ◌≤◌, ◌&&◌, ◌==◌, ◌⊎◌, List, [], ◌∷◌, length, Some, None, false, cond, slice_get, IfOk, OnOk};
+ghost use Rattle.std.specs.Prelude.{◌≡◌, ℕ, suc, ◌+◌, ◌*◌, ◌<◌, ◌≤◌, ◌==◌, ◌++◌, List, [], ◌∷◌, cond, length, IfOk, OnOk};
 ghost use Rattle.safl_term.specs.Checked.{IsChecked, program_of};
-ghost use Rattle.std.specs.Option.{option_or};
-ghost use Rattle.safl_net.specs.Names.{IsTidy};
-ghost use Rattle.safl_net.specs.Growth.{Val, words, Wired};
-ghost use Rattle.safl_net.specs.Bits.{on, gate};
-ghost use Rattle.safl_lower.specs.Rows.{Untaken, tail_cost};
 ghost use Rattle.safl_term.specs.Sizes.{nodes};
-ghost use Rattle.safl_circuit.specs.Equations.{Choice, path};
+ghost use Rattle.safl_net.specs.Names.{IsTidy};
+ghost use Rattle.safl_net.specs.Bits.{on};
 ghost use Rattle.safl_gates.specs.declared.loads.Load.{Load as load};
-ghost use Rattle.safl_gates.specs.Sources.{IsSource, AreSources, Builds, HasRoom};
-ghost use Rattle.safl_gates.specs.Tables.{load_in, taken_from, SomeFit};
+ghost use Rattle.safl_gates.specs.Sources.{IsSource, Builds, HasRoom};
+ghost use Rattle.safl_gates.specs.Rows.{load_joins, row_at, total};
+ghost use Rattle.safl_lower.specs.Loads.{load_cost, loads_cost};
+ghost use Rattle.safl_circuit.specs.Equations.{Choice, path};
 ghost use Rattle.safl_unit.specs.Cycles.{choice_of, PinsFit, InEachCycle};
 ghost use Rattle.safl_unit.specs.Stages.{body_nodes, HasReturns, HasOutcomes};
-ghost use Rattle.safl_unit.specs.Outcomes.{ArePorts, RowsHave, HasBody, AddsRows, JoinsRows};
+ghost use Rattle.safl_unit.specs.Outcomes.{ArePorts, HasBody, PushesLoads, maybe_load};
 
 use crate::arrivals::program;
 use crate::names::has_peers;
 use crate::parts::{Outcomes, Pins, Returns};
 use safl_gates::gates::both;
-use safl_gates::loads::{Load, add_load};
+use safl_gates::joins::{join_loads, no_load_rows, push_load};
+use safl_gates::loads::Load;
 use safl_lower::{Body, Ports, SitePorts, lower};
 use safl_net::{Net, Sig};
 use safl_sites::Planned;
 use safl_term::Checked;
 use safl_word::NoMemory;
 use std::alloc::{AllocError, Global};
+
+/// What the bodies come to, with the tail calls to each function in a row.
+#[derive(Drop)]
+pub struct Gathered {
+    pub ends: Vec<Load>,
+    pub wants: Vec<Load>,
+    pub rows: Vec<Vec<Load>>,
+}
 
 /// What all bodies come to: each ends, with its word; tail calls go to functions, of several that of the earliest body;
 /// and sites are wanted, with their arguments. It adds temporaries alone, at most 33 for each term and 33 for each
@@ -51,32 +58,32 @@ pub fn lower_bodies(
     let mut all = no_outcomes(alloc, c.functions(), pins)?;
     for f in 0..c.functions() {
         let body = body_of(alloc, net, p, f, pins, returns)?;
-        let end = end_of(alloc, &body)?;
+        let Body { end, wants, loops } = body;
+        let mut own = wants;
         all.ends.push(end)?;
-        add_wants(alloc, &mut all.wants, &body)?;
-        add_loops(alloc, net, &mut all.loops, c.unit(f), &body)?;
+        all.wants.append(&mut own)?;
+        push_loops(&mut all.rows, c.unit(f), loops)?;
     }
-    Ok(all)
+    let Gathered { ends, wants, rows } = all;
+    let loops = join_loads(alloc, net, &rows)?;
+    Ok(Outcomes { ends, loops, wants })
 }
 
 // The call of main from outside, and no body yet.
-fn no_outcomes(alloc: Global, functions: u32, pins: &Pins) -> Result<Outcomes, AllocError>
+fn no_outcomes(alloc: Global, functions: u32, pins: &Pins) -> Result<Gathered, NoMemory>
     ensures ends { IfOk result (λ o. o.ends.items ≡ []) }
-    ensures count { IfOk result (λ o. length o.loops.items ≡ functions) }
-    ensures loops { IfOk result (λ o. (h : ℕ) → load_in (slice_get o.loops.items h) ≡ None) }
+    ensures count { IfOk result (λ o. length o.rows.items ≡ functions) }
+    ensures rows { IfOk result (λ o. (h : ℕ) → row_at o.rows.items h ≡ []) }
     ensures wants { IfOk result (λ o. (x : load) × (o.wants.items ≡ x ∷ []) × (x.bit ≡ pins.now.start) × (x.words.items ≡ pins.now.words.items)) }
 {
-    let mut loops = Vec::new(alloc);
-    for _ in 0..functions {
-        loops.push(None)?;
-    }
+    let rows = no_load_rows(alloc, functions)?;
     let call = main_call(alloc, pins)?;
     let mut wants = Vec::new(alloc);
     wants.push(call)?;
-    Ok(Outcomes {
+    Ok(Gathered {
         ends: Vec::new(alloc),
-        loops,
         wants,
+        rows,
     })
 }
 
@@ -88,18 +95,6 @@ fn main_call(alloc: Global, pins: &Pins) -> Result<Load, AllocError>
     let words = Vec::from_slice(alloc, &pins.words)?;
     Ok(Load {
         bit: pins.start,
-        words,
-    })
-}
-
-// A body ends, with its word.
-fn end_of(alloc: Global, body: &Body) -> Result<Load, AllocError>
-    ensures bit { IfOk result (λ x. x.bit ≡ body.now.ends) }
-    ensures operands { IfOk result (λ x. x.words.items ≡ body.now.value ∷ []) }
-{
-    let words = vec![in alloc; body.value]?;
-    Ok(Load {
-        bit: body.ends,
         words,
     })
 }
@@ -198,81 +193,34 @@ fn group_end(c: &Checked, f: u32) -> u32
     functions
 }
 
-// Joins the calls of a body to those of the sites before its own.
-fn add_wants(alloc: Global, wants: &mut Vec<Load>, body: &Body) -> Result<(), AllocError>
-    requires { length body.now.site_args.items ≡ length body.now.wants.items }
-    ensures count { OnOk result (length wants.new.items ≡ length wants.old.items + length body.now.wants.items) }
-    ensures rows { OnOk result (AddsRows body.now.wants.items body.now.site_args.items wants.old.items wants.new.items) }
-{
-    for i in 0..body.wants.len() {
-        let words = Vec::from_slice(alloc, &body.site_args[i])?;
-        wants.push(Load {
-            bit: body.wants[i],
-            words,
-        })?;
-    }
-    Ok(())
-}
-
-// Joins the tail calls of a body to those of the bodies before it, for the members of its group.
-fn add_loops(
-    alloc: Global,
-    net: &mut Net,
-    loops: &mut Vec<Option<Load>>,
+// Puts the tail calls of a body behind those of the bodies before it, for the members of its group.
+fn push_loops(
+    rows: &mut Vec<Vec<Load>>,
     first_member: u32,
-    body: &Body,
+    own: Vec<Option<Load>>,
 ) -> Result<(), NoMemory>
-    requires tidy { IsTidy net.old }
-    requires args { length body.now.loop_args.items ≡ length body.now.loops.items }
-    requires within { first_member + length body.now.loops.items ≤ length loops.old.items }
-    requires zero { (v : Val) → Wired net.old v → on v body.now.zero ≡ false }
-    requires fits { (ws : ℕ → List ℕ) × SomeFit net.old loops.old.items ws × RowsHave net.old body.now.zero body.now.loops.items body.now.loop_args.items (λ i. ws (first_member + i)) }
-    requires room { HasRoom net.old (tail_cost body.now.zero body.now.loops.items body.now.loop_args.items) }
-    ensures tidy { IsTidy net.new }
-    ensures built { OnOk result (Builds net.old net.new (tail_cost body.now.zero body.now.loops.items body.now.loop_args.items)) }
-    ensures count { OnOk result (length loops.new.items ≡ length loops.old.items) }
-    ensures fits { (ws : ℕ → List ℕ) → SomeFit net.old loops.old.items ws → RowsHave net.old body.now.zero body.now.loops.items body.now.loop_args.items (λ i. ws (first_member + i)) → OnOk result (SomeFit net.new loops.new.items ws) }
-    ensures shows { OnOk result ((v : Val) → Wired net.new v → JoinsRows v first_member (length body.now.loops.items) body.now.loops.items body.now.loop_args.items loops.old.items loops.new.items) }
+    requires within { first_member + length own.items ≤ length rows.old.items }
+    ensures count { OnOk result (length rows.new.items ≡ length rows.old.items) }
+    ensures pushed { OnOk result (PushesLoads first_member (length own.items) own.items rows.old.items rows.new.items) }
+    ensures gates { OnOk result (total load_joins rows.new.items ≤ total load_joins rows.old.items + loads_cost own.items) }
 {
-    let first = first_member as usize;
-    for i in 0..body.loops.len() {
-        let bit = body.loops[i];
-        add_row(
-            alloc,
-            net,
-            loops,
-            first + i,
-            body.zero,
-            bit,
-            &body.loop_args[i],
-        )?;
+    let mut place = first_member as usize;
+    for load in own {
+        push_maybe(rows, place, load)?;
+        place += 1;
     }
     Ok(())
 }
 
-// Joins one row to the load of a number, where it has a tail call.
-fn add_row(
-    alloc: Global,
-    net: &mut Net,
-    loops: &mut Vec<Option<Load>>,
-    place: usize,
-    zero: Sig,
-    bit: Sig,
-    args: &[Sig],
-) -> Result<(), NoMemory>
-    requires tidy { IsTidy net.old }
-    requires place { place < length loops.old.items }
-    requires zero { (v : Val) → Wired net.old v → on v zero ≡ false }
-    requires fits { (ws : ℕ → List ℕ) × SomeFit net.old loops.old.items ws × (Untaken zero bit args.now ⊎ (IsSource net.old bit 1 × AreSources net.old args.now (ws place))) }
-    requires room { HasRoom net.old (cond (bit.0 == zero.0) 0 (1 + length args.now)) }
-    ensures tidy { IsTidy net.new }
-    ensures built { OnOk result (Builds net.old net.new (cond (bit.0 == zero.0) 0 (1 + length args.now))) }
-    ensures count { OnOk result (length loops.new.items ≡ length loops.old.items) }
-    ensures fits { (ws : ℕ → List ℕ) → SomeFit net.old loops.old.items ws → (Untaken zero bit args.now ⊎ (IsSource net.old bit 1 × AreSources net.old args.now (ws place))) → OnOk result (SomeFit net.new loops.new.items ws) }
-    ensures shows { OnOk result ((v : Val) → Wired net.new v → (i : ℕ) → taken_from v loops.new.items i ≡ option_or (taken_from v loops.old.items i) (gate ((i == place) && on v bit) (Some (words v args.now)))) }
+// Puts a load, where there is one, at the end of the row of a number.
+fn push_maybe(rows: &mut Vec<Vec<Load>>, place: usize, load: Option<Load>) -> Result<(), NoMemory>
+    requires place { place < length rows.old.items }
+    ensures count { length rows.new.items ≡ length rows.old.items }
+    ensures rows { OnOk result ((i : ℕ) → row_at rows.new.items i ≡ row_at rows.old.items i ++ cond (i == place) (maybe_load load) []) }
+    ensures gates { OnOk result (total load_joins rows.new.items ≤ total load_joins rows.old.items + load_cost load) }
 {
-    if bit.0 == zero.0 {
-        return Ok(());
+    match load {
+        None => Ok(()),
+        Some(load) => push_load(rows, place, load),
     }
-    add_load(alloc, net, loops, place, bit, args)
 }

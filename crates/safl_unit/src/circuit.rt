@@ -6,6 +6,8 @@ ghost use Rattle.safl_net.specs.Names.{IsTidy};
 ghost use Rattle.safl_net.specs.Valuations.{IsAcyclic};
 ghost use Rattle.safl_net.specs.Whole.{IsWhole};
 ghost use Rattle.safl_net.specs.Arranged.{IsInOrder};
+ghost use Rattle.safl_sites.specs.Plan.{IsPlan};
+ghost use Rattle.safl_sites.specs.Planned.{arbiter_of, kept_of};
 ghost use Rattle.safl_circuit.specs.Names.{names_of};
 ghost use Rattle.safl_circuit.specs.Layout.{HasPlan};
 ghost use Rattle.safl_circuit.specs.Scheme.{Scheme};
@@ -66,6 +68,7 @@ pub fn compile(alloc: Global, p: &Planned) -> Result<Circuit, NoMemory>
     ensures in_order { IfOk result IsInOrder }
     ensures acyclic { IfOk result IsAcyclic }
     ensures count { IfOk result (λ n. length n.signals ≤ SIGNALS_MAX) }
+    ensures chosen { IsPlan (program_of p.now.program) (arbiter_of p.now) (kept_of p.now) }
 {
     circuit_law();
     plan_law();

@@ -88,8 +88,6 @@ fn add_unit(
     ensures order { IfOk result (λ u. map sig_of (unit_ties (program_of c.now) (names_of c.now) f (Some u)) ≡ numbered (length net.old.signals) (length (unit_head (program_of c.now) (names_of c.now) f))) }
     ensures same { IfOk result (λ u. ((program_of c.now).unit f ≡ f → ⊥) → slice_get units.now ((program_of c.now).unit f) ≡ Some u) }
 {
-    let functions = c.functions();
-    prove!(f < functions);
     let unit = c.unit(f);
     if unit != f {
         return Ok(units[unit as usize]);
@@ -125,8 +123,6 @@ fn add_arguments(alloc: Global, net: &mut Net, c: &Checked, f: u32) -> Result<Ve
     ensures added { OnOk result (net.new ≡ with_signals net.old (map open_register (argument_lines (program_of c.now) (names_of c.now) f))) }
     ensures order { IfOk result (λ v. v.items ≡ numbered (length net.old.signals) (arity (program_of c.now) f)) }
 {
-    let functions = c.functions();
-    prove!(f < functions);
     let mut args = Vec::new(alloc);
     for i in 0..c.params(f) {
         let name = argument_name(alloc, c.name(f), c.param_name(f, i))?;
@@ -329,8 +325,6 @@ fn add_ports(alloc: Global, net: &mut Net, c: &Checked, f: u32) -> Result<Vec<Si
     ensures added { OnOk result (net.new ≡ with_signals net.old (map input_line (port_lines (program_of c.now) (names_of c.now) f))) }
     ensures order { IfOk result (λ v. v.items ≡ numbered (length net.old.signals) (arity (program_of c.now) f)) }
 {
-    let functions = c.functions();
-    prove!(f < functions);
     let mut words = Vec::new(alloc);
     for i in 0..c.params(f) {
         let name = headed(alloc, "in$", c.param_name(f, i))?;

@@ -46,9 +46,9 @@ pub fn edge_events(
     requires outcomes { OutcomesFit (program_of p.now.program) net.old outcomes.now }
     requires count { length goes.now ≡ suc (program_of p.now.program).sites }
     requires goes { (k : ℕ) → k ≤ (program_of p.now.program).sites → IsSource net.old (pin goes.now k) 1 }
-    requires room { HasRoom net.old (8 * (program_of p.now.program).functions + 18 * (program_of p.now.program).sites + 18) }
+    requires room { HasRoom net.old (11 * (program_of p.now.program).functions + 18 * (program_of p.now.program).sites + 18) }
     ensures tidy { IsTidy net.new }
-    ensures built { OnOk result (Builds net.old net.new (8 * (program_of p.now.program).functions + 18 * (program_of p.now.program).sites + 18)) }
+    ensures built { OnOk result (Builds net.old net.new (11 * (program_of p.now.program).functions + 18 * (program_of p.now.program).sites + 18)) }
     ensures done { (pins : Pins) → HasOutcomes (program_of p.now.program) (choice_of p.now) net.old pins outcomes.now → HasGoes (program_of p.now.program) (choice_of p.now) net.old pins goes.now → IfOk result (λ e. HasEvents (program_of p.now.program) (choice_of p.now) net.new pins e) }
 {
     let ends = unit_ends(alloc, net, p, outcomes)?;

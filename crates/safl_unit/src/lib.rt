@@ -1,6 +1,7 @@
 //! From a planned program to its circuit.
 #![tactic(auto)]
 
+mod arbiters;
 mod arrivals;
 mod bodies;
 mod circuit;

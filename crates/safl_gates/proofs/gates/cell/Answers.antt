@@ -1,5 +1,6 @@
 use Rattle.safl_net.proofs.Growth.{sized_known, sized_fits}
 use Rattle.safl_gates.proofs.Cells.{cell_made, cell_builds, cell_source}
+use Rattle.safl_gates.proofs.Heights.{gate_made}
 use Rattle.safl_gates.proofs.gates.cell.Goals as goal
 
 pub temp-requires-clause-known : goal.temp-requires-clause-known
@@ -17,4 +18,5 @@ returns c =
       built = cell_builds c.args.net.now c.temp.new.self c.temp.result c.args.op c.args.operands.now e.added e.numbered e.refused b.0 b.1 b.2 b.3;
       fits = cell_source c.args.net.now c.temp.new.self c.temp.result c.args.op c.args.operands.now e.added e.numbered e.refused;
       value = (cell_made c.args.net.now c.temp.new.self c.temp.result c.args.op c.args.operands.now e.added e.numbered e.refused b.0 b.1 b.2 b.3).word;
+      gate = gate_made c.args.net.now c.temp.new.self c.temp.result c.args.op c.args.operands.now e.added e.numbered;
     }

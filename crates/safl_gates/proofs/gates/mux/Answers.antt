@@ -14,4 +14,5 @@ returns c =
       built = e.built;
       fits = λ w p q. e.fits (1 ∷ w ∷ w ∷ []) w (three_sources c.requires.test p q) (mux_width w);
       value = mux_value c.cell.new.net c.cell.result c.args.c c.args.a c.args.b e.value;
+      gate = e.gate;
     }

@@ -8,6 +8,8 @@ use Rattle.safl_net.specs.Bits.{on}
 use Rattle.safl_gates.specs.Sources.{IsSource, AreSources}
 use Rattle.safl_gates.proofs.Building.{builds_on, builds_within, source_kept, sources_kept}
 use Rattle.safl_gates.proofs.Cells.{chosen_more, get_there, source_at, sources_length, sources_more}
+use Rattle.safl_gates.specs.Heights.{AllWithin}
+use Rattle.safl_gates.proofs.Heights.{all_kept, chosen_within}
 use Rattle.safl_gates.proofs.gates.mux_all.Goals as goal
 
 abbrev nothing : Sig
@@ -70,6 +72,8 @@ loop-i-preserved c =
           let k = subst (λ (xs : List Sig). words v xs ≡ words v (c.loop-i.all.items ++ c.in_ok-next.next ∷ [])) (sym e) refl in
           k ∙ chosen_more v c.args.c c.loop-i.all.items a b c.in_ok-next.next (slice_index_or a c.loop-i.i nothing) (slice_index_or b c.loop-i.i nothing) c.loop-i.i (get_there a c.loop-i.i nothing l) (get_there b c.loop-i.i nothing m)
           (j.value v (wired_before built.grows w)) (c.in_ok-next.ensures.value v w);
+      height = subst (λ (xs : List Sig). AllWithin c.mux.new.net (c.args.c ∷ (a ++ b)) 1 xs) (sym e)
+          (chosen_within c.mux.new.net c.args.c a b c.loop-i.all.items c.in_ok-next.next c.loop-i.i nothing l m (all_kept built (c.args.c ∷ (a ++ b)) 1 c.loop-i.all.items j.height) c.in_ok-next.ensures.gate);
     }
 
 pub returns-clause-fits : goal.returns-clause-fits
@@ -86,3 +90,6 @@ returns-clause-value c = λ v w.
     let f = sources_length c.args.net.now c.args.b.now r.0 r.2 in
     c.loop-i.invariant.value v w ∙ ap (λ (xs : List Sig). cond (on v c.args.c) (words v xs) (words v (take c.loop-i.i c.args.b.now))) (take_all c.loop-i.i c.args.a.now (omega (arith, l)))
     ∙ ap (λ (xs : List Sig). cond (on v c.args.c) (words v c.args.a.now) (words v xs)) (take_all c.loop-i.i c.args.b.now (omega (arith, e, f, l)))
+
+pub returns-clause-height : goal.returns-clause-height
+returns-clause-height c = c.loop-i.invariant.height

@@ -1,8 +1,9 @@
-use Rattle.std.proofs.Common.{◌≡◌, ℕ, List, cond, take}
+use Rattle.std.proofs.Common.{◌≡◌, ℕ, List, ◌∷◌, ◌++◌, cond, take}
 use Rattle.safl_net.specs.Names.{IsTidy}
 use Rattle.safl_net.specs.Growth.{Val, words, Wired}
 use Rattle.safl_net.specs.Bits.{on}
 use Rattle.safl_gates.specs.Sources.{AreSources, Builds}
+use Rattle.safl_gates.specs.Heights.{AllWithin}
 use Rattle.safl_gates.proofs.gates.mux_all.Given as goal
 
 abbrev pub invariant-loop-i : goal.invariant-loop-i
@@ -11,4 +12,5 @@ invariant-loop-i l = record {
   built : Builds l.initial.net l.net l.i;
   fits : (ws : List ℕ) → AreSources l.initial.net l.a ws → AreSources l.initial.net l.b ws → AreSources l.net l.all.items (take l.i ws);
   value : (v : Val) → Wired l.net v → words v l.all.items ≡ cond (on v l.c) (words v (take l.i l.a)) (words v (take l.i l.b));
+  height : AllWithin l.net (l.c ∷ (l.a ++ l.b)) 1 l.all.items;
 }

@@ -1,4 +1,4 @@
-use Rattle.std.proofs.Common.{◌+◌, List, length, subst, sym, ap, ◌∙◌, arith, cond}
+use Rattle.std.proofs.Common.{◌+◌, List, [], ◌∷◌, length, subst, sym, ap, ◌∙◌, arith, cond}
 use Rattle.safl_net.specs.declared.cell.Sig.{Sig}
 use Rattle.safl_net.specs.Growth.{words}
 use Rattle.safl_net.proofs.Growth.{wired_before}
@@ -6,6 +6,7 @@ use Rattle.safl_net.specs.Bits.{on}
 use Rattle.safl_gates.specs.Sources.{AreSources}
 use Rattle.safl_gates.proofs.Building.{builds_on, builds_within, source_kept, sources_kept}
 use Rattle.safl_gates.proofs.Joining.{first_fits, as_many, joined_shows}
+use Rattle.safl_gates.proofs.Heights.{gate_kept, joined_within, alone_load}
 use Rattle.safl_gates.proofs.loads.joined.Goals as goal
 
 pub mux_all-requires-clause-branches : goal.mux_all-requires-clause-branches
@@ -51,3 +52,11 @@ returns-in_ok-words-in-Some-clause-shows c = λ v w.
     joined_shows v c.in_ok-any-in-Some.any c.args.bit (words v c.in_ok-words-in-Some.words.items) (words v c.args.operands.now) c.args.load.now c.in-Some.first c.in-Some.is
     (c.in_ok-any-in-Some.ensures.value v b)
     (c.in_ok-words-in-Some.ensures.value v w ∙ ap (λ (xs : List Sig). cond (on v c.in-Some.first.bit) (words v xs) (words v c.args.operands.now)) c.deref.ensures.value)
+
+pub returns-in_ok-words-in-None-clause-height : goal.returns-in_ok-words-in-None-clause-height
+returns-in_ok-words-in-None-clause-height c = alone_load c.args.net.now c.args.load.now c.args.bit c.args.operands.now c.in_ok-words-in-None.words.items c.in-None.is c.in_ok-words-in-None.ensures.items
+
+pub returns-in_ok-words-in-Some-clause-height : goal.returns-in_ok-words-in-Some-clause-height
+returns-in_ok-words-in-Some-clause-height c =
+    joined_within c.mux_all.new.net c.args.load.now c.in-Some.first c.args.bit c.in_ok-any-in-Some.any c.args.operands.now c.deref.result.now c.in_ok-words-in-Some.words.items c.in-Some.is c.deref.ensures.value
+    (gate_kept c.mux_all.ensures.built c.in_ok-any-in-Some.any (c.in-Some.first.bit ∷ c.args.bit ∷ []) c.in_ok-any-in-Some.ensures.gate) c.in_ok-words-in-Some.ensures.height

@@ -1,58 +1,72 @@
-use Rattle.std.proofs.Common.{◌+◌, [], ◌∷◌, length, length-append, sym, ap, subst, ◌∙◌, arith}
+use Rattle.std.proofs.Common.{◌≡◌, ◌+◌, ◌&&◌, ◌==◌, ◌-◌, List, length, Some, slice_get, refl, sym, ap, subst, ◌∙◌, arith}
+use Rattle.std.specs.Option.{option_or}
+use Rattle.std.proofs.lemmas.Option.{slice_get_read}
+use Rattle.safl_net.specs.declared.cell.Sig.{Sig}
+use Rattle.safl_net.specs.Growth.{words}
+use Rattle.safl_net.specs.Bits.{on, gate}
 use Rattle.safl_net.proofs.Growth.{grows_on}
-use Rattle.safl_lower.proofs.Laid.{AllZero, AllEmpty, zeros_end, empties_end}
-use Rattle.safl_lower.proofs.Gathering.{merging_start, merging_step, last_in, last_fits, last_row, last_room}
+use Rattle.safl_gates.specs.Sources.{AreSources, Builds}
+use Rattle.safl_gates.specs.Tables.{taken_from}
+use Rattle.safl_lower.specs.declared.parts.TailCall.{TailCall}
+use Rattle.safl_lower.specs.Loads.{member_widths}
+use Rattle.safl_lower.proofs.Gathering.{merging_start, merging_step, merging_end, member_in, in_table, call_room, call_bit, call_sized}
 use Rattle.safl_lower.proofs.merge.merge.Goals as goal
 
-pub zeros-preserved : goal.zeros-preserved
-zeros-preserved c =
-    let i = c.zeros.invariant in
-    let a = c.in_ok-push.ensures.items in
-    let b = c.in_ok-push-2.ensures.items in
-    record {
-      zeros = subst (AllZero c.args.zero) (sym a) (zeros_end c.args.zero c.zeros.bits.items i.zeros);
-      empty = subst AllEmpty (sym b) (empties_end c.zeros.args.items c.new.result i.empty c.new.ensures.items);
-      bits = ap length a ∙ length-append c.zeros.bits.items (c.args.zero ∷ []) ∙ ap (λ n. n + 1) i.bits;
-      args = ap length b ∙ length-append c.zeros.args.items (c.new.result ∷ []) ∙ ap (λ n. n + 1) i.args;
-    }
-
-pub calls-init : goal.calls-init
-calls-init c =
-    let i = c.zeros.invariant in
-    let w = i.bits in
-    let a = i.args in
-    record { tidy = c.requires.tidy; merging = merging_start c.args.zero c.args.first c.args.members c.args.net.now c.args.calls.items c.zeros.bits.items c.zeros.args.items i.zeros i.empty (omega arith) (omega arith) c.requires.within }
-
-pub add_call-requires-clause-taken : goal.add_call-requires-clause-taken
-add_call-requires-clause-taken c = (last_fits c.pop.new.self.items c.in-Some.call c.in-Some.ensures.items c.calls.invariant.merging c.requires.fit.0 c.requires.fit.1).bit
-
-pub add_call-requires-clause-row : goal.add_call-requires-clause-row
-add_call-requires-clause-row c = last_row c.pop.new.self.items c.in-Some.call c.in-Some.ensures.items c.calls.invariant.merging c.requires.fit.0 c.requires.fit.1
-
-pub add_call-requires-clause-room : goal.add_call-requires-clause-room
-add_call-requires-clause-room c = last_room c.pop.new.self.items c.in-Some.call c.in-Some.ensures.items c.calls.invariant.merging c.requires.room
-
-pub calls-preserved : goal.calls-preserved
-calls-preserved c = record { tidy = c.add_call.ensures.tidy; merging = merging_step c.pop.new.self.items c.in-Some.call c.in-Some.ensures.items c.calls.invariant.merging c.add_call.ensures.built c.in_ok-add_call.ensures.added }
+pub loop-call-init : goal.loop-call-init
+loop-call-init c = record { tidy = c.requires.tidy; merging = merging_start c.args.first c.args.members c.args.net.now c.args.calls.now c.in_ok-loads.loads.items c.in_ok-loads.ensures.size c.in_ok-loads.ensures.none }
 
 pub overflow_sub-place : goal.overflow_sub-place
-overflow_sub-place c = let h = last_in c.pop.new.self.items c.in-Some.call c.in-Some.ensures.items c.calls.invariant.merging in let i = h.0 in omega (arith, i)
+overflow_sub-place c =
+    let at = slice_get_read c.args.calls.now (length c.args.calls.now) c.loop-call.call-index c.call-item.result refl c.loop-call-test.true c.call-item.is in
+    let i = (member_in c.call-item.result at c.loop-call.invariant.merging c.requires.within).0 in
+    omega (arith, i)
 
-pub add_call-requires-clause-bits : goal.add_call-requires-clause-bits
-add_call-requires-clause-bits c =
-    let h = last_in c.pop.new.self.items c.in-Some.call c.in-Some.ensures.items c.calls.invariant.merging in
-    let i = h.0 in
-    let j = h.1 in
-    let w = c.calls.invariant.merging.bits_length in
-    omega (arith, i, j, w)
+pub add_load-requires-clause-place : goal.add_load-requires-clause-place
+add_load-requires-clause-place c =
+    let at = slice_get_read c.args.calls.now (length c.args.calls.now) c.loop-call.call-index c.call-item.result refl c.loop-call-test.true c.call-item.is in
+    in_table c.call-item.result at c.loop-call.invariant.merging c.requires.within
 
-pub add_call-requires-clause-args : goal.add_call-requires-clause-args
-add_call-requires-clause-args c =
-    let h = last_in c.pop.new.self.items c.in-Some.call c.in-Some.ensures.items c.calls.invariant.merging in
-    let i = h.0 in
-    let j = h.1 in
-    let w = c.calls.invariant.merging.args_length in
-    omega (arith, i, j, w)
+pub add_load-requires-clause-fits : goal.add_load-requires-clause-fits
+add_load-requires-clause-fits c =
+    let at = slice_get_read c.args.calls.now (length c.args.calls.now) c.loop-call.call-index c.call-item.result refl c.loop-call-test.true c.call-item.is in
+    let F = c.requires.fit.0 in (
+      member_widths F c.args.first,
+      c.loop-call.invariant.merging.fits F c.requires.fit.1,
+      subst (λ (xs : List Sig). AreSources c.loop-call.net xs (member_widths F c.args.first (c.call-item.result.member - c.args.first))) (sym c.deref.ensures.value)
+          (call_sized c.call-item.result at c.loop-call.invariant.merging c.requires.within F c.requires.fit.1),
+    )
 
-pub returns-in_err-add_call-clause-grows : goal.returns-in_err-add_call-clause-grows
-returns-in_err-add_call-clause-grows c = grows_on c.calls.invariant.merging.grows c.add_call.ensures.built.grows
+pub add_load-requires-clause-bit : goal.add_load-requires-clause-bit
+add_load-requires-clause-bit c =
+    let at = slice_get_read c.args.calls.now (length c.args.calls.now) c.loop-call.call-index c.call-item.result refl c.loop-call-test.true c.call-item.is in
+    call_bit c.call-item.result at c.loop-call.invariant.merging c.requires.within c.requires.fit.0 c.requires.fit.1
+
+pub add_load-requires-clause-room : goal.add_load-requires-clause-room
+add_load-requires-clause-room c =
+    let at = slice_get_read c.args.calls.now (length c.args.calls.now) c.loop-call.call-index c.call-item.result refl c.loop-call-test.true c.call-item.is in
+    let d = ap (λ (xs : List Sig). length xs) c.deref.ensures.value in
+    let r = call_room c.call-item.result at c.loop-call.invariant.merging c.requires.within c.requires.room in
+    omega (arith, d, r)
+
+pub loop-call-preserved : goal.loop-call-preserved
+loop-call-preserved c =
+    let at = slice_get_read c.args.calls.now (length c.args.calls.now) c.loop-call.call-index c.call-item.result refl c.loop-call-test.true c.call-item.is in
+    let e = c.call-item.result in
+    let d = c.deref.ensures.value in
+    let a = c.in_ok-add_load.ensures in
+    record {
+      tidy = a.tidy;
+      merging = merging_step e at c.loop-call.invariant.merging c.requires.within c.add_load.new.loads.items c.requires.fit.0 c.requires.fit.1
+          (subst (λ (xs : List Sig). Builds c.loop-call.net c.add_load.new.net (1 + length xs)) d a.built) a.count
+          (λ ws x y. a.fits ws x (subst (λ (xs : List Sig). AreSources c.loop-call.net xs (ws (e.member - c.args.first))) (sym d) y))
+          (λ v w i. a.shows v w i ∙ ap (λ (xs : List Sig). option_or (taken_from v c.loop-call.loads.items i) (gate ((i == (e.member - c.args.first)) && on v e.taken) (Some (words v xs)))) d);
+    }
+
+pub returns-clause-built : goal.returns-clause-built
+returns-clause-built c = let end = c.loop-call-test.false in (merging_end c.args.first c.args.members c.args.net.now c.loop-call.net c.args.calls.now c.loop-call.call-index c.loop-call.loads.items (omega (arith, end)) c.loop-call.invariant.merging).0
+
+pub returns-clause-merged : goal.returns-clause-merged
+returns-clause-merged c = let end = c.loop-call-test.false in (merging_end c.args.first c.args.members c.args.net.now c.loop-call.net c.args.calls.now c.loop-call.call-index c.loop-call.loads.items (omega (arith, end)) c.loop-call.invariant.merging).1
+
+pub returns-in_err-add_load-clause-grows : goal.returns-in_err-add_load-clause-grows
+returns-in_err-add_load-clause-grows c = grows_on c.loop-call.invariant.merging.built.grows c.add_load.ensures.built.grows

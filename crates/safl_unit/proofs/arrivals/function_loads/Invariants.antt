@@ -1,16 +1,15 @@
-use Rattle.std.proofs.Common.{◌*◌, ◌==◌, ◌&&◌, slice_get}
+use Rattle.std.proofs.Common.{◌≤◌, ◌*◌, ◌==◌, ◌&&◌, slice_get}
 use Rattle.safl_term.specs.Checked.{program_of}
 use Rattle.safl_calls.specs.Picks.{first}
-use Rattle.safl_net.specs.Names.{IsTidy}
 use Rattle.safl_net.specs.Bits.{on, gate}
-use Rattle.safl_gates.specs.Sources.{Builds}
 use Rattle.safl_gates.specs.Tables.{pin}
-use Rattle.safl_unit.specs.Edges.{operands_in, ShowsLoads}
+use Rattle.safl_gates.specs.Rows.{load_joins, total}
+use Rattle.safl_unit.specs.Edges.{operands_in}
+use Rattle.safl_unit.proofs.Chains.{LoadRows}
 use Rattle.safl_unit.proofs.arrivals.function_loads.Given as goal
 
 abbrev pub invariant-loop-k : goal.invariant-loop-k
 invariant-loop-k l = record {
-  tidy : IsTidy l.net;
-  built : Builds l.initial.net l.net (17 * l.k);
-  table : ShowsLoads l.net l.all.items (program_of l.p.program).functions (program_of l.p.program).params (λ v f. first (λ k. gate ((f == (program_of l.p.program).callee k) && on v (pin l.goes k)) (operands_in v (slice_get l.outcomes.wants.items k))) l.k);
+  gates : total load_joins l.rows.items ≤ 17 * l.k;
+  table : LoadRows l.net l.rows.items (program_of l.p.program).functions (program_of l.p.program).params (λ v f. first (λ k. gate ((f == (program_of l.p.program).callee k) && on v (pin l.goes k)) (operands_in v (slice_get l.outcomes.wants.items k))) l.k);
 }

@@ -1,14 +1,13 @@
-use Rattle.std.proofs.Common.{◌==◌, ◌&&◌, ◌||◌, is_some}
+use Rattle.std.proofs.Common.{◌≤◌, ◌==◌, ◌&&◌, ◌||◌, is_some}
 use Rattle.safl_term.specs.Checked.{program_of}
-use Rattle.safl_net.specs.Names.{IsTidy}
-use Rattle.safl_gates.specs.Sources.{Builds}
 use Rattle.safl_gates.specs.Tables.{taken_from}
-use Rattle.safl_unit.specs.Edges.{one_below, ShowsBits}
+use Rattle.safl_gates.specs.Rows.{bit_joins, total}
+use Rattle.safl_unit.specs.Edges.{one_below}
+use Rattle.safl_unit.proofs.Chains.{BitRows}
 use Rattle.safl_unit.proofs.arrivals.unit_clears.Given as goal
 
 abbrev pub invariant-loop-h : goal.invariant-loop-h
 invariant-loop-h l = record {
-  tidy : IsTidy l.net;
-  built : Builds l.initial.net l.net l.h;
-  table : ShowsBits l.net l.all.items (program_of l.p.program).functions (λ v i. is_some (taken_from v l.ends i) || one_below (λ h. (i == (program_of l.p.program).unit h) && is_some (taken_from v l.outcomes.loops.items h)) l.h);
+  gates : total bit_joins l.rows.items ≤ l.h;
+  table : BitRows l.net l.rows.items (program_of l.p.program).functions (λ v u. is_some (taken_from v l.ends u) || one_below (λ h. (u == (program_of l.p.program).unit h) && is_some (taken_from v l.outcomes.loops.items h)) l.h);
 }

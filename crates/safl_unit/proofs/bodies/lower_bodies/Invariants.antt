@@ -10,6 +10,6 @@ use Rattle.safl_unit.proofs.bodies.lower_bodies.Given as goal
 abbrev pub invariant-loop-f : goal.invariant-loop-f
 invariant-loop-f l = record {
   tidy : IsTidy l.net;
-  built : Builds l.initial.net l.net (33 * body_nodes (program_of l.p.program) l.f + 33 * l.f);
+  built : Builds l.initial.net l.net (32 * body_nodes (program_of l.p.program) l.f + 33 * l.f);
   done : OutcomesUpTo l.p.program (choice_of l.p) l.net l.pins l.f l.all;
 }

@@ -1,5 +1,5 @@
 use Rattle.std.proofs.Common.{◌+◌, ◌*◌, length, sym, ap, subst, arith}
-use Rattle.safl_term.specs.Checked.{IsChecked, program_of}
+use Rattle.safl_term.specs.Checked.{program_of}
 use Rattle.safl_net.specs.Netlist.{Netlist}
 use Rattle.safl_net.specs.Growth.{Grows}
 use Rattle.safl_circuit.specs.Names.{names_of}

@@ -102,7 +102,7 @@ function_rivals-requires-clause-room c =
 pub returns-clause-built : goal.returns-clause-built
 returns-clause-built c =
     let C = program_of c.args.p.now.program in
-    builds_within (8 * C.functions + 18 * C.sites + 18)
+    builds_within (11 * C.functions + 18 * C.sites + 18)
     (builds_on (builds_on (builds_on (builds_on (builds_on c.in_ok-ends.ensures.built c.in_ok-loads.ensures.built) c.in_ok-starts.ensures.built) c.in_ok-clears.ensures.built) c.in_ok-entries.ensures.built) c.in_ok-rivals.ensures.built)
     (omega arith)
 

@@ -1,5 +1,5 @@
-use Rattle.std.proofs.Common.{◌<◌, length, subst, ◌∙◌, arith}
-use Rattle.safl_term.specs.Checked.{IsChecked, program_of}
+use Rattle.std.proofs.Common.{◌∙◌, arith}
+use Rattle.safl_term.specs.Checked.{program_of}
 use Rattle.safl_gates.proofs.Cells.{sources_length}
 use Rattle.safl_unit.specs.Cycles.{choice_of}
 use Rattle.safl_unit.proofs.Finishing.{first_wire_is, all_long, nexts_long, copies_long, registers_take, wires_take, all_set, all_tidy}

@@ -1,4 +1,3 @@
-use Rattle.std.proofs.Common.{◌+◌, ◌*◌}
 use Rattle.safl_term.specs.Checked.{program_of}
 use Rattle.safl_net.specs.Names.{IsTidy}
 use Rattle.safl_gates.specs.Sources.{Builds}
@@ -9,6 +8,6 @@ use Rattle.safl_unit.proofs.grants.grants.Given as goal
 abbrev pub invariant-loop-done : goal.invariant-loop-done
 invariant-loop-done l = record {
   tidy : IsTidy l.net;
-  built : Builds l.fn.net l.net (5 * l.done + 2);
-  so_far : Granted (program_of l.p.program) (choice_of l.p) l.net l.pins l.goes.items l.lower.items l.done;
+  since : Builds l.initial.net l.net l.done;
+  so_far : Granted (program_of l.p.program) (choice_of l.p) l.net l.pins l.goes.items l.done;
 }

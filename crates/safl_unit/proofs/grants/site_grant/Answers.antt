@@ -1,21 +1,26 @@
-use Rattle.std.proofs.Common.{Bool, ◌&&◌, not, cond, length, Option, refl, sym, ap, ◌∙◌}
-use Rattle.std.proofs.lemmas.Option.{slice_get_read}
+use Rattle.std.proofs.Common.{◌≡◌, Bool, true, ◌&&◌, cond, Result, Ok, Err, IfOk, Option, slice_get, slice_index_or, sym, ap, ◌∙◌}
 use Rattle.safl_net.specs.declared.cell.Sig.{Sig}
-use Rattle.safl_net.proofs.Growth.{wired_before}
+use Rattle.safl_net.specs.Netlist.{Netlist}
+use Rattle.safl_net.specs.Growth.{Val, Wired}
 use Rattle.safl_net.specs.Bits.{on}
-use Rattle.safl_gates.specs.Tables.{on_in, on_from, sig_in}
-use Rattle.safl_gates.proofs.Building.{builds_on, source_kept}
+use Rattle.safl_gates.specs.Tables.{on_in}
+use Rattle.safl_gates.proofs.Cells.{get_there}
+use Rattle.safl_gates.proofs.Rows.{bit_of_row}
 use Rattle.safl_unit.proofs.grants.site_grant.Goals as goal
 
-pub returns-clause-built : goal.returns-clause-built
-returns-clause-built c = builds_on c.in_ok-go.ensures.built c.add_bit.ensures.built
+shown : {E : Type 0} (m : Netlist) (r : Result Sig E) (t : Bool) (want : Sig) (f g : Val → Bool) → t ≡ true → ((v : Val) → f v ≡ (on v want && g v)) → IfOk r (λ s. (v : Val) → Wired m v → on v s ≡ f v) → IfOk r (λ s. (v : Val) → Wired m v → on v s ≡ cond t (on v want && g v) (on v want))
+shown m (Ok s) t want f g e q h = λ v w. h v w ∙ q v ∙ ap (λ (b : Bool). cond b (on v want && g v) (on v want)) (sym e)
+shown m (Err x) t want f g e q h = tt
 
-pub returns-clause-fits : goal.returns-clause-fits
-returns-clause-fits c = source_kept c.add_bit.ensures.built c.in_ok-go.ensures.fits
+pub bounds-frees-rank : goal.bounds-frees-rank
+bounds-frees-rank c = c.requires.rank c.if-not-arbiter.false
+
+pub both-requires-clause-second : goal.both-requires-clause-second
+both-requires-clause-second c =
+    bit_of_row c.args.net.now c.args.frees.now c.args.rank (slice_index_or c.args.frees.now c.args.rank (record { 0 = 0 })) c.requires.frees (get_there c.args.frees.now c.args.rank (record { 0 = 0 }) (c.requires.rank c.if-not-arbiter.false))
 
 pub returns-clause-value : goal.returns-clause-value
-returns-clause-value c = λ v w.
-    let at = slice_get_read c.args.lower.now.items (length c.args.lower.now.items) c.args.place c.index.result.now refl c.requires.place c.index.ensures in
-    c.in_ok-go.ensures.value v (wired_before c.add_bit.ensures.built.grows w)
-    ∙ ap (λ (o : Option (Option Sig)). on v c.args.want && (not (on v c.args.run) && not (on_in v (sig_in o)))) (sym at)
-    ∙ ap (λ (b : Bool). cond b (on v c.args.want && (not (on v c.args.run) && not (on_from v c.args.lower.now.items c.args.place))) (on v c.args.want)) (sym c.if-not-arbiter.false)
+returns-clause-value c =
+    let s = slice_index_or c.args.frees.now c.args.rank (record { 0 = 0 }) in
+    shown c.both.new.net c.both.result c.args.arbiter c.args.want (λ v. on v c.args.want && on v s) (λ v. on_in v (slice_get c.args.frees.now c.args.rank)) c.if-not-arbiter.false
+    (λ v. ap (λ (o : Option Sig). on v c.args.want && on_in v o) (sym (get_there c.args.frees.now c.args.rank (record { 0 = 0 }) (c.requires.rank c.if-not-arbiter.false)))) c.both.ensures.value

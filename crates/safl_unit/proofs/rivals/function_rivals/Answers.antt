@@ -1,58 +1,132 @@
-use Rattle.std.proofs.Common.{ℕ, ◌*◌, ◌||◌, Bool, true, false, subst, ap, ◌∙◌, arith}
-use Rattle.safl_term.specs.Checked.{program_of}
-use Rattle.safl_net.proofs.Growth.{wired_before}
-use Rattle.safl_gates.specs.Tables.{on_from}
-use Rattle.safl_gates.proofs.Building.{builds_on, builds_within}
-use Rattle.safl_gates.proofs.Kept.{bits_kept}
-use Rattle.safl_unit.specs.Edges.{IsBare, one_below, earlier}
-use Rattle.safl_unit.proofs.Chains.{bare_bits}
-use Rattle.safl_unit.proofs.Earlier.{rivals_are, table_is}
+use Rattle.std.proofs.Common.{◌≡◌, ℕ, ◌+◌, ◌*◌, ◌&&◌, List, length, Vec, Global, Option, None, slice_index_or, refl, sym, ap, subst, ◌∙◌, arith}
+use Rattle.std.proofs.lemmas.Option.{slice_get-get_or, slice_get_read}
+use Rattle.safl_term.specs.Checked.{CheckedProgram, program_of}
+use Rattle.safl_net.specs.declared.cell.Sig.{Sig}
+use Rattle.safl_net.specs.Growth.{Val}
+use Rattle.safl_circuit.specs.Equations.{many}
+use Rattle.safl_gates.specs.declared.trees.Several.{Several}
+use Rattle.safl_gates.specs.Tables.{sig_in, on_from, IsBitIn}
+use Rattle.safl_gates.specs.Rows.{AreBits, bit_joins, row_at, total}
+use Rattle.safl_gates.specs.Joints.{IsSeveralIn, several_in}
+use Rattle.safl_gates.proofs.Building.{builds_same, builds_on, builds_within}
+use Rattle.safl_gates.proofs.Kept.{maybe_bit_kept}
+use Rattle.safl_gates.proofs.Joints.{several_in_kept}
+use Rattle.safl_unit.specs.Edges.{one_below, entry_row, others_on, rival, ShowsBelow}
+use Rattle.safl_unit.proofs.Others.{entries_fit, rivals_are, below_none_yet, below_one_more}
 use Rattle.safl_unit.proofs.rivals.function_rivals.Goals as goal
 
-pub add_earlier-requires-clause-table : goal.add_earlier-requires-clause-table
-add_earlier-requires-clause-table c =
+pub join_several-requires-clause-fits : goal.join_several-requires-clause-fits
+join_several-requires-clause-fits c = λ u.
     let C = program_of c.args.p.now.program in
-    let xs = c.in_ok-all.all.items in
-    let bare = bare_bits c.args.net.now xs C.functions (subst (λ (m : ℕ). IsBare xs m) c.function_count-functions.ensures.count c.in_ok-all.ensures.bare) in
-    table_is c.args.net.now xs C.functions bare.entries bare.fits
+    let n = c.args.net.now in
+    subst (λ (rows : List (Vec Sig Global)). AreBits n (row_at rows u)) (sym c.deref.ensures.value)
+    (subst (AreBits n) (sym (c.in_ok-rows.ensures.rows u)) (entries_fit C n c.args.entries.now u c.requires.entries C.functions))
 
-pub add_earlier-requires-clause-room : goal.add_earlier-requires-clause-room
-add_earlier-requires-clause-room c = let r = c.requires.room in omega (arith, r)
-
-pub add_earlier-requires-2-clause-entries : goal.add_earlier-requires-2-clause-entries
-add_earlier-requires-2-clause-entries c = bits_kept c.in_ok-add_earlier.ensures.built c.args.entries.now c.requires.entries
-
-pub add_earlier-requires-2-clause-table : goal.add_earlier-requires-2-clause-table
-add_earlier-requires-2-clause-table c =
-    let h = c.in_ok-add_earlier.ensures.done in
-    table_is c.add_earlier.new.net c.add_earlier.new.all.items (program_of c.args.p.now.program).functions h.entries h.fits
-
-pub add_earlier-requires-2-clause-room : goal.add_earlier-requires-2-clause-room
-add_earlier-requires-2-clause-room c =
+pub join_several-requires-clause-room : goal.join_several-requires-clause-room
+join_several-requires-clause-room c =
+    let d = ap (total bit_joins) c.deref.ensures.value in
+    let g = c.in_ok-rows.ensures.gates in
     let r = c.requires.room in
-    let b = c.in_ok-add_earlier.ensures.built.count in
-    omega (arith, r, b)
+    omega (arith, d, g, r)
+
+pub loop-f-init : goal.loop-f-init
+loop-f-init c =
+    let C = program_of c.args.p.now.program in
+    let n = c.join_several.new.net in
+    record {
+      tidy = c.join_several.ensures.tidy;
+      built = builds_same n n refl 0;
+      table = below_none_yet n c.new-all.result.items (λ (v : Val) (f : ℕ). one_below (rival C (on_from v c.args.entries.now) f) C.functions) c.new-all.ensures.items;
+    }
+
+-- what was joined for a member's unit
+several_at : goal.member_rival-requires-clause-several
+several_at c =
+    let C = program_of c.args.p.now.program in
+    let n = c.join_several.new.net in
+    let u = c.unit_of-unit.result in
+    let all = c.in_ok-several.several.items in
+    let x = c.index.result.now in
+    let l = c.loop-f-test.true in
+    let k = c.function_count-functions.ensures.count in
+    let w = c.unit_of-unit.ensures.within in
+    let many = c.in_ok-several.ensures.count in
+    let long = ap (λ (rows : List (Vec Sig Global)). length rows) c.deref.ensures.value in
+    let rows = c.in_ok-rows.ensures.count in
+    let at = slice_get_read all (length all) u x refl (omega (arith, l, k, w, many, long, rows)) c.index.ensures in
+    let is = ap (λ (rows : List (Vec Sig Global)). row_at rows u) c.deref.ensures.value ∙ c.in_ok-rows.ensures.rows u in
+    let said = subst (λ (o : Option (Option Several)). IsSeveralIn n (row_at c.deref.result.now u) (several_in o)) at (c.in_ok-several.ensures.joined u) in
+    (entry_row C c.args.entries.now u C.functions, several_in_kept c.loop-f.invariant.built (entry_row C c.args.entries.now u C.functions) x (subst (λ (xs : List Sig). IsSeveralIn n xs x) is said))
+
+pub member_rival-requires-clause-several : goal.member_rival-requires-clause-several
+member_rival-requires-clause-several c = several_at c
+
+pub member_rival-requires-clause-own : goal.member_rival-requires-clause-own
+member_rival-requires-clause-own c =
+    let es = c.args.entries.now in
+    let f = c.loop-f.f in
+    let l = c.loop-f-test.true in
+    let k = c.function_count-functions.ensures.count in
+    let m = c.requires.count in
+    let g = slice_get-get_or es f None (omega (arith, l, k, m)) in
+    maybe_bit_kept (builds_on c.in_ok-several.ensures.built c.loop-f.invariant.built) (slice_index_or es f None) (subst (λ (o : Option (Option Sig)). IsBitIn c.args.net.now (sig_in o)) g (c.requires.entries f))
+
+pub member_rival-requires-clause-room : goal.member_rival-requires-clause-room
+member_rival-requires-clause-room c =
+    let d = ap (total bit_joins) c.deref.ensures.value in
+    let g = c.in_ok-rows.ensures.gates in
+    let l = c.loop-f-test.true in
+    let k = c.function_count-functions.ensures.count in
+    let a = c.in_ok-several.ensures.built.count in
+    let b = c.loop-f.invariant.built.count in
+    let r = c.requires.room in
+    omega (arith, d, g, l, k, a, b, r)
+
+pub loop-f-preserved : goal.loop-f-preserved
+loop-f-preserved c =
+    let C = program_of c.args.p.now.program in
+    let es = c.args.entries.now in
+    let f = c.loop-f.f in
+    let u = c.unit_of-unit.result in
+    let n = c.join_several.new.net in
+    let all = c.in_ok-several.several.items in
+    let x = c.index.result.now in
+    let l = c.loop-f-test.true in
+    let k = c.function_count-functions.ensures.count in
+    let w = c.unit_of-unit.ensures.within in
+    let many_rows = c.in_ok-several.ensures.count in
+    let long = ap (λ (rows : List (Vec Sig Global)). length rows) c.deref.ensures.value in
+    let rows = c.in_ok-rows.ensures.count in
+    let at = slice_get_read all (length all) u x refl (omega (arith, l, k, w, many_rows, long, rows)) c.index.ensures in
+    let is = ap (λ (rs : List (Vec Sig Global)). row_at rs u) c.deref.ensures.value ∙ c.in_ok-rows.ensures.rows u in
+    let said = subst (λ (o : Option (Option Several)). IsSeveralIn n (row_at c.deref.result.now u) (several_in o)) at (c.in_ok-several.ensures.joined u) in
+    let joined = several_in_kept c.loop-f.invariant.built (entry_row C es u C.functions) x (subst (λ (xs : List Sig). IsSeveralIn n xs x) is said) in
+    let m = c.requires.count in
+    let entry = slice_get-get_or es f None (omega (arith, l, k, m)) in
+    let peers : c.has_peers-many.result ≡ many C f = c.has_peers-many.ensures ∙ ap (λ (q : CheckedProgram). many (program_of q) f) c.checked.ensures.same in
+    let says = λ (v : Val) (i : ℕ). one_below (rival C (on_from v es) i) C.functions in
+    record {
+      tidy = c.member_rival.ensures.tidy;
+      built = builds_within (3 * (f + 1)) (builds_on c.loop-f.invariant.built c.in_ok-rival.ensures.built) (omega arith);
+      table = below_one_more c.loop-f.net c.member_rival.new.net 3 f c.loop-f.all.items c.push.new.self.items c.in_ok-rival.rival says c.in_ok-rival.ensures.built c.loop-f.invariant.table c.in_ok-push.ensures.items c.in_ok-rival.ensures.fits
+          (λ v q. c.in_ok-rival.ensures.value (entry_row C es u C.functions) joined v q
+          ∙ ap (λ (y : ℕ). c.has_peers-many.result && others_on v (entry_row C es y C.functions) (slice_index_or es f None)) c.unit_of-unit.ensures.number
+          ∙ rivals_are C v es f c.has_peers-many.result (slice_index_or es f None) (omega (arith, l, k)) peers entry);
+    }
 
 pub returns-clause-built : goal.returns-clause-built
 returns-clause-built c =
-    let F = (program_of c.args.p.now.program).functions in
-    builds_within (4 * F) (builds_on c.in_ok-add_earlier.ensures.built c.in_ok-add_earlier-2.ensures.built) (omega arith)
+    let d = ap (total bit_joins) c.deref.ensures.value in
+    let g = c.in_ok-rows.ensures.gates in
+    let b = c.loop-f.auto.f-end in
+    let k = c.function_count-functions.ensures.count in
+    builds_within (7 * (program_of c.args.p.now.program).functions) (builds_on c.in_ok-several.ensures.built c.loop-f.invariant.built) (omega (arith, d, g, b, k))
 
 pub returns-clause-done : goal.returns-clause-done
 returns-clause-done c =
     let C = program_of c.args.p.now.program in
-    let es = c.args.entries.now in
-    let xs = c.in_ok-all.all.items in
-    let bare = bare_bits c.args.net.now xs C.functions (subst (λ (m : ℕ). IsBare xs m) c.function_count-functions.ensures.count c.in_ok-all.ensures.bare) in
-    let one = c.in_ok-add_earlier.ensures in
-    let two = c.in_ok-add_earlier-2.ensures in
-    record {
-      entries = two.done.entries;
-      fits = two.done.fits;
-      shows = λ v w i l.
-          let w1 = wired_before two.built.grows w in
-          let w0 = wired_before one.built.grows w1 in
-          two.done.shows v w i
-          ∙ ap (λ (x : Bool). x || one_below (earlier C (on_from v es) true i) C.functions) (one.done.shows v w1 i ∙ ap (λ (x : Bool). x || one_below (earlier C (on_from v es) false i) C.functions) (bare.shows v w0 i))
-          ∙ rivals_are C (on_from v es) i l;
-    }
+    let l = c.loop-f-test.false in
+    let b = c.loop-f.auto.f-end in
+    let k = c.function_count-functions.ensures.count in
+    let e : c.loop-f.f ≡ C.functions = omega (arith, l, b, k) in
+    subst (λ (m : ℕ). ShowsBelow c.loop-f.net c.loop-f.all.items m (λ (v : Val) (f : ℕ). one_below (rival C (on_from v c.args.entries.now) f) C.functions)) e c.loop-f.invariant.table

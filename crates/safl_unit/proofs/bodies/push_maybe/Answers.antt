@@ -1,0 +1,15 @@
+use Rattle.std.proofs.Common.{◌≡◌, ◌==◌, [], ◌++◌, ◌+◌, cond, Bool, true, false, List, Option, sym, ap, ◌∙◌}
+use Rattle.safl_gates.specs.declared.loads.Load.{Load}
+use Rattle.safl_gates.specs.Rows.{row_at}
+use Rattle.safl_gates.proofs.Rows.{append_none}
+use Rattle.safl_unit.specs.Outcomes.{maybe_load}
+use Rattle.safl_unit.proofs.bodies.push_maybe.Goals as goal
+
+nothing : (xs : List Load) (t : Bool) → xs ≡ xs ++ cond t [] []
+nothing xs true = append_none xs
+nothing xs false = append_none xs
+
+pub returns-in-None-clause-rows : goal.returns-in-None-clause-rows
+returns-in-None-clause-rows c = λ i.
+    nothing (row_at c.args.rows.now.items i) (i == c.args.place)
+    ∙ ap (λ (o : Option Load). row_at c.args.rows.now.items i ++ cond (i == c.args.place) (maybe_load o) []) (sym c.in-None.is)

@@ -1,0 +1,14 @@
+use Rattle.std.proofs.Common.{◌*◌}
+use Rattle.safl_term.specs.Checked.{program_of}
+use Rattle.safl_net.specs.Names.{IsTidy}
+use Rattle.safl_gates.specs.Sources.{Builds}
+use Rattle.safl_gates.specs.Tables.{on_from}
+use Rattle.safl_unit.specs.Edges.{one_below, rival, ShowsBelow}
+use Rattle.safl_unit.proofs.rivals.function_rivals.Given as goal
+
+abbrev pub invariant-loop-f : goal.invariant-loop-f
+invariant-loop-f l = record {
+  tidy : IsTidy l.net;
+  built : Builds l.initial.net l.net (3 * l.f);
+  table : ShowsBelow l.net l.all.items l.f (λ v f. one_below (rival (program_of l.p.program) (on_from v l.entries) f) (program_of l.p.program).functions);
+}

@@ -1,0 +1,34 @@
+-- The sites of a unit in a row.
+use Rattle.std.specs.Prelude.{◌≡◌, ℕ, zero, suc, ◌+◌, ◌<◌, ◌==◌, List, [], ◌∷◌, ◌++◌, length, map, Some, Vec, true, not, cond, slice_get}
+use Rattle.std.specs.Global.{Global}
+use Rattle.safl_term.specs.Program.{Program, unit_for}
+use Rattle.safl_net.specs.declared.cell.Sig.{Sig}
+use Rattle.safl_net.specs.Netlist.{Netlist}
+use Rattle.safl_net.specs.Growth.{Val, Wired}
+use Rattle.safl_net.specs.Bits.{on}
+use Rattle.safl_circuit.specs.Equations.{Choice}
+use Rattle.safl_gates.specs.declared.loads.Load.{Load}
+use Rattle.safl_gates.specs.Tables.{bit_or}
+use Rattle.safl_gates.specs.Rows.{AreBits, frees, row_at}
+use Rattle.safl_unit.specs.declared.parts.UnitPins.{UnitPins}
+
+-- the bit of a number
+abbrev pub want_at : List Load → ℕ → Sig
+want_at ls k = bit_or (record { 0 = 0 }) (slice_get ls k)
+
+-- the bits of the sites up to number m that call unit u
+unfoldable pub site_row : Program → List Load → ℕ → ℕ → List Sig
+site_row C ls u zero = []
+site_row C ls u (suc m) = site_row C ls u m ++ cond (u == unit_for C (suc m)) (want_at ls (suc m) ∷ []) []
+
+-- the sum below a number
+unfoldable pub tally : (ℕ → ℕ) → ℕ → ℕ
+tally g zero = 0
+tally g (suc n) = tally g n + g n
+
+-- the rows up to number m: where the unit has an arbiter, that it rests and no site before wants
+pub record RowsFree (C : Program) (P : Choice) (n : Netlist) (us : List UnitPins) (rows out : List (Vec Sig Global)) (m : ℕ) : Type 0 where
+  pub count : length out ≡ m
+  pub fits : (u : ℕ) → AreBits n (row_at out u)
+  pub long : (u : ℕ) → u < m → P.arbiter (C.unit u) ≡ true → length (row_at out u) ≡ length (row_at rows u)
+  pub shows : (v : Val) → Wired n v → (u : ℕ) (x : UnitPins) → u < m → slice_get us u ≡ Some x → P.arbiter (C.unit u) ≡ true → map (on v) (row_at out u) ≡ frees v (not (on v x.run)) (row_at rows u)

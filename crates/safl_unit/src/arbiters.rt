@@ -1,0 +1,115 @@
+//! The sites of each unit in a row, and for each of them that the unit rests and none before it wants.
+
+ghost use Rattle.std.specs.Prelude.{◌≡◌, ℕ, suc, ◌+◌, ◌*◌, ◌^◌, ◌≤◌, ◌∷◌, true, not, map, length, Some, slice_get, IfOk, OnOk};
+ghost use Rattle.safl_term.specs.Checked.{program_of};
+ghost use Rattle.safl_term.specs.Program.{unit_for};
+ghost use Rattle.safl_net.specs.Names.{IsTidy};
+ghost use Rattle.safl_net.specs.Growth.{Val, Wired};
+ghost use Rattle.safl_net.specs.Bits.{on};
+ghost use Rattle.safl_gates.specs.Sources.{IsSource, Builds, HasRoom};
+ghost use Rattle.safl_gates.specs.Heights.{AllWithin};
+ghost use Rattle.safl_gates.specs.Rows.{AreBits, frees, row_at};
+ghost use Rattle.safl_unit.specs.Arbiters.{site_row, tally, RowsFree};
+ghost use Rattle.safl_unit.specs.Cycles.{PinsFit, choice_of};
+
+use crate::arrivals::{callee_of, function_count, site_count, unit_of};
+use crate::parts::{Outcomes, Pins};
+use safl_gates::gates::inverse;
+use safl_gates::joins::{no_rows, push_at};
+use safl_gates::trees::free_before;
+use safl_net::{Net, Sig};
+use safl_sites::Planned;
+use safl_word::NoMemory;
+use std::alloc::Global;
+
+/// By unit, the bits of its sites, in order; and by site, how many sites of its unit come before it.
+#[derive(Drop)]
+pub struct Wants {
+    pub rows: Vec<Vec<Sig>>,
+    pub ranks: Vec<usize>,
+}
+
+/// The sites of each unit.
+pub fn unit_wants(alloc: Global, p: &Planned, outcomes: &Outcomes) -> Result<Wants, NoMemory>
+    requires wants { length outcomes.now.wants.items ≡ suc (program_of p.now.program).sites }
+    ensures count { IfOk result (λ w. length w.rows.items ≡ (program_of p.now.program).functions) }
+    ensures rows { IfOk result (λ w. (u : ℕ) → row_at w.rows.items u ≡ site_row (program_of p.now.program) outcomes.now.wants.items u (program_of p.now.program).sites) }
+    ensures ranks_count { IfOk result (λ w. length w.ranks.items ≡ suc (program_of p.now.program).sites) }
+    ensures ranks { IfOk result (λ w. (m : ℕ) (q : ℕ) → slice_get w.ranks.items (suc m) ≡ Some q → q ≡ length (site_row (program_of p.now.program) outcomes.now.wants.items (unit_for (program_of p.now.program) (suc m)) m)) }
+{
+    let functions = function_count(p);
+    let mut rows = no_rows(alloc, functions)?;
+    let mut ranks = vec![in alloc; 0usize]?;
+    let sites = site_count(p);
+    for done in 0..sites {
+        let k = done + 1;
+        let callee = callee_of(p, k);
+        let unit = unit_of(p, callee);
+        let row: &[Sig] = &rows[unit as usize];
+        let rank = row.len();
+        ranks.push(rank)?;
+        let bit = outcomes.wants[k as usize].bit;
+        push_at(&mut rows, unit as usize, bit)?;
+    }
+    Ok(Wants { rows, ranks })
+}
+
+/// For each of a unit's sites, where the unit has an arbiter: the unit rests, and no site before it wants. Of at most
+/// 2 ^ h sites, that stands at most 2 h + 1 gates above what the sites want and the bit that the unit runs.
+pub fn unit_row(
+    alloc: Global,
+    net: &mut Net,
+    arbiter: bool,
+    wants: &[Sig],
+    run: Sig,
+) -> Result<Vec<Sig>, NoMemory>
+    requires tidy { IsTidy net.old }
+    requires wants { AreBits net.old wants.now }
+    requires run { IsSource net.old run 1 }
+    requires room { HasRoom net.old (3 * length wants.now) }
+    ensures tidy { IsTidy net.new }
+    ensures built { OnOk result (Builds net.old net.new (3 * length wants.now)) }
+    ensures fits { IfOk result (λ row. AreBits net.new row.items) }
+    ensures long { IfOk result (λ row. arbiter ≡ true → length row.items ≡ length wants.now) }
+    ensures value { IfOk result (λ row. (v : Val) → Wired net.new v → arbiter ≡ true → map (on v) row.items ≡ frees v (not (on v run)) wants.now) }
+    ensures height { (h : ℕ) → length wants.now ≤ 2 ^ h → IfOk result (λ row. AllWithin net.new (run ∷ wants.now) (2 * h + 1) row.items) }
+{
+    let mut row = Vec::new(alloc);
+    if !arbiter {
+        return Ok(row);
+    }
+    if wants.len() == 0 {
+        return Ok(row);
+    }
+    let rests = inverse(net, run)?;
+    free_before(net, wants, rests, &mut row)?;
+    Ok(row)
+}
+
+/// By unit, the same of its sites.
+pub fn unit_frees(
+    alloc: Global,
+    net: &mut Net,
+    p: &Planned,
+    pins: &Pins,
+    rows: &Vec<Vec<Sig>>,
+) -> Result<Vec<Vec<Sig>>, NoMemory>
+    requires tidy { IsTidy net.old }
+    requires pins { PinsFit (program_of p.now.program) net.old pins.now }
+    requires count { length rows.now.items ≡ (program_of p.now.program).functions }
+    requires rows { (u : ℕ) → AreBits net.old (row_at rows.now.items u) }
+    requires room { HasRoom net.old (3 * tally (λ u. length (row_at rows.now.items u)) (program_of p.now.program).functions) }
+    ensures tidy { IsTidy net.new }
+    ensures built { OnOk result (Builds net.old net.new (3 * tally (λ u. length (row_at rows.now.items u)) (program_of p.now.program).functions)) }
+    ensures done { IfOk result (λ out. RowsFree (program_of p.now.program) (choice_of p.now) net.new pins.now.bank.units.items rows.now.items out.items (program_of p.now.program).functions) }
+{
+    let functions = function_count(p);
+    let mut out = Vec::new(alloc);
+    for f in 0..functions {
+        let arbiter = p.arbiter(f);
+        let unit = pins.bank.units[f as usize];
+        let row = unit_row(alloc, net, arbiter, &rows[f as usize], unit.run)?;
+        out.push(row)?;
+    }
+    Ok(out)
+}
