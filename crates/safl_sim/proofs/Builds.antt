@@ -3,17 +3,19 @@ use Rattle.std.proofs.Common.{◌≡◌, inl, inr, ℕ, zero, suc, ◌+◌, ◌/
 use Rattle.std.proofs.lemmas.Nat.{pow_pos}
 use Rattle.std.proofs.lemmas.List.{append-nil}
 use Rattle.safl_net.specs.declared.cell.Sig.{Sig}
+use Rattle.safl_net.specs.declared.cell.SigKind.TheVariants as SigKind
 use Rattle.safl_net.specs.Netlist.{Netlist, Signal, Kind, Input, Reg, Wire, Cell}
 use Rattle.safl_net.specs.Valuations.{kind_reset}
-use Rattle.safl_net.specs.Making.{numbers, kind_at, kind_in, cell_in}
+use Rattle.safl_net.specs.Making.{numbers, kind_at, kind_in, cell_in, sort_of}
 use Rattle.safl_net.specs.Rules.{IsNetlist, KindFits, CellFits}
 use Rattle.safl_net.specs.Laws.{FitWidths}
 use Rattle.safl_net.proofs.Naming.{pushed, within}
-use Rattle.safl_order.specs.Order.{Order, IsOrder}
+use Rattle.safl_order.specs.Order.{Order, IsOrder, IsWire}
 use Rattle.safl_sim.specs.declared.step.Step.{Step}
 use Rattle.safl_sim.specs.declared.step.Register.{Register}
-use Rattle.safl_sim.specs.Marks.{marked}
+use Rattle.safl_sim.specs.Marks.{marked, first_register}
 use Rattle.safl_sim.specs.Readers.{Lists, AreReaders, Inside}
+use Rattle.safl_sim.proofs.MarkLemmas.{none_in}
 use Rattle.safl_sim.specs.Places.{with_input, inputs_from, inputs_of, resets}
 use Rattle.safl_sim.specs.Steps.{IsReg, IsStep, AreSteps, AreRegisters, Keeps}
 use Rattle.safl_sim.proofs.Written.{lower_or_same}
@@ -31,6 +33,13 @@ cell_found n s c made e = by (slice_get n.signals s) refl e
     by : (o : Option Signal) → slice_get n.signals s ≡ o → cell_in (kind_in o) ≡ Some c → (width : ℕ) × CellFits n width c
     by None q h = absurd (cc)
     by (Some g) q h = on g.width g.kind (made.signals s g q).kind h
+
+pub wire_known : (n : Netlist) (s : ℕ) → IsWire n s → s < length n.signals
+wire_known n s wire = by (slice_get n.signals s) refl wire
+  where
+    by : (o : Option Signal) → slice_get n.signals s ≡ o → sort_of (kind_in o) ≡ SigKind.Wire → s < length n.signals
+    by None q h = absurd (cc)
+    by (Some g) q h = within n.signals s g q
 
 pub numbers_at : (xs : List Sig) (i : ℕ) (d : Sig) → i < length xs → slice_get (numbers xs) i ≡ Some (get_or xs i d).0
 numbers_at [] i d h = absurd (omega arith)
@@ -110,6 +119,7 @@ registers_more n regs i r w e f = record {
     | inl l ↦ let a = w.all s l is in (a.0, a.1, front regs (r ∷ []) a.0 a.1 a.2, a.3)
     | inr q ↦ (length regs, r, end regs r, e ∙ sym q)
   ];
+  few = (let a = w.few in let b = length_push regs r in omega (arith, a, b));
 }
   where
     front : (xs ys : List Register) (k : ℕ) (x : Register) → slice_get xs k ≡ Some x → slice_get (xs ++ ys) k ≡ Some x
@@ -125,6 +135,7 @@ pub registers_same : (n : Netlist) (regs : List Register) (i : ℕ) → AreRegis
 registers_same n regs i w away = record {
   each = w.each;
   all = λ s h is. elim (lower_or_same s i h) [ inl l ↦ w.all s l is | inr q ↦ absurd (away (subst (λ y. IsReg (kind_at n y)) q is)) ];
+  few = (let a = w.few in omega (arith, a));
 }
 
 take_push : (gs : List Signal) (i : ℕ) (g : Signal) → slice_get gs i ≡ Some g → take (i + 1) gs ≡ take i gs ++ g ∷ []
@@ -168,12 +179,13 @@ not_reg_reset (Wire cell) h = refl
 pub resets_fit : (n : Netlist) → IsNetlist n → FitWidths n (slice_index (resets n))
 resets_fit n made s g e = subst (λ x. x < 2 ^ g.width) (sym (reset_at n.signals s ∙ ap kind_reset (ap kind_in e))) (kind_reset_fits n g.width g.kind (made.signals s g e).kind)
 
-pub keeps_new : (o : Order) (steps : List Step) (places : List Sig) (regs : List Register) (starts readers marks state values : List ℕ) → IsNetlist o.net → IsOrder o.net o.wires → AreSteps o.net o.wires steps → numbers places ≡ inputs_of o.net
-    → AreRegisters o.net (length o.net.signals) regs → Lists starts readers (length o.net.signals) ((length o.wires + 63) / 64) → AreReaders o.net o.wires starts readers
-    → length marks ≡ (length o.wires + 63) / 64 → length o.wires < 2 ^ 32 → Inside (length o.wires) marks → ((k : ℕ) → k < length o.wires → marked marks k ≡ 1)
-    → state ≡ resets o.net → values ≡ resets o.net → Keeps o steps places regs starts readers marks state values
-keeps_new o steps places regs starts readers marks state values made order all inputs registers lists read long few inside marked_all e f =
-    subst (λ x. Keeps o steps places regs starts readers marks x values) (sym e) (subst (λ x. Keeps o steps places regs starts readers marks (resets o.net) x) (sym f) (record {
+pub keeps_new : (o : Order) (steps : List Step) (places : List Sig) (regs : List Register) (starts readers marks waiting state values : List ℕ) → IsNetlist o.net → IsOrder o.net o.wires → AreSteps o.net o.wires steps → numbers places ≡ inputs_of o.net
+    → AreRegisters o.net (length o.net.signals) regs → Lists starts readers (length o.net.signals) ((first_register (length o.wires) + length regs + 63) / 64) → AreReaders o.net o.wires regs starts readers
+    → length marks ≡ (first_register (length o.wires) + length regs + 63) / 64 → length o.wires < 2 ^ 32 → length regs < 2 ^ 32 → Inside (length o.wires) (length regs) marks
+    → ((k : ℕ) → k < length o.wires → marked marks k ≡ 1) → ((k : ℕ) → k < length regs → marked marks (first_register (length o.wires) + k) ≡ 1) → length waiting ≡ (length regs + 63) / 64 → ((k : ℕ) → slice_index waiting k ≡ 0)
+    → state ≡ resets o.net → values ≡ resets o.net → Keeps o steps places regs starts readers marks waiting state values
+keeps_new o steps places regs starts readers marks waiting state values made order all inputs registers lists read long few some inside marked_steps marked_registers wide none e f =
+    subst (λ x. Keeps o steps places regs starts readers marks waiting x values) (sym e) (subst (λ x. Keeps o steps places regs starts readers marks waiting (resets o.net) x) (sym f) (record {
       made = made;
       order = order;
       steps = all;
@@ -182,12 +194,21 @@ keeps_new o steps places regs starts readers marks state values made order all i
       lists = subst (λ x. Lists starts readers (length o.net.signals) x) (sym long) lists;
       read = read;
       room = (let a = all.long in omega (arith, a, long));
-      few = omega (arith, few, long);
+      few = omega (arith, few, some, long);
       long = resets_long o.net.signals;
       values = resets_fit o.net made;
       state_long = resets_long o.net.signals;
       state = resets_fit o.net made;
       rest = λ s away. reset_at o.net.signals s ∙ not_reg_reset (kind_at o.net s) away;
-      stays = λ k s c at kind none. absurd (let a = marked_all k (within o.wires k s at) in omega (arith, a, none));
-      inside = inside;
+      holding = record {
+        stays = λ k s c at kind unmarked. absurd (let a = marked_steps k (within o.wires k s at) in omega (arith, a, unmarked));
+        kept = λ k r at unmarked. absurd (let a = marked_registers k (within regs k r at) in omega (arith, a, unmarked));
+        inside = inside;
+      };
+      waits = record {
+        room = omega (arith, wide);
+        few = omega (arith, wide, some);
+        shown = λ k r at unmarked. refl;
+        within = λ k h. absurd (let a = none_in waiting _ (none _) k refl in omega (arith, a, h));
+      };
     }))

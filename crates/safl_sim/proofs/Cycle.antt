@@ -1,12 +1,12 @@
 -- A cycle of a simulator.
-use Rattle.std.proofs.Common.{◌≡◌, ℕ, zero, suc, ◌*◌, ◌<◌, ◌^◌, List, [], ◌∷◌, length, Option, Some, None, slice_get, slice_index, refl, sym, ap, subst, ◌∙◌, arith}
+use Rattle.std.proofs.Common.{◌≡◌, ℕ, zero, suc, ◌+◌, ◌*◌, ◌<◌, ◌≤◌, ◌^◌, List, [], ◌∷◌, length, Option, Some, None, slice_get, slice_index, refl, sym, ap, subst, ◌∙◌, arith}
 use Rattle.safl_word.specs.Words.{Word}
 use Rattle.safl_net.specs.declared.cell.Sig.{Sig}
 use Rattle.safl_net.specs.declared.cell.SigKind.TheVariants as SigKind
 use Rattle.safl_net.specs.Netlist.{Netlist, Signal, Kind, Input, Reg, Wire, IsSet, width_in, width_of}
 use Rattle.safl_net.specs.Valuations.{Valuation, Fits, Holds, next_state, next_number, kind_next}
 use Rattle.safl_net.specs.Making.{kind_at, kind_in, sort_of}
-use Rattle.safl_net.specs.Rules.{KindFits}
+use Rattle.safl_net.specs.Rules.{IsNetlist, KindFits}
 use Rattle.safl_net.specs.Laws.{FitWidths}
 use Rattle.safl_net.proofs.Naming.{within}
 use Rattle.safl_net.proofs.OneValuation.{one_valuation}
@@ -16,11 +16,13 @@ use Rattle.safl_sim.specs.declared.step.Step.{Step}
 use Rattle.safl_sim.specs.declared.step.Register.{Register}
 use Rattle.safl_sim.specs.Places.{inputs_of, AreInputs, HasWords}
 use Rattle.safl_sim.specs.Simulation.{Simulation, Ticks}
-use Rattle.safl_sim.specs.Readers.{Lists, Goes}
-use Rattle.safl_sim.specs.Steps.{IsReg, Keeps, Runs}
-use Rattle.safl_sim.specs.declared.parts.Plan.{Plan}
+use Rattle.safl_sim.specs.Marks.{marked, first_register}
+use Rattle.safl_sim.specs.Readers.{Lists, Kept, Shown, Goes}
+use Rattle.safl_sim.specs.Steps.{IsReg, AreRegisters, Waits, Keeps, Runs}
+use Rattle.safl_sim.specs.declared.plan.Plan.{Plan}
 use Rattle.safl_sim.specs.Cycles.{KeepsPlan, Cycles}
-use Rattle.safl_sim.specs.Writes.{HasPut, HasShown, HasKept}
+use Rattle.safl_sim.specs.Writes.{HasPut, HasShown, HasKept, KeepsOn}
+use Rattle.safl_sim.proofs.Registers.{all_kept, was_unmarked}
 use Rattle.safl_sim.proofs.InputLemmas.{inputs_are, inputs_long, map_get, get_map, maps_agree, length_map}
 use Rattle.safl_sim.proofs.Updates.{lists_same}
 
@@ -59,7 +61,13 @@ next_at n r init k e = by (slice_get n.signals r.signal.0) refl e
     by None q h = absurd (cc)
     by (Some g) q h = (g, q, h)
 
-module _ (o : Order) (steps : List Step) (places : List Sig) (regs : List Register) (starts readers marks now v0 : List ℕ) (k : Keeps o steps places regs starts readers marks now v0) (given : List Word) (are : AreInputs o.net given) where
+pub next_in : (n : Netlist) (regs : List Register) (count : ℕ) → IsNetlist n → AreRegisters n count regs → (i : ℕ) (r : Register) → slice_get regs i ≡ Some r → r.next.0 < length n.signals
+next_in n regs count made w i r e =
+    let a = w.each i r e in
+    let b = next_at n r a.0 i a.1 in
+    (subst (λ x. KindFits n b.0.width x) b.2 (made.signals r.signal.0 b.0 b.1).kind).1
+
+module _ (o : Order) (steps : List Step) (places : List Sig) (regs : List Register) (starts readers marks waiting now v0 : List ℕ) (k : Keeps o steps places regs starts readers marks waiting now v0) (given : List Word) (are : AreInputs o.net given) where
   -- what the calls of a cycle ask
   pub put_within : (i : ℕ) (s : Sig) → slice_get places i ≡ Some s → s.0 < length v0
   put_within i s e = let a = ((inputs_are o.net places k.inputs).at i s e).0 in let b = k.long in omega (arith, a, b)
@@ -74,10 +82,7 @@ module _ (o : Order) (steps : List Step) (places : List Sig) (regs : List Regist
   reg_within i r e = let a = k.registers.each i r e in let b = next_at o.net r a.0 i a.1 in within o.net.signals r.signal.0 b.0 b.1
 
   pub next_within : (i : ℕ) (r : Register) → slice_get regs i ≡ Some r → r.next.0 < length o.net.signals
-  next_within i r e =
-      let a = k.registers.each i r e in
-      let b = next_at o.net r a.0 i a.1 in
-      (subst (λ x. KindFits o.net b.0.width x) b.2 (k.made.signals r.signal.0 b.0 b.1).kind).1
+  next_within i r e = next_in o.net regs (length o.net.signals) k.made k.registers i r e
 
   pub one_next : (i j : ℕ) (r q : Register) → slice_get regs i ≡ Some r → slice_get regs j ≡ Some q → r.signal.0 ≡ q.signal.0 → r.next.0 ≡ q.next.0
   one_next i j r q e f same =
@@ -130,27 +135,60 @@ module _ (o : Order) (steps : List Step) (places : List Sig) (regs : List Regist
   pub put_lists : Lists starts readers (length v0) (length marks)
   put_lists = lists_same starts readers _ _ _ _ k.long refl k.lists
 
+  -- the registers that wait still do once the inputs are put
+  pub waits_put : (v1 : List ℕ) → HasPut places given (length places) v0 v1 → Waits regs now v1 waiting
+  waits_put v1 p = record {
+    room = k.waits.room;
+    few = k.waits.few;
+    shown = λ i r e none. p.others r.signal.0 (λ j t f z. input_not_reg (kind_at o.net t.0) ((inputs_are o.net places k.inputs).at j t f).1 (subst IsReg (sym (k.registers.each i r e).1 ∙ ap (kind_at o.net) (sym z)) tt)) ∙ k.waits.shown i r e none;
+    within = k.waits.within;
+  }
+
   pub begins : (v1 v2 m1 m2 : List ℕ) → HasPut places given (length places) v0 v1 → HasShown regs now (length regs) v1 v2 → length m1 ≡ length marks → length m2 ≡ length m1
-      → Goes o.net o.wires starts readers v0 v1 marks m1 → Goes o.net o.wires starts readers v1 v2 m1 m2 → Runs o steps starts readers v2 0 v2 m2
-  begins v1 v2 m1 m2 p q l1 l2 g1 g2 =
-      let a = g1 k.read k.stays k.inside in
-      let b = g2 k.read a.0 a.1 in
+      → Goes o.net o.wires regs now starts readers v0 v1 marks m1 → Goes o.net o.wires regs now starts readers v1 v2 m1 m2 → Runs o steps regs now starts readers v2 0 v2 m2
+  begins v1 v2 m1 m2 p q l1 l2 g1 g2 = record {
+    made = k.made;
+    order = k.order;
+    steps = k.steps;
+    lists = lists_same starts readers _ _ _ _ refl (l2 ∙ l1) k.lists;
+    read = k.read;
+    room = (let a = k.room in omega (arith, a, l1, l2));
+    long = long_shown v1 v2 p q;
+    fits = fits_shown v1 v2 p q;
+    others = λ s away. refl;
+    below = λ j h. absurd (omega (arith, h));
+    holding = g2 k.read (g1 k.read k.holding);
+  }
+
+  -- none is kept yet
+  pub keeps_start : (v2 v3 m3 w2 : List ℕ) (first : ℕ) → first ≡ first_register (length steps) → Runs o steps regs now starts readers v2 (first_register (length steps)) v3 m3 → ((j : ℕ) → marked w2 j ≡ 0)
+      → KeepsOn first regs v3 first now m3 now m3 w2
+  keeps_start v2 v3 m3 w2 first e scene none =
+      let many = k.steps.long in
+      let same : first ≡ first_register (length o.wires) = omega (arith, e, many) in
       record {
-        made = k.made;
-        order = k.order;
-        steps = k.steps;
-        lists = lists_same starts readers _ _ _ _ refl (l2 ∙ l1) k.lists;
-        read = k.read;
-        long = long_shown v1 v2 p q;
-        fits = fits_shown v1 v2 p q;
-        others = λ s away. refl;
-        below = λ j h. absurd (omega (arith, h));
-        stays = b.0;
-        inside = b.1;
+        long = refl;
+        below = λ j f h. absurd (omega (arith, f, h));
+        low = λ j h. refl;
+        within = λ j h. (let a = scene.holding.inside.register j h in omega (arith, a, same));
+        kept = subst (λ x. Kept x regs now v3 m3) (sym same) scene.holding.kept;
+        others = λ t h. refl;
+        waits = λ j h z. h;
+        waiters = λ j h. absurd (let a = none j in omega (arith, a, h));
       }
 
   -- what holds once the steps have run and the registers are kept
-  module _ (v1 v2 v3 m3 after : List ℕ) (p : HasPut places given (length places) v0 v1) (q : HasShown regs now (length regs) v1 v2) (l3 : length m3 ≡ length marks) (scene : Runs o steps starts readers v2 (length m3 * 64) v3 m3) (r : HasKept regs v3 (length regs) now after) where
+  module _ (v1 v2 v3 m3 m4 w4 after : List ℕ) (first : ℕ) (p : HasPut places given (length places) v0 v1) (q : HasShown regs now (length regs) v1 v2) (scene : Runs o steps regs now starts readers v2 (first_register (length steps)) v3 m3)
+      (e1 : first ≡ first_register (length steps)) (l3 : length m3 ≡ length marks) (l4 : length m4 ≡ length m3) (wide : length w4 ≡ length waiting) (ends : KeepsOn first regs v3 (length m4 * 64) now m3 after m4 w4) where
+    room : first + length regs ≤ length m4 * 64
+    room = let a = scene.room in omega (arith, a, e1, l4)
+
+    r : HasKept regs v3 (length regs) now after
+    r = all_kept first regs v3 (length m4 * 64) now m3 after m4 w4 ends room
+
+    same_first : first ≡ first_register (length o.wires)
+    same_first = let many = k.steps.long in omega (arith, e1, many)
+
     not_wire_same : (s : ℕ) → ¬ (IsWire o.net s) → slice_index v3 s ≡ slice_index v2 s
     not_wire_same s away = scene.others s away
 
@@ -163,7 +201,7 @@ module _ (o : Order) (steps : List Step) (places : List Sig) (regs : List Regist
     holds s g (Wire (Some c)) e f =
         let kind : kind_at o.net s ≡ Wire (Some c) = kind_is o.net s g e ∙ f in
         let a = k.order.all s (ap sort_of kind) in
-        scene.stays a.0 s c a.1 kind (scene.below a.0 (let b = within o.wires a.0 s a.1 in let d = k.steps.long in let e = k.room in omega (arith, b, d, e, l3)))
+        scene.holding.stays a.0 s c a.1 kind (scene.below a.0 (let b = within o.wires a.0 s a.1 in let d = k.steps.long in omega (arith, b, d)))
 
     fits : Fits o.net (slice_index now) v3
     fits = record { full = scene.long; each = λ s g e. (scene.fits s g e, holds s g g.kind e refl) }
@@ -225,24 +263,45 @@ module _ (o : Order) (steps : List Step) (places : List Sig) (regs : List Regist
             small (slice_index after s) (slice_index v3 m) there.0.width g.width (kept_at s g init m e f) (ap width_in (sym there.1) ∙ h.2) (scene.fits m there.0 there.1)
         by (Wire cell) f h = small (slice_index after s) (slice_index now s) g.width g.width (r.others s (λ i t x z. absurd (subst IsReg (sym (k.registers.each i t x).1 ∙ ap (kind_at o.net) z ∙ kind_is o.net s g e ∙ f) tt))) refl (k.state s g e)
 
-    pub keeps_after : Keeps o steps places regs starts readers m3 after v3
+    -- a register that does not wait shows its state
+    shows_state : Shown regs after v3 w4
+    shows_state i t e none =
+        let kind = (k.registers.each i t e).1 in
+        not_wire_same t.signal.0 (reg_not_wire (kind_at o.net t.signal.0) (subst IsReg (sym kind) tt))
+        ∙ q.shown i t (within regs i t e) e
+        ∙ subst (λ x. Kept x regs now v3 m3) (sym same_first) scene.holding.kept i t e (was_unmarked first regs v3 (length m4 * 64) now m3 after m4 w4 ends room i none)
+        ∙ sym (r.kept i t (within regs i t e) e)
+
+    pub keeps_after : Keeps o steps places regs starts readers m4 w4 after v3
     keeps_after = record {
       made = k.made;
       order = k.order;
       steps = k.steps;
       inputs = k.inputs;
       registers = k.registers;
-      lists = scene.lists;
+      lists = lists_same starts readers _ _ _ _ refl l4 scene.lists;
       read = k.read;
-      room = (let a = k.room in omega (arith, a, l3));
-      few = (let a = k.few in omega (arith, a, l3));
+      room = (let a = scene.room in omega (arith, a, l4));
+      few = (let a = k.few in omega (arith, a, l3, l4));
       long = scene.long;
       values = scene.fits;
       state_long = r.long ∙ k.state_long;
       state = state_fits;
       rest = not_kept;
-      stays = scene.stays;
-      inside = scene.inside;
+      holding = record {
+        stays = λ j s c at kind none. scene.holding.stays j s c at kind (sym (ends.low j (let a = within o.wires j s at in let b = k.steps.long in omega (arith, a, b, e1))) ∙ none);
+        kept = subst (λ x. Kept x regs after v3 m4) same_first ends.kept;
+        inside = record {
+          step = λ j e l. scene.holding.inside.step j (sym (ends.low j (omega (arith, l, same_first))) ∙ e) l;
+          register = λ j e. (let a = ends.within j e in omega (arith, a, same_first));
+        };
+      };
+      waits = record {
+        room = (let a = k.waits.room in omega (arith, a, wide));
+        few = (let a = k.waits.few in omega (arith, a, wide));
+        shown = shows_state;
+        within = ends.waiters;
+      };
     }
 
     pub ticks : Ticks (record { net = o.net; state = now; values = v0 }) (record { net = o.net; state = after; values = v3 }) given
@@ -255,28 +314,38 @@ module _ (o : Order) (steps : List Step) (places : List Sig) (regs : List Regist
     }
 
 -- the same of what is read through references: the lists of a plan
-pub plan_through : (o : Order) (steps steps' : List Step) (places places' : List Sig) (regs regs' : List Register) (starts starts' readers readers' marks now v : List ℕ)
-    → steps' ≡ steps → places' ≡ places → regs' ≡ regs → starts' ≡ starts → readers' ≡ readers → Keeps o steps places regs starts readers marks now v → Keeps o steps' places' regs' starts' readers' marks now v
-plan_through o steps steps' places places' regs regs' starts starts' readers readers' marks now v a b c s r k =
-    subst (λ x. Keeps o x places' regs' starts' readers' marks now v) (sym a)
-    (subst (λ x. Keeps o steps x regs' starts' readers' marks now v) (sym b)
-    (subst (λ x. Keeps o steps places x starts' readers' marks now v) (sym c)
-    (subst (λ x. Keeps o steps places regs x readers' marks now v) (sym s)
-    (subst (λ x. Keeps o steps places regs starts x marks now v) (sym r) k))))
+pub plan_through : (o : Order) (steps steps' : List Step) (places places' : List Sig) (regs regs' : List Register) (starts starts' readers readers' marks waiting now v : List ℕ)
+    → steps' ≡ steps → places' ≡ places → regs' ≡ regs → starts' ≡ starts → readers' ≡ readers → Keeps o steps places regs starts readers marks waiting now v → Keeps o steps' places' regs' starts' readers' marks waiting now v
+plan_through o steps steps' places places' regs regs' starts starts' readers readers' marks waiting now v a b c s r k =
+    subst (λ x. Keeps o x places' regs' starts' readers' marks waiting now v) (sym a)
+    (subst (λ x. Keeps o steps x regs' starts' readers' marks waiting now v) (sym b)
+    (subst (λ x. Keeps o steps places x starts' readers' marks waiting now v) (sym c)
+    (subst (λ x. Keeps o steps places regs x readers' marks waiting now v) (sym s)
+    (subst (λ x. Keeps o steps places regs starts x marks waiting now v) (sym r) k))))
 
-pub keeps_same : (o : Order) (steps : List Step) (places : List Sig) (regs : List Register) (starts readers marks marks' now now' v v' : List ℕ) → marks' ≡ marks → now' ≡ now → v' ≡ v → Keeps o steps places regs starts readers marks now v → Keeps o steps places regs starts readers marks' now' v'
-keeps_same o steps places regs starts readers marks marks' now now' v v' m a b k =
-    subst (λ x. Keeps o steps places regs starts readers x now' v') (sym m)
-    (subst (λ x. Keeps o steps places regs starts readers marks x v') (sym a) (subst (λ x. Keeps o steps places regs starts readers marks now x) (sym b) k))
+pub goes_through : (n : Netlist) (ws : List ℕ) (regs regs' : List Register) (now starts starts' readers readers' v1 v2 m1 m2 : List ℕ) → regs' ≡ regs → starts' ≡ starts → readers' ≡ readers
+    → Goes n ws regs now starts readers v1 v2 m1 m2 → Goes n ws regs' now starts' readers' v1 v2 m1 m2
+goes_through n ws regs regs' now starts starts' readers readers' v1 v2 m1 m2 c s r g =
+    subst (λ x. Goes n ws x now starts' readers' v1 v2 m1 m2) (sym c)
+    (subst (λ x. Goes n ws regs now x readers' v1 v2 m1 m2) (sym s)
+    (subst (λ x. Goes n ws regs now starts x v1 v2 m1 m2) (sym r) g))
+
+pub keeps_same : (o : Order) (steps : List Step) (places : List Sig) (regs : List Register) (starts readers marks marks' waiting waiting' now now' v v' : List ℕ) → marks' ≡ marks → waiting' ≡ waiting → now' ≡ now → v' ≡ v
+    → Keeps o steps places regs starts readers marks waiting now v → Keeps o steps places regs starts readers marks' waiting' now' v'
+keeps_same o steps places regs starts readers marks marks' waiting waiting' now now' v v' m w a b k =
+    subst (λ x. Keeps o steps places regs starts readers x waiting' now' v') (sym m)
+    (subst (λ x. Keeps o steps places regs starts readers marks x now' v') (sym w)
+    (subst (λ x. Keeps o steps places regs starts readers marks waiting x v') (sym a)
+    (subst (λ x. Keeps o steps places regs starts readers marks waiting now x) (sym b) k)))
 
 -- and the marks, the state and the values
-pub cycle_through : (o : Order) (p : Plan) (marks marks' : List ℕ) (given : List Word) (now now' v v' mark next after : List ℕ) → marks' ≡ marks → now' ≡ now → v' ≡ v
-    → ((o : Order) → KeepsPlan o p marks' now' v' → AreInputs o.net given → Cycles o p given now' v' mark next after)
-    → KeepsPlan o p marks now v → AreInputs o.net given → Cycles o p given now v mark next after
-cycle_through o p marks marks' given now now' v v' mark next after m d e f k are =
-    subst (λ x. Cycles o p given x v mark next after) d
-    (subst (λ x. Cycles o p given now' x mark next after) e
-    (f o (keeps_same o p.steps.items p.inputs.items p.registers.items p.starts.items p.readers.items marks marks' now now' v v' m d e k) are))
+pub cycle_through : (o : Order) (p : Plan) (marks marks' waiting waiting' : List ℕ) (given : List Word) (now now' v v' mark wait next after : List ℕ) → marks' ≡ marks → waiting' ≡ waiting → now' ≡ now → v' ≡ v
+    → ((o : Order) → KeepsPlan o p marks' waiting' now' v' → AreInputs o.net given → Cycles o p given now' v' mark wait next after)
+    → KeepsPlan o p marks waiting now v → AreInputs o.net given → Cycles o p given now v mark wait next after
+cycle_through o p marks marks' waiting waiting' given now now' v v' mark wait next after m w d e f k are =
+    subst (λ x. Cycles o p given x v mark wait next after) d
+    (subst (λ x. Cycles o p given now' x mark wait next after) e
+    (f o (keeps_same o p.steps.items p.inputs.items p.registers.items p.starts.items p.readers.items marks marks' waiting waiting' now now' v v' m w d e k) are))
 
 pub ticks_same : (n : Netlist) (old : Simulation) (now v next next' after after' : List ℕ) (given : List Word) → record { net = n; state = now; values = v } ≡ old → next' ≡ next → after' ≡ after
     → Ticks (record { net = n; state = now; values = v }) (record { net = n; state = next; values = after }) given → Ticks old (record { net = n; state = next'; values = after' }) given

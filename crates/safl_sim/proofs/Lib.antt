@@ -1,10 +1,14 @@
+pub mod Joining
+pub mod LowBits
 pub mod MarkLemmas
 pub mod Actions
 pub mod Written
 pub mod InputLemmas
 pub mod Updates
+pub mod Registers
 pub mod Scenes
 pub mod MarkedSteps
+pub mod Nearing
 pub mod Cycle
 pub mod Tables
 pub mod Few

@@ -4,15 +4,15 @@ use Rattle.std.specs.Int.{w64, bit_at, bit_not, trailing_zeros}
 use Rattle.std.specs.Int.RustNames.{bit_or}
 use lib.Bits.{bit_and}
 use Rattle.std.proofs.lemmas.Nat.Bits.{bit_at-zero, bit_at-trailing_zeros, bit_at_set_same, bit_at_set_other, bit_at_clear_same, bit_at_clear_other}
-use Rattle.safl_sim.specs.Marks.{marked, HasMark, HasNone, HasTaken}
-use Rattle.safl_sim.proofs.Written.{same_or_not, lower_or_same, index_here, index_other, set_length}
+use Rattle.safl_sim.specs.Marks.{marked, HasMark, HasNone, HasTaken, HasRange}
+use Rattle.safl_sim.proofs.Written.{same_or_not, lower_or_not, lower_or_same, index_here, index_other, set_length}
 use Rattle.safl_sim.specs.Readers.{HasMarked}
 
 -- the mark of a step in a word that is written
-written_same : (old : List ℕ) (w x k : ℕ) → w < length old → k / 64 ≡ w → marked (set old w x) k ≡ bit_at x (k % 64)
+pub written_same : (old : List ℕ) (w x k : ℕ) → w < length old → k / 64 ≡ w → marked (set old w x) k ≡ bit_at x (k % 64)
 written_same old w x k h e = ap (λ y. bit_at (slice_index (set old w x) y) (k % 64)) e ∙ ap (λ y. bit_at y (k % 64)) (index_here old w x h)
 
-written_other : (old : List ℕ) (w x k : ℕ) → ¬ (k / 64 ≡ w) → marked (set old w x) k ≡ marked old k
+pub written_other : (old : List ℕ) (w x k : ℕ) → ¬ (k / 64 ≡ w) → marked (set old w x) k ≡ marked old k
 written_other old w x k n = ap (λ y. bit_at y (k % 64)) (index_other old w x (k / 64) n)
 
 pub mark_has : (old : List ℕ) (i : ℕ) → i / 64 < length old → HasMark old (set old (i / 64) (bit_or (slice_index old (i / 64)) (1 * 2 ^ (i % 64) % 2 ^ 64))) i
@@ -74,3 +74,47 @@ marked_step readers from j r old marks new le w e m = record {
   ];
   others = λ k n. m.others k (λ q. n j le (omega arith) (e ∙ ap Some (sym q))) ∙ w.others k (λ i f t. n i f (omega (arith, t)));
 }
+
+pub range_none : (from : ℕ) (marks : List ℕ) → HasRange from from marks marks
+range_none from marks = record {
+  long = refl;
+  all = λ k f t. absurd (omega (arith, f, t));
+  below = λ k h. refl;
+  above = λ k h. refl;
+}
+
+-- one number more is marked
+pub range_step : (from i : ℕ) (old marks new : List ℕ) → from ≤ i → HasRange from i old marks → HasMark marks new i → HasRange from (i + 1) old new
+range_step from i old marks new le w m = record {
+  long = m.long ∙ w.long;
+  all = λ k f t. elim (lower_or_same k i t) [
+    | inl l ↦ m.others k (λ q. omega (arith, q, l)) ∙ w.all k f l
+    | inr q ↦ ap (marked new) q ∙ m.here
+  ];
+  below = λ k h. m.others k (λ q. omega (arith, q, h, le)) ∙ w.below k h;
+  above = λ k h. m.others k (λ q. omega (arith, q, h)) ∙ w.above k (omega (arith, h));
+}
+
+-- where none is marked from a first number up to a place, the mark that is taken stands after it, and none up to that one is left
+module _ (marks marks' : List ℕ) (first place word i : ℕ) (below : (k : ℕ) → first ≤ k → k < place → marked marks k ≡ 0) (early : first ≤ word * 64) (from : word * 64 ≤ place) (t : HasTaken marks marks' word i) where
+  pub taken_after : place ≤ i
+  taken_after = elim (lower_or_not i place) [
+    | inl h ↦ absurd (let z = t.within in let a = below i (omega (arith, z, early)) h in let b = t.was in omega (arith, a, b))
+    | inr h ↦ h
+  ]
+
+  taken_before : (k : ℕ) → first ≤ k → k < i → marked marks k ≡ 0
+  taken_before k f l = elim (lower_or_not k place) [
+    | inl h ↦ below k f h
+    | inr h ↦ t.first k (let a = t.within in omega (arith, a, l, h, from)) l
+  ]
+
+  pub taken_upto : (k : ℕ) → first ≤ k → k ≤ i → marked marks' k ≡ 0
+  taken_upto k f l = elim (same_or_not k i) [
+    | inl q ↦ ap (marked marks') q ∙ t.gone
+    | inr q ↦ t.others k q ∙ taken_before k f (omega (arith, l, q))
+  ]
+
+-- a word with no mark left
+pub none_upto : (marks : List ℕ) (first place word : ℕ) → ((k : ℕ) → first ≤ k → k < place → marked marks k ≡ 0) → word * 64 ≤ place → HasNone marks word → (k : ℕ) → first ≤ k → k < (word + 1) * 64 → marked marks k ≡ 0
+none_upto marks first place word below from none k f l = elim (lower_or_not k place) [ inl h ↦ below k f h | inr h ↦ none k (omega (arith, h, l, from)) ]

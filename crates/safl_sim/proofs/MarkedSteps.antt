@@ -7,47 +7,46 @@ use Rattle.safl_net.specs.Laws.{FitWidths}
 use Rattle.safl_net.proofs.Naming.{within}
 use Rattle.safl_order.specs.Order.{Order, IsWire}
 use Rattle.safl_sim.specs.declared.step.Step.{Step}
-use Rattle.safl_sim.specs.Marks.{marked, HasNone, HasTaken}
+use Rattle.safl_sim.specs.declared.step.Register.{Register}
+use Rattle.safl_sim.specs.Marks.{marked, first_register, HasNone, HasTaken, HasRange}
 use Rattle.safl_sim.specs.Readers.{Lists, HasGiven, Agrees}
-use Rattle.safl_sim.specs.Steps.{action_number, Ready, IsStep, Runs}
+use Rattle.safl_sim.specs.Steps.{action_number, Ready, LowStep, IsStep, Runs}
 use Rattle.safl_sim.specs.Writes.{after_steps, AllReady}
 use Rattle.safl_sim.proofs.Written.{same_or_not, lower_or_not, index_here, index_other, set_length, get_at}
-use Rattle.safl_sim.proofs.Scenes.{wire_at, cell_number_fits, apart, small, all_steps}
-use Rattle.safl_sim.proofs.Updates.{was_none, operands_same, given_stays, given_inside, given_below}
+use Rattle.safl_sim.proofs.Scenes.{wire_at, cell_number_fits, apart, small, step_low, all_steps}
+use Rattle.safl_sim.proofs.Updates.{was_none, operands_same, given_stays, given_kept, given_inside, given_below}
+use Rattle.safl_sim.proofs.MarkLemmas.{taken_after, taken_upto, none_upto}
 
 -- what the numbers are once a step has been taken and its wire is given its number
-pub record Takes (o : Order) (all : List Step) (starts readers start : List ℕ) (word i : ℕ) (step : Step) (values marks marks' : List ℕ) : Type 0 where
+pub record Takes (o : Order) (all : List Step) (regs : List Register) (now starts readers start : List ℕ) (word i : ℕ) (step : Step) (values marks marks' : List ℕ) : Type 0 where
   pub within : i < length all
   pub ready : Ready values step.action
+  pub low : LowStep values step
   pub wire : step.wire.0 < length values
   pub lists : Lists starts readers (length values) (length marks')
-  pub next : (values'' marks'' : List ℕ) → HasGiven starts readers step.wire.0 (action_number (slice_index values) step.action) values values'' marks' marks'' → Runs o all starts readers start (i + 1) values'' marks''
+  pub next : (values'' marks'' : List ℕ) → HasGiven starts readers step.wire.0 (action_number (slice_index values) step.action) values values'' marks' marks'' → Runs o all regs now starts readers start (i + 1) values'' marks''
 
-module _ (o : Order) (all : List Step) (starts readers start : List ℕ) (place word i : ℕ) (values marks marks' : List ℕ) (w : Runs o all starts readers start place values marks) (le : place ≤ (word + 1) * 64) (from : word * 64 ≤ place) (t : HasTaken marks marks' word i) where
+module _ (o : Order) (all : List Step) (regs : List Register) (now starts readers start : List ℕ) (place word i : ℕ) (values marks marks' : List ℕ) (w : Runs o all regs now starts readers start place values marks) (le : place ≤ (word + 1) * 64) (from : word * 64 ≤ place) (t : HasTaken marks marks' word i) (early : (word + 1) * 64 ≤ first_register (length all)) where
   -- the step that is taken is none of those done, and is in range
   pub taken_from : place ≤ i
-  taken_from = elim (lower_or_not i place) [
-    | inl h ↦ absurd (let a = w.below i h in let b = t.was in omega (arith, a, b))
-    | inr h ↦ h
-  ]
+  taken_from = taken_after marks marks' 0 place word i (λ k f h. w.below k h) (omega arith) from t
+
+  early_step : i < first_register (length all)
+  early_step = let a = t.within in omega (arith, a, early)
 
   pub taken_within : i < length all
-  taken_within = let a = w.inside i t.was in let b = w.steps.long in omega (arith, a, b)
-
-  -- nothing before it is marked
-  before_none : (k : ℕ) → k < i → marked marks k ≡ 0
-  before_none k l = elim (lower_or_not k place) [
-    | inl h ↦ w.below k h
-    | inr h ↦ t.first k (let a = t.within in omega (arith, a, l, h, from)) l
-  ]
+  taken_within = let b = w.steps.long in let a = w.holding.inside.step i t.was (let c = early_step in omega (arith, b, c)) in omega (arith, a, b)
 
   upto_none : (k : ℕ) → k ≤ i → marked marks' k ≡ 0
-  upto_none k l = elim (same_or_not k i) [
-    | inl q ↦ ap (marked marks') q ∙ t.gone
-    | inr q ↦ t.others k q ∙ before_none k (omega (arith, l, q))
-  ]
+  upto_none k l = taken_upto marks marks' 0 place word i (λ k f h. w.below k h) (omega arith) from t k (omega arith) l
 
-  pub takes : (step : Step) → slice_get all i ≡ Some step → Takes o all starts readers start word i step values marks marks'
+  gone : (k : ℕ) → k ≡ i → ¬ (marked marks' k ≡ 1)
+  gone k q e = let a = t.gone in let b : marked marks' i ≡ 1 = ap (marked marks') (sym q) ∙ e in absurd (omega (arith, a, b))
+
+  apart_marks : (k : ℕ) → ¬ (first_register (length o.wires) + k ≡ i)
+  apart_marks k z = let a = early_step in let b = w.steps.long in absurd (omega (arith, a, b, z))
+
+  pub takes : (step : Step) → slice_get all i ≡ Some step → Takes o all regs now starts readers start word i step values marks marks'
   takes step here =
       let wire = get_at o.wires i 0 (let a = taken_within in let b = w.steps.long in omega (arith, a, b)) in
       let s = slice_index o.wires i in
@@ -55,12 +54,13 @@ module _ (o : Order) (all : List Step) (starts readers start : List ℕ) (place 
       let g = wire_at o.net s is.cell is.is in
       let long = w.long in
       let x = action_number (slice_index values) step.action in
-      let gives : x ≡ (cell_word is.cell.op (map (signal_word o.net values) is.cell.operands)).bits = is.performs.gives (slice_index values) in
+      let gives : x ≡ (cell_word is.cell.op (map (signal_word o.net values) is.cell.operands)).bits = is.performs.gives (slice_index values) w.fits in
       let inside : s < length values = (let a = within o.net.signals s g.0 g.1 in omega (arith, a, long)) in
       let one = is.wire in
       record {
         within = taken_within;
         ready = is.performs.ready values w.long w.fits;
+        low = step_low o.net s step values w.made is w.fits;
         wire = omega (arith, inside, one);
         lists = subst (λ l. Lists starts readers l (length marks')) (sym w.long) (subst (λ l. Lists starts readers (length o.net.signals) l) (sym t.long) w.lists);
         next = λ values'' marks'' g'. after s step wire is g.0 g.1 g.2 inside gives values'' marks'' (subst (λ y. HasGiven starts readers y x values values'' marks' marks'') is.wire g');
@@ -68,7 +68,7 @@ module _ (o : Order) (all : List Step) (starts readers start : List ℕ) (place 
     where
       after : (s : ℕ) (step : Step) → slice_get o.wires i ≡ Some s → (is : IsStep o.net s step) → (g : Signal) → slice_get o.net.signals s ≡ Some g → g.kind ≡ Wire (Some is.cell) → s < length values
           → action_number (slice_index values) step.action ≡ (cell_word is.cell.op (map (signal_word o.net values) is.cell.operands)).bits
-          → (values'' marks'' : List ℕ) → HasGiven starts readers s (action_number (slice_index values) step.action) values values'' marks' marks'' → Runs o all starts readers start (i + 1) values'' marks''
+          → (values'' marks'' : List ℕ) → HasGiven starts readers s (action_number (slice_index values) step.action) values values'' marks' marks'' → Runs o all regs now starts readers start (i + 1) values'' marks''
       after s step at is g sig kind inside gives values'' marks'' h =
           let x = action_number (slice_index values) step.action in
           let set_is = h.is in
@@ -78,6 +78,7 @@ module _ (o : Order) (all : List Step) (starts readers start : List ℕ) (place 
             steps = w.steps;
             lists = subst (λ l. Lists starts readers (length o.net.signals) l) (sym (h.long ∙ t.long)) w.lists;
             read = w.read;
+            room = (let a = w.room in let b = h.long in let c = t.long in omega (arith, a, b, c));
             long = ap length set_is ∙ set_length values s x ∙ w.long;
             fits = subst (λ l. FitWidths o.net (slice_index l)) (sym set_is) (λ y b e. elim (same_or_not y s) [
               | inl q ↦
@@ -90,66 +91,81 @@ module _ (o : Order) (all : List Step) (starts readers start : List ℕ) (place 
             ]);
             others = subst (λ l. (y : ℕ) → ¬ (IsWire o.net y) → slice_index l y ≡ slice_index start y) (sym set_is)
                 (λ y v. index_other values s x y (λ q. v (subst (λ z. IsWire o.net z) (sym q) (w.order.wires i s at))) ∙ w.others y v);
-            below = λ k l. given_below o.net o.wires starts readers i s x values values'' marks' marks'' w.order w.read h at k (omega (arith, l)) (upto_none k (omega (arith, l)));
-            stays = λ k y d e f none. elim (same_or_not y s) [
-              | inl q ↦
-                  let same : Wire (Some d) ≡ Wire (Some is.cell) = sym f ∙ ap (kind_at o.net) q ∙ is.is in
-                  let one : d ≡ is.cell = cc in
-                  subst (λ l. Agrees o.net l y d) (sym set_is)
-                  (ap (slice_index (set values s x)) q ∙ index_here values s x inside ∙ gives
-                  ∙ ap (λ l. (cell_word is.cell.op l).bits) (sym (operands_same o.net values s x is.cell.operands (λ j u m. apart o.net o.wires i i s s j u is.cell w.order at at (omega arith) is.is m)))
-                  ∙ ap (λ (z : Cell). (cell_word z.op (map (signal_word o.net (set values s x)) z.operands)).bits) (sym one))
-              | inr q ↦
-                  let was : marked marks' k ≡ 0 = was_none marks' marks'' k h.grows none in
-                  let other : ¬ (k ≡ i) = λ z. q (let m : Some y ≡ Some s = sym e ∙ ap (slice_get o.wires) z ∙ at in cc) in
-                  given_stays o.net o.wires starts readers s x values values'' marks' marks'' w.read h k y d e f q none (w.stays k y d e f (sym (t.others k other) ∙ was))
-            ];
-            inside = given_inside o.net o.wires starts readers s x values values'' marks' marks'' w.read h (λ k e. elim (same_or_not k i) [
-              | inl q ↦ absurd (let a = t.gone in let b : marked marks' i ≡ 1 = ap (marked marks') (sym q) ∙ e in omega (arith, a, b))
-              | inr q ↦ w.inside k (sym (t.others k q) ∙ e)
-            ]);
+            below = λ k l. given_below o.net o.wires regs starts readers i s x values values'' marks' marks'' w.order w.read h at k (omega (arith, l)) (upto_none k (omega (arith, l)));
+            holding = record {
+              stays = λ k y d e f none. elim (same_or_not y s) [
+                | inl q ↦
+                    let same : Wire (Some d) ≡ Wire (Some is.cell) = sym f ∙ ap (kind_at o.net) q ∙ is.is in
+                    let one : d ≡ is.cell = cc in
+                    subst (λ l. Agrees o.net l y d) (sym set_is)
+                    (ap (slice_index (set values s x)) q ∙ index_here values s x inside ∙ gives
+                    ∙ ap (λ l. (cell_word is.cell.op l).bits) (sym (operands_same o.net values s x is.cell.operands (λ j u m. apart o.net o.wires i i s s j u is.cell w.order at at (omega arith) is.is m)))
+                    ∙ ap (λ (z : Cell). (cell_word z.op (map (signal_word o.net (set values s x)) z.operands)).bits) (sym one))
+                | inr q ↦
+                    let was : marked marks' k ≡ 0 = was_none marks' marks'' k h.grows none in
+                    let other : ¬ (k ≡ i) = λ z. q (let m : Some y ≡ Some s = sym e ∙ ap (slice_get o.wires) z ∙ at in cc) in
+                    given_stays o.net o.wires regs starts readers s x values values'' marks' marks'' w.read h k y d e f q none (w.holding.stays k y d e f (sym (t.others k other) ∙ was))
+              ];
+              kept = given_kept o.net o.wires regs now starts readers s x values values'' marks' marks'' w.read h (λ k q e none. w.holding.kept k q e (sym (t.others (first_register (length o.wires) + k) (λ z. apart_marks k z)) ∙ none));
+              inside = given_inside o.net o.wires regs starts readers s x values values'' marks' marks'' w.read h (record {
+                step = λ k e l. elim (same_or_not k i) [ inl q ↦ absurd (gone k q e) | inr q ↦ w.holding.inside.step k (sym (t.others k q) ∙ e) l ];
+                register = λ k e. elim (same_or_not k i) [ inl q ↦ absurd (gone k q e) | inr q ↦ w.holding.inside.register k (sym (t.others k q) ∙ e) ];
+              });
+            };
           }
 
-pub runs_to : (o : Order) (all : List Step) (starts readers start : List ℕ) (place place' : ℕ) (values marks : List ℕ) → Runs o all starts readers start place values marks → ((k : ℕ) → k < place' → marked marks k ≡ 0)
-    → Runs o all starts readers start place' values marks
-runs_to o all starts readers start place place' values marks w below = record {
+pub runs_to : (o : Order) (all : List Step) (regs : List Register) (now starts readers start : List ℕ) (place place' : ℕ) (values marks : List ℕ) → Runs o all regs now starts readers start place values marks → ((k : ℕ) → k < place' → marked marks k ≡ 0)
+    → Runs o all regs now starts readers start place' values marks
+runs_to o all regs now starts readers start place place' values marks w below = record {
   made = w.made;
   order = w.order;
   steps = w.steps;
   lists = w.lists;
   read = w.read;
+  room = w.room;
   long = w.long;
   fits = w.fits;
   others = w.others;
   below = below;
-  stays = w.stays;
-  inside = w.inside;
+  holding = w.holding;
 }
 
 -- a word with no mark left is done
-pub none_left : (o : Order) (all : List Step) (starts readers start : List ℕ) (place word : ℕ) (values marks : List ℕ) → Runs o all starts readers start place values marks → word * 64 ≤ place → HasNone marks word
-    → Runs o all starts readers start ((word + 1) * 64) values marks
-none_left o all starts readers start place word values marks w from none = runs_to o all starts readers start place ((word + 1) * 64) values marks w
-    (λ k l. elim (lower_or_not k place) [ inl h ↦ w.below k h | inr h ↦ none k (omega (arith, h, l, from)) ])
+pub none_left : (o : Order) (all : List Step) (regs : List Register) (now starts readers start : List ℕ) (place word : ℕ) (values marks : List ℕ) → Runs o all regs now starts readers start place values marks → word * 64 ≤ place → HasNone marks word
+    → Runs o all regs now starts readers start ((word + 1) * 64) values marks
+none_left o all regs now starts readers start place word values marks w from none = runs_to o all regs now starts readers start place ((word + 1) * 64) values marks w
+    (λ k l. none_upto marks 0 place word (λ k f h. w.below k h) from none k (omega arith) l)
 
--- once all steps have run in turn, none has to be marked
-pub all_ran : (o : Order) (all : List Step) (starts readers start values marks marks' : List ℕ) (place : ℕ) → Runs o all starts readers start 0 values marks → length marks' ≡ length marks → ((k : ℕ) → marked marks' k ≡ 0)
-    → Runs o all starts readers start place (after_steps all values) marks'
-all_ran o all starts readers start values marks marks' place w long none =
+-- once all steps have run in turn, registers alone have to be marked
+pub all_ran : (o : Order) (all : List Step) (regs : List Register) (now starts readers start values marks none marks' : List ℕ) → Runs o all regs now starts readers start 0 values marks → length none ≡ length marks → ((k : ℕ) → marked none k ≡ 0)
+    → HasRange (first_register (length all)) (first_register (length all) + length regs) none marks' → Runs o all regs now starts readers start (first_register (length all)) (after_steps all values) marks'
+all_ran o all regs now starts readers start values marks none marks' w long away m =
     let r = all_steps o.net o.wires all values w.made w.order w.steps w.long w.fits in
+    let many = w.steps.long in
+    let same : length marks' ≡ length marks = m.long ∙ long in
     record {
       made = w.made;
       order = w.order;
       steps = w.steps;
-      lists = subst (λ l. Lists starts readers (length o.net.signals) l) (sym long) w.lists;
+      lists = subst (λ l. Lists starts readers (length o.net.signals) l) (sym same) w.lists;
       read = w.read;
+      room = (let a = w.room in omega (arith, a, same));
       long = r.scene.long;
       fits = r.scene.fits;
       others = λ s v. r.scene.others s v ∙ w.others s v;
-      below = λ k l. none k;
-      stays = λ k s c at kind e. r.scene.done k s c (let a = within o.wires k s at in let b = w.steps.long in omega (arith, a, b)) at kind;
-      inside = λ k e. absurd (let a = none k in omega (arith, a, e));
+      below = λ k l. m.below k l ∙ away k;
+      holding = record {
+        stays = λ k s c at kind e. r.scene.done k s c (let a = within o.wires k s at in omega (arith, a, many)) at kind;
+        kept = λ k q e none. absurd (let a = m.all (first_register (length o.wires) + k) (omega (arith, many)) (let b = within regs k q e in omega (arith, b, many)) in omega (arith, a, none));
+        inside = record {
+          step = λ k e l. absurd (let a = m.below k (omega (arith, l, many)) ∙ away k in omega (arith, a, e));
+          register = λ k e. elim (lower_or_not k (first_register (length all) + length regs)) [
+            | inl h ↦ omega (arith, h, many)
+            | inr h ↦ absurd (let a = m.above k h ∙ away k in omega (arith, a, e))
+          ];
+        };
+      };
     }
 
-pub all_ready : (o : Order) (all : List Step) (starts readers start values marks : List ℕ) → Runs o all starts readers start 0 values marks → AllReady all values
-all_ready o all starts readers start values marks w = (all_steps o.net o.wires all values w.made w.order w.steps w.long w.fits).ready
+pub all_ready : (o : Order) (all : List Step) (regs : List Register) (now starts readers start values marks : List ℕ) → Runs o all regs now starts readers start 0 values marks → AllReady all values
+all_ready o all regs now starts readers start values marks w = (all_steps o.net o.wires all values w.made w.order w.steps w.long w.fits).ready

@@ -1,7 +1,7 @@
 -- The values while the steps run.
 use Rattle.std.proofs.Common.{◌≡◌, inl, inr, ℕ, zero, suc, ◌+◌, ◌<◌, ◌≤◌, ◌^◌, List, [], ◌∷◌, map, length, set, Option, Some, None, slice_get, slice_index, slice_index_or, refl, sym, ap, subst, ◌∙◌, arith}
 use Rattle.safl_word.specs.Words.{Word, IsWord, AreWords}
-use Rattle.safl_net.specs.Netlist.{Netlist, Signal, Wire, Cell, width_of}
+use Rattle.safl_net.specs.Netlist.{Netlist, Signal, Wire, Cell, width_in, width_of}
 use Rattle.safl_net.specs.Valuations.{signal_word, cell_word}
 use Rattle.safl_net.specs.Widths.{op_width}
 use Rattle.safl_net.specs.Making.{kind_at, kind_in, cell_in}
@@ -11,9 +11,9 @@ use Rattle.safl_net.proofs.Naming.{within}
 use Rattle.safl_net.proofs.CellWords.{cell_width, cell_is_word, shown_widths}
 use Rattle.safl_order.specs.Order.{IsOrder, IsWire, operands_of, operands_in}
 use Rattle.safl_sim.specs.declared.step.Step.{Step}
-use Rattle.safl_sim.specs.Steps.{action_number, IsStep, AreSteps}
+use Rattle.safl_sim.specs.Steps.{action_number, IsStep, AreSteps, LowStep}
 use Rattle.safl_sim.specs.Writes.{after_steps, AllReady}
-use Rattle.safl_sim.proofs.Actions.{signal_word as a_word}
+use Rattle.safl_sim.proofs.Actions.{signal_word as a_word, low_number}
 use Rattle.safl_sim.proofs.Updates.{operands_same}
 use Rattle.safl_sim.proofs.Written.{same_or_not, lower_or_same, index_here, index_other, set_length}
 
@@ -99,7 +99,18 @@ scene_step : (n : Netlist) (ws : List ℕ) (j s : ℕ) (step : Step) (start valu
     → Scene n ws (j + 1) start (set values step.wire.0 (action_number (slice_index values) step.action))
 scene_step n ws j s step start values made o w at p =
     subst (λ y. Scene n ws (j + 1) start (set values y (action_number (slice_index values) step.action))) (sym p.wire)
-    (write_step n ws j s (action_number (slice_index values) step.action) p.cell start values made o w at p.is (p.performs.gives (slice_index values)))
+    (write_step n ws j s (action_number (slice_index values) step.action) p.cell start values made o w at p.is (p.performs.gives (slice_index values) w.fits))
+
+-- a narrow step works on and gives numbers of at most 64 bits
+pub step_low : (n : Netlist) (s : ℕ) (step : Step) (values : List ℕ) → IsNetlist n → IsStep n s step → FitWidths n (slice_index values) → LowStep values step
+step_low n s step values made is fits marked =
+    let g = wire_at n s is.cell is.is in
+    let w : width_of n s ≡ g.0.width = ap width_in g.1 in
+    let f : CellFits n g.0.width is.cell = subst (λ k. KindFits n g.0.width k) g.2 (made.signals s g.0 g.1).kind in
+    let narrow = is.narrow marked in (
+      is.performs.low values s fits (subst (λ k. CellFits n k is.cell) (sym w) f) narrow,
+      subst (λ x. slice_index values x < 2 ^ 64) (sym is.wire) (low_number n values s fits (within n.signals s g.0 g.1) narrow.wire),
+    )
 
 -- what the rest of the steps do
 pub record Ran (n : Netlist) (ws : List ℕ) (start values : List ℕ) (steps : List Step) (count : ℕ) : Type 0 where
@@ -119,13 +130,14 @@ run_scene n ws j (step ∷ steps) start values made o w p =
     record {
       ready = (
         a.2.performs.ready values w.long w.fits,
+        step_low n a.0 step values made a.2 w.fits,
         (let b = within n.signals a.0 g.0 g.1 in let c = w.long in let d = a.2.wire in omega (arith, b, c, d)),
         rest.ready,
       );
       scene = subst (λ k. Scene n ws k start (after_steps steps (set values step.wire.0 (action_number (slice_index values) step.action)))) (let z : j + 1 + length steps ≡ j + length (step ∷ steps) = omega arith in z) rest.scene;
     }
 
-get_same : (ws : List ℕ) (k : ℕ) → k < length ws → (s : ℕ) × (slice_get ws k ≡ Some s)
+pub get_same : (ws : List ℕ) (k : ℕ) → k < length ws → (s : ℕ) × (slice_get ws k ≡ Some s)
 get_same [] k h = absurd (omega arith)
 get_same (x ∷ ws) zero h = (x, refl)
 get_same (x ∷ ws) (suc k) h = get_same ws k (omega (arith, h))

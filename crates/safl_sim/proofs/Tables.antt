@@ -4,15 +4,17 @@ use Rattle.std.specs.Global.{Global}
 use Rattle.safl_net.specs.Netlist.{Netlist}
 use Rattle.safl_net.proofs.Naming.{pushed, within}
 use Rattle.safl_order.specs.Order.{operands_of}
-use Rattle.safl_sim.specs.Readers.{Lists, AreReaders, Among, AreLists, AreFlat}
+use Rattle.safl_sim.specs.Readers.{Lists, Reader, AreReaders, Among, AreLists, AreAllLists, AreFlat}
+use Rattle.safl_sim.specs.declared.step.Register.{Register}
+use Rattle.safl_sim.specs.Marks.{first_register}
 use Rattle.safl_sim.proofs.Written.{same_or_not, lower_or_not, lower_or_same, index_past}
 
-get_set_same : {A : Type 0} (xs : List A) (p : ℕ) (y : A) → p < length xs → slice_get (set xs p y) p ≡ Some y
+pub get_set_same : {A : Type 0} (xs : List A) (p : ℕ) (y : A) → p < length xs → slice_get (set xs p y) p ≡ Some y
 get_set_same [] p y h = absurd (omega (arith, h))
 get_set_same (x ∷ xs) zero y h = refl
 get_set_same (x ∷ xs) (suc p) y h = get_set_same xs p y (omega (arith, h))
 
-get_set_other : {A : Type 0} (xs : List A) (p q : ℕ) (y : A) → ¬ (q ≡ p) → slice_get (set xs p y) q ≡ slice_get xs q
+pub get_set_other : {A : Type 0} (xs : List A) (p q : ℕ) (y : A) → ¬ (q ≡ p) → slice_get (set xs p y) q ≡ slice_get xs q
 get_set_other [] p q y n = refl
 get_set_other (x ∷ xs) zero zero y n = absurd (n refl)
 get_set_other (x ∷ xs) zero (suc q) y n = refl
@@ -51,7 +53,7 @@ length_both : {A : Type 0} (xs ys : List A) → length (xs ++ ys) ≡ length xs 
 length_both [] ys = omega arith
 length_both (x ∷ xs) ys = let e = length_both xs ys in omega (arith, e)
 
-get_in : {A : Type 0} (xs : List A) (i : ℕ) (x : A) → slice_get xs i ≡ Some x → i < length xs
+pub get_in : {A : Type 0} (xs : List A) (i : ℕ) (x : A) → slice_get xs i ≡ Some x → i < length xs
 get_in xs i x e = within xs i x e
 
 -- ---- a list for each place
@@ -200,31 +202,90 @@ flat_step lists starts readers p v w here =
       ];
     }
 
+-- ---- registers on the lists of their next signals
+
+pub all_lists_start : (n : Netlist) (ws : List ℕ) (regs : List Register) (count : ℕ) (lists : List (Vec ℕ Global)) → count ≡ length ws → AreLists n ws count 0 lists → AreAllLists n ws regs 0 lists
+all_lists_start n ws regs count lists e a = record {
+  all = λ p k i s f g. a.all p k i s (inl (let l = within ws k s f in omega (arith, l, e))) f g;
+  nexts = λ k r h f. absurd (omega (arith, h));
+  only = λ p m k v f g l. let d = a.only p m k v f g in (d.1, d.0, d.3, d.4);
+  within = λ p m k v f g. let d = a.only p m k v f g in let l = within ws k d.1 d.3 in omega (arith, l);
+}
+
+module _ (n : Netlist) (ws : List ℕ) (regs : List Register) (i : ℕ) (r : Register) (lists : List (Vec ℕ Global)) (v v' : Vec ℕ Global) (w : AreAllLists n ws regs i lists) (at : slice_get regs i ≡ Some r) (here : slice_get lists r.next.0 ≡ Some v)
+    (is : v'.items ≡ v.items ++ (first_register (length ws) + i) ∷ []) where
+  -- what was on a list still is
+  still : (q j : ℕ) → ((x : Vec ℕ Global) × (y : ℕ) × (slice_get lists q ≡ Some x) × (slice_get x.items y ≡ Some j)) → (x : Vec ℕ Global) × (y : ℕ) × (slice_get (set lists r.next.0 v') q ≡ Some x) × (slice_get x.items y ≡ Some j)
+  still q j c = elim (same_or_not q r.next.0) [
+    | inl same ↦
+        let vs : Some c.0 ≡ Some v = sym c.2 ∙ ap (slice_get lists) same ∙ here in
+        let one : c.0 ≡ v = cc in (
+          v',
+          c.1,
+          ap (slice_get (set lists r.next.0 v')) same ∙ get_set_same lists r.next.0 v' (get_in lists r.next.0 v here),
+          ap (λ l. slice_get l c.1) is ∙ get_front v.items ((first_register (length ws) + i) ∷ []) c.1 j (ap (λ (y : Vec ℕ Global). slice_get y.items c.1) (sym one) ∙ c.3),
+        )
+    | inr other ↦ (c.0, c.1, get_set_other lists r.next.0 q v' other ∙ c.2, c.3)
+  ]
+
+  -- what is on a list was there, or is new
+  was_or_new : (q e j : ℕ) (x : Vec ℕ Global) → slice_get (set lists r.next.0 v') q ≡ Some x → slice_get x.items e ≡ Some j → ((y : Vec ℕ Global) × (slice_get lists q ≡ Some y) × (slice_get y.items e ≡ Some j)) ⊎ (j ≡ first_register (length ws) + i)
+  was_or_new q e j x f g = elim (same_or_not q r.next.0) [
+    | inl same ↦
+        let vs : Some x ≡ Some v' = sym f ∙ ap (slice_get (set lists r.next.0 v')) same ∙ get_set_same lists r.next.0 v' (get_in lists r.next.0 v here) in
+        let one : x ≡ v' = cc in
+        elim (pushed v.items (first_register (length ws) + i) j e (ap (λ l. slice_get l e) (sym is) ∙ ap (λ (y : Vec ℕ Global). slice_get y.items e) (sym one) ∙ g)) [
+          | inl b ↦ inl (v, ap (slice_get lists) same ∙ here, b)
+          | inr b ↦ inr b.1
+        ]
+    | inr other ↦ inl (x, sym (get_set_other lists r.next.0 q v' other) ∙ f, g)
+  ]
+
+  pub all_lists_step : AreAllLists n ws regs (i + 1) (set lists r.next.0 v')
+  all_lists_step = record {
+    all = λ q k m s f g. still q k (w.all q k m s f g);
+    nexts = λ k q h e. elim (lower_or_same k i h) [
+      | inl l ↦ still q.next.0 (first_register (length ws) + k) (w.nexts k q l e)
+      | inr z ↦
+          let ss : Some q ≡ Some r = sym e ∙ ap (slice_get regs) z ∙ at in
+          let one : q ≡ r = cc in (
+            v',
+            length v.items,
+            ap (λ (y : Register). slice_get (set lists r.next.0 v') y.next.0) one ∙ get_set_same lists r.next.0 v' (get_in lists r.next.0 v here),
+            ap (λ l. slice_get l (length v.items)) is ∙ ap (slice_get (v.items ++ (first_register (length ws) + i) ∷ [])) (let y : length v.items ≡ length v.items + 0 = omega arith in y) ∙ get_back v.items ((first_register (length ws) + i) ∷ []) 0 ∙ ap (λ y. Some (first_register (length ws) + y)) (sym z),
+          )
+    ];
+    only = λ q e k x f g l. elim (was_or_new q e k x f g) [
+      | inl y ↦ w.only q e k y.0 y.1 y.2 l
+      | inr z ↦ absurd (omega (arith, z, l))
+    ];
+    within = λ q e k x f g. elim (was_or_new q e k x f g) [
+      | inl y ↦ (let a = w.within q e k y.0 y.1 y.2 in omega (arith, a))
+      | inr z ↦ omega (arith, z)
+    ];
+  }
+
 -- ---- the table
 
-pub table_lists : (n : Netlist) (ws starts readers : List ℕ) (count places : ℕ) (lists : List (Vec ℕ Global)) → count ≡ length ws → places ≡ length lists → AreLists n ws count 0 lists → AreFlat lists starts readers (length lists)
-    → Lists starts readers places ((count + 63) / 64)
-table_lists n ws starts readers count places lists e f a b = record {
+pub table_lists : (n : Netlist) (ws : List ℕ) (regs : List Register) (starts readers : List ℕ) (places : ℕ) (lists : List (Vec ℕ Global)) → places ≡ length lists → AreAllLists n ws regs (length regs) lists → AreFlat lists starts readers (length lists)
+    → Lists starts readers places ((first_register (length ws) + length regs + 63) / 64)
+table_lists n ws regs starts readers places lists f a b = record {
   long = (let c = b.long in omega (arith, c, f));
   ordered = λ p h. b.ordered p (omega (arith, h, f));
   within = λ p h. b.within (p + 1) (omega (arith, h, f));
-  known = λ j k h.
-      let c = b.from j k h in
-      let d = a.only c.0 c.2 k c.1 c.3 c.4 in
-      let l = within ws k d.1 d.3 in
-      omega (arith, l, e);
+  known = λ j k h. let c = b.from j k h in let d = a.within c.0 c.2 k c.1 c.3 c.4 in omega (arith, d);
 }
 
-pub table_readers : (n : Netlist) (ws starts readers : List ℕ) (count : ℕ) (lists : List (Vec ℕ Global)) → count ≡ length ws → AreLists n ws count 0 lists → AreFlat lists starts readers (length lists) → AreReaders n ws starts readers
-table_readers n ws starts readers count lists e a b = record {
-  all = λ p k i s f g.
-      let c = a.all p k i s (inl (let l = within ws k s f in omega (arith, l, e))) f g in
-      b.all p c.1 k c.0 (get_in lists p c.0 c.2) c.2 c.3;
-  only = λ p k r. elim (lower_or_not p (length lists)) [
-    | inl l ↦
-        let c = b.only p k l r in
-        let d = a.only p c.1 k c.0 c.2 c.3 in
-        (d.1, d.0, d.3, d.4)
-    | inr l ↦ absurd (let z = index_past starts (p + 1) (let y = b.long in omega (arith, y, l)) in let u = r.2 in omega (arith, z, u))
-  ];
+pub table_readers : (n : Netlist) (ws : List ℕ) (regs : List Register) (starts readers : List ℕ) (lists : List (Vec ℕ Global)) → AreAllLists n ws regs (length regs) lists → AreFlat lists starts readers (length lists) → AreReaders n ws regs starts readers
+table_readers n ws regs starts readers lists a b = record {
+  all = λ p k i s f g. let c = a.all p k i s f g in b.all p c.1 k c.0 (get_in lists p c.0 c.2) c.2 c.3;
+  nexts = λ k r e. let c = a.nexts k r (get_in regs k r e) e in b.all r.next.0 c.1 (first_register (length ws) + k) c.0 (get_in lists r.next.0 c.0 c.2) c.2 c.3;
+  only = λ p k r l. let c = listed p k r in a.only p c.1 k c.0 c.2 c.3 l;
+  within = λ p k r. let c = listed p k r in a.within p c.1 k c.0 c.2 c.3;
 }
+  where
+    listed : (p k : ℕ) → Reader starts readers p k → (v : Vec ℕ Global) × (e : ℕ) × (slice_get lists p ≡ Some v) × (slice_get v.items e ≡ Some k)
+    listed p k r = elim (lower_or_not p (length lists)) [
+      | inl l ↦ b.only p k l r
+      | inr l ↦ absurd (let z = index_past starts (p + 1) (let y = b.long in omega (arith, y, l)) in let u = r.2 in omega (arith, z, u))
+    ]

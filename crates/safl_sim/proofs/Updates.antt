@@ -1,5 +1,5 @@
 -- Numbers that are given to places, and steps that hold.
-use Rattle.std.proofs.Common.{◌≡◌, ◌⊎◌, inl, inr, ℕ, zero, suc, ◌/◌, ◌<◌, ◌≤◌, List, [], ◌∷◌, map, length, set, Some, slice_get, slice_index, refl, sym, ap, subst, ◌∙◌, arith}
+use Rattle.std.proofs.Common.{◌≡◌, ◌⊎◌, inl, inr, ℕ, zero, suc, ◌+◌, ◌/◌, ◌<◌, ◌≤◌, List, [], ◌∷◌, map, length, set, Some, slice_get, slice_index, refl, sym, ap, subst, ◌∙◌, arith}
 use Rattle.std.proofs.lemmas.Nat.Bits.{bit_at-lt}
 use Rattle.safl_net.specs.Netlist.{Netlist, Wire, Cell}
 use Rattle.safl_net.specs.Valuations.{signal_word, cell_word}
@@ -9,8 +9,9 @@ use Rattle.safl_net.proofs.Naming.{within}
 use Rattle.safl_order.specs.Order.{IsOrder, operands_of, operands_in}
 use Rattle.safl_sim.specs.Steps.{word_of}
 use Rattle.safl_net.specs.Netlist.{width_of}
-use Rattle.safl_sim.specs.Marks.{marked}
-use Rattle.safl_sim.specs.Readers.{Lists, AreReaders, HasGiven, Agrees, Stays, Inside, Goes}
+use Rattle.safl_sim.specs.declared.step.Register.{Register}
+use Rattle.safl_sim.specs.Marks.{marked, first_register}
+use Rattle.safl_sim.specs.Readers.{Lists, Reader, AreReaders, HasGiven, Agrees, Kept, Inside, Holding, Goes}
 use Rattle.safl_sim.proofs.Written.{same_or_not, lower_or_not, index_other}
 
 -- a step is marked or not
@@ -38,9 +39,9 @@ pub agrees_apart : (n : Netlist) (values : List ℕ) (p x t : ℕ) (d : Cell) �
 agrees_apart n values p x t d ne away e = index_other values p x t ne ∙ e ∙ ap (λ l. (cell_word d.op l).bits) (sym (operands_same n values p x d.operands away))
 
 -- give: a step that is not marked afterwards held before and holds
-pub given_stays : (n : Netlist) (ws starts readers : List ℕ) (p x : ℕ) (values values' marks marks' : List ℕ) → AreReaders n ws starts readers → HasGiven starts readers p x values values' marks marks'
+pub given_stays : (n : Netlist) (ws : List ℕ) (regs : List Register) (starts readers : List ℕ) (p x : ℕ) (values values' marks marks' : List ℕ) → AreReaders n ws regs starts readers → HasGiven starts readers p x values values' marks marks'
     → (k t : ℕ) (d : Cell) → slice_get ws k ≡ Some t → kind_at n t ≡ Wire (Some d) → ¬ (t ≡ p) → marked marks' k ≡ 0 → Agrees n values t d → Agrees n values' t d
-given_stays n ws starts readers p x values values' marks marks' r g k t d at kind ne none e = subst (λ l. Agrees n l t d) (sym g.is) (elim (same_or_not (slice_index values p) x) [
+given_stays n ws regs starts readers p x values values' marks marks' r g k t d at kind ne none e = subst (λ l. Agrees n l t d) (sym g.is) (elim (same_or_not (slice_index values p) x) [
   | inl q ↦ subst (λ l. Agrees n l t d) (sym (set_same values p x q)) e
   | inr q ↦ agrees_apart n values p x t d ne (λ i u f same.
       let read : slice_get (operands_of n t) i ≡ Some p = ap (λ y. slice_get (operands_in (cell_in y)) i) kind ∙ f ∙ ap Some same in
@@ -48,42 +49,59 @@ given_stays n ws starts readers p x values values' marks marks' r g k t d at kin
       absurd (omega (arith, a, none))) e
 ])
 
--- a place that is no wire
-pub given_source : (n : Netlist) (ws starts readers : List ℕ) (p x : ℕ) (values values' marks marks' : List ℕ) → AreReaders n ws starts readers → HasGiven starts readers p x values values' marks marks'
-    → ((k : ℕ) → ¬ (slice_get ws k ≡ Some p)) → Stays n ws values marks → Stays n ws values' marks'
-given_source n ws starts readers p x values values' marks marks' r g away w k t d at kind none =
-    given_stays n ws starts readers p x values values' marks marks' r g k t d at kind (λ e. away k (at ∙ ap Some e)) none (w k t d at kind (was_none marks marks' k g.grows none))
-
--- only steps are marked
-pub given_inside : (n : Netlist) (ws starts readers : List ℕ) (p x : ℕ) (values values' marks marks' : List ℕ) → AreReaders n ws starts readers → HasGiven starts readers p x values values' marks marks'
-    → Inside (length ws) marks → Inside (length ws) marks'
-given_inside n ws starts readers p x values values' marks marks' r g w k e = by (lower_or_not k (length ws))
+-- and so did a register
+pub given_kept : (n : Netlist) (ws : List ℕ) (regs : List Register) (now starts readers : List ℕ) (p x : ℕ) (values values' marks marks' : List ℕ) → AreReaders n ws regs starts readers → HasGiven starts readers p x values values' marks marks'
+    → Kept (first_register (length ws)) regs now values marks → Kept (first_register (length ws)) regs now values' marks'
+given_kept n ws regs now starts readers p x values values' marks marks' r g w k q e none =
+    w k q e (was_none marks marks' (first_register (length ws) + k) g.grows none) ∙ sym (ap (λ l. slice_index l q.next.0) g.is ∙ same)
   where
-    by : (k < length ws) ⊎ (length ws ≤ k) → k < length ws
-    by (inl h) = h
-    by (inr h) = absurd (
-        let same = g.others k (λ a. let b = r.only p k a in let c = within ws k b.0 b.2 in omega (arith, c, h)) in
-        let was : marked marks k ≡ 1 = sym same ∙ e in
-        let d = w k was in
-        omega (arith, d, h))
+    same : slice_index (set values p x) q.next.0 ≡ slice_index values q.next.0
+    same = elim (same_or_not q.next.0 p) [
+      | inl z ↦ elim (same_or_not (slice_index values p) x) [
+        | inl y ↦ ap (λ l. slice_index l q.next.0) (set_same values p x y)
+        | inr y ↦ absurd (let a = g.told (first_register (length ws) + k) y (subst (λ u. Reader starts readers u (first_register (length ws) + k)) z (r.nexts k q e)) in omega (arith, a, none))
+      ]
+      | inr z ↦ index_other values p x q.next.0 z
+    ]
+
+-- only steps and registers are marked
+pub given_inside : (n : Netlist) (ws : List ℕ) (regs : List Register) (starts readers : List ℕ) (p x : ℕ) (values values' marks marks' : List ℕ) → AreReaders n ws regs starts readers → HasGiven starts readers p x values values' marks marks'
+    → Inside (length ws) (length regs) marks → Inside (length ws) (length regs) marks'
+given_inside n ws regs starts readers p x values values' marks marks' r g w = record {
+  step = λ k e l. elim (lower_or_not k (length ws)) [
+    | inl h ↦ h
+    | inr h ↦ w.step k (sym (g.others k (λ a. let b = r.only p k a l in let c = within ws k b.0 b.2 in absurd (omega (arith, c, h)))) ∙ e) l
+  ];
+  register = λ k e. elim (lower_or_not k (first_register (length ws) + length regs)) [
+    | inl h ↦ h
+    | inr h ↦ w.register k (sym (g.others k (λ a. let b = r.within p k a in absurd (omega (arith, b, h)))) ∙ e)
+  ];
+}
+
+-- a place that is no wire
+pub given_holding : (n : Netlist) (ws : List ℕ) (regs : List Register) (now starts readers : List ℕ) (p x : ℕ) (values values' marks marks' : List ℕ) → AreReaders n ws regs starts readers → HasGiven starts readers p x values values' marks marks'
+    → ((k : ℕ) → ¬ (slice_get ws k ≡ Some p)) → Holding n ws regs now values marks → Holding n ws regs now values' marks'
+given_holding n ws regs now starts readers p x values values' marks marks' r g away w = record {
+  stays = λ k t d at kind none. given_stays n ws regs starts readers p x values values' marks marks' r g k t d at kind (λ e. away k (at ∙ ap Some e)) none (w.stays k t d at kind (was_none marks marks' k g.grows none));
+  kept = given_kept n ws regs now starts readers p x values values' marks marks' r g w.kept;
+  inside = given_inside n ws regs starts readers p x values values' marks marks' r g w.inside;
+}
 
 -- the steps before a place that a step writes stay as they are: readers stand later
-pub given_below : (n : Netlist) (ws starts readers : List ℕ) (i s x : ℕ) (values values' marks marks' : List ℕ) → IsOrder n ws → AreReaders n ws starts readers → HasGiven starts readers s x values values' marks marks'
+pub given_below : (n : Netlist) (ws : List ℕ) (regs : List Register) (starts readers : List ℕ) (i s x : ℕ) (values values' marks marks' : List ℕ) → IsOrder n ws → AreReaders n ws regs starts readers → HasGiven starts readers s x values values' marks marks'
     → slice_get ws i ≡ Some s → (k : ℕ) → k ≤ i → marked marks k ≡ 0 → marked marks' k ≡ 0
-given_below n ws starts readers i s x values values' marks marks' o r g at k le none =
+given_below n ws regs starts readers i s x values values' marks marks' o r g at k le none =
     g.others k (λ a.
-    let b = r.only s k a in
+    let b = r.only s k a (let l = within ws i s at in omega (arith, l, le)) in
     let c = o.before k b.0 b.1 s b.2 b.3 (o.wires i s at) in
     let q = o.once c.0 i s c.2 at in
     let l = c.1 in
     absurd (omega (arith, l, q, le))) ∙ none
 
 -- one more place that is no wire
-pub goes_step : (n : Netlist) (ws starts readers : List ℕ) (p x : ℕ) (v0 v1 v2 m0 m1 m2 : List ℕ) → Goes n ws starts readers v0 v1 m0 m1 → ((k : ℕ) → ¬ (slice_get ws k ≡ Some p)) → HasGiven starts readers p x v1 v2 m1 m2
-    → Goes n ws starts readers v0 v2 m0 m2
-goes_step n ws starts readers p x v0 v1 v2 m0 m1 m2 w away g = λ r stays inside.
-    let a = w r stays inside in
-    (given_source n ws starts readers p x v1 v2 m1 m2 r g away a.0, given_inside n ws starts readers p x v1 v2 m1 m2 r g a.1)
+pub goes_step : (n : Netlist) (ws : List ℕ) (regs : List Register) (now starts readers : List ℕ) (p x : ℕ) (v0 v1 v2 m0 m1 m2 : List ℕ) → Goes n ws regs now starts readers v0 v1 m0 m1 → ((k : ℕ) → ¬ (slice_get ws k ≡ Some p)) → HasGiven starts readers p x v1 v2 m1 m2
+    → Goes n ws regs now starts readers v0 v2 m0 m2
+goes_step n ws regs now starts readers p x v0 v1 v2 m0 m1 m2 w away g = λ r h. given_holding n ws regs now starts readers p x v1 v2 m1 m2 r g away (w r h)
 
 pub lists_same : (starts readers : List ℕ) (a b c d : ℕ) → a ≡ c → b ≡ d → Lists starts readers c d → Lists starts readers a b
 lists_same starts readers a b c d e f l = subst (λ x. Lists starts readers x b) (sym e) (subst (λ x. Lists starts readers c x) (sym f) l)

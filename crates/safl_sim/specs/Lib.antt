@@ -1,7 +1,9 @@
 pub mod Places
 pub mod Simulation
+pub mod Halves
 pub mod Marks
 pub mod Readers
+pub mod Nears
 pub mod Steps
 pub mod Writes
 pub mod Cycles

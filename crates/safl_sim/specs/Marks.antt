@@ -1,5 +1,5 @@
--- Marks of steps: bit i % 64 of word i / 64 is 1 where step i is marked.
-use Rattle.std.specs.Prelude.{◌≡◌, ℕ, ◌<◌, ◌/◌, ◌%◌, List, length, slice_index}
+-- Marks: bit i % 64 of word i / 64 is 1 where number i is marked.
+use Rattle.std.specs.Prelude.{◌≡◌, ℕ, ◌+◌, ◌*◌, ◌<◌, ◌≤◌, ◌/◌, ◌%◌, List, length, slice_set, slice_index, bit_or}
 use Rattle.std.specs.Int.{bit_at}
 
 abbrev pub marked : List ℕ → ℕ → ℕ
@@ -23,3 +23,18 @@ pub record HasTaken (old new : List ℕ) (w i : ℕ) : Type 0 where
   pub first : (k : ℕ) → k / 64 ≡ w → k < i → marked old k ≡ 0
   pub gone : marked new i ≡ 0
   pub others : (k : ℕ) → ¬ (k ≡ i) → marked new k ≡ marked old k
+
+-- some marks of a word are held apart: the marks with these
+abbrev pub holding : List ℕ → ℕ → ℕ → List ℕ
+holding marks w held = slice_set marks w (bit_or (slice_index marks w) held)
+
+-- a range is marked
+pub record HasRange (from to : ℕ) (old new : List ℕ) : Type 0 where
+  pub long : length new ≡ length old
+  pub all : (k : ℕ) → from ≤ k → k < to → marked new k ≡ 1
+  pub below : (k : ℕ) → k < from → marked new k ≡ marked old k
+  pub above : (k : ℕ) → to ≤ k → marked new k ≡ marked old k
+
+-- the marks of registers begin with a word, after those of so many steps
+abbrev pub first_register : ℕ → ℕ
+first_register steps = (steps + 63) / 64 * 64

@@ -1,11 +1,12 @@
--- The lists of readers of places, and numbers that are given to places.
+-- What reads each place, and numbers that are given to places.
 use Rattle.std.specs.Prelude.{◌≡◌, ◌⊎◌, ℕ, ◌+◌, ◌/◌, ◌<◌, ◌≤◌, List, Vec, map, length, Some, slice_get, slice_set, slice_index}
 use Rattle.std.specs.Global.{Global}
 use Rattle.safl_net.specs.Netlist.{Netlist, Wire, Cell}
 use Rattle.safl_net.specs.Valuations.{signal_word, cell_word}
 use Rattle.safl_net.specs.Making.{kind_at}
 use Rattle.safl_order.specs.Order.{operands_of}
-use Rattle.safl_sim.specs.Marks.{marked}
+use Rattle.safl_sim.specs.declared.step.Register.{Register}
+use Rattle.safl_sim.specs.Marks.{marked, first_register}
 
 -- the list of place p is that part of all readers that starts at number p, up to where the next one's starts
 pub record Lists (starts readers : List ℕ) (places words : ℕ) : Type 0 where
@@ -14,14 +15,17 @@ pub record Lists (starts readers : List ℕ) (places words : ℕ) : Type 0 where
   pub within : (p : ℕ) → p < places → slice_index starts (p + 1) ≤ length readers
   pub known : (j k : ℕ) → slice_get readers j ≡ Some k → k / 64 < words
 
--- step k is on the list of place p
+-- number k is on the list of place p
 abbrev pub Reader : List ℕ → List ℕ → ℕ → ℕ → Type 0
 Reader starts readers p k = (j : ℕ) × (slice_index starts p ≤ j) × (j < slice_index starts (p + 1)) × (slice_get readers j ≡ Some k)
 
--- the steps of the wires that have an operand are on its list, and no others
-pub record AreReaders (n : Netlist) (ws starts readers : List ℕ) : Type 0 where
+-- the steps of the wires that have a place as an operand are on its list, and the registers that have it as their next signal, and nothing else
+pub record AreReaders (n : Netlist) (ws : List ℕ) (regs : List Register) (starts readers : List ℕ) : Type 0 where
   pub all : (p k i s : ℕ) → slice_get ws k ≡ Some s → slice_get (operands_of n s) i ≡ Some p → Reader starts readers p k
-  pub only : (p k : ℕ) → Reader starts readers p k → (s : ℕ) × (i : ℕ) × (slice_get ws k ≡ Some s) × (slice_get (operands_of n s) i ≡ Some p)
+  pub nexts : (k : ℕ) (r : Register) → slice_get regs k ≡ Some r → Reader starts readers r.next.0 (first_register (length ws) + k)
+  pub only : (p k : ℕ) → Reader starts readers p k → k < first_register (length ws)
+      → (s : ℕ) × (i : ℕ) × (slice_get ws k ≡ Some s) × (slice_get (operands_of n s) i ≡ Some p)
+  pub within : (p k : ℕ) → Reader starts readers p k → k < first_register (length ws) + length regs
 
 -- what is on a part of the readers is marked
 pub record HasMarked (readers : List ℕ) (from to : ℕ) (old new : List ℕ) : Type 0 where
@@ -46,14 +50,33 @@ Agrees n values s c = slice_index values s ≡ (cell_word c.op (map (signal_word
 abbrev pub Stays : Netlist → List ℕ → List ℕ → List ℕ → Type 0
 Stays n ws values marks = (k s : ℕ) (c : Cell) → slice_get ws k ≡ Some s → kind_at n s ≡ Wire (Some c) → marked marks k ≡ 0 → Agrees n values s c
 
--- marks are of steps alone
-abbrev pub Inside : ℕ → List ℕ → Type 0
-Inside count marks = (k : ℕ) → marked marks k ≡ 1 → k < count
+-- each register that is not marked has the number of its next signal as its state
+abbrev pub Kept : ℕ → List Register → List ℕ → List ℕ → List ℕ → Type 0
+Kept first regs now values marks = (k : ℕ) (r : Register) → slice_get regs k ≡ Some r → marked marks (first + k) ≡ 0
+    → slice_index now r.signal.0 ≡ slice_index values r.next.0
 
--- what numbers given to places that are no wires keep
-abbrev pub Goes : Netlist → List ℕ → List ℕ → List ℕ → List ℕ → List ℕ → List ℕ → List ℕ → Type 0
-Goes n ws starts readers values values' marks marks' = AreReaders n ws starts readers → Stays n ws values marks → Inside (length ws) marks
-    → Stays n ws values' marks' × Inside (length ws) marks'
+-- each register that does not wait shows its state
+abbrev pub Shown : List Register → List ℕ → List ℕ → List ℕ → Type 0
+Shown regs now values waiting = (k : ℕ) (r : Register) → slice_get regs k ≡ Some r → marked waiting k ≡ 0 → slice_index values r.signal.0 ≡ slice_index now r.signal.0
+
+-- marks are of so many steps and registers alone
+pub record Inside (steps registers : ℕ) (marks : List ℕ) : Type 0 where
+  pub step : (k : ℕ) → marked marks k ≡ 1 → k < first_register steps → k < steps
+  pub register : (k : ℕ) → marked marks k ≡ 1 → k < first_register steps + registers
+
+-- what holds of the steps and registers that are not marked
+pub record Holding (n : Netlist) (ws : List ℕ) (regs : List Register) (now values marks : List ℕ) : Type 0 where
+  pub stays : Stays n ws values marks
+  pub kept : Kept (first_register (length ws)) regs now values marks
+  pub inside : Inside (length ws) (length regs) marks
+
+-- registers are no wires
+abbrev pub RegistersAway : List Register → List ℕ → Type 0
+RegistersAway regs ws = (k : ℕ) (r : Register) → slice_get regs k ≡ Some r → (i : ℕ) → ¬ (slice_get ws i ≡ Some r.signal.0)
+
+-- it goes on to hold where numbers are given to places that are no wires
+abbrev pub Goes : Netlist → List ℕ → List Register → List ℕ → List ℕ → List ℕ → List ℕ → List ℕ → List ℕ → List ℕ → Type 0
+Goes n ws regs now starts readers values values' marks marks' = AreReaders n ws regs starts readers → Holding n ws regs now values marks → Holding n ws regs now values' marks'
 
 -- the list of each place has the steps, of those before step k and of the first i operands of step k, that read it
 abbrev pub Among : ℕ → ℕ → ℕ → ℕ → Type 0
@@ -74,3 +97,13 @@ pub record AreFlat (lists : List (Vec ℕ Global)) (starts readers : List ℕ) (
   pub all : (p e j : ℕ) (v : Vec ℕ Global) → p < count → slice_get lists p ≡ Some v → slice_get v.items e ≡ Some j → Reader starts readers p j
   pub only : (p j : ℕ) → p < count → Reader starts readers p j → (v : Vec ℕ Global) × (e : ℕ) × (slice_get lists p ≡ Some v) × (slice_get v.items e ≡ Some j)
   pub from : (j k : ℕ) → slice_get readers j ≡ Some k → (p : ℕ) × (v : Vec ℕ Global) × (e : ℕ) × (slice_get lists p ≡ Some v) × (slice_get v.items e ≡ Some k)
+
+-- the list of each place has all steps that read it, and the first registers that have it as their next signal
+pub record AreAllLists (n : Netlist) (ws : List ℕ) (regs : List Register) (count : ℕ) (lists : List (Vec ℕ Global)) : Type 0 where
+  pub all : (p k i s : ℕ) → slice_get ws k ≡ Some s → slice_get (operands_of n s) i ≡ Some p
+      → (v : Vec ℕ Global) × (e : ℕ) × (slice_get lists p ≡ Some v) × (slice_get v.items e ≡ Some k)
+  pub nexts : (k : ℕ) (r : Register) → k < count → slice_get regs k ≡ Some r
+      → (v : Vec ℕ Global) × (e : ℕ) × (slice_get lists r.next.0 ≡ Some v) × (slice_get v.items e ≡ Some (first_register (length ws) + k))
+  pub only : (p e k : ℕ) (v : Vec ℕ Global) → slice_get lists p ≡ Some v → slice_get v.items e ≡ Some k → k < first_register (length ws)
+      → (s : ℕ) × (i : ℕ) × (slice_get ws k ≡ Some s) × (slice_get (operands_of n s) i ≡ Some p)
+  pub within : (p e k : ℕ) (v : Vec ℕ Global) → slice_get lists p ≡ Some v → slice_get v.items e ≡ Some k → k < first_register (length ws) + count

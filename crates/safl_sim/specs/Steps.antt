@@ -1,51 +1,72 @@
 -- Steps that are prepared for evaluation.
-use Rattle.std.specs.Prelude.{◌≡◌, ℕ, ◌*◌, ◌<◌, ◌≤◌, ◌^◌, List, [], ◌∷◌, map, length, Some, IsSome, slice_get, slice_index}
+use Rattle.std.specs.Prelude.{◌≡◌, ℕ, ◌+◌, ◌*◌, ◌<◌, ◌≤◌, ◌^◌, List, [], ◌∷◌, map, length, Option, None, Some, IsSome, true, bit_xor, slice_get, slice_index}
 use Rattle.safl_word.specs.Words.{Word, IsWord, pick}
 use Rattle.safl_word.specs.Primitives.{result_width, apply_prim}
 use Rattle.safl_net.specs.declared.cell.Sig.{Sig}
 use Rattle.safl_net.specs.Netlist.{Netlist, Kind, Input, Reg, Wire, Cell, width_of}
 use Rattle.safl_net.specs.Valuations.{cell_word}
-use Rattle.safl_net.specs.Rules.{IsNetlist}
+use Rattle.safl_net.specs.Rules.{IsNetlist, CellFits}
 use Rattle.safl_net.specs.Laws.{FitWidths}
 use Rattle.safl_net.specs.Making.{kind_at, numbers}
 use Rattle.safl_order.specs.Order.{Order, IsOrder, IsWire}
 use Rattle.safl_sim.specs.declared.step.Action.{Action}
-use Rattle.safl_sim.specs.declared.step.Action.TheVariants.{Const, Copy, Mux, One, Two}
+use Rattle.safl_sim.specs.declared.step.Action.TheVariants.{Const, Choose, One, Two}
 use Rattle.safl_sim.specs.declared.step.Step.{Step}
 use Rattle.safl_sim.specs.declared.step.Register.{Register}
 use Rattle.safl_sim.specs.Places.{inputs_of}
-use Rattle.safl_sim.specs.Marks.{marked}
-use Rattle.safl_sim.specs.Readers.{Lists, AreReaders, Stays, Inside}
+use Rattle.safl_sim.specs.Marks.{marked, first_register}
+use Rattle.safl_sim.specs.Readers.{Lists, AreReaders, Holding, Shown}
 
 abbrev pub word_of : ℕ → ℕ → Word
 word_of width bits = record { width = width; bits = bits }
 
 -- what an action gives, where the signals have these numbers
 abbrev pub action_number : (ℕ → ℕ) → Action → ℕ
-action_number f (Const x) = x
-action_number f (Copy a) = f a
-action_number f (Mux c a b) = pick (f c) (f a) (f b)
+action_number f (Const l h) = l + h * 2 ^ 64
+action_number f (Choose c a b turned) = bit_xor turned (pick (f c) (f a) (f b))
 action_number f (One p w a) = (apply_prim p (word_of w (f a) ∷ [])).bits
 action_number f (Two p w v a b) = (apply_prim p (word_of w (f a) ∷ word_of v (f b) ∷ [])).bits
 
 -- its operands are at hand, as words that it takes
 abbrev pub Ready : List ℕ → Action → Type 0
-Ready values (Const x) = Unit {0}
-Ready values (Copy a) = a < length values
-Ready values (Mux c a b) = (c < length values) × (a < length values) × (b < length values)
+Ready values (Const l h) = Unit {0}
+Ready values (Choose c a b turned) = (c < length values) × (a < length values) × (b < length values)
 Ready values (One p w a) = (a < length values) × IsWord (word_of w (slice_index values a)) × IsSome (result_width p (w ∷ []))
 Ready values (Two p w v a b) = (a < length values) × (b < length values) × IsWord (word_of w (slice_index values a)) × IsWord (word_of v (slice_index values b)) × IsSome (result_width p (w ∷ v ∷ []))
 
+-- a width of at most 64 bits
+abbrev pub HasLow : Option ℕ → Type 0
+HasLow None = ⊥
+HasLow (Some w) = w ≤ 64
+
+-- what an action works on has at most 64 bits, and so has what it gives
+abbrev pub Low : List ℕ → Action → Type 0
+Low values (Const l h) = h ≡ 0
+Low values (Choose c a b turned) = (slice_index values c < 2 ^ 64) × (slice_index values a < 2 ^ 64) × (slice_index values b < 2 ^ 64)
+Low values (One p w a) = (slice_index values a < 2 ^ 64) × (w ≤ 64) × HasLow (result_width p (w ∷ []))
+Low values (Two p w v a b) = (slice_index values a < 2 ^ 64) × (slice_index values b < 2 ^ 64) × (w ≤ 64) × HasLow (result_width p (w ∷ v ∷ []))
+
+-- a wire of at most 64 bits, and so are the operands of its cell
+pub record IsNarrow (n : Netlist) (s : ℕ) (c : Cell) : Type 0 where
+  pub wire : width_of n s ≤ 64
+  pub operands : (i t : ℕ) → slice_get c.operands i ≡ Some t → width_of n t ≤ 64
+
 -- the action of a cell: it is ready at words that fit, and gives the cell's word
 pub record Performs (n : Netlist) (c : Cell) (action : Action) : Type 0 where
-  pub gives : (f : ℕ → ℕ) → action_number f action ≡ (cell_word c.op (map (λ t. word_of (width_of n t) (f t)) c.operands)).bits
+  pub gives : (f : ℕ → ℕ) → FitWidths n f → action_number f action ≡ (cell_word c.op (map (λ t. word_of (width_of n t) (f t)) c.operands)).bits
   pub ready : (values : List ℕ) → length values ≡ length n.signals → FitWidths n (slice_index values) → Ready values action
+  pub low : (values : List ℕ) (s : ℕ) → FitWidths n (slice_index values) → CellFits n (width_of n s) c → IsNarrow n s c → Low values action
 
 pub record IsStep (n : Netlist) (s : ℕ) (step : Step) : Type 0 where
   pub wire : step.wire.0 ≡ s
   pub cell : Cell
   pub is : kind_at n s ≡ Wire (Some cell)
   pub performs : Performs n cell step.action
+  pub narrow : step.narrow ≡ true → IsNarrow n s cell
+
+-- what is known of a narrow step
+abbrev pub LowStep : List ℕ → Step → Type 0
+LowStep values step = step.narrow ≡ true → Low values step.action × (slice_index values step.wire.0 < 2 ^ 64)
 
 -- the steps of wires, in their order
 pub record AreSteps (n : Netlist) (wires : List ℕ) (steps : List Step) : Type 0 where
@@ -61,36 +82,44 @@ IsReg (Wire cell) = ⊥
 pub record AreRegisters (n : Netlist) (count : ℕ) (registers : List Register) : Type 0 where
   pub each : (k : ℕ) (r : Register) → slice_get registers k ≡ Some r → (init : ℕ) × (kind_at n r.signal.0 ≡ Reg init (Some r.next.0))
   pub all : (s : ℕ) → s < count → IsReg (kind_at n s) → (k : ℕ) × (r : Register) × (slice_get registers k ≡ Some r) × (r.signal.0 ≡ s)
+  pub few : length registers ≤ count
 
--- what a simulator keeps
-pub record Keeps (o : Order) (all : List Step) (places : List Sig) (regs : List Register) (starts readers marks now shown : List ℕ) : Type 0 where
+-- the registers that do not wait show their state
+pub record Waits (regs : List Register) (now values waiting : List ℕ) : Type 0 where
+  pub room : length regs ≤ length waiting * 64
+  pub few : length waiting ≤ 2 ^ 32
+  pub shown : Shown regs now values waiting
+  pub within : (k : ℕ) → marked waiting k ≡ 1 → k < length regs
+
+-- what a simulator keeps: its parts are those of the net, and what is not marked holds
+pub record Keeps (o : Order) (all : List Step) (places : List Sig) (regs : List Register) (starts readers marks waiting now shown : List ℕ) : Type 0 where
   pub made : IsNetlist o.net
   pub order : IsOrder o.net o.wires
   pub steps : AreSteps o.net o.wires all
   pub inputs : numbers places ≡ inputs_of o.net
   pub registers : AreRegisters o.net (length o.net.signals) regs
   pub lists : Lists starts readers (length o.net.signals) (length marks)
-  pub read : AreReaders o.net o.wires starts readers
-  pub room : length all ≤ length marks * 64
-  pub few : length marks ≤ 2 ^ 26
+  pub read : AreReaders o.net o.wires regs starts readers
+  pub room : first_register (length all) + length regs ≤ length marks * 64
+  pub few : length marks ≤ 2 ^ 32
   pub long : length shown ≡ length o.net.signals
   pub values : FitWidths o.net (slice_index shown)
   pub state_long : length now ≡ length o.net.signals
   pub state : FitWidths o.net (slice_index now)
   pub rest : (s : ℕ) → ¬ (IsReg (kind_at o.net s)) → slice_index now s ≡ 0
-  pub stays : Stays o.net o.wires shown marks
-  pub inside : Inside (length o.wires) marks
+  pub holding : Holding o.net o.wires regs now shown marks
+  pub waits : Waits regs now shown waiting
 
 -- while the marked steps run, and none before a place is marked any longer
-pub record Runs (o : Order) (all : List Step) (starts readers start : List ℕ) (place : ℕ) (values marks : List ℕ) : Type 0 where
+pub record Runs (o : Order) (all : List Step) (regs : List Register) (now starts readers start : List ℕ) (place : ℕ) (values marks : List ℕ) : Type 0 where
   pub made : IsNetlist o.net
   pub order : IsOrder o.net o.wires
   pub steps : AreSteps o.net o.wires all
   pub lists : Lists starts readers (length o.net.signals) (length marks)
-  pub read : AreReaders o.net o.wires starts readers
+  pub read : AreReaders o.net o.wires regs starts readers
+  pub room : first_register (length all) + length regs ≤ length marks * 64
   pub long : length values ≡ length o.net.signals
   pub fits : FitWidths o.net (slice_index values)
   pub others : (s : ℕ) → ¬ (IsWire o.net s) → slice_index values s ≡ slice_index start s
   pub below : (k : ℕ) → k < place → marked marks k ≡ 0
-  pub stays : Stays o.net o.wires values marks
-  pub inside : Inside (length o.wires) marks
+  pub holding : Holding o.net o.wires regs now values marks

@@ -1,10 +1,12 @@
 -- Numbers that are written to places.
-use Rattle.std.specs.Prelude.{◌≡◌, ℕ, ◌<◌, List, [], ◌∷◌, length, Some, slice_get, slice_set, slice_index}
+use Rattle.std.specs.Prelude.{◌≡◌, ℕ, ◌+◌, ◌<◌, ◌≤◌, List, [], ◌∷◌, length, Some, slice_get, slice_set, slice_index}
 use Rattle.safl_word.specs.Words.{Word, IsWord}
 use Rattle.safl_net.specs.declared.cell.Sig.{Sig}
 use Rattle.safl_sim.specs.declared.step.Step.{Step}
 use Rattle.safl_sim.specs.declared.step.Register.{Register}
-use Rattle.safl_sim.specs.Steps.{action_number, Ready}
+use Rattle.safl_sim.specs.Marks.{marked}
+use Rattle.safl_sim.specs.Readers.{Kept, Shown}
+use Rattle.safl_sim.specs.Steps.{action_number, Ready, LowStep}
 
 -- the first of the words stand at the first of the places
 pub record HasPut (places : List Sig) (given : List Word) (count : ℕ) (old new : List ℕ) : Type 0 where
@@ -32,4 +34,24 @@ after_steps (s ∷ steps) values = after_steps steps (slice_set values s.wire.0 
 
 abbrev pub AllReady : List Step → List ℕ → Type 0
 AllReady [] values = Unit {0}
-AllReady (s ∷ steps) values = Ready values s.action × (s.wire.0 < length values) × AllReady steps (slice_set values s.wire.0 (action_number (slice_index values) s.action))
+AllReady (s ∷ steps) values = Ready values s.action × LowStep values s × (s.wire.0 < length values)
+    × AllReady steps (slice_set values s.wire.0 (action_number (slice_index values) s.action))
+
+-- while the waiting registers are shown, and none before a place waits any longer
+pub record Shows (regs : List Register) (now : List ℕ) (place : ℕ) (start values waiting : List ℕ) : Type 0 where
+  pub long : length values ≡ length start
+  pub below : (k : ℕ) → k < place → marked waiting k ≡ 0
+  pub shown : Shown regs now values waiting
+  pub others : (t : ℕ) → ((k : ℕ) (r : Register) → slice_get regs k ≡ Some r → ¬ (r.signal.0 ≡ t)) → slice_index values t ≡ slice_index start t
+  pub within : (k : ℕ) → marked waiting k ≡ 1 → k < length regs
+
+-- while the marked registers are kept, and none before a place is marked any longer
+pub record KeepsOn (first : ℕ) (regs : List Register) (values : List ℕ) (place : ℕ) (start was now marks waiting : List ℕ) : Type 0 where
+  pub long : length now ≡ length start
+  pub below : (k : ℕ) → first ≤ k → k < place → marked marks k ≡ 0
+  pub low : (k : ℕ) → k < first → marked marks k ≡ marked was k
+  pub within : (k : ℕ) → marked marks k ≡ 1 → k < first + length regs
+  pub kept : Kept first regs now values marks
+  pub others : (t : ℕ) → ((k : ℕ) (r : Register) → slice_get regs k ≡ Some r → ¬ (r.signal.0 ≡ t)) → slice_index now t ≡ slice_index start t
+  pub waits : (k : ℕ) → marked was (first + k) ≡ 1 → marked waiting k ≡ 0 → marked marks (first + k) ≡ 1
+  pub waiters : (k : ℕ) → marked waiting k ≡ 1 → k < length regs

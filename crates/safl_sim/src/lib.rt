@@ -6,8 +6,12 @@ pub mod done;
 mod inputs;
 pub mod laws;
 mod marks;
+mod narrow;
+mod near;
+mod numbers;
 mod parts;
 mod phases;
+mod plan;
 pub mod sim;
 mod step;
 

@@ -1,10 +1,19 @@
-//! Marks of steps, a bit for each.
+//! Marks of steps and registers, a bit for each.
 
-ghost use Rattle.std.specs.Prelude.{◌≡◌, ℕ, ◌+◌, ◌/◌, ◌<◌, ◌≤◌, ◌^◌, length, Some, slice_get, IfSome, IfNone};
-ghost use Rattle.safl_sim.specs.Marks.{marked, HasMark, HasTaken, HasNone};
+ghost use Rattle.std.specs.Prelude.{◌≡◌, ℕ, ◌+◌, ◌*◌, ◌/◌, ◌<◌, ◌≤◌, ◌^◌, length, Some, slice_get, IfSome, IfNone};
+ghost use Rattle.safl_sim.specs.Marks.{marked, holding, HasMark, HasTaken, HasNone, HasRange};
 ghost use Rattle.safl_sim.specs.Readers.{HasMarked};
 
-/// Marks a step.
+/// How many words have a bit for each of so many numbers.
+pub fn word_count(count: usize) -> usize
+    requires { count < 2 ^ 63 }
+    ensures { result ≡ (count + 63) / 64 }
+{
+    (count + 63) / 64
+}
+
+/// Marks a number.
+#[inline(always)]
 pub fn mark(marks: &mut [u64], i: usize)
     requires { i / 64 < length marks.old }
     ensures { HasMark marks.old marks.new i }
@@ -13,9 +22,10 @@ pub fn mark(marks: &mut [u64], i: usize)
 }
 
 /// Takes the first mark of a word away.
+#[inline(always)]
 pub fn take(marks: &mut [u64], word: usize) -> Option<usize>
     requires within { word < length marks.old }
-    requires few { length marks.old ≤ 2 ^ 26 }
+    requires few { length marks.old ≤ 2 ^ 32 }
     ensures none { IfNone result (HasNone marks.old word) }
     ensures same { IfNone result (marks.new ≡ marks.old) }
     ensures some { IfSome result (λ i. HasTaken marks.old marks.new word i) }
@@ -30,6 +40,46 @@ pub fn take(marks: &mut [u64], word: usize) -> Option<usize>
     }
 }
 
+/// A number that was marked, and what of its word is left.
+#[derive(Clone, Copy)]
+pub struct Taken {
+    pub number: usize,
+    pub left: u64,
+}
+
+/// Takes the first mark of a word away, where some of the word's marks are held apart, and hands out all others.
+#[inline(always)]
+pub fn take_held(marks: &mut [u64], word: usize, held: u64) -> Option<Taken>
+    requires within { word < length marks.old }
+    requires few { length marks.old ≤ 2 ^ 32 }
+    ensures none { IfNone result (HasNone (holding marks.old word held) word) }
+    ensures same { IfNone result (marks.new ≡ holding marks.old word held) }
+    ensures some { IfSome result (λ t. HasTaken (holding marks.old word held) (holding marks.new word t.left) word t.number) }
+{
+    let left = marks[word] | held;
+    if left == 0 {
+        None
+    } else {
+        let bit = left.trailing_zeros();
+        marks[word] = 0;
+        Some(Taken {
+            number: word * 64 + bit as usize,
+            left: left & !(1u64 << bit),
+        })
+    }
+}
+
+/// Marks a range of numbers.
+pub fn mark_range(marks: &mut [u64], from: usize, to: usize)
+    requires ordered { from ≤ to }
+    requires room { to ≤ length marks.old * 64 }
+    ensures { HasRange from to marks.old marks.new }
+{
+    'numbers: for i in from..to {
+        mark(marks, i);
+    }
+}
+
 /// Takes all marks away.
 pub fn clear(marks: &mut [u64])
     ensures { (k : ℕ) → marked marks.new k ≡ 0 }
@@ -40,13 +90,14 @@ pub fn clear(marks: &mut [u64])
 }
 
 /// Marks what stands on a part of the readers.
-pub fn mark_readers(marks: &mut [u64], readers: &[u32], from: usize, to: usize)
+#[inline(always)]
+pub fn mark_readers(marks: &mut [u64], readers: &[usize], from: usize, to: usize)
     requires ordered { from ≤ to }
     requires within { to ≤ length readers.now }
     requires known { (j k : ℕ) → slice_get readers.now j ≡ Some k → k / 64 < length marks.old }
     ensures { HasMarked readers.now from to marks.old marks.new }
 {
     'readers: for j in from..to {
-        mark(marks, readers[j] as usize);
+        mark(marks, readers[j]);
     }
 }

@@ -6,116 +6,144 @@ ghost use Rattle.safl_net.specs.Valuations.{kind_reset};
 ghost use Rattle.safl_net.specs.Rules.{IsNetlist};
 ghost use Rattle.safl_net.specs.Making.{numbers, kind_at};
 ghost use Rattle.safl_order.specs.Order.{IsWire, IsOrder, operands_of};
-ghost use Rattle.safl_sim.specs.Marks.{marked};
-ghost use Rattle.safl_sim.specs.Readers.{Lists, AreReaders, Inside, AreLists, AreFlat};
+ghost use Rattle.safl_sim.specs.Marks.{marked, first_register};
+ghost use Rattle.safl_sim.specs.Readers.{Lists, AreReaders, Inside, AreLists, AreAllLists, AreFlat};
 ghost use Rattle.safl_sim.specs.Places.{with_input, inputs_of, resets};
 ghost use Rattle.safl_sim.specs.Steps.{IsStep, IsReg, AreSteps, AreRegisters};
 ghost use Rattle.safl_sim.specs.Cycles.{KeepsPlan};
 
-use crate::marks::mark;
-use crate::step::{Register, Step, action_of};
+use crate::marks::{mark_range, word_count};
+use crate::near::note_near;
+use crate::numbers::Numbers;
+use crate::plan::Plan;
+use crate::step::{Near, Register, Step, action_of, is_narrow};
 use safl_net::{Net, Sig, SigKind};
 use safl_order::Ordered;
 use safl_word::Raw;
 use std::alloc::{AllocError, Global};
 
-/// What stays as it is: the steps in an order of evaluation, the inputs, the registers, and the steps that read each
-/// place: those of place `p` are `readers[starts[p]..starts[p + 1]]`, by their index.
-#[derive(Drop)]
-pub struct Plan {
-    pub steps: Vec<Step>,
-    pub inputs: Vec<Sig>,
-    pub registers: Vec<Register>,
-    pub starts: Vec<usize>,
-    pub readers: Vec<u32>,
-}
-
-/// The parts of a simulator: its plan, the marks of steps, the registers' state, and the number of each signal.
+/// The parts of a simulator: its plan, the marks of steps and registers, the registers that wait to be shown, their
+/// state, and the number of each signal.
 #[derive(Drop)]
 pub struct Parts {
     pub plan: Plan,
     pub marks: Vec<u64>,
+    pub waiting: Vec<u64>,
     pub state: Vec<Raw>,
-    pub values: Vec<Raw>,
+    pub values: Numbers,
 }
 
 impl Parts {
     /// The parts at reset.
     pub fn new(alloc: Global, ordered: &Ordered) -> Result<Parts, AllocError>
-        ensures keeps { IfOk result (λ p. KeepsPlan ordered.now p.plan p.marks.items p.state.items p.values.items) }
+        ensures keeps { IfOk result (λ p. KeepsPlan ordered.now p.plan p.marks.items p.waiting.items p.state.items p.values) }
         ensures state { IfOk result (λ p. p.state.items ≡ resets ordered.now.net) }
-        ensures values { IfOk result (λ p. p.values.items ≡ resets ordered.now.net) }
+        ensures values { IfOk result (λ p. p.values ≡ resets ordered.now.net) }
     {
         let net = ordered.net();
         let _count = net.signals();
-        let steps = steps_of(alloc, net, ordered.wires())?;
-        let marks = all_marked(alloc, ordered.wires().len())?;
-        let table = table_of(alloc, net, ordered.wires())?;
+        let registers = registers_of(alloc, net)?;
+        let kept = registers.as_slice();
+        // First the table: while it is made, it takes more than what stays of it.
+        let table = table_of(alloc, net, ordered.wires(), kept)?;
+        let mut steps = steps_of(alloc, net, ordered.wires())?;
+        note_near(&mut steps, &table.starts, &table.readers);
+        let marks = all_marked(alloc, ordered.wires().len(), kept.len())?;
+        let waiting = none_marked(alloc, kept.len())?;
         let plan = Plan {
             steps,
             inputs: inputs_of(alloc, net)?,
-            registers: registers_of(alloc, net)?,
+            registers,
             starts: table.starts,
             readers: table.readers,
         };
+        let state = resets(alloc, net)?;
+        let values = Numbers::new(alloc, &state)?;
         Ok(Parts {
             plan,
             marks,
-            state: resets(alloc, net)?,
-            values: resets(alloc, net)?,
+            waiting,
+            state,
+            values,
         })
     }
 }
 
-// Marks of the first steps, all of them.
-fn all_marked(alloc: Global, count: usize) -> Result<Vec<u64>, AllocError>
-    requires { count < 2 ^ 32 }
+// Marks of so many numbers, none of them there.
+fn none_marked(alloc: Global, count: usize) -> Result<Vec<u64>, AllocError>
+    requires { count < 2 ^ 40 }
     ensures long { IfOk result (λ v. length v.items ≡ (count + 63) / 64) }
-    ensures inside { IfOk result (λ v. Inside count v.items) }
-    ensures all { IfOk result (λ v. (k : ℕ) → k < count → marked v.items k ≡ 1) }
+    ensures none { IfOk result (λ v. (k : ℕ) → slice_index v.items k ≡ 0) }
 {
-    let mut marks = Vec::with_capacity(alloc, (count + 63) / 64)?;
-    'words: for _w in 0..(count + 63) / 64 {
+    let words = word_count(count);
+    let mut marks = Vec::with_capacity(alloc, words)?;
+    'words: for _w in 0..words {
         marks.push(0)?;
     }
-    mark_all(&mut marks, count);
     Ok(marks)
 }
 
-fn mark_all(marks: &mut [u64], count: usize)
-    requires room { count ≤ length marks.old * 64 }
-    requires none { (k : ℕ) → slice_index marks.old k ≡ 0 }
-    ensures long { length marks.new ≡ length marks.old }
-    ensures inside { Inside count marks.new }
-    ensures all { (k : ℕ) → k < count → marked marks.new k ≡ 1 }
+// Marks of so many steps and registers, all of them there.
+fn all_marked(alloc: Global, steps: usize, registers: usize) -> Result<Vec<u64>, AllocError>
+    requires few { steps < 2 ^ 32 }
+    requires some { registers < 2 ^ 32 }
+    ensures long { IfOk result (λ v. length v.items ≡ (first_register steps + registers + 63) / 64) }
+    ensures inside { IfOk result (λ v. Inside steps registers v.items) }
+    ensures step { IfOk result (λ v. (k : ℕ) → k < steps → marked v.items k ≡ 1) }
+    ensures register { IfOk result (λ v. (k : ℕ) → k < registers → marked v.items (first_register steps + k) ≡ 1) }
 {
-    'steps: for i in 0..count {
-        mark(marks, i);
-    }
+    let words = word_count(steps);
+    let mut marks = none_marked(alloc, words * 64 + registers)?;
+    mark_all(&mut marks, steps, registers);
+    Ok(marks)
 }
 
-// The steps that read each place, place by place.
+fn mark_all(marks: &mut [u64], steps: usize, registers: usize)
+    requires few { steps < 2 ^ 32 }
+    requires some { registers < 2 ^ 32 }
+    requires room { first_register steps + registers ≤ length marks.old * 64 }
+    requires none { (k : ℕ) → slice_index marks.old k ≡ 0 }
+    ensures long { length marks.new ≡ length marks.old }
+    ensures inside { Inside steps registers marks.new }
+    ensures step { (k : ℕ) → k < steps → marked marks.new k ≡ 1 }
+    ensures register { (k : ℕ) → k < registers → marked marks.new (first_register steps + k) ≡ 1 }
+{
+    let words = word_count(steps);
+    let first = words * 64;
+    mark_range(marks, 0, steps);
+    mark_range(marks, first, first + registers);
+}
+
+// What reads each place, place by place.
 #[derive(Drop)]
 struct Table {
     starts: Vec<usize>,
-    readers: Vec<u32>,
+    readers: Vec<usize>,
 }
 
-fn table_of(alloc: Global, net: &Net, wires: &[Sig]) -> Result<Table, AllocError>
+fn table_of(
+    alloc: Global,
+    net: &Net,
+    wires: &[Sig],
+    registers: &[Register],
+) -> Result<Table, AllocError>
     requires few { length wires.now < 2 ^ 32 }
+    requires some { length registers.now < 2 ^ 32 }
     requires netlist { IsNetlist net.now }
     requires order { IsOrder net.now (numbers wires.now) }
-    ensures lists { IfOk result (λ t. Lists t.starts.items t.readers.items (length net.now.signals) ((length wires.now + 63) / 64)) }
-    ensures readers { IfOk result (λ t. AreReaders net.now (numbers wires.now) t.starts.items t.readers.items) }
+    requires registers { AreRegisters net.now (length net.now.signals) registers.now }
+    ensures lists { IfOk result (λ t. Lists t.starts.items t.readers.items (length net.now.signals) ((first_register (length wires.now) + length registers.now + 63) / 64)) }
+    ensures readers { IfOk result (λ t. AreReaders net.now (numbers wires.now) registers.now t.starts.items t.readers.items) }
 {
-    let lists = lists_of(alloc, net, wires)?;
+    let mut lists = lists_of(alloc, net, wires)?;
+    let words = word_count(wires.len());
+    push_nexts(&mut lists, registers, words * 64)?;
     let table = flatten(alloc, &lists)?;
     Ok(table)
 }
 
 // The steps that have a place as an operand, for each place.
-fn lists_of(alloc: Global, net: &Net, wires: &[Sig]) -> Result<Vec<Vec<u32>>, AllocError>
-    requires few { length wires.now < 2 ^ 32 }
+fn lists_of(alloc: Global, net: &Net, wires: &[Sig]) -> Result<Vec<Vec<usize>>, AllocError>
     requires netlist { IsNetlist net.now }
     requires order { IsOrder net.now (numbers wires.now) }
     ensures long { IfOk result (λ v. length v.items ≡ length net.now.signals) }
@@ -127,12 +155,12 @@ fn lists_of(alloc: Global, net: &Net, wires: &[Sig]) -> Result<Vec<Vec<u32>>, Al
         lists.push(Vec::new(alloc))?;
     }
     'wires: for k in 0..wires.len() {
-        push_step(&mut lists, net, wires[k], k as u32)?;
+        push_step(&mut lists, net, wires[k], k)?;
     }
     Ok(lists)
 }
 
-fn push_step(lists: &mut [Vec<u32>], net: &Net, wire: Sig, k: u32) -> Result<(), AllocError>
+fn push_step(lists: &mut [Vec<usize>], net: &Net, wire: Sig, k: usize) -> Result<(), AllocError>
     requires netlist { IsNetlist net.now }
     requires set { AllSet net.now }
     requires wire { IsWire net.now wire.0 }
@@ -146,7 +174,7 @@ fn push_step(lists: &mut [Vec<u32>], net: &Net, wire: Sig, k: u32) -> Result<(),
     }
 }
 
-fn push_operands(lists: &mut [Vec<u32>], operands: &[Sig], k: u32) -> Result<(), AllocError>
+fn push_operands(lists: &mut [Vec<usize>], operands: &[Sig], k: usize) -> Result<(), AllocError>
     requires within { (i : ℕ) (t : Sig) → slice_get operands.now i ≡ Some t → t.0 < length lists.old }
     ensures long { length lists.new ≡ length lists.old }
     ensures more { (n : Netlist) (ws : List ℕ) (s : ℕ) → slice_get ws k ≡ Some s → operands_of n s ≡ numbers operands.now → AreLists n ws k 0 lists.old
@@ -158,8 +186,26 @@ fn push_operands(lists: &mut [Vec<u32>], operands: &[Sig], k: u32) -> Result<(),
     Ok(())
 }
 
+// Puts the marks of the registers, which begin with `first`, on the lists of their next signals.
+fn push_nexts(
+    lists: &mut [Vec<usize>],
+    registers: &[Register],
+    first: usize,
+) -> Result<(), AllocError>
+    requires few { first + length registers.now < 2 ^ 40 }
+    requires within { (k : ℕ) (r : Register) → slice_get registers.now k ≡ Some r → r.next.0 < length lists.old }
+    ensures long { length lists.new ≡ length lists.old }
+    ensures all { (n : Netlist) (ws : List ℕ) → first ≡ first_register (length ws) → AreAllLists n ws registers.now 0 lists.old
+        → OnOk result (AreAllLists n ws registers.now (length registers.now) lists.new) }
+{
+    'registers: for i in 0..registers.len() {
+        lists[registers[i].next.0 as usize].push(first + i)?;
+    }
+    Ok(())
+}
+
 // The lists laid out one after another.
-fn flatten(alloc: Global, lists: &[Vec<u32>]) -> Result<Table, AllocError>
+fn flatten(alloc: Global, lists: &[Vec<usize>]) -> Result<Table, AllocError>
     ensures { IfOk result (λ t. AreFlat lists.now t.starts.items t.readers.items (length lists.now)) }
 {
     let mut starts = Vec::with_capacity(alloc, lists.len() + 1)?;
@@ -195,7 +241,9 @@ fn step_of(net: &Net, wire: Sig) -> Step
     match net.cell(wire) {
         Some(cell) => Step {
             wire,
+            narrow: is_narrow(net, wire, cell),
             action: action_of(net, cell),
+            near: Near { mask: 0, first: 0 },
         },
         None => unreachable!(),
     }

@@ -1,28 +1,32 @@
 //! The phases of a cycle.
 
-ghost use Rattle.std.specs.Prelude.{◌≡◌, ℕ, ◌+◌, ◌*◌, ◌/◌, ◌<◌, ◌≤◌, ◌^◌, List, length, Some, slice_get, slice_index};
+ghost use Rattle.std.specs.Prelude.{◌≡◌, ℕ, ◌+◌, ◌*◌, ◌/◌, ◌<◌, ◌≤◌, ◌^◌, List, length, Some, slice_get, slice_set, slice_index, false, bit_or};
 ghost use Rattle.safl_net.specs.declared.cell.Sig.{Sig};
 ghost use Rattle.safl_net.specs.Netlist.{Netlist};
 ghost use Rattle.safl_sim.specs.declared.step.Register.{Register};
 ghost use Rattle.safl_order.specs.Order.{Order};
 ghost use Rattle.safl_sim.specs.Places.{AreInputs};
-ghost use Rattle.safl_sim.specs.Readers.{Lists, HasGiven, Goes};
-ghost use Rattle.safl_sim.specs.Steps.{Runs, Ready, action_number};
+ghost use Rattle.safl_sim.specs.Readers.{Lists, HasGiven, Goes, RegistersAway};
+ghost use Rattle.safl_sim.specs.Marks.{marked, holding, HasMark, first_register};
+ghost use Rattle.safl_sim.specs.Nears.{NearOf, AreNear};
+ghost use Rattle.safl_sim.specs.Steps.{Waits, Runs, Ready, LowStep, action_number};
 ghost use Rattle.safl_sim.specs.Cycles.{KeepsPlan, Cycles};
-ghost use Rattle.safl_sim.specs.Writes.{HasPut, HasShown, HasKept, after_steps, AllReady};
+ghost use Rattle.safl_sim.specs.Writes.{HasPut, HasShown, Shows, KeepsOn, after_steps, AllReady};
 
-use crate::marks::{clear, mark_readers, take};
-use crate::parts::Plan;
-use crate::step::{Register, Step, act};
+use crate::marks::{clear, mark, mark_range, mark_readers, take, take_held, word_count};
+use crate::numbers::Numbers;
+use crate::plan::Plan;
+use crate::step::{Register, Step, act, act_low};
 use safl_net::Sig;
 use safl_word::{Raw, Word};
 
 /// Gives a place its number, and marks its readers where that is new.
+#[inline(always)]
 pub fn give(
-    values: &mut [Raw],
+    values: &mut Numbers,
     marks: &mut [u64],
     starts: &[usize],
-    readers: &[u32],
+    readers: &[usize],
     place: u32,
     number: Raw,
 )
@@ -31,18 +35,46 @@ pub fn give(
     ensures { HasGiven starts.now readers.now place number values.old values.new marks.old marks.new }
 {
     let i = place as usize;
-    if values[i] != number {
-        values[i] = number;
+    if renew(values, i, number) {
         mark_readers(marks, readers, starts[i], starts[i + 1]);
     }
 }
 
+// Writes a number to a place, and answers whether it is new there.
+#[inline(always)]
+fn renew(values: &mut Numbers, place: usize, number: Raw) -> bool
+    requires { place < length values.old }
+    ensures is { values.new ≡ slice_set values.old place number }
+    ensures new { result ≡ false → slice_index values.old place ≡ number }
+{
+    if values.get(place) == number {
+        return false;
+    }
+    values.set(place, number);
+    true
+}
+
+// The same where both numbers have at most 64 bits.
+#[inline(always)]
+fn renew_low(values: &mut Numbers, place: usize, number: u64) -> bool
+    requires within { place < length values.old }
+    requires low { slice_index values.old place < 2 ^ 64 }
+    ensures is { values.new ≡ slice_set values.old place number }
+    ensures new { result ≡ false → slice_index values.old place ≡ number }
+{
+    if values.get_low(place) == number {
+        return false;
+    }
+    values.set_low(place, number);
+    true
+}
+
 /// Writes the words to the places.
 pub fn put_words(
-    values: &mut [Raw],
+    values: &mut Numbers,
     marks: &mut [u64],
     starts: &[usize],
-    readers: &[u32],
+    readers: &[usize],
     places: &[Sig],
     words: &[Word],
 )
@@ -52,143 +84,332 @@ pub fn put_words(
     requires once { (i j : ℕ) (s t : Sig) → slice_get places.now i ≡ Some s → slice_get places.now j ≡ Some t → s.0 ≡ t.0 → i ≡ j }
     ensures put { HasPut places.now words.now (length places.now) values.old values.new }
     ensures long { length marks.new ≡ length marks.old }
-    ensures goes { (n : Netlist) (ws : List ℕ) → ((k : ℕ) (s : Sig) → slice_get places.now k ≡ Some s → (i : ℕ) → ¬ (slice_get ws i ≡ Some s.0))
-        → Goes n ws starts.now readers.now values.old values.new marks.old marks.new }
+    ensures goes { (n : Netlist) (ws : List ℕ) (regs : List Register) (held : List ℕ)
+        → ((k : ℕ) (s : Sig) → slice_get places.now k ≡ Some s → (i : ℕ) → ¬ (slice_get ws i ≡ Some s.0))
+        → Goes n ws regs held starts.now readers.now values.old values.new marks.old marks.new }
 {
     'words: for i in 0..places.len() {
         give(values, marks, starts, readers, places[i].0, words[i].bits());
     }
 }
 
-/// Shows the state of the registers.
-pub fn show_registers(
-    values: &mut [Raw],
+/// Shows the state of a register.
+#[inline(always)]
+pub fn show(
+    values: &mut Numbers,
     marks: &mut [u64],
     starts: &[usize],
-    readers: &[u32],
-    registers: &[Register],
+    readers: &[usize],
+    register: Register,
     state: &[Raw],
 )
     requires lists { Lists starts.now readers.now (length values.old) (length marks.old) }
-    requires within { (k : ℕ) (r : Register) → slice_get registers.now k ≡ Some r → r.signal.0 < length values.old }
+    requires within { register.signal.0 < length values.old }
     requires states { length state.now ≡ length values.old }
-    ensures shown { HasShown registers.now state.now (length registers.now) values.old values.new }
-    ensures long { length marks.new ≡ length marks.old }
-    ensures goes { (n : Netlist) (ws : List ℕ) → ((k : ℕ) (r : Register) → slice_get registers.now k ≡ Some r → (i : ℕ) → ¬ (slice_get ws i ≡ Some r.signal.0))
-        → Goes n ws starts.now readers.now values.old values.new marks.old marks.new }
+    ensures { HasGiven starts.now readers.now register.signal.0 (slice_index state.now register.signal.0) values.old values.new marks.old marks.new }
 {
-    'registers: for i in 0..registers.len() {
-        let place = registers[i].signal.0;
-        give(values, marks, starts, readers, place, state[place as usize]);
+    let place = register.signal.0;
+    give(values, marks, starts, readers, place, state[place as usize]);
+}
+
+/// Shows the waiting registers of a word.
+#[inline(always)]
+pub fn show_word(
+    values: &mut Numbers,
+    marks: &mut [u64],
+    waiting: &mut [u64],
+    plan: &Plan,
+    state: &[Raw],
+    word: usize,
+)
+    requires word { word < length waiting.old }
+    requires few { length waiting.old ≤ 2 ^ 32 }
+    requires lists { Lists plan.now.starts.items plan.now.readers.items (length values.old) (length marks.old) }
+    requires within { (k : ℕ) (r : Register) → slice_get plan.now.registers.items k ≡ Some r → r.signal.0 < length values.old }
+    requires states { length state.now ≡ length values.old }
+    requires shows { (start : List ℕ) × Shows plan.now.registers.items state.now (word * 64) start values.old waiting.old }
+    ensures long { length marks.new ≡ length marks.old }
+    ensures shows { (start : List ℕ) → Shows plan.now.registers.items state.now (word * 64) start values.old waiting.old
+        → Shows plan.now.registers.items state.now ((word + 1) * 64) start values.new waiting.new }
+    ensures goes { (n : Netlist) (ws held : List ℕ) → RegistersAway plan.now.registers.items ws
+        → Goes n ws plan.now.registers.items held plan.now.starts.items plan.now.readers.items values.old values.new marks.old marks.new }
+{
+    let registers = plan.registers.as_slice();
+    let starts = plan.starts.as_slice();
+    let readers = plan.readers.as_slice();
+    'registers: for _n in 0..64u32 {
+        match take(waiting, word) {
+            Some(i) => show(values, marks, starts, readers, registers[i], state),
+            None => return,
+        }
     }
 }
 
-/// Keeps the numbers of the next signals as the state of the registers.
-pub fn keep_registers(state: &mut [Raw], registers: &[Register], values: &[Raw])
+/// Shows the registers that wait.
+pub fn show_registers(
+    values: &mut Numbers,
+    marks: &mut [u64],
+    waiting: &mut [u64],
+    plan: &Plan,
+    state: &[Raw],
+)
+    requires lists { Lists plan.now.starts.items plan.now.readers.items (length values.old) (length marks.old) }
+    requires within { (k : ℕ) (r : Register) → slice_get plan.now.registers.items k ≡ Some r → r.signal.0 < length values.old }
+    requires states { length state.now ≡ length values.old }
+    requires waits { Waits plan.now.registers.items state.now values.old waiting.old }
+    ensures long { length marks.new ≡ length marks.old }
+    ensures none { (k : ℕ) → marked waiting.new k ≡ 0 }
+    ensures shown { HasShown plan.now.registers.items state.now (length plan.now.registers.items) values.old values.new }
+    ensures goes { (n : Netlist) (ws held : List ℕ) → RegistersAway plan.now.registers.items ws
+        → Goes n ws plan.now.registers.items held plan.now.starts.items plan.now.readers.items values.old values.new marks.old marks.new }
+{
+    'words: for w in 0..waiting.len() {
+        show_word(values, marks, waiting, plan, state, w);
+    }
+}
+
+/// Keeps the number of a register's next signal as its state; it waits to be shown.
+#[inline(always)]
+pub fn keep(
+    state: &mut [Raw],
+    waiting: &mut [u64],
+    registers: &[Register],
+    values: &Numbers,
+    k: usize,
+)
+    requires known { k < length registers.now }
+    requires room { k / 64 < length waiting.old }
     requires within { (k : ℕ) (r : Register) → slice_get registers.now k ≡ Some r → r.signal.0 < length state.old }
     requires next { (k : ℕ) (r : Register) → slice_get registers.now k ≡ Some r → r.next.0 < length values.now }
-    requires one_next { (i j : ℕ) (r q : Register) → slice_get registers.now i ≡ Some r → slice_get registers.now j ≡ Some q → r.signal.0 ≡ q.signal.0 → r.next.0 ≡ q.next.0 }
-    ensures { HasKept registers.now values.now (length registers.now) state.old state.new }
+    ensures state { (r : Register) → slice_get registers.now k ≡ Some r → state.new ≡ slice_set state.old r.signal.0 (slice_index values.now r.next.0) }
+    ensures waits { HasMark waiting.old waiting.new k }
 {
-    'registers: for i in 0..registers.len() {
-        let register = registers[i];
-        state[register.signal.0 as usize] = values[register.next.0 as usize];
+    let register = registers[k];
+    state[register.signal.0 as usize] = values.get(register.next.0 as usize);
+    mark(waiting, k);
+}
+
+/// Keeps the marked registers of a word of marks. The marks of registers begin with a word of their own.
+#[inline(always)]
+pub fn keep_word(
+    state: &mut [Raw],
+    marks: &mut [u64],
+    waiting: &mut [u64],
+    registers: &[Register],
+    values: &Numbers,
+    first: usize,
+    word: usize,
+)
+    requires after { first ≤ word }
+    requires word { word < length marks.old }
+    requires few { length marks.old ≤ 2 ^ 32 }
+    requires room { length registers.now ≤ length waiting.old * 64 }
+    requires within { (k : ℕ) (r : Register) → slice_get registers.now k ≡ Some r → r.signal.0 < length state.old }
+    requires next { (k : ℕ) (r : Register) → slice_get registers.now k ≡ Some r → r.next.0 < length values.now }
+    requires one_next { (i j : ℕ) (r q : Register) → slice_get registers.now i ≡ Some r → slice_get registers.now j ≡ Some q
+        → r.signal.0 ≡ q.signal.0 → r.next.0 ≡ q.next.0 }
+    requires keeps { (start was : List ℕ) × KeepsOn (first * 64) registers.now values.now (word * 64) start was state.old marks.old waiting.old }
+    ensures { (start was : List ℕ) → KeepsOn (first * 64) registers.now values.now (word * 64) start was state.old marks.old waiting.old
+        → KeepsOn (first * 64) registers.now values.now ((word + 1) * 64) start was state.new marks.new waiting.new }
+{
+    'registers: for _n in 0..64u32 {
+        match take(marks, word) {
+            Some(i) => {
+                let k = i - first * 64;
+                keep(state, waiting, registers, values, k);
+            }
+            None => return,
+        }
     }
 }
 
-/// Evaluates a step, and marks what reads its wire where the number is new.
+/// Keeps the numbers of the next signals as the state of the registers that are marked, and lets these wait.
+pub fn keep_registers(
+    state: &mut [Raw],
+    marks: &mut [u64],
+    waiting: &mut [u64],
+    registers: &[Register],
+    values: &Numbers,
+    first: usize,
+)
+    requires first { first ≤ length marks.old }
+    requires few { length marks.old ≤ 2 ^ 32 }
+    requires room { length registers.now ≤ length waiting.old * 64 }
+    requires within { (k : ℕ) (r : Register) → slice_get registers.now k ≡ Some r → r.signal.0 < length state.old }
+    requires next { (k : ℕ) (r : Register) → slice_get registers.now k ≡ Some r → r.next.0 < length values.now }
+    requires one_next { (i j : ℕ) (r q : Register) → slice_get registers.now i ≡ Some r → slice_get registers.now j ≡ Some q
+        → r.signal.0 ≡ q.signal.0 → r.next.0 ≡ q.next.0 }
+    requires keeps { (start was : List ℕ) × KeepsOn (first * 64) registers.now values.now (first * 64) start was state.old marks.old waiting.old }
+    ensures { (start was : List ℕ) → KeepsOn (first * 64) registers.now values.now (first * 64) start was state.old marks.old waiting.old
+        → KeepsOn (first * 64) registers.now values.now (length marks.new * 64) start was state.new marks.new waiting.new }
+{
+    'words: for w in first..marks.len() {
+        keep_word(state, marks, waiting, registers, values, first, w);
+    }
+}
+
+// Evaluates a step, and answers whether its wire's number is new.
+#[inline(always)]
+fn act_anew(values: &mut Numbers, step: &Step) -> bool
+    requires within { step.now.wire.0 < length values.old }
+    requires ready { Ready values.old step.now.action }
+    requires low { LowStep values.old step.now }
+    ensures is { values.new ≡ slice_set values.old step.now.wire.0 (action_number (slice_index values.old) step.now.action) }
+    ensures new { result ≡ false → slice_index values.old step.now.wire.0 ≡ action_number (slice_index values.old) step.now.action }
+{
+    let place = step.wire.0 as usize;
+    if step.narrow {
+        let number = act_low(&step.action, values);
+        renew_low(values, place, number)
+    } else {
+        let number = act(&step.action, values);
+        renew(values, place, number)
+    }
+}
+
+/// Evaluates a step. Where its wire's number is new, it marks what reads the wire, but for the steps of the step's own
+/// word of marks: it answers which these are.
+#[inline(always)]
 pub fn evaluate(
-    values: &mut [Raw],
+    values: &mut Numbers,
     marks: &mut [u64],
     starts: &[usize],
-    readers: &[u32],
+    readers: &[usize],
     step: &Step,
-)
+) -> u64
     requires lists { Lists starts.now readers.now (length values.old) (length marks.old) }
     requires within { step.now.wire.0 < length values.old }
     requires ready { Ready values.old step.now.action }
-    ensures { HasGiven starts.now readers.now step.now.wire.0 (action_number (slice_index values.old) step.now.action) values.old values.new marks.old marks.new }
+    requires low { LowStep values.old step.now }
+    requires near { (i : ℕ) × NearOf starts.now readers.now i step.now }
+    ensures { (i held : ℕ) → i / 64 < length marks.old → NearOf starts.now readers.now i step.now
+        → HasGiven starts.now readers.now step.now.wire.0 (action_number (slice_index values.old) step.now.action) values.old values.new
+        (holding marks.old (i / 64) held) (holding marks.new (i / 64) (bit_or held result)) }
 {
-    let number = act(&step.action, values);
-    give(values, marks, starts, readers, step.wire.0, number);
+    if !act_anew(values, step) {
+        return 0;
+    }
+    mark_readers(
+        marks,
+        readers,
+        step.near.first,
+        starts[step.wire.0 as usize + 1],
+    );
+    step.near.mask
 }
 
 /// Evaluates the marked steps of a word, and answers how many there were.
+#[inline(always)]
 pub fn run_word(
-    values: &mut [Raw],
+    values: &mut Numbers,
     marks: &mut [u64],
     starts: &[usize],
-    readers: &[u32],
+    readers: &[usize],
     steps: &[Step],
     word: usize,
 ) -> usize
     requires within { word < length marks.old }
-    requires few { length marks.old ≤ 2 ^ 26 }
-    requires runs { (o : Order) × (start : List ℕ) × Runs o steps.now starts.now readers.now start (word * 64) values.old marks.old }
+    requires few { length marks.old ≤ 2 ^ 32 }
+    requires steps { (word + 1) * 64 ≤ first_register (length steps.now) }
+    requires near { AreNear starts.now readers.now steps.now }
+    requires runs { (o : Order) × (regs : List Register) × (held : List ℕ) × (start : List ℕ)
+        × Runs o steps.now regs held starts.now readers.now start (word * 64) values.old marks.old }
     ensures count { result ≤ 64 }
     ensures long { length marks.new ≡ length marks.old }
-    ensures runs { (o : Order) (start : List ℕ) → Runs o steps.now starts.now readers.now start (word * 64) values.old marks.old
-        → Runs o steps.now starts.now readers.now start ((word + 1) * 64) values.new marks.new }
+    ensures runs { (o : Order) (regs : List Register) (held start : List ℕ) → Runs o steps.now regs held starts.now readers.now start (word * 64) values.old marks.old
+        → Runs o steps.now regs held starts.now readers.now start ((word + 1) * 64) values.new marks.new }
 {
+    let mut held = 0;
     'steps: for n in 0..64usize {
-        match take(marks, word) {
-            Some(i) => evaluate(values, marks, starts, readers, &steps[i]),
+        match take_held(marks, word, held) {
+            Some(taken) => {
+                let near = evaluate(values, marks, starts, readers, &steps[taken.number]);
+                held = taken.left | near;
+            }
             None => return n,
         }
     }
+    marks[word] |= held;
     64
 }
 
 /// Evaluates the marked steps in turn, and answers how many there were.
 pub fn run_marked(
-    values: &mut [Raw],
+    values: &mut Numbers,
     marks: &mut [u64],
     starts: &[usize],
-    readers: &[u32],
+    readers: &[usize],
     steps: &[Step],
 ) -> usize
-    requires few { length marks.old ≤ 2 ^ 26 }
-    requires runs { (o : Order) × (start : List ℕ) × Runs o steps.now starts.now readers.now start 0 values.old marks.old }
+    requires few { length marks.old ≤ 2 ^ 32 }
+    requires near { AreNear starts.now readers.now steps.now }
+    requires runs { (o : Order) × (regs : List Register) × (held : List ℕ) × (start : List ℕ)
+        × Runs o steps.now regs held starts.now readers.now start 0 values.old marks.old }
     ensures long { length marks.new ≡ length marks.old }
-    ensures runs { (o : Order) (start : List ℕ) → Runs o steps.now starts.now readers.now start 0 values.old marks.old
-        → Runs o steps.now starts.now readers.now start (length marks.new * 64) values.new marks.new }
+    ensures runs { (o : Order) (regs : List Register) (held start : List ℕ) → Runs o steps.now regs held starts.now readers.now start 0 values.old marks.old
+        → Runs o steps.now regs held starts.now readers.now start (first_register (length steps.now)) values.new marks.new }
 {
     let mut count = 0;
-    'words: for w in 0..marks.len() {
+    let end = word_count(steps.len());
+    'words: for w in 0..end {
         count += run_word(values, marks, starts, readers, steps, w);
     }
     count
 }
 
 /// Evaluates all steps in turn.
-pub fn run_all(values: &mut [Raw], steps: &[Step])
+pub fn run_all(values: &mut Numbers, steps: &[Step])
     requires { AllReady steps.now values.old }
     ensures { values.new ≡ after_steps steps.now values.old }
 {
     'steps: for s in steps {
-        let number = act(&s.action, values);
-        values[s.wire.0 as usize] = number;
+        write(values, s);
     }
 }
 
-/// Evaluates all steps, or the marked ones, and answers how many were marked.
+// Evaluates a step.
+#[inline(always)]
+fn write(values: &mut Numbers, step: &Step)
+    requires within { step.now.wire.0 < length values.old }
+    requires ready { Ready values.old step.now.action }
+    requires low { LowStep values.old step.now }
+    ensures { values.new ≡ slice_set values.old step.now.wire.0 (action_number (slice_index values.old) step.now.action) }
+{
+    let place = step.wire.0 as usize;
+    if step.narrow {
+        let number = act_low(&step.action, values);
+        values.set_low(place, number);
+    } else {
+        let number = act(&step.action, values);
+        values.set(place, number);
+    }
+}
+
+/// Evaluates all steps, and marks all registers, or the marked steps alone, and answers how many were marked.
 pub fn run_steps(
-    values: &mut [Raw],
+    values: &mut Numbers,
     marks: &mut [u64],
     starts: &[usize],
-    readers: &[u32],
+    readers: &[usize],
     steps: &[Step],
+    registers: usize,
     all: bool,
 ) -> usize
-    requires few { length marks.old ≤ 2 ^ 26 }
-    requires runs { (o : Order) × (start : List ℕ) × Runs o steps.now starts.now readers.now start 0 values.old marks.old }
+    requires few { length marks.old ≤ 2 ^ 32 }
+    requires near { AreNear starts.now readers.now steps.now }
+    requires runs { (o : Order) × (regs : List Register) × (held : List ℕ) × (start : List ℕ)
+        × Runs o steps.now regs held starts.now readers.now start 0 values.old marks.old × (length regs ≡ registers) }
     ensures long { length marks.new ≡ length marks.old }
-    ensures runs { (o : Order) (start : List ℕ) → Runs o steps.now starts.now readers.now start 0 values.old marks.old
-        → Runs o steps.now starts.now readers.now start (length marks.new * 64) values.new marks.new }
+    ensures runs { (o : Order) (regs : List Register) (held start : List ℕ) → length regs ≡ registers
+        → Runs o steps.now regs held starts.now readers.now start 0 values.old marks.old
+        → Runs o steps.now regs held starts.now readers.now start (first_register (length steps.now)) values.new marks.new }
 {
     if all {
+        let words = word_count(steps.len());
+        let first = words * 64;
         run_all(values, steps);
         clear(marks);
+        mark_range(marks, first, first + registers);
         return 0;
     }
     run_marked(values, marks, starts, readers, steps)
@@ -196,16 +417,17 @@ pub fn run_steps(
 
 /// A cycle. It evaluates all steps, or those that are marked, and answers how many were marked.
 pub fn cycle(
-    values: &mut [Raw],
+    values: &mut Numbers,
     state: &mut [Raw],
     marks: &mut [u64],
+    waiting: &mut [u64],
     plan: &Plan,
     words: &[Word],
     all: bool,
 ) -> usize
-    requires { (o : Order) × KeepsPlan o plan.now marks.old state.old values.old × AreInputs o.net words.now }
-    ensures { (o : Order) → KeepsPlan o plan.now marks.old state.old values.old → AreInputs o.net words.now
-        → Cycles o plan.now words.now state.old values.old marks.new state.new values.new }
+    requires { (o : Order) × KeepsPlan o plan.now marks.old waiting.old state.old values.old × AreInputs o.net words.now }
+    ensures { (o : Order) → KeepsPlan o plan.now marks.old waiting.old state.old values.old → AreInputs o.net words.now
+        → Cycles o plan.now words.now state.old values.old marks.new waiting.new state.new values.new }
 {
     let steps = plan.steps.as_slice();
     let inputs = plan.inputs.as_slice();
@@ -213,8 +435,9 @@ pub fn cycle(
     let starts = plan.starts.as_slice();
     let readers = plan.readers.as_slice();
     put_words(values, marks, starts, readers, inputs, words);
-    show_registers(values, marks, starts, readers, registers, state);
-    let count = run_steps(values, marks, starts, readers, steps, all);
-    keep_registers(state, registers, values);
+    show_registers(values, marks, waiting, plan, state);
+    let count = run_steps(values, marks, starts, readers, steps, registers.len(), all);
+    let first = word_count(steps.len());
+    keep_registers(state, marks, waiting, registers, values, first);
     count
 }

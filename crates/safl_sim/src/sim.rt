@@ -1,7 +1,9 @@
 //! A simulator.
 
-use crate::parts::{Parts, Plan};
+use crate::numbers::Numbers;
+use crate::parts::Parts;
 use crate::phases::cycle;
+use crate::plan::Plan;
 use safl_net::{Net, Sig};
 use safl_order::Ordered;
 use safl_word::{Raw, Word};
@@ -17,9 +19,10 @@ pub struct Sim {
     ordered: Ordered,
     plan: Plan,
     marks: Vec<u64>,
+    waiting: Vec<u64>,
     dense_ticks: u8,
     state: Vec<Raw>,
-    values: Vec<Raw>,
+    values: Numbers,
 }
 
 impl Model for Sim {
@@ -29,9 +32,9 @@ impl Model for Sim {
 
     ghost use Rattle.safl_sim.specs.Cycles.{KeepsPlan};
 
-    ghost view = { λ s. record { net = s.ordered.net; state = s.state.items; values = s.values.items } };
+    ghost view = { λ s. record { net = s.ordered.net; state = s.state.items; values = s.values } };
 
-    ghost invariant = { λ s. KeepsPlan s.ordered s.plan s.marks.items s.state.items s.values.items };
+    ghost invariant = { λ s. KeepsPlan s.ordered s.plan s.marks.items s.waiting.items s.state.items s.values };
 }
 
 impl Sim {
@@ -50,6 +53,7 @@ impl Sim {
                 ordered,
                 plan: parts.plan,
                 marks: parts.marks,
+                waiting: parts.waiting,
                 dense_ticks: 0,
                 state: parts.state,
                 values: parts.values,
@@ -70,7 +74,7 @@ impl Sim {
         requires { s.0 < length self.now.net.signals }
         ensures { result ≡ record { width = width_of self.now.net s.0; bits = slice_index self.now.values s.0 } }
     {
-        Word::from_parts(self.ordered.net().width(s), self.values[s.0 as usize])
+        Word::from_parts(self.ordered.net().width(s), self.values.get(s.0 as usize))
     }
 
     /// A cycle: the values become the one valuation that fits the register state and the inputs, one word for each
@@ -84,6 +88,7 @@ impl Sim {
             &mut self.values,
             &mut self.state,
             &mut self.marks,
+            &mut self.waiting,
             &self.plan,
             inputs,
             dense,

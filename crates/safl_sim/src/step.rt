@@ -1,33 +1,49 @@
 //! Steps that are prepared for evaluation.
 
-ghost use Rattle.std.specs.Prelude.{◌≡◌, ℕ, ◌<◌, [], ◌∷◌, length, slice_index, IsSome};
-ghost use Rattle.safl_word.specs.Words.{Word};
+ghost use Rattle.std.specs.Prelude.{◌≡◌, ℕ, ◌<◌, ◌≤◌, [], ◌∷◌, length, slice_get, slice_index, Some, IsSome, true};
+ghost use Rattle.safl_word.specs.Words.{Word, pick};
 ghost use Rattle.safl_word.specs.Primitives.{result_width, apply_prim};
-ghost use Rattle.safl_net.specs.Netlist.{Netlist};
+ghost use Rattle.safl_net.specs.declared.cell.Sig.{Sig};
+ghost use Rattle.safl_net.specs.Netlist.{Netlist, width_of};
 ghost use Rattle.safl_net.specs.Rules.{IsNetlist, CellFits};
+ghost use Rattle.safl_net.specs.Making.{cell_on};
 ghost use Rattle.safl_net.specs.Stored.{cell_of};
-ghost use Rattle.safl_sim.specs.Steps.{action_number, Ready, Performs};
+ghost use Rattle.safl_sim.specs.Halves.{low_half, high_half};
+ghost use Rattle.safl_sim.specs.Steps.{action_number, Ready, Low, Performs, IsNarrow};
 
+use crate::narrow::{LOW_MAX, greatest, narrow_one, narrow_two};
+use crate::numbers::{Numbers, from_halves, high_half, low_half};
 use safl_net::{Cell, Net, Op, Sig};
 use safl_word::{Primitive, Raw, Word, apply};
 
 /// What a step does, on the numbers at places.
 #[derive(Clone, Copy)]
 pub enum Action {
-    Const(Raw),
-    Copy(u32),
-    /// A condition, what is taken where it is 1, and else.
-    Mux(u32, u32, u32),
+    /// The low and the high 64 bits of a number.
+    Const(u64, u64),
+    /// A condition, what is taken where it is 1, and else, and the bits that are turned then. A copy is the choice
+    /// between a place and itself.
+    Choose(u32, u32, u32, u64),
     /// A primitive on an operand of a width, and on two.
     One(Primitive, u8, u32),
     Two(Primitive, u8, u8, u32, u32),
 }
 
-/// A wire, and what gives it its number.
+/// Which of the steps that read a step's wire stand in the step's own word of marks, by a bit for each, and where its
+/// other readers begin.
+#[derive(Clone, Copy)]
+pub struct Near {
+    pub mask: u64,
+    pub first: usize,
+}
+
+/// A wire, and what gives it its number. A narrow step has at most 64 bits in all that it works on and gives.
 #[derive(Clone, Copy)]
 pub struct Step {
     pub wire: Sig,
+    pub narrow: bool,
     pub action: Action,
+    pub near: Near,
 }
 
 /// A register, and its next signal.
@@ -40,27 +56,55 @@ pub struct Register {
 /// The number that an action gives.
 // Both loops over the steps call it: without this it is inlined in neither.
 #[inline(always)]
-pub fn act(action: &Action, values: &[Raw]) -> Raw
+pub fn act(action: &Action, values: &Numbers) -> Raw
     requires { Ready values.now action.now }
     ensures { result ≡ action_number (slice_index values.now) action.now }
 {
     match *action {
-        Action::Const(bits) => bits,
-        Action::Copy(a) => values[a as usize],
-        Action::Mux(c, a, b) => {
-            if values[c as usize] == 1 {
-                values[a as usize]
-            } else {
-                values[b as usize]
-            }
+        Action::Const(low, high) => from_halves(low, high),
+        Action::Choose(c, a, b, turned) => {
+            let chosen = choose(values.get(c as usize), a, b);
+            Raw::from(turned) ^ values.get(chosen as usize)
         }
-        Action::One(p, width, a) => apply_one(p, Word::from_parts(width, values[a as usize])),
+        Action::One(p, width, a) => apply_one(p, Word::from_parts(width, values.get(a as usize))),
         Action::Two(p, width, other, a, b) => apply_two(
             p,
-            Word::from_parts(width, values[a as usize]),
-            Word::from_parts(other, values[b as usize]),
+            Word::from_parts(width, values.get(a as usize)),
+            Word::from_parts(other, values.get(b as usize)),
         ),
     }
+}
+
+/// The same, where all that it works on and gives has at most 64 bits.
+#[inline(always)]
+pub fn act_low(action: &Action, values: &Numbers) -> u64
+    requires ready { Ready values.now action.now }
+    requires low { Low values.now action.now }
+    ensures { result ≡ action_number (slice_index values.now) action.now }
+{
+    match *action {
+        Action::Const(low, _) => low,
+        Action::Choose(c, a, b, turned) => {
+            let chosen = choose(Raw::from(values.get_low(c as usize)), a, b);
+            turned ^ values.get_low(chosen as usize)
+        }
+        Action::One(p, width, a) => narrow_one(p, width, values.get_low(a as usize)),
+        Action::Two(p, width, other, a, b) => narrow_two(
+            p,
+            width,
+            other,
+            values.get_low(a as usize),
+            values.get_low(b as usize),
+        ),
+    }
+}
+
+// The first place where the condition is 1, and else the second: so one number is read and no jump is guessed.
+#[inline(always)]
+fn choose(condition: Raw, a: u32, b: u32) -> u32
+    ensures { result ≡ pick condition a b }
+{
+    if condition == 1 { a } else { b }
 }
 
 fn apply_one(p: Primitive, a: Word) -> Raw
@@ -86,24 +130,72 @@ pub fn action_of(net: &Net, cell: &Cell) -> Action
     match cell.operands.as_slice() {
         [] => constant(&cell.op),
         [a] => match cell.op {
-            Op::Apply(p) => Action::One(p, net.width(*a), a.0),
-            _ => Action::Copy(a.0),
+            Op::Apply(p) => single(net, p, *a),
+            _ => Action::Choose(a.0, a.0, a.0, 0),
         },
         [a, b] => match cell.op {
-            Op::Apply(p) => Action::Two(p, net.width(*a), net.width(*b), a.0, b.0),
+            Op::Apply(p) => pair(net, p, *a, *b),
             _ => unreachable!(),
         },
-        [c, a, b] => Action::Mux(c.0, a.0, b.0),
+        [c, a, b] => Action::Choose(c.0, a.0, b.0, 0),
         _ => unreachable!(),
+    }
+}
+
+// The action of a primitive on an operand. A complement is a copy with all bits turned.
+fn single(net: &Net, p: Primitive, a: Sig) -> Action
+    requires netlist { IsNetlist net.now }
+    requires fits { (width : ℕ) × CellFits net.now width (cell_on (Op.Apply p) (a ∷ [])) }
+    ensures { Performs net.now (cell_on (Op.Apply p) (a ∷ [])) result }
+{
+    let width = net.width(a);
+    match p {
+        Primitive::Not if width <= LOW_MAX => Action::Choose(a.0, a.0, a.0, greatest(width)),
+        _ => Action::One(p, width, a.0),
+    }
+}
+
+// The action of a primitive on two operands. "And" and "or" of single bits are choices, as most steps are.
+fn pair(net: &Net, p: Primitive, a: Sig, b: Sig) -> Action
+    requires netlist { IsNetlist net.now }
+    requires fits { (width : ℕ) × CellFits net.now width (cell_on (Op.Apply p) (a ∷ b ∷ [])) }
+    ensures { Performs net.now (cell_on (Op.Apply p) (a ∷ b ∷ [])) result }
+{
+    let width = net.width(a);
+    match p {
+        Primitive::And if width == 1 => Action::Choose(a.0, b.0, a.0, 0),
+        Primitive::Or if width == 1 => Action::Choose(a.0, a.0, b.0, 0),
+        _ => Action::Two(p, width, net.width(b), a.0, b.0),
     }
 }
 
 fn constant(op: &Op) -> Action
     requires { (w : Word) × (op.now ≡ Op.Const w) }
-    ensures { (w : Word) → op.now ≡ Op.Const w → result ≡ Action.Const w.bits }
+    ensures { (w : Word) → op.now ≡ Op.Const w → result ≡ Action.Const (low_half w.bits) (high_half w.bits) }
 {
     match op {
-        Op::Const(w) => Action::Const(w.bits()),
+        Op::Const(w) => Action::Const(low_half(w.bits()), high_half(w.bits())),
         _ => unreachable!(),
     }
+}
+
+/// Whether a wire has at most 64 bits, and so have the operands of its cell.
+pub fn is_narrow(net: &Net, wire: Sig, cell: &Cell) -> bool
+    requires known { wire.0 < length net.now.signals }
+    requires fits { (width : ℕ) × CellFits net.now width (cell_of cell.now) }
+    ensures { result ≡ true → IsNarrow net.now wire.0 (cell_of cell.now) }
+{
+    are_narrow(net, cell.operands.as_slice()) && net.width(wire) <= LOW_MAX
+}
+
+fn are_narrow(net: &Net, signals: &[Sig]) -> bool
+    requires { (i : ℕ) (t : Sig) → slice_get signals.now i ≡ Some t → t.0 < length net.now.signals }
+    ensures { result ≡ true → (i : ℕ) (t : Sig) → slice_get signals.now i ≡ Some t → width_of net.now t.0 ≤ 64 }
+{
+    'signals: for i in 0..signals.len() {
+        if net.width(signals[i]) > LOW_MAX {
+            return false;
+        }
+    }
+    true
 }

@@ -1,32 +1,27 @@
-use Rattle.std.proofs.Common.{inl, inr, refl, sym, ap, subst, ◌∙◌, arith}
-use Rattle.safl_sim.specs.Marks.{marked}
-use Rattle.safl_sim.specs.Readers.{Inside}
+use Rattle.std.proofs.Common.{◌+◌, inl, inr, refl, ◌∙◌, arith}
+use Rattle.safl_sim.specs.Marks.{first_register}
 use Rattle.safl_sim.proofs.MarkLemmas.{none_in}
-use Rattle.safl_sim.proofs.Written.{same_or_not, lower_or_same}
+use Rattle.safl_sim.proofs.Written.{lower_or_not}
 use Rattle.safl_sim.proofs.parts.mark_all.Goals as goal
 
-pub steps-init : goal.steps-init
-steps-init c = record {
-  long = refl;
-  inside = λ k e. absurd (let a = none_in c.args.marks.now _ (c.requires.none _) k refl in omega (arith, a, e));
-  all = λ k h. absurd (omega (arith, h));
-}
-
-pub steps-preserved : goal.steps-preserved
-steps-preserved c = record {
-  long = c.mark.ensures.long ∙ c.steps.invariant.long;
-  inside = λ k e. elim (same_or_not k c.steps.i) [
-    | inl q ↦ omega (arith, q)
-    | inr q ↦ let a = c.steps.invariant.inside k (sym (c.mark.ensures.others k q) ∙ e) in omega (arith, a)
-  ];
-  all = λ k h. elim (same_or_not k c.steps.i) [
-    | inl q ↦ ap (marked c.mark.new.marks) q ∙ c.mark.ensures.here
-    | inr q ↦ c.mark.ensures.others k q ∙ (elim (lower_or_same k c.steps.i h) [ inl l ↦ c.steps.invariant.all k l | inr s ↦ absurd (q s) ])
-  ];
-}
-
 pub returns-clause-inside : goal.returns-clause-inside
-returns-clause-inside c = subst (λ n. Inside n c.steps.marks) (let a = c.steps-test.false in let b = c.steps.auto.i-end in omega (arith, a, b)) c.steps.invariant.inside
+returns-clause-inside c =
+    let a = c.mark_range.ensures in
+    let b = c.mark_range-2.ensures in
+    let f = c.word_count-words.ensures in
+    record {
+      step = λ k e l. elim (lower_or_not k c.args.steps) [
+        | inl h ↦ h
+        | inr h ↦ absurd (let z = b.below k (omega (arith, l, f)) ∙ a.above k h ∙ none_in c.args.marks.now _ (c.requires.none _) k refl in omega (arith, z, e))
+      ];
+      register = λ k e. elim (lower_or_not k (first_register c.args.steps + c.args.registers)) [
+        | inl h ↦ h
+        | inr h ↦ absurd (let z = b.above k (omega (arith, h, f)) ∙ a.above k (omega (arith, h)) ∙ none_in c.args.marks.now _ (c.requires.none _) k refl in omega (arith, z, e))
+      ];
+    }
 
-pub returns-clause-all : goal.returns-clause-all
-returns-clause-all c = λ k h. c.steps.invariant.all k (let a = c.steps-test.false in omega (arith, a, h))
+pub returns-clause-step : goal.returns-clause-step
+returns-clause-step c = λ k h. c.mark_range-2.ensures.below k (let f = c.word_count-words.ensures in omega (arith, h, f)) ∙ c.mark_range.ensures.all k (omega arith) h
+
+pub returns-clause-register : goal.returns-clause-register
+returns-clause-register c = λ k h. c.mark_range-2.ensures.all (first_register c.args.steps + k) (let f = c.word_count-words.ensures in omega (arith, f)) (let f = c.word_count-words.ensures in omega (arith, h, f))

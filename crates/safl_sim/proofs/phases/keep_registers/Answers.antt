@@ -1,12 +1,23 @@
-use Rattle.std.proofs.Common.{◌≡◌, Some, get_or, slice_get}
-use Rattle.safl_sim.specs.declared.step.Register.{Register}
-use Rattle.safl_sim.proofs.Written.{get_at, kept_step}
+use Rattle.std.proofs.Common.{◌*◌, subst, arith}
+use Rattle.safl_sim.specs.Writes.{KeepsOn}
 use Rattle.safl_sim.proofs.phases.keep_registers.Goals as goal
 
-pub registers-preserved : goal.registers-preserved
-registers-preserved c =
-    let regs = c.args.registers.now in
-    let i = c.registers.i in
-    let none : Register = record { signal = record { 0 = 0 }; next = record { 0 = 0 } } in
-    let here : slice_get regs i ≡ Some (get_or regs i none) = get_at regs i none c.registers-test.true in
-    kept_step regs c.args.values.now c.args.state.now c.registers.state i (get_or regs i none) c.registers.invariant here (c.requires.within i (get_or regs i none) here) c.requires.one_next
+pub keep_word-requires-clause-within : goal.keep_word-requires-clause-within
+keep_word-requires-clause-within c = λ k r e. (let a = c.requires.within k r e in let b = c.words.invariant.state in omega (arith, a, b))
+
+pub keep_word-requires-clause-keeps : goal.keep_word-requires-clause-keeps
+keep_word-requires-clause-keeps c = let r = c.requires.keeps in (r.0, r.1, c.words.invariant.keeps r.0 r.1 r.2)
+
+pub words-preserved : goal.words-preserved
+words-preserved c = record {
+  state = (let a = c.words.invariant.state in let b = c.keep_word.auto.state in omega (arith, a, b));
+  marks = (let a = c.words.invariant.marks in let b = c.keep_word.auto.marks in omega (arith, a, b));
+  waiting = (let a = c.words.invariant.waiting in let b = c.keep_word.auto.waiting in omega (arith, a, b));
+  keeps = λ start was w. c.keep_word.ensures start was (c.words.invariant.keeps start was w);
+}
+
+pub returns : goal.returns
+returns c = λ start was w.
+    subst (λ k. KeepsOn (c.args.first * 64) c.args.registers.now c.args.values.now (k * 64) start was c.words.state c.words.marks c.words.waiting)
+    (let a = c.words-test.false in let b = c.words.auto.w-end in let d = c.words.invariant.marks in let e = c.requires.first in omega (arith, a, b, d, e))
+    (c.words.invariant.keeps start was w)

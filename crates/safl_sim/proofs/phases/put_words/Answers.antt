@@ -22,5 +22,5 @@ words-preserved c =
           (subst (λ (x : ℕ). HasPut places c.args.words.now (i + 1) c.args.values.now (set c.words.values (get_or places i none).0 x)) (sym c.bits.ensures.value)
           (put_step places c.args.words.now c.args.values.now c.words.values i (get_or places i none) c.index-words-i.result c.words.invariant.put here word c.bits.ensures.word (c.requires.within i (get_or places i none) here) c.requires.once));
       long = c.give.ensures.long ∙ c.words.invariant.long;
-      goes = λ n ws away. goes_step n ws c.args.starts.now c.args.readers.now (get_or places i none).0 _ c.args.values.now c.words.values c.give.new.values c.args.marks.now c.words.marks c.give.new.marks (c.words.invariant.goes n ws away) (away i (get_or places i none) here) c.give.ensures;
+      goes = λ n ws regs held away. goes_step n ws regs held c.args.starts.now c.args.readers.now (get_or places i none).0 _ c.args.values.now c.words.values c.give.new.values c.args.marks.now c.words.marks c.give.new.marks (c.words.invariant.goes n ws regs held away) (away i (get_or places i none) here) c.give.ensures;
     }

@@ -1,19 +1,41 @@
-use Rattle.std.proofs.Common.{◌*◌, subst, ◌∙◌, arith}
+use Rattle.std.proofs.Common.{subst, ◌∙◌, arith}
 use Rattle.safl_sim.specs.Steps.{Runs}
 use Rattle.safl_sim.proofs.phases.run_marked.Goals as goal
 
+pub word_count-end-requires : goal.word_count-end-requires
+word_count-end-requires c =
+    let r = c.requires.runs in
+    let a = r.4.room in
+    let b = c.requires.few in
+    omega (arith, a, b)
+
+pub run_word-count-requires-clause-within : goal.run_word-count-requires-clause-within
+run_word-count-requires-clause-within c =
+    let r = c.requires.runs in
+    let a = r.4.room in
+    let b = c.words.invariant.long in
+    let d = c.words-test.true in
+    let e = c.word_count-end.ensures in
+    omega (arith, a, b, d, e)
+
+pub run_word-count-requires-clause-steps : goal.run_word-count-requires-clause-steps
+run_word-count-requires-clause-steps c =
+    let d = c.words-test.true in
+    let e = c.word_count-end.ensures in
+    omega (arith, d, e)
+
 pub run_word-count-requires-clause-runs : goal.run_word-count-requires-clause-runs
-run_word-count-requires-clause-runs c = let r = c.requires.runs in (r.0, r.1, c.words.invariant.runs r.0 r.1 r.2)
+run_word-count-requires-clause-runs c = let r = c.requires.runs in (r.0, r.1, r.2, r.3, c.words.invariant.runs r.0 r.1 r.2 r.3 r.4)
 
 pub words-preserved : goal.words-preserved
 words-preserved c = record {
   count = (let a = c.run_word-count.ensures.count in let b = c.words.invariant.count in omega (arith, a, b));
   long = c.run_word-count.ensures.long ∙ c.words.invariant.long;
-  runs = λ o start w. c.run_word-count.ensures.runs o start (c.words.invariant.runs o start w);
+  runs = λ o regs now start w. c.run_word-count.ensures.runs o regs now start (c.words.invariant.runs o regs now start w);
 }
 
 pub returns-clause-runs : goal.returns-clause-runs
-returns-clause-runs c = λ o start w.
-    subst (λ k. Runs o c.args.steps.now c.args.starts.now c.args.readers.now start (k * 64) c.words.values c.words.marks)
-    (let a = c.words-test.false in let b = c.words.auto.w-end in let d = c.words.invariant.long in omega (arith, a, b, d))
-    (c.words.invariant.runs o start w)
+returns-clause-runs c = λ o regs now start w.
+    subst (λ k. Runs o c.args.steps.now regs now c.args.starts.now c.args.readers.now start k c.words.values c.words.marks)
+    (let a = c.words-test.false in let b = c.words.auto.w-end in let d = c.word_count-end.ensures in omega (arith, a, b, d))
+    (c.words.invariant.runs o regs now start w)

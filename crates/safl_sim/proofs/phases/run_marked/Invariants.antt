@@ -1,5 +1,6 @@
 use Rattle.std.proofs.Common.{◌≡◌, ℕ, ◌*◌, ◌≤◌, List, length}
 use Rattle.safl_order.specs.Order.{Order}
+use Rattle.safl_sim.specs.declared.step.Register.{Register}
 use Rattle.safl_sim.specs.Steps.{Runs}
 use Rattle.safl_sim.proofs.phases.run_marked.Given as goal
 
@@ -7,5 +8,5 @@ abbrev pub invariant-words : goal.invariant-words
 invariant-words l = record {
   count : l.count ≤ l.w * 64;
   long : length l.marks ≡ length l.initial.marks;
-  runs : (o : Order) (start : List ℕ) → Runs o l.steps l.starts l.readers start 0 l.initial.values l.initial.marks → Runs o l.steps l.starts l.readers start (l.w * 64) l.values l.marks;
+  runs : (o : Order) (regs : List Register) (now start : List ℕ) → Runs o l.steps regs now l.starts l.readers start 0 l.initial.values l.initial.marks → Runs o l.steps regs now l.starts l.readers start (l.w * 64) l.values l.marks;
 }

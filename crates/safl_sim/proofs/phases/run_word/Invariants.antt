@@ -1,10 +1,12 @@
 use Rattle.std.proofs.Common.{◌≡◌, ℕ, ◌+◌, ◌*◌, List, length}
 use Rattle.safl_order.specs.Order.{Order}
+use Rattle.safl_sim.specs.declared.step.Register.{Register}
+use Rattle.safl_sim.specs.Marks.{holding}
 use Rattle.safl_sim.specs.Steps.{Runs}
 use Rattle.safl_sim.proofs.phases.run_word.Given as goal
 
 abbrev pub invariant-steps : goal.invariant-steps
 invariant-steps l = record {
   long : length l.marks ≡ length l.initial.marks;
-  runs : (o : Order) (start : List ℕ) → Runs o l.steps l.starts l.readers start (l.word * 64) l.initial.values l.initial.marks → Runs o l.steps l.starts l.readers start (l.word * 64 + l.n) l.values l.marks;
+  runs : (o : Order) (regs : List Register) (now start : List ℕ) → Runs o l.steps regs now l.starts l.readers start (l.word * 64) l.initial.values l.initial.marks → Runs o l.steps regs now l.starts l.readers start (l.word * 64 + l.n) l.values (holding l.marks l.word l.held);
 }

@@ -1,24 +1,37 @@
-use Rattle.std.proofs.Common.{◌≡◌, ◌+◌, ℕ, List, Some, get_or, slice_get, sym, subst, ◌∙◌}
-use Rattle.safl_sim.specs.declared.step.Register.{Register}
-use Rattle.safl_sim.specs.Writes.{HasShown}
-use Rattle.safl_sim.proofs.Written.{get_at, shown_step}
-use Rattle.safl_sim.proofs.Updates.{goes_step, lists_same}
+use Rattle.std.proofs.Common.{◌*◌, refl, ◌∙◌, arith}
+use Rattle.safl_sim.proofs.Registers.{shows_start, none_waits, all_shown}
+use Rattle.safl_sim.proofs.Updates.{lists_same}
 use Rattle.safl_sim.proofs.phases.show_registers.Goals as goal
 
-abbrev none : Register
-none = record { signal = record { 0 = 0 }; next = record { 0 = 0 } }
+pub words-init : goal.words-init
+words-init c = record {
+  wide = refl;
+  long = refl;
+  shows = shows_start c.args.plan.now.registers.items c.args.state.now c.args.values.now c.args.waiting.now c.requires.waits;
+  goes = λ n ws held away r h. h;
+}
 
-pub give-requires-clause-lists : goal.give-requires-clause-lists
-give-requires-clause-lists c = lists_same c.args.starts.now c.args.readers.now _ _ _ _ c.registers.invariant.shown.long c.registers.invariant.long c.requires.lists
+pub show_word-requires-clause-lists : goal.show_word-requires-clause-lists
+show_word-requires-clause-lists c = lists_same c.args.plan.now.starts.items c.args.plan.now.readers.items _ _ _ _ c.words.invariant.wide c.words.invariant.long c.requires.lists
 
-pub registers-preserved : goal.registers-preserved
-registers-preserved c =
-    let regs = c.args.registers.now in
-    let i = c.registers.i in
-    let here : slice_get regs i ≡ Some (get_or regs i none) = get_at regs i none c.registers-test.true in
-    record {
-      shown = subst (λ (l : List ℕ). HasShown regs c.args.state.now (i + 1) c.args.values.now l) (sym c.give.ensures.is)
-          (shown_step regs c.args.state.now c.args.values.now c.registers.values i (get_or regs i none) c.registers.invariant.shown here (c.requires.within i (get_or regs i none) here));
-      long = c.give.ensures.long ∙ c.registers.invariant.long;
-      goes = λ n ws away. goes_step n ws c.args.starts.now c.args.readers.now (get_or regs i none).signal.0 _ c.args.values.now c.registers.values c.give.new.values c.args.marks.now c.registers.marks c.give.new.marks (c.registers.invariant.goes n ws away) (away i (get_or regs i none) here) c.give.ensures;
-    }
+pub show_word-requires-clause-within : goal.show_word-requires-clause-within
+show_word-requires-clause-within c = λ k r e. (let a = c.requires.within k r e in let b = c.words.invariant.wide in omega (arith, a, b))
+
+pub show_word-requires-clause-shows : goal.show_word-requires-clause-shows
+show_word-requires-clause-shows c = (c.args.values.now, c.words.invariant.shows)
+
+pub words-preserved : goal.words-preserved
+words-preserved c = record {
+  wide = (c.show_word.ensures.shows c.args.values.now c.words.invariant.shows).long;
+  long = c.show_word.ensures.long ∙ c.words.invariant.long;
+  shows = c.show_word.ensures.shows c.args.values.now c.words.invariant.shows;
+  goes = λ n ws held away r h. c.show_word.ensures.goes n ws held away r (c.words.invariant.goes n ws held away r h);
+}
+
+pub returns-clause-none : goal.returns-clause-none
+returns-clause-none c = none_waits c.args.plan.now.registers.items c.args.state.now (c.words.w * 64) c.args.values.now c.words.values c.words.waiting c.words.invariant.shows
+    (let a = c.words-test.false in let b = c.requires.waits.room in omega (arith, a, b))
+
+pub returns-clause-shown : goal.returns-clause-shown
+returns-clause-shown c = all_shown c.args.plan.now.registers.items c.args.state.now (c.words.w * 64) c.args.values.now c.words.values c.words.waiting c.words.invariant.shows
+    (let a = c.words-test.false in let b = c.requires.waits.room in omega (arith, a, b))

@@ -1,59 +1,114 @@
-use Rattle.std.proofs.Common.{◌≡◌, ◌+◌, ◌/◌, ℕ, List, length, sym, ap, subst, ◌∙◌, arith}
+use Rattle.std.proofs.Common.{◌≡◌, ◌+◌, ◌/◌, ℕ, List, length, slice_get, sym, ap, subst, ◌∙◌, arith}
 use Rattle.safl_net.specs.Netlist.{Netlist}
 use Rattle.safl_net.specs.Making.{numbers}
 use Rattle.safl_net.specs.Rules.{IsNetlist}
 use Rattle.safl_order.specs.Order.{IsOrder}
 use Rattle.safl_sim.specs.Places.{inputs_of, resets}
+use Rattle.safl_sim.specs.declared.step.Register.{Register}
+use Rattle.safl_sim.specs.declared.step.Step.{Step}
+use Rattle.safl_sim.specs.Marks.{marked, first_register}
 use Rattle.safl_sim.specs.Readers.{Lists, AreReaders, Inside}
-use Rattle.safl_sim.specs.Steps.{AreSteps, AreRegisters}
+use Rattle.safl_sim.specs.Steps.{AreSteps, AreRegisters, Keeps}
 use Rattle.safl_sim.proofs.Builds.{keeps_new, numbers_length}
 use Rattle.safl_sim.proofs.Few.{few_wires}
+use Rattle.safl_sim.proofs.Nearing.{steps_known}
+use Rattle.std.proofs.lemmas.List.{with_items_is}
 use Rattle.safl_sim.proofs.parts.Parts.new.Goals as goal
 
-pub all_marked-requires : goal.all_marked-requires
-all_marked-requires c =
-    let a = few_wires c.args.ordered.now.net c.args.ordered.now.wires (subst IsNetlist c.net-net.ensures.net c.signals-count.ensures.netlist) c.wires.ensures.order in
-    let b = ap length c.wires-2.ensures.wires in
-    let d = numbers_length c.wires-2.result.now in
+pub all_marked-requires-clause-few : goal.all_marked-requires-clause-few
+all_marked-requires-clause-few c =
+    let a = few_wires c.args.ordered.now.net c.args.ordered.now.wires (subst IsNetlist c.net-net.ensures.net c.signals-count.ensures.netlist) c.wires-2.ensures.order in
+    let b = ap length c.wires-3.ensures.wires in
+    let d = numbers_length c.wires-3.result.now in
+    omega (arith, a, b, d)
+
+pub all_marked-requires-clause-some : goal.all_marked-requires-clause-some
+all_marked-requires-clause-some c =
+    let a = c.in_ok-registers.ensures.few in
+    let b = c.signals-count.ensures.netlist.few in
+    let d = ap length c.as_slice-kept.ensures.value in
+    omega (arith, a, b, d)
+
+pub none_marked-requires : goal.none_marked-requires
+none_marked-requires c =
+    let a = c.in_ok-registers.ensures.few in
+    let b = c.signals-count.ensures.netlist.few in
+    let d = ap length c.as_slice-kept.ensures.value in
     omega (arith, a, b, d)
 
 pub table_of-requires-clause-few : goal.table_of-requires-clause-few
 table_of-requires-clause-few c =
     let a = few_wires c.args.ordered.now.net c.args.ordered.now.wires (subst IsNetlist c.net-net.ensures.net c.signals-count.ensures.netlist) c.wires.ensures.order in
-    let b = ap length c.wires-3.ensures.wires in
-    let d = numbers_length c.wires-3.result.now in
+    let b = ap length c.wires.ensures.wires in
+    let d = numbers_length c.wires.result.now in
+    omega (arith, a, b, d)
+
+pub table_of-requires-clause-some : goal.table_of-requires-clause-some
+table_of-requires-clause-some c =
+    let a = c.in_ok-registers.ensures.few in
+    let b = c.signals-count.ensures.netlist.few in
+    let d = ap length c.as_slice-kept.ensures.value in
     omega (arith, a, b, d)
 
 pub table_of-requires-clause-order : goal.table_of-requires-clause-order
 table_of-requires-clause-order c =
-    subst (λ (m : Netlist). IsOrder m (numbers c.wires-3.result.now)) (sym c.net-net.ensures.net)
-    (subst (λ (x : List ℕ). IsOrder c.args.ordered.now.net x) (sym c.wires-3.ensures.wires) c.wires-3.ensures.order)
+    subst (λ (m : Netlist). IsOrder m (numbers c.wires.result.now)) (sym c.net-net.ensures.net)
+    (subst (λ (x : List ℕ). IsOrder c.args.ordered.now.net x) (sym c.wires.ensures.wires) c.wires.ensures.order)
+
+pub table_of-requires-clause-registers : goal.table_of-requires-clause-registers
+table_of-requires-clause-registers c = subst (λ (l : List Register). AreRegisters c.net-net.result.now (length c.net-net.result.now.signals) l) (sym c.as_slice-kept.ensures.value) c.in_ok-registers.ensures
 
 pub returns-clause-keeps : goal.returns-clause-keeps
 returns-clause-keeps c =
     let o = c.args.ordered.now in
     let e = c.net-net.ensures.net in
-    let ws : List ℕ = numbers c.wires.result.now in
+    let ws : List ℕ = numbers c.wires-2.result.now in
     let made = subst IsNetlist e c.signals-count.ensures.netlist in
-    let many : length c.wires-2.result.now ≡ length o.wires = sym (numbers_length c.wires-2.result.now) ∙ ap length c.wires-2.ensures.wires in
-    let many3 : length c.wires-3.result.now ≡ length o.wires = sym (numbers_length c.wires-3.result.now) ∙ ap length c.wires-3.ensures.wires in
+    let many : length c.wires-3.result.now ≡ length o.wires = sym (numbers_length c.wires-3.result.now) ∙ ap length c.wires-3.ensures.wires in
+    let many3 : length c.wires.result.now ≡ length o.wires = sym (numbers_length c.wires.result.now) ∙ ap length c.wires.ensures.wires in
+    let regs = c.in_ok-registers.registers.items in
+    let kept = c.as_slice-kept.ensures.value in
     let starts = c.in_ok-table.table.starts.items in
     let readers = c.in_ok-table.table.readers.items in
     let marks = c.in_ok-marks.marks.items in
-    keeps_new o c.in_ok-steps.steps.items c.in_ok-inputs_of.field-0.items c.in_ok-registers_of.field-0.items starts readers marks c.in_ok-resets.field-0.items c.in_ok-resets-2.field-0.items
+    let waiting = c.in_ok-waiting.waiting.items in
+    let noted = with_items_is c.in_ok-steps.steps c.note_near.new.steps (let a = c.note_near.ensures.long in let b = c.deref_mut.ensures.len in let d = c.in_ok-steps.steps.ok.0 in omega (arith, a, b, d)) in
+    subst (λ (l : List Step). Keeps o l c.in_ok-inputs_of.field-0.items regs starts readers marks waiting c.in_ok-state.state.items c.in_ok-values.values) (sym noted)
+    (keeps_new o c.note_near.new.steps c.in_ok-inputs_of.field-0.items regs starts readers marks waiting c.in_ok-state.state.items c.in_ok-values.values
     made
-    c.wires.ensures.order
-    (subst (λ (x : List ℕ). AreSteps o.net x c.in_ok-steps.steps.items) c.wires.ensures.wires
-    (subst (λ (m : Netlist). AreSteps m ws c.in_ok-steps.steps.items) e c.in_ok-steps.ensures))
+    c.wires-2.ensures.order
+    (c.note_near.ensures.steps o.net o.wires (subst (λ (l : List Step). AreSteps o.net o.wires l) (sym c.deref_mut.ensures.value)
+    (subst (λ (x : List ℕ). AreSteps o.net x c.in_ok-steps.steps.items) c.wires-2.ensures.wires
+    (subst (λ (m : Netlist). AreSteps m ws c.in_ok-steps.steps.items) e c.in_ok-steps.ensures))))
     (c.in_ok-inputs_of.ensures ∙ ap inputs_of e)
-    (subst (λ (m : Netlist). AreRegisters m (length m.signals) c.in_ok-registers_of.field-0.items) e c.in_ok-registers_of.ensures)
-    (subst (λ (k : ℕ). Lists starts readers (length o.net.signals) ((k + 63) / 64)) many3
-    (subst (λ (m : Netlist). Lists starts readers (length m.signals) ((length c.wires-3.result.now + 63) / 64)) e c.in_ok-table.ensures.lists))
-    (subst (λ (x : List ℕ). AreReaders o.net x starts readers) c.wires-3.ensures.wires
-    (subst (λ (m : Netlist). AreReaders m (numbers c.wires-3.result.now) starts readers) e c.in_ok-table.ensures.readers))
-    (subst (λ (k : ℕ). length marks ≡ (k + 63) / 64) many c.in_ok-marks.ensures.long)
-    (few_wires o.net o.wires made c.wires.ensures.order)
-    (subst (λ (k : ℕ). Inside k marks) many c.in_ok-marks.ensures.inside)
-    (λ k h. c.in_ok-marks.ensures.all k (omega (arith, h, many)))
-    (c.in_ok-resets.ensures ∙ ap resets e)
-    (c.in_ok-resets-2.ensures ∙ ap resets e)
+    (subst (λ (m : Netlist). AreRegisters m (length m.signals) regs) e c.in_ok-registers.ensures)
+    (subst (λ (k : ℕ). Lists starts readers (length o.net.signals) ((first_register k + length regs + 63) / 64)) many3
+    (subst (λ (l : List Register). Lists starts readers (length o.net.signals) ((first_register (length c.wires.result.now) + length l + 63) / 64)) kept
+    (subst (λ (m : Netlist). Lists starts readers (length m.signals) ((first_register (length c.wires.result.now) + length c.as_slice-kept.result.now + 63) / 64)) e c.in_ok-table.ensures.lists)))
+    (subst (λ (x : List ℕ). AreReaders o.net x regs starts readers) c.wires.ensures.wires
+    (subst (λ (l : List Register). AreReaders o.net (numbers c.wires.result.now) l starts readers) kept
+    (subst (λ (m : Netlist). AreReaders m (numbers c.wires.result.now) c.as_slice-kept.result.now starts readers) e c.in_ok-table.ensures.readers)))
+    (let a = c.in_ok-marks.ensures.long in let b = ap length kept in omega (arith, a, b, many))
+    (few_wires o.net o.wires made c.wires-2.ensures.order)
+    (let a = c.in_ok-registers.ensures.few in let b = c.signals-count.ensures.netlist.few in omega (arith, a, b))
+    (subst (λ (k : ℕ). Inside k (length regs) marks) many (subst (λ (l : List Register). Inside (length c.wires-3.result.now) (length l) marks) kept c.in_ok-marks.ensures.inside))
+    (λ k h. c.in_ok-marks.ensures.step k (omega (arith, h, many)))
+    (λ k h. subst (λ (x : ℕ). marked marks (first_register x + k) ≡ 1) many (c.in_ok-marks.ensures.register k (let b = ap length kept in omega (arith, h, b))))
+    (let a = c.in_ok-waiting.ensures.long in let b = ap length kept in omega (arith, a, b))
+    c.in_ok-waiting.ensures.none
+    (c.in_ok-state.ensures ∙ ap resets e)
+    (c.in_ok-values.ensures ∙ c.deref-3.ensures.value ∙ c.in_ok-state.ensures ∙ ap resets e))
+
+pub note_near-requires : goal.note_near-requires
+note_near-requires c =
+    let places = length c.net-net.result.now.signals in
+    let words = (first_register (length c.wires.result.now) + length c.as_slice-kept.result.now + 63) / 64 in
+    record {
+      lists = (
+        places,
+        words,
+        subst (λ (l : List ℕ). Lists l c.deref-2.result.now places words) (sym c.deref.ensures.value)
+            (subst (λ (l : List ℕ). Lists c.in_ok-table.table.starts.items l places words) (sym c.deref-2.ensures.value) c.in_ok-table.ensures.lists),
+        λ i s e. steps_known c.net-net.result.now (numbers c.wires-2.result.now) c.in_ok-steps.steps.items c.in_ok-steps.ensures i s (ap (λ (l : List Step). slice_get l i) (sym c.deref_mut.ensures.value) ∙ e),
+      );
+    }

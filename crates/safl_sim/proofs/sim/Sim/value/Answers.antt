@@ -1,5 +1,4 @@
 use Rattle.std.proofs.Common.{◌≡◌, ℕ, ◌<◌, length, sym, ap, subst, ◌∙◌, arith}
-use Rattle.std.proofs.lemmas.List.{get_or_read}
 use Rattle.safl_word.specs.Words.{IsWord}
 use Rattle.safl_net.specs.Netlist.{Netlist, width_of}
 use Rattle.safl_sim.specs.Simulation.{Simulation}
@@ -12,7 +11,15 @@ from_parts-requires c =
     let s = c.self.inside in
     let net : s.ordered.net ≡ c.args.self.now.net = ap (λ (x : Simulation). x.net) c.self.view_is in
     let here : c.args.s.0 < length s.ordered.net.signals = (let a = ap (λ (n : Netlist). length n.signals) net in let b = c.requires in omega (arith, a, b)) in
-    let read = get_or_read s.values.items c.args.s.0 c.index.result.now (let a = c.self.invariant.long in omega (arith, a, here)) c.index.ensures 0 in
-    subst (λ (x : ℕ). IsWord (word_of c.width.result x)) (sym read)
-    (signal_word s.ordered.net s.values.items c.args.s.0 c.width.result c.self.invariant.made c.self.invariant.values here
+    subst (λ (x : ℕ). IsWord (word_of c.width.result x)) (sym c.get.ensures)
+    (signal_word s.ordered.net s.values c.args.s.0 c.width.result c.self.invariant.made c.self.invariant.values here
     (c.width.ensures ∙ ap (λ (n : Netlist). width_of n c.args.s.0) c.net.ensures.net))
+
+pub get-requires : goal.get-requires
+get-requires c =
+    let s = c.self.inside in
+    let net : s.ordered.net ≡ c.args.self.now.net = ap (λ (x : Simulation). x.net) c.self.view_is in
+    let a = c.self.invariant.long in
+    let b = ap (λ (n : Netlist). length n.signals) net in
+    let d = c.requires in
+    omega (arith, a, b, d)

@@ -1,5 +1,5 @@
 use Rattle.std.proofs.Common.{◌≡◌, ℕ, length, slice_index}
-use Rattle.safl_sim.proofs.parts.all_marked.Given as goal
+use Rattle.safl_sim.proofs.parts.none_marked.Given as goal
 
 abbrev pub invariant-words : goal.invariant-words
 invariant-words l = record {

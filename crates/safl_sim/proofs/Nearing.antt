@@ -1,0 +1,254 @@
+-- Readers that are near, and marks that are held apart.
+use Rattle.std.proofs.Common.{◌≡◌, ◌⊎◌, inl, inr, ℕ, zero, suc, ◌+◌, ◌*◌, ◌/◌, ◌%◌, ◌^◌, ◌<◌, ◌≤◌, List, [], ◌∷◌, length, set, Some, slice_get, slice_index, refl, sym, ap, subst, ◌∙◌, arith}
+use Rattle.std.specs.Prelude.{max}
+use Rattle.std.specs.Int.{w64, bit_at, bit_not, trailing_zeros}
+use Rattle.std.specs.Int.RustNames.{bit_or}
+use lib.Bits.{bit_and}
+use Rattle.std.proofs.lemmas.Nat.{or_comm}
+use Rattle.std.proofs.lemmas.Nat.Bits.{bit_at-zero, bit_at-lt, bit_at_or, bit_at_set_same, bit_at_set_other, same_from_bits}
+use Rattle.safl_net.specs.Netlist.{Netlist}
+use Rattle.safl_net.proofs.Naming.{within}
+use Rattle.safl_sim.specs.declared.step.Near.{Near}
+use Rattle.safl_sim.specs.declared.step.Step.{Step}
+use Rattle.safl_sim.specs.Marks.{marked, holding, HasNone, HasTaken}
+use Rattle.safl_sim.specs.Readers.{Reader, HasMarked, HasGiven}
+use Rattle.safl_sim.specs.Nears.{IsNear, NearOf, AreNearTo}
+use Rattle.safl_sim.specs.Steps.{IsStep, AreSteps}
+use Rattle.safl_sim.proofs.Written.{same_or_not, lower_or_not, lower_or_same, index_here, set_length}
+use Rattle.safl_sim.proofs.MarkLemmas.{written_same, written_other, none_in, take_has}
+use Rattle.safl_sim.proofs.Tables.{get_set_same, get_set_other, get_in, set_long}
+use Rattle.safl_sim.proofs.Updates.{mark_or_none, set_same}
+use Rattle.safl_sim.proofs.Scenes.{wire_at, get_same}
+
+-- ---- the greater of two bits
+
+one_left : (x y : ℕ) → x ≡ 1 → y < 2 → max x y ≡ 1
+one_left x zero e h = ap (λ z. max z 0) e
+one_left x (suc zero) e h = ap (λ z. max z 1) e
+one_left x (suc (suc y)) e h = absurd (omega (arith, h))
+
+one_right : (x y : ℕ) → y ≡ 1 → x < 2 → max x y ≡ 1
+one_right zero y e h = ap (max 0) e
+one_right (suc zero) y e h = ap (max 1) e
+one_right (suc (suc x)) y e h = absurd (omega (arith, h))
+
+none_right : (x y : ℕ) → y ≡ 0 → x < 2 → max x y ≡ x
+none_right zero y e h = ap (max 0) e
+none_right (suc zero) y e h = ap (max 1) e
+none_right (suc (suc x)) y e h = absurd (omega (arith, h))
+
+none_left : (x y : ℕ) → x ≡ 0 → y < 2 → max x y ≡ y
+none_left x zero e h = ap (λ z. max z 0) e
+none_left x (suc zero) e h = ap (λ z. max z 1) e
+none_left x (suc (suc y)) e h = absurd (omega (arith, h))
+
+bit_or_none : (n i : ℕ) → (bit_at n i ≡ 0) ⊎ (bit_at n i ≡ 1)
+bit_or_none n i = by (bit_at n i) (bit_at-lt n i) refl
+  where
+    by : (x : ℕ) → bit_at n i < 2 → bit_at n i ≡ x → (bit_at n i ≡ 0) ⊎ (bit_at n i ≡ 1)
+    by zero h e = inl e
+    by (suc x) h e = inr (omega (arith, h, e))
+
+or_zero : (x : ℕ) → bit_or x 0 ≡ x
+or_zero x = same_from_bits (bit_or x 0) x (λ i. bit_at_or x 0 i ∙ none_right (bit_at x i) (bit_at 0 i) (bit_at-zero i) (bit_at-lt x i))
+
+zero_or : (x : ℕ) → bit_or 0 x ≡ x
+zero_or x = or_comm 0 x ∙ or_zero x
+
+-- ---- marks that are held apart
+
+set_set : (xs : List ℕ) (w x y : ℕ) → set (set xs w x) w y ≡ set xs w y
+set_set [] w x y = refl
+set_set (z ∷ xs) zero x y = refl
+set_set (z ∷ xs) (suc w) x y = ap (λ l. z ∷ l) (set_set xs w x y)
+
+marked_holding : (marks : List ℕ) (w held k : ℕ) → w < length marks → k / 64 ≡ w → marked (holding marks w held) k ≡ max (marked marks k) (bit_at held (k % 64))
+marked_holding marks w held k h e = written_same marks w (bit_or (slice_index marks w) held) k h e ∙ bit_at_or (slice_index marks w) held (k % 64) ∙ ap (λ y. max (bit_at (slice_index marks y) (k % 64)) (bit_at held (k % 64))) (sym e)
+
+marked_apart : (marks : List ℕ) (w held k : ℕ) → ¬ (k / 64 ≡ w) → marked (holding marks w held) k ≡ marked marks k
+marked_apart marks w held k n = written_other marks w (bit_or (slice_index marks w) held) k n
+
+pub holding_none : (marks : List ℕ) (w : ℕ) → holding marks w 0 ≡ marks
+holding_none marks w = ap (set marks w) (or_zero (slice_index marks w)) ∙ set_same marks w (slice_index marks w) refl
+
+-- where neither has a mark, none is held
+or_none : (a b : ℕ) → bit_or a b ≡ 0 → a ≡ 0
+or_none a b e = same_from_bits a 0 (λ i. (elim (bit_or_none a i) [
+  | inl z ↦ z
+  | inr z ↦ absurd (let p = one_left (bit_at a i) (bit_at b i) z (bit_at-lt b i) in let q = bit_at_or a b i in let r = ap (λ y. bit_at y i) e in let t = bit_at-zero i in omega (arith, p, q, r, t))
+]) ∙ sym (bit_at-zero i))
+
+pub none_held : (marks : List ℕ) (w held : ℕ) → bit_or (slice_index marks w) held ≡ 0 → marks ≡ holding marks w held
+none_held marks w held e = sym (ap (set marks w) e ∙ set_same marks w 0 (or_none (slice_index marks w) held e))
+
+pub no_marks : (marks : List ℕ) (w held : ℕ) → w < length marks → bit_or (slice_index marks w) held ≡ 0 → HasNone (holding marks w held) w
+no_marks marks w held h e = none_in (holding marks w held) w (index_here marks w (bit_or (slice_index marks w) held) h ∙ e)
+
+pub holding_long : (marks : List ℕ) (w held : ℕ) → length (holding marks w held) ≡ length marks
+holding_long marks w held = set_length marks w (bit_or (slice_index marks w) held)
+
+held_after : (marks : List ℕ) (w x y : ℕ) → w < length marks → set (set marks w x) w y ≡ holding (set marks w 0) w y
+held_after marks w x y h = set_set marks w x y ∙ sym (set_set marks w 0 (bit_or (slice_index (set marks w 0) w) y) ∙ ap (set marks w) (ap (λ z. bit_or z y) (index_here marks w 0 h) ∙ zero_or y))
+
+pub take_held_has : (marks : List ℕ) (w held x : ℕ) → w < length marks → x ≡ bit_or (slice_index marks w) held → 0 < x → x < 2 ^ 64
+    → HasTaken (holding marks w held) (holding (set marks w 0) w (bit_and x (bit_not w64 (1 * 2 ^ trailing_zeros w64 x % 2 ^ 64)))) w (w * 64 + trailing_zeros w64 x)
+take_held_has marks w held x h is some fits =
+    let b = trailing_zeros w64 x in
+    let y = bit_and x (bit_not w64 (1 * 2 ^ b % 2 ^ 64)) in
+    subst (λ l. HasTaken (set marks w l) (holding (set marks w 0) w y) w (w * 64 + b)) is
+    (subst (λ l. HasTaken (set marks w x) l w (w * 64 + b)) (held_after marks w x y h)
+    (take_has (set marks w x) w x (let a = set_length marks w x in omega (arith, a, h)) (index_here marks w x h) some fits))
+
+-- ---- the near readers of a step
+
+pub near_none : (readers : List ℕ) (from word : ℕ) → IsNear readers from from word (record { mask = 0; first = from })
+near_none readers from word = record {
+  least = omega arith;
+  most = omega arith;
+  all = λ j k f t e. absurd (omega (arith, f, t));
+  only = λ b h n. bit_at-zero b;
+}
+
+pub near_more : (readers : List ℕ) (from j k word m : ℕ) → IsNear readers from j word (record { mask = m; first = j }) → from ≤ j → slice_get readers j ≡ Some k → k / 64 ≡ word
+    → IsNear readers from (j + 1) word (record { mask = bit_or m (1 * 2 ^ (k % 64) % 2 ^ 64); first = j + 1 })
+near_more readers from j k word m w le e at =
+    let low : k % 64 < 64 = omega arith in
+    let x = bit_or m (1 * 2 ^ (k % 64) % 2 ^ 64) in
+    record {
+      least = omega (arith, le);
+      most = omega arith;
+      all = λ i q f t g. elim (lower_or_same i j t) [
+        | inl l ↦
+            let a = w.all i q f l g in
+            (a.0, elim (same_or_not (q % 64) (k % 64)) [ inl z ↦ ap (bit_at x) z ∙ bit_at_set_same w64 m (k % 64) low | inr z ↦ bit_at_set_other w64 m (k % 64) low (q % 64) z ∙ a.1 ])
+        | inr z ↦
+            let s : Some q ≡ Some k = sym g ∙ ap (slice_get readers) z ∙ e in
+            let one : q ≡ k = cc in
+            (ap (λ y. y / 64) one ∙ at, ap (λ y. bit_at x (y % 64)) one ∙ bit_at_set_same w64 m (k % 64) low)
+      ];
+      only = λ b h n. elim (same_or_not b (k % 64)) [
+        | inl z ↦ absurd (n j le (omega arith) (e ∙ ap Some (let r : k ≡ word * 64 + b = omega (arith, at, z) in r)))
+        | inr z ↦ bit_at_set_other w64 m (k % 64) low b z ∙ w.only b h (λ i f t. n i f (omega (arith, t)))
+      ];
+    }
+
+-- the others begin where the first one of another word stands
+pub near_to : (readers : List ℕ) (from j to word m : ℕ) → j ≤ to → IsNear readers from j word (record { mask = m; first = j }) → IsNear readers from to word (record { mask = m; first = j })
+near_to readers from j to word m le w = record {
+  least = w.least;
+  most = le;
+  all = w.all;
+  only = λ b h n. w.only b h (λ i f t. n i f (omega (arith, t, le)));
+}
+
+pub noted : (starts readers : List ℕ) (i : ℕ) (steps : List Step) (s s' : Step) → slice_get steps i ≡ Some s → NearOf starts readers i s' → AreNearTo starts readers i steps → AreNearTo starts readers (i + 1) (set steps i s')
+noted starts readers i steps s s' at near w k t h e = elim (lower_or_same k i h) [
+  | inl l ↦ w k t l (sym (get_set_other steps i k s' (λ z. omega (arith, z, l))) ∙ e)
+  | inr z ↦
+      let q : Some t ≡ Some s' = sym e ∙ ap (slice_get (set steps i s')) z ∙ get_set_same steps i s' (get_in steps i s at) in
+      let one : t ≡ s' = cc in
+      subst (λ y. NearOf starts readers y t) (sym z) (subst (λ y. NearOf starts readers i y) (sym one) near)
+]
+
+pub steps_noted : (n : Netlist) (ws : List ℕ) (steps : List Step) (i : ℕ) (s : Step) (near : Near) → slice_get steps i ≡ Some s → AreSteps n ws steps → AreSteps n ws (set steps i (record { wire = s.wire; narrow = s.narrow; action = s.action; near = near }))
+steps_noted n ws steps i s near at w =
+    let s' : Step = record { wire = s.wire; narrow = s.narrow; action = s.action; near = near } in
+    record {
+      long = set_long steps i s' ∙ w.long;
+      each = λ k p t f e. elim (same_or_not k i) [
+        | inl z ↦
+            let q : Some t ≡ Some s' = sym e ∙ ap (slice_get (set steps i s')) z ∙ get_set_same steps i s' (get_in steps i s at) in
+            let one : t ≡ s' = cc in
+            let is = w.each k p s f (ap (slice_get steps) z ∙ at) in
+            subst (λ y. IsStep n p y) (sym one) (record { wire = is.wire; cell = is.cell; is = is.is; performs = is.performs; narrow = is.narrow })
+        | inr z ↦ w.each k p t f (sym (get_set_other steps i k s' z) ∙ e)
+      ];
+    }
+
+pub wires_noted : (places : ℕ) (steps : List Step) (i : ℕ) (s : Step) (near : Near) → slice_get steps i ≡ Some s → ((k : ℕ) (t : Step) → slice_get steps k ≡ Some t → t.wire.0 < places)
+    → (k : ℕ) (t : Step) → slice_get (set steps i (record { wire = s.wire; narrow = s.narrow; action = s.action; near = near })) k ≡ Some t → t.wire.0 < places
+wires_noted places steps i s near at w k t e =
+    let s' : Step = record { wire = s.wire; narrow = s.narrow; action = s.action; near = near } in
+    elim (same_or_not k i) [
+      | inl z ↦
+          let q : Some t ≡ Some s' = sym e ∙ ap (slice_get (set steps i s')) z ∙ get_set_same steps i s' (get_in steps i s at) in
+          let one : t ≡ s' = cc in
+          subst (λ (y : Step). y.wire.0 < places) (sym one) (w i s at)
+      | inr z ↦ w k t (sym (get_set_other steps i k s' z) ∙ e)
+    ]
+
+pub steps_known : (n : Netlist) (ws : List ℕ) (steps : List Step) → AreSteps n ws steps → (i : ℕ) (s : Step) → slice_get steps i ≡ Some s → s.wire.0 < length n.signals
+steps_known n ws steps w i s e =
+    let g = get_same ws i (let a = within steps i s e in let b = w.long in omega (arith, a, b)) in
+    let is = w.each i g.0 s g.1 e in
+    let at = wire_at n g.0 is.cell is.is in
+    let a = within n.signals g.0 at.0 at.1 in
+    let b = is.wire in
+    omega (arith, a, b)
+
+-- ---- a step whose wire is given its number
+
+module _ (starts readers : List ℕ) (s : Step) (i x : ℕ) (values marks : List ℕ) (held : ℕ) where
+  -- it is the one that was there
+  pub near_same : slice_index values s.wire.0 ≡ x → HasGiven starts readers s.wire.0 x values (set values s.wire.0 x) (holding marks (i / 64) held) (holding marks (i / 64) (bit_or held 0))
+  near_same e = subst (λ y. HasGiven starts readers s.wire.0 x values (set values s.wire.0 x) (holding marks (i / 64) held) (holding marks (i / 64) y)) (sym (or_zero held)) (record {
+    is = refl;
+    long = refl;
+    grows = λ k h. h;
+    told = λ k n r. absurd (n e);
+    others = λ k n. refl;
+  })
+
+  -- or new: the readers are marked, or their bits are in the mask
+  module _ (marks' : List ℕ) (inside : (i / 64) < length marks) (near : NearOf starts readers i s) (m : HasMarked readers s.near.first (slice_index starts (s.wire.0 + 1)) marks marks') where
+    inside' : (i / 64) < length marks'
+    inside' = let a = m.long in omega (arith, a, inside)
+
+    -- the bit of a reader among those held
+    bit : (k : ℕ) → bit_at (bit_or held s.near.mask) (k % 64) ≡ max (bit_at held (k % 64)) (bit_at s.near.mask (k % 64))
+    bit k = bit_at_or held s.near.mask (k % 64)
+
+    marked_now : (k : ℕ) → marked marks' k ≡ 1 → marked (holding marks' (i / 64) (bit_or held s.near.mask)) k ≡ 1
+    marked_now k e = elim (same_or_not (k / 64) (i / 64)) [
+      | inl q ↦ marked_holding marks' (i / 64) (bit_or held s.near.mask) k inside' q ∙ one_left (marked marks' k) (bit_at (bit_or held s.near.mask) (k % 64)) e (bit_at-lt (bit_or held s.near.mask) (k % 64))
+      | inr q ↦ marked_apart marks' (i / 64) (bit_or held s.near.mask) k q ∙ e
+    ]
+
+    held_now : (k : ℕ) → k / 64 ≡ (i / 64) → bit_at (bit_or held s.near.mask) (k % 64) ≡ 1 → marked (holding marks' (i / 64) (bit_or held s.near.mask)) k ≡ 1
+    held_now k q e = marked_holding marks' (i / 64) (bit_or held s.near.mask) k inside' q ∙ one_right (marked marks' k) (bit_at (bit_or held s.near.mask) (k % 64)) e (bit_at-lt (slice_index marks' (k / 64)) (k % 64))
+
+    grow : (k : ℕ) → marked (holding marks (i / 64) held) k ≡ 1 → marked (holding marks' (i / 64) (bit_or held s.near.mask)) k ≡ 1
+    grow k e = elim (mark_or_none marks k) [
+      | inr z ↦ marked_now k (m.grows k z)
+      | inl z ↦ elim (same_or_not (k / 64) (i / 64)) [
+        | inl q ↦
+            let a : bit_at held (k % 64) ≡ 1 = sym (none_left (marked marks k) (bit_at held (k % 64)) z (bit_at-lt held (k % 64))) ∙ sym (marked_holding marks (i / 64) held k inside q) ∙ e in
+            held_now k q (bit k ∙ one_left (bit_at held (k % 64)) (bit_at s.near.mask (k % 64)) a (bit_at-lt s.near.mask (k % 64)))
+        | inr q ↦ absurd (let a = marked_apart marks (i / 64) held k q in omega (arith, a, z, e))
+      ]
+    ]
+
+    none_set : (k : ℕ) → k / 64 ≡ (i / 64) → ¬ (Reader starts readers s.wire.0 k) → bit_at s.near.mask (k % 64) ≡ 0
+    none_set k q n = near.only (k % 64) (omega arith) (λ j f t e. n (j, f, t, e ∙ ap Some (let r : i / 64 * 64 + k % 64 ≡ k = omega (arith, q) in r)))
+
+    stay : (k : ℕ) → ¬ (Reader starts readers s.wire.0 k) → marked marks' k ≡ marked marks k
+    stay k n = m.others k (λ j f t e. n (j, (let a = near.least in omega (arith, a, f)), t, e))
+
+    pub near_new : HasGiven starts readers s.wire.0 x values (set values s.wire.0 x) (holding marks (i / 64) held) (holding marks' (i / 64) (bit_or held s.near.mask))
+    near_new = record {
+      is = refl;
+      long = holding_long marks' (i / 64) (bit_or held s.near.mask) ∙ m.long ∙ sym (holding_long marks (i / 64) held);
+      grows = grow;
+      told = λ k n r. elim (lower_or_not r.0 s.near.first) [
+        | inl l ↦ (let a = near.all r.0 k r.1 l r.3 in held_now k a.0 (bit k ∙ one_right (bit_at held (k % 64)) (bit_at s.near.mask (k % 64)) a.1 (bit_at-lt held (k % 64))))
+        | inr l ↦ marked_now k (m.all r.0 k l r.2 r.3)
+      ];
+      others = λ k n. elim (same_or_not (k / 64) (i / 64)) [
+        | inl q ↦
+            marked_holding marks' (i / 64) (bit_or held s.near.mask) k inside' q
+            ∙ ap (λ y. max y (bit_at (bit_or held s.near.mask) (k % 64))) (stay k n)
+            ∙ ap (max (marked marks k)) (bit k ∙ none_right (bit_at held (k % 64)) (bit_at s.near.mask (k % 64)) (none_set k q n) (bit_at-lt held (k % 64)))
+            ∙ sym (marked_holding marks (i / 64) held k inside q)
+        | inr q ↦ marked_apart marks' (i / 64) (bit_or held s.near.mask) k q ∙ stay k n ∙ sym (marked_apart marks (i / 64) held k q)
+      ];
+    }

@@ -1,0 +1,147 @@
+-- Registers that are shown and kept.
+use Rattle.std.proofs.Common.{◌≡◌, inl, inr, ℕ, ◌+◌, ◌*◌, ◌<◌, ◌≤◌, List, length, set, Some, slice_get, slice_index, refl, sym, ap, subst, ◌∙◌, arith}
+use Rattle.safl_net.proofs.Naming.{within}
+use Rattle.safl_sim.specs.declared.step.Register.{Register}
+use Rattle.safl_sim.specs.Marks.{marked, HasMark, HasNone, HasTaken}
+use Rattle.safl_sim.specs.Steps.{Waits}
+use Rattle.safl_sim.specs.Writes.{HasShown, HasKept, Shows, KeepsOn}
+use Rattle.safl_sim.proofs.Written.{same_or_not, index_here, index_other, set_length}
+use Rattle.safl_sim.proofs.MarkLemmas.{taken_upto, none_upto}
+use Rattle.safl_sim.proofs.Updates.{mark_or_none}
+
+-- two registers at one index are one
+one_at : (regs : List Register) (j k : ℕ) (q r : Register) → slice_get regs j ≡ Some q → slice_get regs k ≡ Some r → j ≡ k → q ≡ r
+one_at regs j k q r e f z = let a : Some q ≡ Some r = sym e ∙ ap (slice_get regs) z ∙ f in cc
+
+-- ---- shown
+
+pub shows_start : (regs : List Register) (now values waiting : List ℕ) → Waits regs now values waiting → Shows regs now 0 values values waiting
+shows_start regs now values waiting w = record {
+  long = refl;
+  below = λ k h. absurd (omega (arith, h));
+  shown = w.shown;
+  others = λ t h. refl;
+  within = w.within;
+}
+
+pub shows_to : (regs : List Register) (now : List ℕ) (place place' : ℕ) (start values waiting : List ℕ) → Shows regs now place start values waiting → ((k : ℕ) → k < place' → marked waiting k ≡ 0) → Shows regs now place' start values waiting
+shows_to regs now place place' start values waiting w below = record { long = w.long; below = below; shown = w.shown; others = w.others; within = w.within }
+
+-- a word in which none waits
+pub shows_none : (regs : List Register) (now : List ℕ) (place word : ℕ) (start values waiting : List ℕ) → Shows regs now place start values waiting → word * 64 ≤ place → HasNone waiting word → Shows regs now ((word + 1) * 64) start values waiting
+shows_none regs now place word start values waiting w from none = shows_to regs now place ((word + 1) * 64) start values waiting w (λ k l. none_upto waiting 0 place word (λ j f h. w.below j h) from none k (omega arith) l)
+
+-- one more is shown
+pub shows_step : (regs : List Register) (now : List ℕ) (place word i : ℕ) (r : Register) (start values values' waiting waiting' : List ℕ) → Shows regs now place start values waiting → word * 64 ≤ place → HasTaken waiting waiting' word i
+    → slice_get regs i ≡ Some r → r.signal.0 < length values → values' ≡ set values r.signal.0 (slice_index now r.signal.0) → Shows regs now (i + 1) start values' waiting'
+shows_step regs now place word i r start values values' waiting waiting' w from t here inside is =
+    subst (λ l. Shows regs now (i + 1) start l waiting') (sym is) (record {
+      long = set_length values s x ∙ w.long;
+      below = λ k h. taken_upto waiting waiting' 0 place word i (λ j f l. w.below j l) (omega arith) from t k (omega arith) (omega (arith, h));
+      shown = λ k q e none. elim (same_or_not q.signal.0 s) [
+        | inl z ↦ ap (slice_index (set values s x)) z ∙ index_here values s x inside ∙ ap (slice_index now) (sym z)
+        | inr n ↦ index_other values s x q.signal.0 n ∙ w.shown k q e (sym (t.others k (λ z. n (ap (λ (y : Register). y.signal.0) (one_at regs k i q r e here z)))) ∙ none)
+      ];
+      others = λ u h. index_other values s x u (λ z. h i r here (sym z)) ∙ w.others u h;
+      within = λ k e. elim (same_or_not k i) [
+        | inl q ↦ absurd (let a = t.gone in let b : marked waiting' i ≡ 1 = ap (marked waiting') (sym q) ∙ e in omega (arith, a, b))
+        | inr q ↦ w.within k (sym (t.others k q) ∙ e)
+      ];
+    })
+  where
+    s : ℕ
+    s = r.signal.0
+
+    x : ℕ
+    x = slice_index now r.signal.0
+
+pub none_waits : (regs : List Register) (now : List ℕ) (place : ℕ) (start values waiting : List ℕ) → Shows regs now place start values waiting → length regs ≤ place → (k : ℕ) → marked waiting k ≡ 0
+none_waits regs now place start values waiting w room k = elim (mark_or_none waiting k) [
+  | inl e ↦ e
+  | inr e ↦ w.below k (let a = w.within k e in omega (arith, a, room))
+]
+
+-- in the end all are shown
+pub all_shown : (regs : List Register) (now : List ℕ) (place : ℕ) (start values waiting : List ℕ) → Shows regs now place start values waiting → length regs ≤ place → HasShown regs now (length regs) start values
+all_shown regs now place start values waiting w room = record {
+  long = w.long;
+  shown = λ k r h e. w.shown k r e (none_waits regs now place start values waiting w room k);
+  others = w.others;
+}
+
+-- ---- kept
+
+pub keeps_to : (first : ℕ) (regs : List Register) (values : List ℕ) (place place' : ℕ) (start was now marks waiting : List ℕ) → KeepsOn first regs values place start was now marks waiting → ((k : ℕ) → first ≤ k → k < place' → marked marks k ≡ 0)
+    → KeepsOn first regs values place' start was now marks waiting
+keeps_to first regs values place place' start was now marks waiting w below = record {
+  long = w.long;
+  below = below;
+  low = w.low;
+  within = w.within;
+  kept = w.kept;
+  others = w.others;
+  waits = w.waits;
+  waiters = w.waiters;
+}
+
+pub keeps_none : (first : ℕ) (regs : List Register) (values : List ℕ) (place word : ℕ) (start was now marks waiting : List ℕ) → KeepsOn first regs values place start was now marks waiting → word * 64 ≤ place → HasNone marks word
+    → KeepsOn first regs values ((word + 1) * 64) start was now marks waiting
+keeps_none first regs values place word start was now marks waiting w from none =
+    keeps_to first regs values place ((word + 1) * 64) start was now marks waiting w (none_upto marks first place word w.below from none)
+
+-- one more is kept, and waits
+pub keeps_step : (first : ℕ) (regs : List Register) (values : List ℕ) (place word k : ℕ) (r : Register) (start was now now' marks marks' waiting waiting' : List ℕ) → KeepsOn first regs values place start was now marks waiting
+    → first ≤ word * 64 → word * 64 ≤ place → HasTaken marks marks' word (first + k) → slice_get regs k ≡ Some r → r.signal.0 < length now
+    → ((i j : ℕ) (r q : Register) → slice_get regs i ≡ Some r → slice_get regs j ≡ Some q → r.signal.0 ≡ q.signal.0 → r.next.0 ≡ q.next.0)
+    → now' ≡ set now r.signal.0 (slice_index values r.next.0) → HasMark waiting waiting' k → KeepsOn first regs values (first + k + 1) start was now' marks' waiting'
+keeps_step first regs values place word k r start was now now' marks marks' waiting waiting' w early from t here inside one is m =
+    subst (λ l. KeepsOn first regs values (first + k + 1) start was l marks' waiting') (sym is) (record {
+      long = set_length now s x ∙ w.long;
+      below = λ j f h. taken_upto marks marks' first place word (first + k) w.below early from t j f (omega (arith, h));
+      low = λ j h. t.others j (λ z. absurd (omega (arith, z, h))) ∙ w.low j h;
+      within = λ j e. elim (same_or_not j (first + k)) [
+        | inl q ↦ absurd (let a = t.gone in let b : marked marks' (first + k) ≡ 1 = ap (marked marks') (sym q) ∙ e in omega (arith, a, b))
+        | inr q ↦ w.within j (sym (t.others j q) ∙ e)
+      ];
+      kept = λ j q e none. elim (same_or_not q.signal.0 s) [
+        | inl z ↦ ap (slice_index (set now s x)) z ∙ index_here now s x inside ∙ ap (slice_index values) (sym (one j k q r e here z))
+        | inr n ↦ index_other now s x q.signal.0 n ∙ w.kept j q e (sym (t.others (first + j) (λ z. n (ap (λ (y : Register). y.signal.0) (one_at regs j k q r e here (omega (arith, z)))))) ∙ none)
+      ];
+      others = λ u h. index_other now s x u (λ z. h k r here (sym z)) ∙ w.others u h;
+      waits = λ j e none. elim (same_or_not j k) [
+        | inl q ↦ absurd (let a = m.here in let b : marked waiting' k ≡ 0 = ap (marked waiting') (sym q) ∙ none in omega (arith, a, b))
+        | inr q ↦ t.others (first + j) (λ z. absurd (q (omega (arith, z)))) ∙ w.waits j e (sym (m.others j q) ∙ none)
+      ];
+      waiters = λ j e. elim (same_or_not j k) [
+        | inl q ↦ (let a = within regs k r here in omega (arith, a, q))
+        | inr q ↦ w.waiters j (sym (m.others j q) ∙ e)
+      ];
+    })
+  where
+    s : ℕ
+    s = r.signal.0
+
+    x : ℕ
+    x = slice_index values r.next.0
+
+-- in the end none is marked, and all are kept
+module _ (first : ℕ) (regs : List Register) (values : List ℕ) (place : ℕ) (start was now marks waiting : List ℕ) (w : KeepsOn first regs values place start was now marks waiting) (room : first + length regs ≤ place) where
+  pub none_marked : (k : ℕ) → first ≤ k → marked marks k ≡ 0
+  none_marked k f = elim (mark_or_none marks k) [
+    | inl e ↦ e
+    | inr e ↦ w.below k f (let a = w.within k e in omega (arith, a, room))
+  ]
+
+  pub all_kept : HasKept regs values (length regs) start now
+  all_kept = record {
+    long = w.long;
+    kept = λ k r h e. w.kept k r e (none_marked (first + k) (omega arith));
+    others = w.others;
+  }
+
+  -- a register that does not wait was not marked before
+  pub was_unmarked : (k : ℕ) → marked waiting k ≡ 0 → marked was (first + k) ≡ 0
+  was_unmarked k none = elim (mark_or_none was (first + k)) [
+    | inl e ↦ e
+    | inr e ↦ absurd (let a = w.waits k e none in let b = none_marked (first + k) (omega arith) in omega (arith, a, b))
+  ]

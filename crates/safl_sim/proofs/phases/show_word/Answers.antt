@@ -1,0 +1,70 @@
+use Rattle.std.proofs.Common.{◌≡◌, ◌+◌, ◌*◌, ◌<◌, ℕ, List, Some, length, get_or, slice_get, slice_index, sym, ap, subst, ◌∙◌, arith}
+use Rattle.safl_sim.specs.declared.step.Register.{Register}
+use Rattle.safl_sim.specs.Marks.{HasTaken}
+use Rattle.safl_sim.specs.Readers.{Lists, HasGiven}
+use Rattle.safl_sim.specs.Writes.{Shows}
+use Rattle.safl_sim.proofs.Written.{get_at, set_length}
+use Rattle.safl_sim.proofs.MarkLemmas.{taken_after}
+use Rattle.safl_sim.proofs.Registers.{shows_to, shows_none, shows_step}
+use Rattle.safl_sim.proofs.Updates.{goes_step, lists_same}
+use Rattle.safl_sim.proofs.phases.show_word.Goals as goal
+
+abbrev none : Register
+none = record { signal = record { 0 = 0 }; next = record { 0 = 0 } }
+
+-- the register that is taken
+found : (regs regs' : List Register) (now : List ℕ) (place word i : ℕ) (start values waiting waiting' : List ℕ) → regs' ≡ regs → Shows regs now place start values waiting → HasTaken waiting waiting' word i
+    → (i < length regs') × (slice_get regs i ≡ Some (get_or regs' i none))
+found regs regs' now place word i start values waiting waiting' e w t =
+    let a : i < length regs' = (let b = w.within i t.was in let d = ap length e in omega (arith, b, d)) in
+    (a, ap (λ l. slice_get l i) (sym e) ∙ get_at regs' i none a)
+
+pub bounds-registers-i : goal.bounds-registers-i
+bounds-registers-i c =
+    let r = c.requires.shows in
+    (found c.args.plan.now.registers.items c.as_slice-registers.result.now c.args.state.now _ c.args.word c.in-Some.i r.0 c.registers.values c.registers.waiting c.take.new.marks c.as_slice-registers.ensures.value (c.registers.invariant.shows r.0 r.1) c.in-Some.ensures.some).0
+
+pub show-requires-clause-lists : goal.show-requires-clause-lists
+show-requires-clause-lists c =
+    subst (λ (l : List ℕ). Lists l c.as_slice-readers.result.now (length c.registers.values) (length c.registers.marks)) (sym c.as_slice-starts.ensures.value)
+    (subst (λ (l : List ℕ). Lists c.args.plan.now.starts.items l (length c.registers.values) (length c.registers.marks)) (sym c.as_slice-readers.ensures.value)
+    (lists_same c.args.plan.now.starts.items c.args.plan.now.readers.items _ _ _ _ c.registers.invariant.wide c.registers.invariant.long c.requires.lists))
+
+pub show-requires-clause-within : goal.show-requires-clause-within
+show-requires-clause-within c =
+    let r = c.requires.shows in
+    let f = found c.args.plan.now.registers.items c.as_slice-registers.result.now c.args.state.now _ c.args.word c.in-Some.i r.0 c.registers.values c.registers.waiting c.take.new.marks c.as_slice-registers.ensures.value (c.registers.invariant.shows r.0 r.1) c.in-Some.ensures.some in
+    let a = c.requires.within c.in-Some.i (get_or c.as_slice-registers.result.now c.in-Some.i none) f.1 in
+    let b = c.registers.invariant.wide in
+    omega (arith, a, b)
+
+pub registers-preserved : goal.registers-preserved
+registers-preserved c =
+    let q = c.requires.shows in
+    let r = get_or c.as_slice-registers.result.now c.in-Some.i none in
+    let f = found c.args.plan.now.registers.items c.as_slice-registers.result.now c.args.state.now _ c.args.word c.in-Some.i q.0 c.registers.values c.registers.waiting c.take.new.marks c.as_slice-registers.ensures.value (c.registers.invariant.shows q.0 q.1) c.in-Some.ensures.some in
+    let inside : r.signal.0 < length c.registers.values = (let a = c.requires.within c.in-Some.i r f.1 in let b = c.registers.invariant.wide in omega (arith, a, b)) in
+    let g = subst (λ (l : List ℕ). HasGiven l c.args.plan.now.readers.items r.signal.0 (slice_index c.args.state.now r.signal.0) c.registers.values c.show.new.values c.registers.marks c.show.new.marks) c.as_slice-starts.ensures.value
+    (subst (λ (l : List ℕ). HasGiven c.as_slice-starts.result.now l r.signal.0 (slice_index c.args.state.now r.signal.0) c.registers.values c.show.new.values c.registers.marks c.show.new.marks) c.as_slice-readers.ensures.value c.show.ensures) in
+    record {
+      wide = (let a = c.registers.invariant.wide in let b = ap length c.show.ensures.is in let d = set_length c.registers.values r.signal.0 (slice_index c.args.state.now r.signal.0) in omega (arith, a, b, d));
+      long = c.show.ensures.long ∙ c.registers.invariant.long;
+      shows = λ start w.
+          let before = c.registers.invariant.shows start w in
+          let t = c.in-Some.ensures.some in
+          let after = shows_step c.args.plan.now.registers.items c.args.state.now (c.args.word * 64 + c.registers._n) c.args.word c.in-Some.i r start c.registers.values c.show.new.values c.registers.waiting c.take.new.marks before (omega arith) t f.1 inside c.show.ensures.is in
+          let late = taken_after c.registers.waiting c.take.new.marks 0 (c.args.word * 64 + c.registers._n) c.args.word c.in-Some.i (λ k z h. before.below k h) (omega arith) (omega arith) t in
+          shows_to c.args.plan.now.registers.items c.args.state.now (c.in-Some.i + 1) (c.args.word * 64 + (c.registers._n + 1)) start c.show.new.values c.take.new.marks after (λ k l. after.below k (omega (arith, late, l)));
+      goes = λ n ws held away. goes_step n ws c.args.plan.now.registers.items held c.args.plan.now.starts.items c.args.plan.now.readers.items r.signal.0 _ c.args.values.now c.registers.values c.show.new.values c.args.marks.now c.registers.marks c.show.new.marks (c.registers.invariant.goes n ws held away) (away c.in-Some.i r f.1) g;
+    }
+
+pub returns-in-None-clause-shows : goal.returns-in-None-clause-shows
+returns-in-None-clause-shows c = λ start w.
+    subst (λ l. Shows c.args.plan.now.registers.items c.args.state.now ((c.args.word + 1) * 64) start c.registers.values l) (sym c.in-None.ensures.same)
+    (shows_none c.args.plan.now.registers.items c.args.state.now (c.args.word * 64 + c.registers._n) c.args.word start c.registers.values c.registers.waiting (c.registers.invariant.shows start w) (omega arith) c.in-None.ensures.none)
+
+pub returns-clause-shows : goal.returns-clause-shows
+returns-clause-shows c = λ start w.
+    subst (λ k. Shows c.args.plan.now.registers.items c.args.state.now k start c.registers.values c.registers.waiting)
+    (let a = c.registers-test.false in let b = c.registers.auto._n-end in omega (arith, a, b))
+    (c.registers.invariant.shows start w)

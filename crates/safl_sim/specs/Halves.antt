@@ -1,0 +1,14 @@
+-- Numbers in two halves: the low 64 bits of each, and its high ones.
+use Rattle.std.specs.Prelude.{ℕ, ◌+◌, ◌*◌, ◌/◌, ◌%◌, ◌^◌, List, [], ◌∷◌}
+
+abbrev pub low_half : ℕ → ℕ
+low_half x = x % 2 ^ 64
+
+abbrev pub high_half : ℕ → ℕ
+high_half x = x / 2 ^ 64
+
+-- the numbers that have these low and high halves
+abbrev pub joined : List ℕ → List ℕ → List ℕ
+joined [] highs = []
+joined (l ∷ lows) [] = []
+joined (l ∷ lows) (h ∷ highs) = (l + h * 2 ^ 64) ∷ joined lows highs

@@ -1,0 +1,23 @@
+-- Readers that stand in the word of marks of the step that writes what they read.
+use Rattle.std.specs.Prelude.{◌≡◌, ℕ, ◌+◌, ◌*◌, ◌/◌, ◌%◌, ◌<◌, ◌≤◌, List, Some, slice_get, slice_index}
+use Rattle.std.specs.Int.{bit_at}
+use Rattle.safl_sim.specs.declared.step.Near.{Near}
+use Rattle.safl_sim.specs.declared.step.Step.{Step}
+
+-- of a part of the readers, those before a number stand in the word, each has its bit in the mask, and no other bit is 1
+pub record IsNear (readers : List ℕ) (from to word : ℕ) (near : Near) : Type 0 where
+  pub least : from ≤ near.first
+  pub most : near.first ≤ to
+  pub all : (j k : ℕ) → from ≤ j → j < near.first → slice_get readers j ≡ Some k → (k / 64 ≡ word) × (bit_at near.mask (k % 64) ≡ 1)
+  pub only : (b : ℕ) → b < 64 → ((j : ℕ) → from ≤ j → j < to → ¬ (slice_get readers j ≡ Some (word * 64 + b))) → bit_at near.mask b ≡ 0
+
+-- those of the wire of step i
+abbrev pub NearOf : List ℕ → List ℕ → ℕ → Step → Type 0
+NearOf starts readers i s = IsNear readers (slice_index starts s.wire.0) (slice_index starts (s.wire.0 + 1)) (i / 64) s.near
+
+-- for the first steps, and for all
+abbrev pub AreNearTo : List ℕ → List ℕ → ℕ → List Step → Type 0
+AreNearTo starts readers count steps = (i : ℕ) (s : Step) → i < count → slice_get steps i ≡ Some s → NearOf starts readers i s
+
+abbrev pub AreNear : List ℕ → List ℕ → List Step → Type 0
+AreNear starts readers steps = (i : ℕ) (s : Step) → slice_get steps i ≡ Some s → NearOf starts readers i s

@@ -1,0 +1,19 @@
+//! What a simulator keeps as it is.
+
+ghost use Rattle.safl_sim.specs.Nears.{AreNear};
+
+use crate::step::{Register, Step};
+use safl_net::Sig;
+
+/// The steps in an order of evaluation, the inputs, the registers, and what reads each place. That of place `p` is
+/// `readers[starts[p]..starts[p + 1]]`, by its mark: of steps that have it as an operand, and of registers that have it
+/// as their next signal.
+#[derive(Drop)]
+pub struct Plan {
+    pub steps: Vec<Step>,
+    pub inputs: Vec<Sig>,
+    pub registers: Vec<Register>,
+    pub starts: Vec<usize>,
+    pub readers: Vec<usize>,
+    pub ghost near: { AreNear starts.items readers.items steps.items },
+}
