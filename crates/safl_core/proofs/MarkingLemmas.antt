@@ -1,13 +1,14 @@
 -- Sets that are put right, number by number.
-use Rattle.std.proofs.Common.{◌≡◌, ℕ, suc, ◌<◌, ◌≤◌, ◌⊎◌, Bool, List, length, set, get_or, refl, sym, ap, ◌∙◌, subst, ⊎_elim, arith, length-set}
+use Rattle.std.proofs.Common.{◌≡◌, ℕ, suc, ◌<◌, ◌≤◌, ◌⊎◌, Bool, Option, Some, None, is_some, true, false, List, length, set, get_or, refl, sym, ap, ◌∙◌, subst, ⊎_elim, arith, length-set}
 use Rattle.std.specs.Int.{from_bool}
-use Rattle.std.proofs.lemmas.Bool.{cases_eq}
+use Rattle.std.proofs.lemmas.Bool.{cases_eq, true≢false}
 use Rattle.std.proofs.lemmas.List.{get_or-set_same, get_or-set_other, set_past}
 use Rattle.safl_word.specs.Words.{Word}
 use Rattle.safl_term.specs.Program.{Program}
 use Rattle.safl_calls.specs.Machine.{State}
 use Rattle.safl_core.specs.declared.enabled.Enabled.{Enabled}
 use Rattle.safl_core.specs.Marking.{IsRight, Marks, Rights, Relists, HasPlaces, AreMarked, Nothing}
+use Rattle.safl_core.specs.Testing.{is_like}
 
 pub rights_same : (p : ℕ → Bool) (s : List ℕ) → Rights p Nothing s s
 rights_same p s = record { long = refl; kept = λ k h. h; these = λ k lt h. absurd h }
@@ -43,8 +44,8 @@ pub rights_by : {p : ℕ → Bool} {A B : ℕ → Type 0} {s t : List ℕ} → (
 rights_by f a = record { long = a.long; kept = a.kept; these = λ k lt q. a.these k lt (f k lt q) }
 
 module _ {C : Program} {args : List Word} {s : State} where
-  pub relists_then : {A F U B G V : ℕ → Type 0} {a b d : Enabled} → Relists C args s A F U a b → Relists C args s B G V b d
-      → Relists C args s (λ k. A k ⊎ B k) (λ f. F f ⊎ G f) (λ v. U v ⊎ V v) a d
+  pub relists_then : {A R F U B S G V : ℕ → Type 0} {a b d : Enabled} → Relists C args s A R F U a b → Relists C args s B S G V b d
+      → Relists C args s (λ k. A k ⊎ B k) (λ k. R k ⊎ S k) (λ f. F f ⊎ G f) (λ v. U v ⊎ V v) a d
   relists_then x y = record {
     accepts = rights_then x.accepts y.accepts;
     finishes = rights_then x.finishes y.finishes;
@@ -53,17 +54,17 @@ module _ {C : Program} {args : List Word} {s : State} where
     busy = rights_then x.busy y.busy;
   }
 
-  pub relists_by : {A F U B G V : ℕ → Type 0} {a b : Enabled} → HasPlaces C a → ((k : ℕ) → k < suc C.sites → B k → A k) → ((f : ℕ) → f < C.functions → G f → F f) → ((v : ℕ) → v < C.functions → V v → U v)
-      → Relists C args s A F U a b → Relists C args s B G V a b
-  relists_by h i j l x = record {
+  pub relists_by : {A R F U B S G V : ℕ → Type 0} {a b : Enabled} → HasPlaces C a → ((k : ℕ) → k < suc C.sites → B k → A k) → ((k : ℕ) → k < suc C.sites → S k → R k)
+      → ((f : ℕ) → f < C.functions → G f → F f) → ((v : ℕ) → v < C.functions → V v → U v) → Relists C args s A R F U a b → Relists C args s B S G V a b
+  relists_by h i r j l x = record {
     accepts = rights_by (λ k lt q. i k (omega (arith, lt, h.accepts)) q) x.accepts;
     finishes = rights_by (λ f lt q. j f (omega (arith, lt, h.finishes)) q) x.finishes;
-    returns = rights_by (λ k lt q. i k (omega (arith, lt, h.returns)) q) x.returns;
+    returns = rights_by (λ k lt q. r k (omega (arith, lt, h.returns)) q) x.returns;
     loops = rights_by (λ f lt q. j f (omega (arith, lt, h.loops)) q) x.loops;
     busy = rights_by (λ v lt q. l v (omega (arith, lt, h.busy)) q) x.busy;
   }
 
-  pub relists_none : (a : Enabled) → Relists C args s Nothing Nothing Nothing a a
+  pub relists_none : (a : Enabled) → Relists C args s Nothing Nothing Nothing Nothing a a
   relists_none a = record {
     accepts = rights_same _ a.accepts;
     finishes = rights_same _ a.finishes;
@@ -72,7 +73,7 @@ module _ {C : Program} {args : List Word} {s : State} where
     busy = rights_same _ a.busy;
   }
 
-  pub places_after : {A F U : ℕ → Type 0} {a b : Enabled} → HasPlaces C a → Relists C args s A F U a b → HasPlaces C b
+  pub places_after : {A R F U : ℕ → Type 0} {a b : Enabled} → HasPlaces C a → Relists C args s A R F U a b → HasPlaces C b
   places_after h x = record {
     accepts = x.accepts.long ∙ h.accepts;
     finishes = x.finishes.long ∙ h.finishes;
@@ -90,3 +91,20 @@ marks_after m r f = record {
   long = r.long ∙ m.long;
   each = λ k lt. ⊎_elim (λ e. r.kept k (m.each k lt ∙ ap from_bool e)) (λ x. r.these k (omega (arith, lt, m.long)) x) (f k lt);
 }
+
+-- ---- a site that may be there
+
+pub some_is : (o : Option ℕ) (k j : ℕ) → o ≡ Some k → o ≡ Some j → k ≡ j
+some_is o k j p q = ap number (sym p ∙ q)
+  where
+    number : Option ℕ → ℕ
+    number None = 0
+    number (Some n) = n
+
+pub none_is : (o : Option ℕ) (j : ℕ) → o ≡ None → o ≡ Some j → ⊥
+none_is o j p q = true≢false (sym (ap (λ (x : Option ℕ). is_some x) q) ∙ ap (λ (x : Option ℕ). is_some x) p)
+
+pub same_of : (a b : Bool) → is_like a b ≡ true → b ≡ a
+same_of true b e = e
+same_of false true e = absurd (true≢false (sym e))
+same_of false false e = refl

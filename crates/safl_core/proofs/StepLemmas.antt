@@ -8,7 +8,7 @@ use Rattle.safl_sites.proofs.TermLemmas.{some_node}
 use Rattle.safl_word.specs.Words.{Word, slot, pick, no_word}
 use Rattle.safl_word.specs.declared.primitive.Primitive.{Primitive}
 use Rattle.safl_word.specs.Primitives.{apply_prim}
-use Rattle.safl_term.specs.Readiness.{Ready, LoopTo, NotYet, answer, answers, wanted, wanted_in, or_else, select, with_all, both, apply_to, loop_to, ready_from}
+use Rattle.safl_term.specs.Readiness.{Answer, Ready, LoopTo, NotYet, answer, answers, wanted, wanted_in, or_else, select, with_all, both, apply_to, loop_to, ready_from}
 use Rattle.safl_term.specs.Terms.{Term, Const, Var, If, Let, Op, Call, Loop, Terms, Nil, Cons}
 use Rattle.safl_term.specs.declared.term.Term as declared
 use Rattle.safl_term.specs.Tree.{shown_term, shown_terms}
@@ -189,6 +189,15 @@ module _ (B : ℕ → Option Word) (E : List Word) where
   pub notes_nil : (A : List (Option (List Word))) → Notes A A (wanted_in B E Nil)
   unfolding wanted
   notes_nil A = notes_none A _ (λ k. refl)
+
+module _ (B : ℕ → Option Word) (E : List Word) where
+  pub answers_two : (a b : Term) (v w : Word) → Ready v ≡ answer B E a → Ready w ≡ answer B E b → answers B E (Cons a (Cons b Nil)) ≡ Some (v ∷ w ∷ [])
+  answers_two a b v w e f = answers_more B E (Cons b Nil) a v (Some (w ∷ [])) e (answers_more B E Nil b w (Some []) f (answers_nil B E))
+
+  -- what a primitive gives on two operands
+  pub answer_two : (p : Primitive) (a b : Term) (x y z : Answer) → z ≡ apply_to p (both x (both y (Some []))) → x ≡ answer B E a → y ≡ answer B E b → z ≡ answer B E (Op p (Cons a (Cons b Nil)))
+  unfolding answer
+  answer_two p a b x y z is e f = is ∙ (ap (λ q. apply_to p (both q (both y (Some [])))) e ∙ ap (λ q. apply_to p (both (answer B E a) (both q (Some [])))) f)
 
 pub count_forest : (ts : List declared.Term) → count (shown_terms ts) ≡ length ts
 count_forest [] = refl

@@ -1,11 +1,12 @@
 -- What partial evaluation finds and keeps.
 use Rattle.std.specs.Prelude.{◌+◌, ◌≡◌, ℕ, ◌≤◌, List, length, take, drop, Option, Some, None, Bool, get_or, map}
 use Rattle.safl_word.specs.Words.{Word}
+use Rattle.safl_word.specs.declared.primitive.Primitive.{Primitive}
 use Rattle.safl_term.specs.Program.{Program, arity}
 use Rattle.safl_term.specs.Readiness as plain
 use Rattle.safl_term.specs.Readiness.{or_else}
 use Rattle.safl_term.specs.Standing.{Stands, StandsIn}
-use Rattle.safl_term.specs.Terms.{Term, Terms}
+use Rattle.safl_term.specs.Terms.{Term, Op, Terms, Nil, Cons}
 use Rattle.safl_term.specs.WellFormed.{Spans, SpansAll, HasWidth, HaveWidths}
 use Rattle.safl_core.specs.declared.evaluate.Outcome.{Outcome}
 use Rattle.safl_core.specs.declared.evaluate.Outcome.TheVariants.{Ready, Loop, NotYet}
@@ -17,6 +18,10 @@ abbrev pub shown : List Word → Outcome → plain.Answer
 shown env (Ready v) = plain.Ready v
 shown env (Loop h at n) = plain.LoopTo h (take n (drop at env))
 shown env NotYet = plain.NotYet
+
+-- a primitive on two operands
+abbrev pub on_two : Primitive → Term → Term → Term
+on_two p a b = Op p (Cons a (Cons b Nil))
 
 abbrev pub widths : List Word → List ℕ
 widths vs = map (λ v. v.width) vs

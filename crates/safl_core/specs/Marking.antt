@@ -1,11 +1,12 @@
 -- The sets of enabled events that a machine keeps.
-use Rattle.std.specs.Prelude.{◌≡◌, ℕ, suc, ◌+◌, ◌<◌, ◌≤◌, ◌⊎◌, List, length, sum, take, get_or, replicate, slice_set, Bool, not}
+use Rattle.std.specs.Prelude.{◌≡◌, ℕ, suc, ◌+◌, ◌<◌, ◌≤◌, ◌⊎◌, List, length, sum, take, get_or, replicate, slice_set, Bool, Some, not}
 use Rattle.std.specs.Int.{from_bool}
 use Rattle.safl_word.specs.Words.{Word}
 use Rattle.safl_term.specs.Program.{Program, unit_for}
 use Rattle.safl_calls.specs.Machine.{State, Event, Accept, Finish, Return, LoopInto}
+use Rattle.safl_core.specs.declared.check.Service.{Service}
 use Rattle.safl_core.specs.declared.enabled.Enabled.{Enabled}
-use Rattle.safl_core.specs.Testing.{can, is_idle}
+use Rattle.safl_core.specs.Testing.{can, is_idle, delivered}
 
 -- a number is in the set exactly if the test holds for it
 abbrev pub IsRight : (ℕ → Bool) → List ℕ → ℕ → Type 0
@@ -39,11 +40,12 @@ pub record Rights (p : ℕ → Bool) (which : ℕ → Type 0) (old new : List �
   pub kept : (k : ℕ) → IsRight p old k → IsRight p new k
   pub these : (k : ℕ) → k < length old → which k → IsRight p new k
 
--- the sets before and after these sites, functions and units were looked at anew
-pub record Relists (C : Program) (args : List Word) (s : State) (sites functions units : ℕ → Type 0) (old new : Enabled) : Type 0 where
-  pub accepts : Rights (λ k. can C args s (Accept k)) sites old.accepts new.accepts
+-- the sets before and after these were looked at anew: the calls of some sites, the returns to others, and functions and
+-- units
+pub record Relists (C : Program) (args : List Word) (s : State) (calls backs functions units : ℕ → Type 0) (old new : Enabled) : Type 0 where
+  pub accepts : Rights (λ k. can C args s (Accept k)) calls old.accepts new.accepts
   pub finishes : Rights (λ f. can C args s (Finish f)) functions old.finishes new.finishes
-  pub returns : Rights (λ k. can C args s (Return k)) sites old.returns new.returns
+  pub returns : Rights (λ k. can C args s (Return k)) backs old.returns new.returns
   pub loops : Rights (λ h. can C args s (LoopInto h)) functions old.loops new.loops
   pub busy : Rights (λ u. not (is_idle (s.unit u))) units old.busy new.busy
 
@@ -54,16 +56,34 @@ Nothing k = ⊥
 abbrev pub IsOwn : Program → ℕ → ℕ → Type 0
 IsOwn C u k = (0 < k) × (C.unit (C.caller k) ≡ u)
 
--- it calls the unit, or stands there
-abbrev pub Near : Program → ℕ → ℕ → Type 0
-Near C u k = (unit_for C k ≡ u) ⊎ IsOwn C u k
-
--- the sets before and after the events of a unit were looked at anew, or those of two units
+-- the sets before and after the events of a unit's bodies were looked at anew, or those of two units
 abbrev pub RelistsUnit : Program → List Word → State → ℕ → Enabled → Enabled → Type 0
-RelistsUnit C args s u old new = Relists C args s (λ k. Near C u k) (λ f. C.unit f ≡ u) (λ v. v ≡ u) old new
+RelistsUnit C args s u old new = Relists C args s (λ k. IsOwn C u k) Nothing (λ f. C.unit f ≡ u) (λ v. v ≡ u) old new
 
 abbrev pub RelistsBoth : Program → List Word → State → ℕ → ℕ → Enabled → Enabled → Type 0
-RelistsBoth C args s u w old new = Relists C args s (λ k. Near C u k ⊎ Near C w k) (λ f. (C.unit f ≡ u) ⊎ (C.unit f ≡ w)) (λ v. (v ≡ u) ⊎ (v ≡ w)) old new
+RelistsBoth C args s u w old new = Relists C args s (λ k. IsOwn C u k ⊎ IsOwn C w k) Nothing (λ f. (C.unit f ≡ u) ⊎ (C.unit f ≡ w)) (λ v. (v ≡ u) ⊎ (v ≡ w)) old new
+
+-- the unit that the site calls was idle and is busy now, or the other way round
+abbrev pub Turns : Program → State → ℕ → Bool → ℕ → Type 0
+Turns C s u was_idle k = (unit_for C k ≡ u) × (was_idle ≡ is_idle (s.unit u) → ⊥)
+
+-- the unit delivered to the site before, or does so now
+abbrev pub Shows : State → ℕ → Service → ℕ → Type 0
+Shows s u before k = (before.delivers ≡ Some k) ⊎ (delivered (s.unit u) ≡ Some k)
+
+-- the sets before and after the calls of the sites that a unit serves were looked at anew, where they turn
+abbrev pub RelistsTurned : Program → List Word → State → ℕ → Bool → Enabled → Enabled → Type 0
+RelistsTurned C args s u was_idle old new = Relists C args s (λ k. Turns C s u was_idle k) Nothing Nothing Nothing old new
+
+-- the sets before and after what changes for the sites that a unit serves was looked at anew
+abbrev pub RelistsService : Program → List Word → State → ℕ → Service → Enabled → Enabled → Type 0
+RelistsService C args s u before old new = Relists C args s (λ k. Turns C s u before.is_idle k) (λ k. Shows s u before k) Nothing Nothing old new
+
+-- the sets before and after all this
+abbrev pub RelistsAfter : Program → List Word → State → ℕ → ℕ → Service → Enabled → Enabled → Type 0
+RelistsAfter C args s u w before old new =
+    Relists C args s (λ k. (IsOwn C u k ⊎ IsOwn C w k) ⊎ Turns C s u before.is_idle k) (λ k. Shows s u before k)
+    (λ f. (C.unit f ≡ u) ⊎ (C.unit f ≡ w)) (λ v. (v ≡ u) ⊎ (v ≡ w)) old new
 
 -- An event is seen by the events of these units alone: by those of the unit that serves the site, finishes or loops, and
 -- where a site gets its word, by those of the unit in whose body it stands

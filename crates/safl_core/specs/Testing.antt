@@ -1,5 +1,5 @@
 -- Which events are enabled, by tests.
-use Rattle.std.specs.Prelude.{ℕ, zero, suc, List, Option, None, Bool, true, false, ◌==◌, ◌&&◌, is_some, get_or}
+use Rattle.std.specs.Prelude.{ℕ, zero, suc, List, Option, None, Some, Bool, true, false, not, ◌==◌, ◌&&◌, is_some, get_or}
 use Rattle.safl_word.specs.Words.{Word}
 use Rattle.safl_term.specs.Program.{Program, unit_for}
 use Rattle.safl_term.specs.Readiness.{Stage, Unsent, Sent, Returned, Answer, Ready, LoopTo, NotYet}
@@ -19,6 +19,17 @@ abbrev pub delivers_to : Mode → ℕ → Bool
 delivers_to Idle k = false
 delivers_to (Runs f j ws) k = false
 delivers_to (Delivers j v) k = j == k
+
+-- both hold, or neither
+abbrev pub is_like : Bool → Bool → Bool
+is_like true b = b
+is_like false b = not b
+
+-- the site to which a unit delivers a word
+abbrev pub delivered : Mode → Option ℕ
+delivered Idle = None
+delivered (Runs f k ws) = None
+delivered (Delivers k v) = Some k
 
 abbrev pub is_sent : Stage → Bool
 is_sent Unsent = false

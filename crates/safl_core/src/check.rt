@@ -13,7 +13,7 @@ use crate::mode::{Answer, Mode};
 use crate::stage::Stage;
 use safl_term::Checked;
 
-/// Whether a site is unsent and wanted, and its unit idle.
+/// Whether a site is unsent and wanted, and its unit idle. Most units are busy, so that most sites stay unread.
 pub fn accepts(
     c: &Checked,
     modes: &[Mode],
@@ -27,7 +27,16 @@ pub fn accepts(
     requires wants { length wants.now ≡ suc (program_of c.now).sites }
     ensures { result ≡ ((core.is_unsent (stage_at stages.now k) && test.wanted_at wants.now k) && test.is_idle (unit_at modes.now (program.unit_for (program_of c.now) k))) }
 {
-    is_unsent(stages, k) && is_wanted(wants, k) && is_idle(modes, c.unit_for(k))
+    waits_for(is_idle(modes, c.unit_for(k)), stages, wants, k)
+}
+
+/// Whether a site is unsent and wanted, and its unit idle, as it is said to be or not.
+pub fn waits_for(idle: bool, stages: &[Stage], wants: &[Option<Args>], k: u32) -> bool
+    requires stages { k < length stages.now }
+    requires wants { k < length wants.now }
+    ensures { result ≡ ((core.is_unsent (stage_at stages.now k) && test.wanted_at wants.now k) && idle) }
+{
+    idle && is_unsent(stages, k) && is_wanted(wants, k)
 }
 
 /// Whether a unit runs a member, and its body is ready.
@@ -73,6 +82,47 @@ pub fn loops(answers: &[Answer], u: u32, h: u32) -> bool
     }
 }
 
+/// Whether a unit is idle, and the site to which it delivers a word.
+#[derive(Clone, Copy)]
+pub struct Service {
+    pub is_idle: bool,
+    pub delivers: Option<u32>,
+}
+
+/// How a unit serves now.
+pub fn serving(modes: &[Mode], u: u32) -> Service
+    requires { u < length modes.now }
+    ensures idle { result.is_idle ≡ test.is_idle (unit_at modes.now u) }
+    ensures delivers { result.delivers ≡ test.delivered (unit_at modes.now u) }
+{
+    match &modes[u as usize] {
+        Mode::Idle => Service {
+            is_idle: true,
+            delivers: None,
+        },
+        Mode::Runs(_, _, _) => Service {
+            is_idle: false,
+            delivers: None,
+        },
+        Mode::Delivers(site, _) => Service {
+            is_idle: false,
+            delivers: Some(*site),
+        },
+    }
+}
+
+/// Whether a unit is idle if and only if it was idle before.
+pub fn is_as_before(modes: &[Mode], u: u32, was_idle: bool) -> bool
+    requires { u < length modes.now }
+    ensures { result ≡ test.is_like (test.is_idle (unit_at modes.now u)) was_idle }
+{
+    match &modes[u as usize] {
+        Mode::Idle => was_idle,
+        Mode::Runs(_, _, _) => !was_idle,
+        Mode::Delivers(_, _) => !was_idle,
+    }
+}
+
 /// Whether a unit is not idle.
 pub fn is_busy(modes: &[Mode], u: u32) -> bool
     requires { u < length modes.now }
@@ -81,7 +131,8 @@ pub fn is_busy(modes: &[Mode], u: u32) -> bool
     !is_idle(modes, u)
 }
 
-fn is_idle(modes: &[Mode], u: u32) -> bool
+/// Whether a unit is idle.
+pub fn is_idle(modes: &[Mode], u: u32) -> bool
     requires { u < length modes.now }
     ensures { result ≡ test.is_idle (unit_at modes.now u) }
 {

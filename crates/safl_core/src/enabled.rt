@@ -1,14 +1,14 @@
 //! The enabled events, as sets of numbers.
 
-ghost use Rattle.std.specs.Prelude.{◌≡◌, ℕ, ◌<◌, ◌≤◌};
+ghost use Rattle.std.specs.Prelude.{◌≡◌, ℕ, ◌<◌, ◌≤◌, Some};
 ghost use Rattle.safl_term.specs.Checked.{program_of};
 ghost use Rattle.safl_term.specs.Program.{unit_for};
 ghost use Rattle.safl_core.specs.Linking.{AreLinked};
-ghost use Rattle.safl_core.specs.Marking.{HasPlaces, Relists, RelistsBoth, RelistsUnit, IsOwn, Nothing};
+ghost use Rattle.safl_core.specs.Marking.{HasPlaces, Relists, RelistsAfter, RelistsBoth, RelistsService, RelistsTurned, RelistsUnit, IsOwn, Nothing};
 ghost use Rattle.safl_core.specs.States.{Keeps, calls_of};
 
 use crate::args::Args;
-use crate::check;
+use crate::check::{self, Service, serving};
 use crate::concern::TwoUnits;
 use crate::event::Event;
 use crate::links::Links;
@@ -87,13 +87,14 @@ impl Enabled {
     }
 }
 
-/// Finds anew which events of two units are enabled.
-pub fn relist_both(
+/// Finds anew which events are enabled after one that concerns these units, the first of which served like this before.
+pub fn relist_after(
     c: &Checked,
     links: &Links,
     opening: &Args,
     state: &State,
     concerned: TwoUnits,
+    before: Service,
     enabled: &mut Enabled,
 )
     requires kept { (n : ℕ) × Keeps c.now opening.now n state.now }
@@ -101,20 +102,36 @@ pub fn relist_both(
     requires unit { concerned.unit < (program_of c.now).functions }
     requires other { concerned.other < (program_of c.now).functions }
     requires places { HasPlaces (program_of c.now) enabled.old }
+    ensures { RelistsAfter (program_of c.now) opening.now (calls_of state.now) concerned.unit concerned.other before enabled.old enabled.new }
+{
+    relist_both(c, opening, state, concerned, enabled);
+    relist_service(c, links, opening, state, concerned.unit, before, enabled);
+}
+
+// Finds anew which events of the bodies of two units are enabled.
+fn relist_both(
+    c: &Checked,
+    opening: &Args,
+    state: &State,
+    concerned: TwoUnits,
+    enabled: &mut Enabled,
+)
+    requires kept { (n : ℕ) × Keeps c.now opening.now n state.now }
+    requires unit { concerned.unit < (program_of c.now).functions }
+    requires other { concerned.other < (program_of c.now).functions }
+    requires places { HasPlaces (program_of c.now) enabled.old }
     ensures { RelistsBoth (program_of c.now) opening.now (calls_of state.now) concerned.unit concerned.other enabled.old enabled.new }
 {
-    relist(c, links, opening, state, concerned.unit, enabled);
+    relist(c, opening, state, concerned.unit, enabled);
     if concerned.other == concerned.unit {
         return;
     }
-    relist(c, links, opening, state, concerned.other, enabled);
+    relist(c, opening, state, concerned.other, enabled);
 }
 
-// Finds anew which events of a unit are enabled: those of the sites that call it, of its members, and of their own
-// sites.
-fn relist(c: &Checked, links: &Links, opening: &Args, state: &State, u: u32, enabled: &mut Enabled)
+// Finds anew which events of a unit's bodies are enabled: those of its members, and of their own sites.
+fn relist(c: &Checked, opening: &Args, state: &State, u: u32, enabled: &mut Enabled)
     requires kept { (n : ℕ) × Keeps c.now opening.now n state.now }
-    requires linked { AreLinked (program_of c.now) links.now }
     requires unit { u < (program_of c.now).functions }
     requires places { HasPlaces (program_of c.now) enabled.old }
     ensures { RelistsUnit (program_of c.now) opening.now (calls_of state.now) u enabled.old enabled.new }
@@ -122,7 +139,6 @@ fn relist(c: &Checked, links: &Links, opening: &Args, state: &State, u: u32, ena
     relist_unit(c, opening, state, u, enabled);
     relist_members(c, opening, state, u, enabled);
     relist_own(c, opening, state, u, enabled);
-    relist_callers(c, links, opening, state, u, enabled);
 }
 
 // Whether a unit is busy.
@@ -130,7 +146,7 @@ fn relist_unit(c: &Checked, opening: &Args, state: &State, u: u32, enabled: &mut
     requires kept { (n : ℕ) × Keeps c.now opening.now n state.now }
     requires unit { u < (program_of c.now).functions }
     requires places { HasPlaces (program_of c.now) enabled.old }
-    ensures { Relists (program_of c.now) opening.now (calls_of state.now) Nothing Nothing (λ v. v ≡ u) enabled.old enabled.new }
+    ensures { Relists (program_of c.now) opening.now (calls_of state.now) Nothing Nothing Nothing (λ v. v ≡ u) enabled.old enabled.new }
 {
     enabled.busy.put(u, check::is_busy(&state.modes, u));
 }
@@ -140,7 +156,7 @@ fn relist_members(c: &Checked, opening: &Args, state: &State, u: u32, enabled: &
     requires kept { (n : ℕ) × Keeps c.now opening.now n state.now }
     requires unit { u < (program_of c.now).functions }
     requires places { HasPlaces (program_of c.now) enabled.old }
-    ensures { Relists (program_of c.now) opening.now (calls_of state.now) Nothing (λ f. (program_of c.now).unit f ≡ u) Nothing enabled.old enabled.new }
+    ensures { Relists (program_of c.now) opening.now (calls_of state.now) Nothing Nothing (λ f. (program_of c.now).unit f ≡ u) Nothing enabled.old enabled.new }
 {
     for f in u..members_end(c, u) {
         relist_member(c, opening, state, f, enabled);
@@ -151,7 +167,7 @@ fn relist_member(c: &Checked, opening: &Args, state: &State, f: u32, enabled: &m
     requires kept { (n : ℕ) × Keeps c.now opening.now n state.now }
     requires function { f < (program_of c.now).functions }
     requires places { HasPlaces (program_of c.now) enabled.old }
-    ensures { Relists (program_of c.now) opening.now (calls_of state.now) Nothing (λ g. g ≡ f) Nothing enabled.old enabled.new }
+    ensures { Relists (program_of c.now) opening.now (calls_of state.now) Nothing Nothing (λ g. g ≡ f) Nothing enabled.old enabled.new }
 {
     let unit = c.unit(f);
     enabled
@@ -160,20 +176,65 @@ fn relist_member(c: &Checked, opening: &Args, state: &State, f: u32, enabled: &m
     enabled.loops.put(f, check::loops(&state.answers, unit, f));
 }
 
-// The events of the sites in the bodies of a unit.
+// The calls of the sites in the bodies of a unit.
 fn relist_own(c: &Checked, opening: &Args, state: &State, u: u32, enabled: &mut Enabled)
     requires kept { (n : ℕ) × Keeps c.now opening.now n state.now }
     requires unit { u < (program_of c.now).functions }
     requires places { HasPlaces (program_of c.now) enabled.old }
-    ensures { Relists (program_of c.now) opening.now (calls_of state.now) (λ k. IsOwn (program_of c.now) u k) Nothing Nothing enabled.old enabled.new }
+    ensures { Relists (program_of c.now) opening.now (calls_of state.now) (λ k. IsOwn (program_of c.now) u k) Nothing Nothing Nothing enabled.old enabled.new }
 {
     let own = own_sites(c, u);
     for k in own.first..own.end {
-        relist_site(c, opening, state, k, enabled);
+        relist_call(c, opening, state, k, enabled);
     }
 }
 
-// The events of the sites that call a unit.
+// What changes for the sites that a unit serves: their calls, where it has become idle or busy, and the site that it
+// delivered to and the one that it delivers to now.
+fn relist_service(
+    c: &Checked,
+    links: &Links,
+    opening: &Args,
+    state: &State,
+    u: u32,
+    before: Service,
+    enabled: &mut Enabled,
+)
+    requires kept { (n : ℕ) × Keeps c.now opening.now n state.now }
+    requires linked { AreLinked (program_of c.now) links.now }
+    requires unit { u < (program_of c.now).functions }
+    requires places { HasPlaces (program_of c.now) enabled.old }
+    ensures { RelistsService (program_of c.now) opening.now (calls_of state.now) u before enabled.old enabled.new }
+{
+    let after = serving(&state.modes, u);
+    relist_turned(c, links, opening, state, u, before.is_idle, enabled);
+    relist_return(c, opening, state, before.delivers, enabled);
+    relist_return(c, opening, state, after.delivers, enabled);
+}
+
+// The calls of the sites that a unit serves, where it has become idle or busy.
+fn relist_turned(
+    c: &Checked,
+    links: &Links,
+    opening: &Args,
+    state: &State,
+    u: u32,
+    was_idle: bool,
+    enabled: &mut Enabled,
+)
+    requires kept { (n : ℕ) × Keeps c.now opening.now n state.now }
+    requires linked { AreLinked (program_of c.now) links.now }
+    requires unit { u < (program_of c.now).functions }
+    requires places { HasPlaces (program_of c.now) enabled.old }
+    ensures { RelistsTurned (program_of c.now) opening.now (calls_of state.now) u was_idle enabled.old enabled.new }
+{
+    if check::is_as_before(&state.modes, u, was_idle) {
+        return;
+    }
+    relist_callers(c, links, opening, state, u, enabled);
+}
+
+// The calls of the sites that a unit serves.
 fn relist_callers(
     c: &Checked,
     links: &Links,
@@ -186,25 +247,47 @@ fn relist_callers(
     requires linked { AreLinked (program_of c.now) links.now }
     requires unit { u < (program_of c.now).functions }
     requires places { HasPlaces (program_of c.now) enabled.old }
-    ensures { Relists (program_of c.now) opening.now (calls_of state.now) (λ k. unit_for (program_of c.now) k ≡ u) Nothing Nothing enabled.old enabled.new }
+    ensures { Relists (program_of c.now) opening.now (calls_of state.now) (λ k. unit_for (program_of c.now) k ≡ u) Nothing Nothing Nothing enabled.old enabled.new }
 {
+    let idle = check::is_idle(&state.modes, u);
     let sites = c.sites();
     let mut k = links.first[u as usize];
     while k <= sites {
-        relist_site(c, opening, state, k, enabled);
+        let accepts = check::waits_for(idle, &state.stages, &state.wants, k);
+        enabled.accepts.put(k, accepts);
         k = links.next[k as usize];
     }
 }
 
-fn relist_site(c: &Checked, opening: &Args, state: &State, k: u32, enabled: &mut Enabled)
+// Whether the call of a site can be accepted.
+fn relist_call(c: &Checked, opening: &Args, state: &State, k: u32, enabled: &mut Enabled)
     requires kept { (n : ℕ) × Keeps c.now opening.now n state.now }
     requires site { k ≤ (program_of c.now).sites }
     requires places { HasPlaces (program_of c.now) enabled.old }
-    ensures { Relists (program_of c.now) opening.now (calls_of state.now) (λ j. j ≡ k) Nothing Nothing enabled.old enabled.new }
+    ensures { Relists (program_of c.now) opening.now (calls_of state.now) (λ j. j ≡ k) Nothing Nothing Nothing enabled.old enabled.new }
 {
     let accepts = check::accepts(c, &state.modes, &state.stages, &state.wants, k);
     enabled.accepts.put(k, accepts);
-    enabled
-        .returns
-        .put(k, check::returns(c, &state.modes, &state.stages, k));
+}
+
+// Whether a site can get its word, where there is one.
+fn relist_return(
+    c: &Checked,
+    opening: &Args,
+    state: &State,
+    site: Option<u32>,
+    enabled: &mut Enabled,
+)
+    requires kept { (n : ℕ) × Keeps c.now opening.now n state.now }
+    requires places { HasPlaces (program_of c.now) enabled.old }
+    ensures { Relists (program_of c.now) opening.now (calls_of state.now) Nothing (λ j. site ≡ Some j) Nothing Nothing enabled.old enabled.new }
+{
+    let Some(k) = site else {
+        return;
+    };
+    if k > c.sites() {
+        return;
+    }
+    let returns = check::returns(c, &state.modes, &state.stages, k);
+    enabled.returns.put(k, returns);
 }

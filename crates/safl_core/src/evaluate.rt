@@ -1,17 +1,18 @@
 //! Partial evaluation: what a running body comes to, and which calls it wants.
 
-ghost use Rattle.std.specs.Prelude.{ℕ, ◌≡◌, ◌+◌, ◌≤◌, ◌<◌, List, length, take, drop, cond, Some, None};
-ghost use Rattle.safl_term.specs.Readiness.{answer, answers, wanted, wanted_in, ready_from};
+ghost use Rattle.std.specs.Prelude.{ℕ, ◌≡◌, ◌+◌, ◌≤◌, ◌<◌, List, [], ◌∷◌, length, take, drop, cond, Some, None, IfSome, IsSome};
+ghost use Rattle.safl_term.specs.Readiness.{answer, answers, apply_to, both, wanted, wanted_in, ready_from};
 ghost use Rattle.safl_term.specs.Sizes.{nodes, nodes_in};
 ghost use Rattle.safl_term.specs.Tree.{shown_term, shown_terms};
+ghost use Rattle.safl_word.specs.Primitives.{result_width};
 ghost use Rattle.safl_word.specs.Words.{Word as a_word};
 ghost use Rattle.safl_core.specs.Stages.{back_at};
-ghost use Rattle.safl_core.specs.Evaluating.{shown, IsPlaced, CanRun, CanRunAll, Unasked, UnaskedIn, Notes};
+ghost use Rattle.safl_core.specs.Evaluating.{shown, on_two, IsPlaced, CanRun, CanRunAll, Unasked, UnaskedIn, Notes};
 
 use crate::args::Args;
 use crate::stage::Stage;
 use safl_term::Term;
-use safl_word::{Word, apply};
+use safl_word::{Primitive, Word, apply};
 
 /// What a term comes to: a word, a tail call, or nothing yet.
 #[derive(Clone, Copy)]
@@ -66,6 +67,9 @@ pub fn evaluate(
         }
         Term::Op(p, ts) => {
             let operands = ts.as_slice();
+            if let Some((a, b)) = pair(operands) {
+                return evaluate_two(stages, asks, env, slots, *p, a, b);
+            }
             if evaluate_all(stages, asks, env, slots, slots, operands) {
                 Outcome::Ready(apply(*p, part(env, slots, operands.len())))
             } else {
@@ -87,6 +91,81 @@ pub fn evaluate(
                 Outcome::NotYet
             }
         }
+    }
+}
+
+// What a primitive gives on two operands. Most have two, and no word of theirs goes by way of `env`.
+#[cycle(evaluate)]
+fn evaluate_two(
+    stages: &[Stage],
+    asks: &mut [Option<Args>],
+    env: &mut [Word],
+    slots: usize,
+    p: Primitive,
+    a: &Term,
+    b: &Term,
+) -> Outcome
+    requires can { CanRun stages.now (length asks.old) (take slots env.old) (on_two p (shown_term a.now) (shown_term b.now)) }
+    requires room { slots + nodes (shown_term a.now) + nodes (shown_term b.now) ≤ length env.old }
+    requires unasked { Unasked asks.old (on_two p (shown_term a.now) (shown_term b.now)) }
+    ensures outcome { shown env.new result ≡ answer (back_at stages.now) (take slots env.old) (on_two p (shown_term a.now) (shown_term b.now)) }
+    ensures placed { IsPlaced (length env.old) result }
+    ensures notes { Notes asks.old asks.new (wanted (back_at stages.now) (take slots env.old) (on_two p (shown_term a.now) (shown_term b.now))) }
+    ensures kept { take slots env.new ≡ take slots env.old }
+{
+    let first = operand(stages, asks, env, slots, a);
+    let second = operand(stages, asks, env, slots, b);
+    operated(p, first, second)
+}
+
+// The same as `evaluate`, which constants and slots need not.
+#[cycle(evaluate)]
+fn operand(
+    stages: &[Stage],
+    asks: &mut [Option<Args>],
+    env: &mut [Word],
+    slots: usize,
+    t: &Term,
+) -> Outcome
+    requires can { CanRun stages.now (length asks.old) (take slots env.old) (shown_term t.now) }
+    requires room { slots + nodes (shown_term t.now) ≤ length env.old }
+    requires unasked { Unasked asks.old (shown_term t.now) }
+    ensures outcome { shown env.new result ≡ answer (back_at stages.now) (take slots env.old) (shown_term t.now) }
+    ensures placed { IsPlaced (length env.old) result }
+    ensures notes { Notes asks.old asks.new (wanted (back_at stages.now) (take slots env.old) (shown_term t.now)) }
+    ensures kept { take slots env.new ≡ take slots env.old }
+{
+    match t {
+        Term::Const(word) => Outcome::Ready(*word),
+        Term::Var(slot) => Outcome::Ready(env[*slot as usize]),
+        _ => evaluate(stages, asks, env, slots, t),
+    }
+}
+
+// Two terms, where there are two.
+fn pair(ts: &[Term]) -> Option<(&Term, &Term)>
+    ensures { IfSome result (λ p. ts.now ≡ p.0.now ∷ p.1.now ∷ []) }
+{
+    match ts {
+        [a, b] => Some((a, b)),
+        _ => None,
+    }
+}
+
+// What a primitive gives where both operands are ready.
+fn operated(p: Primitive, first: Outcome, second: Outcome) -> Outcome
+    requires { (v w : a_word) → first ≡ Outcome.Ready v → second ≡ Outcome.Ready w → IsSome (result_width p (v.width ∷ w.width ∷ [])) }
+    ensures shows { (d e f : List Word) → shown d result ≡ apply_to p (both (shown e first) (both (shown f second) (Some []))) }
+    ensures placed { (room : ℕ) → IsPlaced room result }
+{
+    match first {
+        Outcome::Ready(v) => match second {
+            Outcome::Ready(w) => Outcome::Ready(apply(p, &[v, w])),
+            Outcome::Loop(_, _, _) => Outcome::NotYet,
+            Outcome::NotYet => Outcome::NotYet,
+        },
+        Outcome::Loop(_, _, _) => Outcome::NotYet,
+        Outcome::NotYet => Outcome::NotYet,
     }
 }
 
@@ -113,7 +192,7 @@ fn evaluate_all(
     let Some((first, rest)) = ts.split_first() else {
         return true;
     };
-    let outcome = evaluate(stages, asks, env, slots, first);
+    let outcome = operand(stages, asks, env, slots, first);
     let ready = evaluate_all(stages, asks, env, slots, at + 1, rest);
     match outcome {
         Outcome::Ready(word) => {

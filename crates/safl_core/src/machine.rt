@@ -2,7 +2,7 @@
 
 use crate::args::Args;
 use crate::concern::concerned;
-use crate::enabled::{Enabled, relist_both};
+use crate::enabled::{Enabled, relist_after};
 use crate::event::Event;
 use crate::links::{Links, linked};
 use crate::stage::Stage;
@@ -197,13 +197,15 @@ impl<'a> Machine<'a> {
         ensures { Fires self.old (event_of e) self.new }
     {
         let concerned = concerned(self.checked, e);
+        let before = check::serving(&self.state.modes, concerned.unit);
         fire::fire(self.checked, &self.opening, &mut self.state, e);
-        relist_both(
+        relist_after(
             self.checked,
             &self.links,
             &self.opening,
             &self.state,
             concerned,
+            before,
             &mut self.sets,
         );
         self.events += 1;

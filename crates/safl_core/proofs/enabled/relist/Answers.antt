@@ -1,4 +1,4 @@
-use Rattle.std.proofs.Common.{inl, inr, ⊎_elim}
+use Rattle.std.proofs.Common.{inl, inr}
 use Rattle.safl_core.proofs.MarkingLemmas.{relists_by, relists_then, places_after}
 use Rattle.safl_core.proofs.enabled.relist.Goals as goal
 
@@ -8,13 +8,11 @@ relist_members-requires-clause-places c = places_after c.requires.places c.relis
 pub relist_own-requires-clause-places : goal.relist_own-requires-clause-places
 relist_own-requires-clause-places c = places_after (places_after c.requires.places c.relist_unit.ensures) c.relist_members.ensures
 
-pub relist_callers-requires-clause-places : goal.relist_callers-requires-clause-places
-relist_callers-requires-clause-places c = places_after (places_after (places_after c.requires.places c.relist_unit.ensures) c.relist_members.ensures) c.relist_own.ensures
-
 pub returns : goal.returns
 returns c =
     relists_by c.requires.places
-    (λ k lt q. ⊎_elim (λ a. inr a) (λ b. inl (inr b)) q)
-    (λ f lt q. inl (inl (inr q)))
-    (λ v lt q. inl (inl (inl q)))
-    (relists_then (relists_then (relists_then c.relist_unit.ensures c.relist_members.ensures) c.relist_own.ensures) c.relist_callers.ensures)
+    (λ k lt q. inr q)
+    (λ k lt q. inr q)
+    (λ f lt q. inl (inr q))
+    (λ v lt q. inl (inl q))
+    (relists_then (relists_then c.relist_unit.ensures c.relist_members.ensures) c.relist_own.ensures)

@@ -1,4 +1,4 @@
-use Rattle.std.proofs.Common.{inl, inr, ⊎_elim, ◌∙◌}
+use Rattle.std.proofs.Common.{inl, ⊎_elim, ◌∙◌}
 use Rattle.safl_core.proofs.MarkingLemmas.{relists_by, relists_then, places_after}
 use Rattle.safl_core.proofs.enabled.relist_both.Goals as goal
 
@@ -9,10 +9,17 @@ pub returns-then-concerned : goal.returns-then-concerned
 returns-then-concerned c =
     let e = c.if-concerned.true in
     relists_by c.requires.places
-    (λ k lt q. ⊎_elim (λ x. x) (λ y. ⊎_elim (λ a. inl (a ∙ e)) (λ b. inr (b.0, b.1 ∙ e)) y) q)
+    (λ k lt q. ⊎_elim (λ x. x) (λ b. (b.0, b.1 ∙ e)) q)
+    (λ k lt q. q)
     (λ f lt q. ⊎_elim (λ x. x) (λ y. y ∙ e) q)
     (λ v lt q. ⊎_elim (λ x. x) (λ y. y ∙ e) q)
     c.relist.ensures
 
 pub returns : goal.returns
-returns c = relists_then c.relist.ensures c.relist-2.ensures
+returns c =
+    relists_by c.requires.places
+    (λ k lt q. q)
+    (λ k lt q. inl q)
+    (λ f lt q. q)
+    (λ v lt q. q)
+    (relists_then c.relist.ensures c.relist-2.ensures)

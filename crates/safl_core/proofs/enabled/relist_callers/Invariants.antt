@@ -9,7 +9,7 @@ abbrev pub invariant-loop-k : goal.invariant-loop-k
 invariant-loop-k l = record {
   most : l.k ≤ suc (program_of l.c).sites;
   calls : l.k ≤ (program_of l.c).sites → unit_for (program_of l.c) l.k ≡ l.u;
-  done : Relists (program_of l.c) l.opening (calls_of l.state) (λ j. (unit_for (program_of l.c) j ≡ l.u) × (j < l.k)) Nothing Nothing l.fn.enabled l.enabled;
+  done : Relists (program_of l.c) l.opening (calls_of l.state) (λ j. (unit_for (program_of l.c) j ≡ l.u) × (j < l.k)) Nothing Nothing Nothing l.fn.enabled l.enabled;
 }
 
 abbrev pub decreases-loop-k : goal.decreases-loop-k

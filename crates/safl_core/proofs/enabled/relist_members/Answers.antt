@@ -7,6 +7,7 @@ pub loop-f-init : goal.loop-f-init
 loop-f-init c =
     relists_by c.requires.places
     (λ k lt q. q)
+    (λ k lt q. q)
     (λ g lt q. absurd (omega (arith, (c.members_end-f-end.ensures.ends.all g lt q.0).0, q.1)))
     (λ v lt q. q)
     (relists_none c.args.enabled.now)
@@ -21,6 +22,7 @@ pub loop-f-preserved : goal.loop-f-preserved
 loop-f-preserved c =
     relists_by c.requires.places
     (λ k lt q. inl q)
+    (λ k lt q. inl q)
     (λ g lt q. ⊎_elim (λ e. inr e) (λ ne. inl (q.0, omega (arith, q.1, ne))) (cases_eq g c.loop-f.f))
     (λ v lt q. inl q)
     (relists_then c.loop-f.invariant c.relist_member.ensures)
@@ -28,6 +30,7 @@ loop-f-preserved c =
 pub returns : goal.returns
 returns c =
     relists_by c.requires.places
+    (λ k lt q. q)
     (λ k lt q. q)
     (λ g lt q. (q, omega (arith, (c.members_end-f-end.ensures.ends.all g lt q).1, c.loop-f-test.false)))
     (λ v lt q. q)

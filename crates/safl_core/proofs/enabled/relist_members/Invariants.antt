@@ -5,4 +5,4 @@ use Rattle.safl_core.specs.States.{calls_of}
 use Rattle.safl_core.proofs.enabled.relist_members.Given as goal
 
 abbrev pub invariant-loop-f : goal.invariant-loop-f
-invariant-loop-f l = Relists (program_of l.c) l.opening (calls_of l.state) Nothing (λ g. ((program_of l.c).unit g ≡ l.u) × (g < l.f)) Nothing l.fn.enabled l.enabled
+invariant-loop-f l = Relists (program_of l.c) l.opening (calls_of l.state) Nothing Nothing (λ g. ((program_of l.c).unit g ≡ l.u) × (g < l.f)) Nothing l.fn.enabled l.enabled

@@ -8,7 +8,7 @@ use Rattle.safl_term.specs.declared.term.Term as declared
 use Rattle.safl_term.proofs.TreeLemmas.{shown_term-Op, shown_term-Loop, shown_term-Call, shown_term-Let}
 use Rattle.safl_sites.proofs.TermLemmas.{some_node, empty_list}
 use Rattle.safl_core.specs.Stages.{back_at}
-use Rattle.safl_core.specs.Evaluating.{Notes}
+use Rattle.safl_core.specs.Evaluating.{Notes, shown}
 use Rattle.safl_core.proofs.RunLemmas as may
 use Rattle.safl_core.proofs.RunLemmas.{can_is, can_all_is, unasked_is, unasked_in_is}
 use Rattle.safl_core.proofs.StepLemmas as step
@@ -22,7 +22,7 @@ pub evaluate-evaluate-requires : goal.evaluate-evaluate-requires
 evaluate-evaluate-requires t c =
     let shape = if_by (ap shown_term c.in-If.is) (ap shown_term c.deref.ensures) refl refl in
     let size = ap nodes shape in
-    let smaller : 2 * nodes (shown_term c.deref.result.now) < 2 * nodes (shown_term c.args.t.now) = omega (arith, size) in
+    let smaller : 3 * nodes (shown_term c.deref.result.now) < 3 * nodes (shown_term c.args.t.now) = omega (arith, size) in
     (search rules, (may.can_condition _ _ _ (can_is refl refl shape c.requires.can), (omega (arith, size, c.requires.room), may.unasked_condition _ _ _ (unasked_is shape c.requires.unasked))))
 
 pub evaluate-evaluate-requires-then-bits-eq1 : goal.evaluate-evaluate-requires-then-bits-eq1
@@ -30,7 +30,7 @@ evaluate-evaluate-requires-then-bits-eq1 t c =
     let shape = if_by (ap shown_term c.in-If.is) (ap shown_term c.deref.ensures) (ap shown_term c.deref-then-bits-eq1.ensures) refl in
     let size = ap nodes shape in
     let can = can_is refl refl shape c.requires.can in
-    let smaller : 2 * nodes (shown_term c.deref-then-bits-eq1.result.now) < 2 * nodes (shown_term c.args.t.now) = omega (arith, size) in (
+    let smaller : 3 * nodes (shown_term c.deref-then-bits-eq1.result.now) < 3 * nodes (shown_term c.args.t.now) = omega (arith, size) in (
       search rules,
       (
         can_is (omega (arith, c.evaluate.auto.asks)) (sym c.in-Ready.ensures.kept) refl (may.can_then _ _ _ can),
@@ -43,7 +43,7 @@ evaluate-evaluate-requires-else-bits-eq1 t c =
     let shape = if_by (ap shown_term c.in-If.is) (ap shown_term c.deref.ensures) refl (ap shown_term c.deref-else-bits-eq1.ensures) in
     let size = ap nodes shape in
     let can = can_is refl refl shape c.requires.can in
-    let smaller : 2 * nodes (shown_term c.deref-else-bits-eq1.result.now) < 2 * nodes (shown_term c.args.t.now) = omega (arith, size) in (
+    let smaller : 3 * nodes (shown_term c.deref-else-bits-eq1.result.now) < 3 * nodes (shown_term c.args.t.now) = omega (arith, size) in (
       search rules,
       (
         can_is (omega (arith, c.evaluate.auto.asks)) (sym c.in-Ready.ensures.kept) refl (may.can_else _ _ _ can),
@@ -116,7 +116,7 @@ evaluate-evaluate_all-requires t c =
     let shape = let_by (ap shown_term c.in-Let.is ∙ shown_term-Let c.in-Let.field-0 c.in-Let.bound c.in-Let.body) (ap shown_terms c.as_slice-bound.ensures.value) refl in
     let size = ap nodes shape in
     let count = forest_nodes c.as_slice-bound.result.now in
-    let smaller : 2 * nodes_in (shown_terms c.as_slice-bound.result.now) + 1 < 2 * nodes (shown_term c.args.t.now) = omega (arith, size) in
+    let smaller : 3 * nodes_in (shown_terms c.as_slice-bound.result.now) + 2 < 3 * nodes (shown_term c.args.t.now) = omega (arith, size) in
     (search rules, (may.can_bound _ _ (can_is refl refl shape c.requires.can), (omega (arith, size, c.requires.room), (omega (arith, size, count, c.requires.room), (omega arith, may.unasked_bound _ _ (unasked_is shape c.requires.unasked))))))
 
 pub evaluate-evaluate-requires-then-evaluate_all : goal.evaluate-evaluate-requires-then-evaluate_all
@@ -126,7 +126,7 @@ evaluate-evaluate-requires-then-evaluate_all t c =
     let count = forest_nodes c.as_slice-bound.result.now in
     let can = can_is refl refl shape c.requires.can in
     let env = step.slots_and c.evaluate_all.new.env (take c.args.slots c.args.env.now) c.args.slots (length c.as_slice-bound.result.now) c.if-evaluate_all.ensures.kept in
-    let smaller : 2 * nodes (shown_term c.deref-then-evaluate_all.result.now) < 2 * nodes (shown_term c.args.t.now) = omega (arith, size) in (
+    let smaller : 3 * nodes (shown_term c.deref-then-evaluate_all.result.now) < 3 * nodes (shown_term c.args.t.now) = omega (arith, size) in (
       search rules,
       (
         can_is (omega (arith, c.evaluate_all.auto.asks)) (sym env) refl (may.can_body _ _ _ can c.if-evaluate_all.ensures.words),
@@ -175,7 +175,7 @@ evaluate-evaluate_all-requires-in-Op t c =
     let shape = op_by c.in-Op.p (ap shown_term c.in-Op.is ∙ shown_term-Op c.in-Op.p c.in-Op.ts) (ap shown_terms c.as_slice-operands.ensures.value) in
     let size = ap nodes shape in
     let count = forest_nodes c.as_slice-operands.result.now in
-    let smaller : 2 * nodes_in (shown_terms c.as_slice-operands.result.now) + 1 < 2 * nodes (shown_term c.args.t.now) = omega (arith, size) in
+    let smaller : 3 * nodes_in (shown_terms c.as_slice-operands.result.now) + 2 < 3 * nodes (shown_term c.args.t.now) = omega (arith, size) in
     (search rules, (may.can_op _ _ (can_is refl refl shape c.requires.can), (omega (arith, size, c.requires.room), (omega (arith, size, count, c.requires.room), (omega arith, may.unasked_op _ _ (unasked_is shape c.requires.unasked))))))
 
 pub evaluate-part-requires : goal.evaluate-part-requires
@@ -223,7 +223,7 @@ evaluate-evaluate_all-requires-in-Call t c =
     let shape = call_by c.in-Call.field-0 c.in-Call.k (ap shown_term c.in-Call.is ∙ shown_term-Call c.in-Call.field-0 c.in-Call.k c.in-Call.ts) (ap shown_terms c.as_slice-args.ensures.value) in
     let size = ap nodes shape in
     let count = forest_nodes c.as_slice-args.result.now in
-    let smaller : 2 * nodes_in (shown_terms c.as_slice-args.result.now) + 1 < 2 * nodes (shown_term c.args.t.now) = omega (arith, size) in
+    let smaller : 3 * nodes_in (shown_terms c.as_slice-args.result.now) + 2 < 3 * nodes (shown_term c.args.t.now) = omega (arith, size) in
     (search rules, (may.can_call _ _ _ (can_is refl refl shape c.requires.can), (omega (arith, size, c.requires.room), (omega (arith, size, count, c.requires.room), (omega arith, may.unasked_call _ _ _ (unasked_is shape c.requires.unasked))))))
 
 pub evaluate-part-requires-then-evaluate_all-3 : goal.evaluate-part-requires-then-evaluate_all-3
@@ -276,7 +276,7 @@ evaluate-evaluate_all-requires-in-Loop t c =
     let shape = loop_by c.in-Loop.h (ap shown_term c.in-Loop.is ∙ shown_term-Loop c.in-Loop.h c.in-Loop.ts) (ap shown_terms c.as_slice-passed.ensures.value) in
     let size = ap nodes shape in
     let count = forest_nodes c.as_slice-passed.result.now in
-    let smaller : 2 * nodes_in (shown_terms c.as_slice-passed.result.now) + 1 < 2 * nodes (shown_term c.args.t.now) = omega (arith, size) in
+    let smaller : 3 * nodes_in (shown_terms c.as_slice-passed.result.now) + 2 < 3 * nodes (shown_term c.args.t.now) = omega (arith, size) in
     (search rules, (may.can_loop _ _ (can_is refl refl shape c.requires.can), (omega (arith, size, c.requires.room), (omega (arith, size, count, c.requires.room), (omega arith, may.unasked_loop _ _ (unasked_is shape c.requires.unasked))))))
 
 pub evaluate-returns-then-evaluate_all-4-clause-outcome : goal.evaluate-returns-then-evaluate_all-4-clause-outcome
@@ -328,6 +328,98 @@ evaluate-returns-in-Var-clause-outcome t c =
 pub evaluate-returns-in-Var-clause-notes : goal.evaluate-returns-in-Var-clause-notes
 evaluate-returns-in-Var-clause-notes t c = notes_as _ _ (ap shown_term c.in-Var.is) (step.notes_var _ _ _ c.in-Var.slot)
 
+-- ---- two operands
+
+pub evaluate-evaluate_two-requires : goal.evaluate-evaluate_two-requires
+evaluate-evaluate_two-requires t c =
+    let shape = op_by c.in-Op.p (ap shown_term c.in-Op.is ∙ shown_term-Op c.in-Op.p c.in-Op.ts) (ap shown_terms c.as_slice-operands.ensures.value) in
+    let two = shape ∙ ap (λ (x : List declared.Term). plain.Op c.in-Op.p (shown_terms x)) c.in-Some.ensures in
+    let size = ap nodes two in
+    let smaller : 3 * nodes (shown_term c.in-Some.a.now) + 3 * nodes (shown_term c.in-Some.b.now) + 2 < 3 * nodes (shown_term c.args.t.now) = omega (arith, size) in
+    (search rules, (can_is refl refl two c.requires.can, (omega (arith, size, c.requires.room), unasked_is two c.requires.unasked)))
+
+pub evaluate-returns-in-Some-clause-outcome : goal.evaluate-returns-in-Some-clause-outcome
+evaluate-returns-in-Some-clause-outcome t c =
+    let shape = op_by c.in-Op.p (ap shown_term c.in-Op.is ∙ shown_term-Op c.in-Op.p c.in-Op.ts) (ap shown_terms c.as_slice-operands.ensures.value) in
+    let two = shape ∙ ap (λ (x : List declared.Term). plain.Op c.in-Op.p (shown_terms x)) c.in-Some.ensures in
+    c.evaluate_two.ensures.outcome ∙ ap (answer (back_at c.args.stages.now) (take c.args.slots c.args.env.now)) (sym two)
+
+pub evaluate-returns-in-Some-clause-notes : goal.evaluate-returns-in-Some-clause-notes
+evaluate-returns-in-Some-clause-notes t c =
+    let shape = op_by c.in-Op.p (ap shown_term c.in-Op.is ∙ shown_term-Op c.in-Op.p c.in-Op.ts) (ap shown_terms c.as_slice-operands.ensures.value) in
+    let two = shape ∙ ap (λ (x : List declared.Term). plain.Op c.in-Op.p (shown_terms x)) c.in-Some.ensures in
+    notes_as _ _ two c.evaluate_two.ensures.notes
+
+pub evaluate_two-operand-first-requires : goal.evaluate_two-operand-first-requires
+evaluate_two-operand-first-requires t c =
+    let smaller : 3 * nodes (shown_term c.args.a.now) + 1 < 3 * nodes (shown_term c.args.a.now) + 3 * nodes (shown_term c.args.b.now) + 2 = omega arith in
+    (search rules, (may.can_first _ _ (may.can_op _ _ c.requires.can), (omega (arith, c.requires.room), may.unasked_first _ _ (may.unasked_op _ _ c.requires.unasked))))
+
+pub evaluate_two-operand-second-requires : goal.evaluate_two-operand-second-requires
+evaluate_two-operand-second-requires t c =
+    let all = may.can_op _ _ c.requires.can in
+    let smaller : 3 * nodes (shown_term c.args.b.now) + 1 < 3 * nodes (shown_term c.args.a.now) + 3 * nodes (shown_term c.args.b.now) + 2 = omega arith in (
+      search rules,
+      (
+        can_is (omega (arith, c.operand-first.auto.asks)) (sym c.operand-first.ensures.kept) refl (may.can_first _ _ (may.can_rest _ _ all)),
+        (omega (arith, c.requires.room, c.operand-first.auto.env), may.unasked_first _ _ (may.unasked_rest _ _ all (may.unasked_op _ _ c.requires.unasked) c.operand-first.ensures.notes)),
+      ),
+    )
+
+pub evaluate_two-operated-requires : goal.evaluate_two-operated-requires
+evaluate_two-operated-requires t c =
+    let B = back_at c.args.stages.now in
+    let E = take c.args.slots c.args.env.now in
+    λ v w p q.
+    may.op_fits c.args.p _ (v ∷ w ∷ []) c.requires.can
+    (step.answers_two B E (shown_term c.args.a.now) (shown_term c.args.b.now) v w
+    (sym (ap (shown c.operand-first.new.env) p) ∙ c.operand-first.ensures.outcome)
+    (sym (ap (shown c.operand-second.new.env) q) ∙ (c.operand-second.ensures.outcome ∙ answer_is B c.operand-first.ensures.kept refl)))
+
+pub evaluate_two-returns-clause-outcome : goal.evaluate_two-returns-clause-outcome
+evaluate_two-returns-clause-outcome t c =
+    let B = back_at c.args.stages.now in
+    let E = take c.args.slots c.args.env.now in
+    step.answer_two B E c.args.p (shown_term c.args.a.now) (shown_term c.args.b.now) _ _ _
+    (c.operated.ensures.shows c.operand-second.new.env c.operand-first.new.env c.operand-second.new.env)
+    c.operand-first.ensures.outcome
+    (c.operand-second.ensures.outcome ∙ answer_is B c.operand-first.ensures.kept refl)
+
+pub evaluate_two-returns-clause-placed : goal.evaluate_two-returns-clause-placed
+evaluate_two-returns-clause-placed t c = c.operated.ensures.placed (length c.args.env.now)
+
+pub evaluate_two-returns-clause-notes : goal.evaluate_two-returns-clause-notes
+evaluate_two-returns-clause-notes t c =
+    let B = back_at c.args.stages.now in
+    let E = take c.args.slots c.args.env.now in
+    step.notes_op B E _ c.args.p (step.notes_more B E _ _ c.operand-first.ensures.notes (step.notes_more B E _ _ (notes_is B c.operand-first.ensures.kept refl c.operand-second.ensures.notes) (step.notes_nil B E _)))
+
+-- ---- an operand
+
+pub operand-evaluate-requires : goal.operand-evaluate-requires
+operand-evaluate-requires t c =
+    let smaller : 3 * nodes (shown_term c.args.t.now) < 3 * nodes (shown_term c.args.t.now) + 1 = omega arith in
+    (search rules, (c.requires.can, (c.requires.room, c.requires.unasked)))
+
+pub operand-returns-in-Const-clause-outcome : goal.operand-returns-in-Const-clause-outcome
+operand-returns-in-Const-clause-outcome t c =
+    let B = back_at c.args.stages.now in
+    let E = take c.args.slots c.args.env.now in
+    sym (step.answer_const B E c.in-Const.word) ∙ ap (answer B E) (sym (ap shown_term c.in-Const.is))
+
+pub operand-returns-in-Const-clause-notes : goal.operand-returns-in-Const-clause-notes
+operand-returns-in-Const-clause-notes t c = notes_as _ _ (ap shown_term c.in-Const.is) (step.notes_const _ _ _ c.in-Const.word)
+
+pub operand-returns-in-Var-clause-outcome : goal.operand-returns-in-Var-clause-outcome
+operand-returns-in-Var-clause-outcome t c =
+    let B = back_at c.args.stages.now in
+    let E = take c.args.slots c.args.env.now in
+    let place = may.var_place c.in-Var.slot (can_is refl refl (ap shown_term c.in-Var.is) c.requires.can) in
+    ap Ready (step.slot_is c.args.env.now c.args.slots c.in-Var.slot _ place c.index-env-slot.is) ∙ (sym (step.answer_var B E c.in-Var.slot) ∙ ap (answer B E) (sym (ap shown_term c.in-Var.is)))
+
+pub operand-returns-in-Var-clause-notes : goal.operand-returns-in-Var-clause-notes
+operand-returns-in-Var-clause-notes t c = notes_as _ _ (ap shown_term c.in-Var.is) (step.notes_var _ _ _ c.in-Var.slot)
+
 -- ---- lists
 
 pub evaluate_all-returns-in_default-clause-words : goal.evaluate_all-returns-in_default-clause-words
@@ -342,12 +434,12 @@ evaluate_all-returns-in_default-clause-notes t c =
     let e : c.args.ts.now ≡ [] = empty_list c.args.ts.now c.in_default.ensures.cases in
     notes_in_as _ _ (ap shown_terms e) (step.notes_nil _ _ _)
 
-pub evaluate_all-evaluate-outcome-requires : goal.evaluate_all-evaluate-outcome-requires
-evaluate_all-evaluate-outcome-requires t c =
+pub evaluate_all-operand-outcome-requires : goal.evaluate_all-operand-outcome-requires
+evaluate_all-operand-outcome-requires t c =
     let e : c.args.ts.now ≡ c.in-Some.first.now ∷ c.in-Some.rest.now = c.in-Some.ensures.cases.0 in
     let shape = ap shown_terms e in
     let size = ap nodes_in shape in
-    let smaller : 2 * nodes (shown_term c.in-Some.first.now) < 2 * nodes_in (shown_terms c.args.ts.now) + 1 = omega (arith, size) in
+    let smaller : 3 * nodes (shown_term c.in-Some.first.now) + 1 < 3 * nodes_in (shown_terms c.args.ts.now) + 2 = omega (arith, size) in
     (search rules, (may.can_first _ _ (can_all_is refl refl shape c.requires.can), (omega (arith, size, c.requires.room), may.unasked_first _ _ (unasked_in_is shape c.requires.unasked))))
 
 pub evaluate_all-evaluate_all-ready-requires : goal.evaluate_all-evaluate_all-ready-requires
@@ -357,11 +449,11 @@ evaluate_all-evaluate_all-ready-requires t c =
     let size = ap nodes_in shape in
     let long = ap (λ (x : List declared.Term). length x) e in
     let can = can_all_is refl refl shape c.requires.can in
-    let smaller : 2 * nodes_in (shown_terms c.in-Some.rest.now) + 1 < 2 * nodes_in (shown_terms c.args.ts.now) + 1 = omega (arith, some_node (shown_term c.in-Some.first.now), size) in (
+    let smaller : 3 * nodes_in (shown_terms c.in-Some.rest.now) + 2 < 3 * nodes_in (shown_terms c.args.ts.now) + 2 = omega (arith, some_node (shown_term c.in-Some.first.now), size) in (
       search rules,
       (
-        can_all_is (omega (arith, c.evaluate-outcome.auto.asks)) (sym c.evaluate-outcome.ensures.kept) refl (may.can_rest _ _ can),
-        (omega (arith, size, c.requires.room, c.evaluate-outcome.auto.env), (omega (arith, long, c.requires.places, c.evaluate-outcome.auto.env), (omega (arith, c.requires.after), may.unasked_rest _ _ can (unasked_in_is shape c.requires.unasked) c.evaluate-outcome.ensures.notes))),
+        can_all_is (omega (arith, c.operand-outcome.auto.asks)) (sym c.operand-outcome.ensures.kept) refl (may.can_rest _ _ can),
+        (omega (arith, size, c.requires.room, c.operand-outcome.auto.env), (omega (arith, long, c.requires.places, c.operand-outcome.auto.env), (omega (arith, c.requires.after), may.unasked_rest _ _ can (unasked_in_is shape c.requires.unasked) c.operand-outcome.ensures.notes))),
       ),
     )
 
@@ -371,8 +463,8 @@ evaluate_all-returns-in-Ready-clause-words t c =
     let E = take c.args.slots c.args.env.now in
     let e : c.args.ts.now ≡ c.in-Some.first.now ∷ c.in-Some.rest.now = c.in-Some.ensures.cases.0 in
     let long = ap (λ (x : List declared.Term). length x) e in
-    let rest = sym (step.answers_is B c.evaluate-outcome.ensures.kept refl) ∙ c.evaluate_all-ready.ensures.words in
-    let within : c.args.at < length c.evaluate_all-ready.new.env = omega (arith, long, c.requires.places, c.evaluate-outcome.auto.env, c.evaluate_all-ready.auto.env) in
+    let rest = sym (step.answers_is B c.operand-outcome.ensures.kept refl) ∙ c.evaluate_all-ready.ensures.words in
+    let within : c.args.at < length c.evaluate_all-ready.new.env = omega (arith, long, c.requires.places, c.operand-outcome.auto.env, c.evaluate_all-ready.auto.env) in
     ap (λ (x : List declared.Term). answers B E (shown_terms x)) e
     ∙ (step.answers_more B E _ (shown_term c.in-Some.first.now) c.in-Ready.word _ c.in-Ready.ensures.outcome rest
     ∙ (step.words_more c.evaluate_all-ready.new.env c.args.at (length c.in-Some.rest.now) c.in-Ready.word c.evaluate_all-ready.result within

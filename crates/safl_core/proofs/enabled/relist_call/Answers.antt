@@ -9,10 +9,10 @@ use Rattle.safl_core.specs.declared.stage.Stage.{Stage}
 use Rattle.safl_core.specs.Modes.{unit_at}
 use Rattle.safl_core.specs.Stages.{stage_at}
 use Rattle.safl_core.specs.States.{calls_of}
-use Rattle.safl_core.specs.Testing.{can, wanted_at, is_idle, is_sent, delivers_to}
+use Rattle.safl_core.specs.Testing.{can, wanted_at, is_idle}
 use Rattle.safl_core.proofs.MarkingLemmas.{rights_same, rights_put}
-use Rattle.safl_core.proofs.OutcomeLemmas.{accept_test, return_test}
-use Rattle.safl_core.proofs.enabled.relist_site.Goals as goal
+use Rattle.safl_core.proofs.OutcomeLemmas.{accept_test}
+use Rattle.safl_core.proofs.enabled.relist_call.Goals as goal
 
 pub returns : goal.returns
 returns c =
@@ -26,13 +26,10 @@ returns c =
     ∙ (ap (λ (x : List Mode). (is_unsent (stage_at c.deref-2.result.now k) && wanted_at c.deref-3.result.now k) && is_idle (unit_at x (unit_for C k))) c.deref.ensures.value
     ∙ (ap (λ (x : List Stage). (is_unsent (stage_at x k) && wanted_at c.deref-3.result.now k) && is_idle (unit_at s.modes.items (unit_for C k))) c.deref-2.ensures.value
     ∙ ap (λ (x : List (Option (List Word))). (is_unsent (stage_at s.stages.items k) && wanted_at x k) && is_idle (unit_at s.modes.items (unit_for C k))) c.deref-3.ensures.value)) in
-    let returns = c.returns.ensures
-    ∙ (ap (λ (x : List Mode). is_sent (stage_at c.deref-5.result.now k) && delivers_to (unit_at x (unit_for C k)) k) c.deref-4.ensures.value
-    ∙ ap (λ (x : List Stage). is_sent (stage_at x k) && delivers_to (unit_at s.modes.items (unit_for C k)) k) c.deref-5.ensures.value) in
     record {
       accepts = rights_put (λ j. can C args (calls_of s) (Accept j)) e.accepts c.put.new.self k c.accepts-accepts.result c.put.ensures (accept_test h k 0 c.accepts-accepts.result c.requires.site accepts);
       finishes = rights_same (λ f. can C args (calls_of s) (Finish f)) e.finishes;
-      returns = rights_put (λ j. can C args (calls_of s) (Return j)) e.returns c.put-2.new.self k c.returns.result c.put-2.ensures (return_test h k c.returns.result returns);
+      returns = rights_same (λ j. can C args (calls_of s) (Return j)) e.returns;
       loops = rights_same (λ n. can C args (calls_of s) (LoopInto n)) e.loops;
       busy = rights_same (λ v. not (is_idle ((calls_of s).unit v))) e.busy;
     }

@@ -1,0 +1,58 @@
+use Rattle.std.proofs.Common.{◌≡◌, ◌&&◌, List, sym, ap, ◌∙◌, arith}
+use Rattle.std.specs.Prelude.{not}
+use Rattle.safl_term.specs.Checked.{program_of}
+use Rattle.safl_term.specs.Program.{unit_for}
+use Rattle.safl_calls.specs.Machine.{Accept, Finish, Return, LoopInto}
+use Rattle.safl_core.specs.declared.mode.Mode.{Mode}
+use Rattle.safl_core.specs.declared.stage.Stage.{Stage}
+use Rattle.safl_core.specs.Marking.{Relists, Nothing}
+use Rattle.safl_core.specs.Modes.{unit_at}
+use Rattle.safl_core.specs.Stages.{stage_at}
+use Rattle.safl_core.specs.States.{calls_of}
+use Rattle.safl_core.specs.Testing.{can, is_idle, is_sent, delivers_to}
+use Rattle.safl_core.proofs.MarkingLemmas.{rights_same, rights_put, relists_by, relists_none, some_is, none_is}
+use Rattle.safl_core.proofs.OutcomeLemmas.{return_test}
+use Rattle.safl_core.proofs.enabled.relist_return.Goals as goal
+
+pub returns-in_default : goal.returns-in_default
+returns-in_default c =
+    relists_by c.requires.places
+    (λ j lt q. q)
+    (λ j lt q. absurd (none_is c.args.site j c.in_default.is q))
+    (λ g lt q. q)
+    (λ v lt q. q)
+    (relists_none c.args.enabled.now)
+
+pub returns-then-k-sites : goal.returns-then-k-sites
+returns-then-k-sites c =
+    relists_by c.requires.places
+    (λ j lt q. q)
+    (λ j lt q. absurd (omega (arith, lt, some_is c.args.site c.in-Some.k j c.in-Some.is q, c.if-k-sites.true, c.sites.ensures.count)))
+    (λ g lt q. q)
+    (λ v lt q. q)
+    (relists_none c.args.enabled.now)
+
+pub returns : goal.returns
+returns c =
+    let C = program_of c.args.c.now in
+    let args = c.args.opening.now in
+    let s = c.args.state.now in
+    let e = c.args.enabled.now in
+    let k = c.in-Some.k in
+    let h = c.requires.kept.1 in
+    let returns = c.returns-returns.ensures
+    ∙ (ap (λ (x : List Mode). is_sent (stage_at c.deref-2.result.now k) && delivers_to (unit_at x (unit_for C k)) k) c.deref.ensures.value
+    ∙ ap (λ (x : List Stage). is_sent (stage_at x k) && delivers_to (unit_at s.modes.items (unit_for C k)) k) c.deref-2.ensures.value) in
+    let at : Relists C args (calls_of s) Nothing (λ j. j ≡ k) Nothing Nothing e (record e { returns = c.put.new.self }) = record {
+      accepts = rights_same (λ j. can C args (calls_of s) (Accept j)) e.accepts;
+      finishes = rights_same (λ f. can C args (calls_of s) (Finish f)) e.finishes;
+      returns = rights_put (λ j. can C args (calls_of s) (Return j)) e.returns c.put.new.self k c.returns-returns.result c.put.ensures (return_test h k c.returns-returns.result returns);
+      loops = rights_same (λ n. can C args (calls_of s) (LoopInto n)) e.loops;
+      busy = rights_same (λ v. not (is_idle ((calls_of s).unit v))) e.busy;
+    } in
+    relists_by c.requires.places
+    (λ j lt q. q)
+    (λ j lt q. sym (some_is c.args.site k j c.in-Some.is q))
+    (λ g lt q. q)
+    (λ v lt q. q)
+    at
