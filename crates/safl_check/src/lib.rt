@@ -12,6 +12,6 @@ pub mod program;
 mod sites;
 
 pub use crate::heads::{heads_of, next_unit};
-pub use crate::program::check;
+pub use crate::program::{check, check_defs};
 pub use safl_term::{Checked, Function, Parameter, Site, Term};
 pub use safl_typing::typed::CheckErr;

@@ -2,7 +2,7 @@
 
 ghost use Rattle.std.specs.Prelude.{◌≡◌, [], None, Ok, map, IfOk, OnOk, IfErr};
 ghost use Rattle.std.specs.List.{All};
-ghost use Rattle.safl_term.specs.Checked.{BodyHasSlots};
+ghost use Rattle.safl_term.specs.Checked.{BodyHasSlots, IsChecked};
 ghost use Rattle.safl_tree.specs.Shown.{shown_definitions, shown_program};
 ghost use Rattle.safl_tree.specs.Printable.{IsFormedProgram};
 ghost use Rattle.safl_typing.specs.Heads.{heads};
@@ -28,6 +28,7 @@ use std::alloc::Global;
 pub fn check(alloc: Global, program: Program) -> Result<Checked, CheckErr>
     requires { IsFormedProgram (shown_program program) }
     ensures form { IfOk result (λ c. IsFormOf (shown_program program) (shown c)) }
+    ensures checked { IfOk result IsChecked }
     ensures shallow { OnOk result (AreShallow (shown_program program)) }
     ensures refused { IfErr result (RefusesProgram (shown_program program)) }
     ensures deep { IsTooDeep (shown_program program) → FindsTooDeep result }
@@ -35,10 +36,11 @@ pub fn check(alloc: Global, program: Program) -> Result<Checked, CheckErr>
     check_defs(alloc, &program.defs)
 }
 
-// The checked program of definitions.
-fn check_defs(alloc: Global, defs: &[Def]) -> Result<Checked, CheckErr>
+/// The same of a program's definitions, which are only read.
+pub fn check_defs(alloc: Global, defs: &[Def]) -> Result<Checked, CheckErr>
     requires { IsFormedProgram (shown_definitions defs.now) }
     ensures form { IfOk result (λ c. IsFormOf (shown_definitions defs.now) (shown c)) }
+    ensures checked { IfOk result IsChecked }
     ensures shallow { OnOk result (AreShallow (shown_definitions defs.now)) }
     ensures refused { IfErr result (RefusesProgram (shown_definitions defs.now)) }
     ensures deep { IsTooDeep (shown_definitions defs.now) → FindsTooDeep result }
@@ -75,6 +77,7 @@ fn checked_of(alloc: Global, defs: &[Def], functions: Vec<Function>) -> Result<C
     requires functions { functions_from (heads (shown_definitions defs.now)) [] 0 0 1 (shown_definitions defs.now) ≡ Ok (map shown_function functions.items) }
     requires slots { All BodyHasSlots functions.items }
     ensures form { IfOk result (λ c. IsFormOf (shown_definitions defs.now) (shown c)) }
+    ensures checked { IfOk result IsChecked }
     ensures refused { IfErr result (RefusesShallow (shown_definitions defs.now)) }
 {
     if let Some(fault) = find_main_fault(defs) {

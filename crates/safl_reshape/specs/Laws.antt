@@ -41,7 +41,9 @@ UnfoldingSpares = (ds : List Definition) (c : Form) (k : ℕ) → IsFormOf ds c 
 -- Where function j, the callee of site k, is a group by itself and not the last one, the new name is no function's, and the
 -- program with the copy keeps the limits, it has a form, which gives the same in as many calls
 abbrev pub CopyIsAlike : Type 0
-CopyIsAlike = (ds : List Definition) (c : Form) (k j : ℕ) (d : Definition) (new : List ℕ) → IsFormOf ds c → IsCopyable ds c k j d new → KeepsLimits (copied_under new ds k j d)
+CopyIsAlike =
+    (ds : List Definition) (c : Form) (k j : ℕ) (d : Definition) (new : List ℕ)
+    → IsFormOf ds c → IsCopyable ds c k j d new → KeepsLimits (copied_under new ds k j d)
     → (e : Form) × IsFormOf (copied_under new ds k j d) e × IsAlike (program_in c) (program_in e)
 
 -- An unfolding and a copy never pass the limits on parameters and bindings

@@ -90,6 +90,10 @@ put_behind (suc j) x (d ∷ ds) = d ∷ put_behind j x ds
 abbrev pub copied_under : List ℕ → List Definition → ℕ → ℕ → Definition → List Definition
 copied_under new ds k j d = put_behind j (copy_of (heads ds) j new d) (changed_definitions (heads ds) (copying_call k new) 0 0 1 ds)
 
+-- function j is copied under a new name for the call of site k
+abbrev pub IsCopiedUnder : List ℕ → List Definition → ℕ → ℕ → List Definition → Type 0
+IsCopiedUnder new ds k j es = (d : Definition) → slice_get ds j ≡ Some d → es ≡ copied_under new ds k j d
+
 abbrev pub copied_as : Option Definition → List Definition → ℕ → ℕ → List Definition
 copied_as None ds k j = ds
 copied_as (Some d) ds k j = copied_under (copy_name d.name k) ds k j d

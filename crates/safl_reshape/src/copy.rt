@@ -8,8 +8,8 @@ ghost use Rattle.safl_tree.specs.Printable.{IsFormedProgram, IsPrintable};
 ghost use Rattle.safl_typing.specs.Heads.{Head, heads};
 ghost use Rattle.safl_typing.specs.Forms.{IsFormOf, shown};
 ghost use Rattle.safl_typing.specs.PlainHeads.{shown_heads};
-ghost use Rattle.safl_reshape.specs.Reshaped.{copy_name, copy_of, copied, copied_under};
-ghost use Rattle.safl_reshape.specs.Refusals.{HasForm, MayCopy, RefusesCopy, CopyRefused, IsCopied, GivesAlike, is_grouped, is_taken};
+ghost use Rattle.safl_reshape.specs.Reshaped.{copy_name, copy_of, copied, IsCopiedUnder};
+ghost use Rattle.safl_reshape.specs.Refusals.{MayCopy, RefusesCopy, is_grouped, is_taken};
 
 use crate::change::change;
 use crate::changes::Changes;
@@ -105,7 +105,7 @@ fn copy_function(
 ) -> Result<Vec<Def>, NoMemory>
     requires few { length defs.now ≤ 1000 }
     requires within { number < length defs.now }
-    ensures { IfOk result (λ es. (d : Definition) → slice_get (shown_definitions defs.now) number ≡ Some d → shown_definitions es.items ≡ copied_under name (shown_definitions defs.now) site number d) }
+    ensures { IfOk result (λ es. IsCopiedUnder name (shown_definitions defs.now) site number (shown_definitions es.items)) }
 {
     let all_heads = heads_of(alloc, defs)?;
     let copy = copy_def(alloc, &all_heads, number as u32, &defs[number], &name)?;

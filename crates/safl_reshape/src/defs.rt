@@ -4,12 +4,11 @@ ghost use Rattle.std.specs.Prelude.{◌≡◌, ◌≤◌, length, IfOk};
 ghost use Rattle.safl_tree.specs.Shown.{shown_tree, shown_definition, shown_definitions, shown_parameters};
 ghost use Rattle.safl_typing.specs.Heads.{heads};
 ghost use Rattle.safl_typing.specs.PlainHeads.{shown_heads};
-ghost use Rattle.safl_reshape.specs.Changed.{with_body, changed_definitions};
+ghost use Rattle.safl_reshape.specs.Changed.{with_body, changed_program};
 ghost use Rattle.safl_reshape.specs.Lists.{change_of};
 
 use crate::change::change;
 use crate::changes::Changes;
-use crate::duplicate::copy_expr;
 use safl_check::next_unit;
 use safl_tree::{Def, Expr, Name, Param};
 use safl_typing::heads::Heads;
@@ -26,7 +25,7 @@ pub fn change_defs(
 ) -> Result<Vec<Def>, NoMemory>
     requires few { length defs.now ≤ 1000 }
     requires heads { shown_heads all_heads.now ≡ heads (shown_definitions defs.now) }
-    ensures { IfOk result (λ all. shown_definitions all.items ≡ changed_definitions (heads (shown_definitions defs.now)) (change_of site changes.now) 0 0 1 (shown_definitions defs.now)) }
+    ensures { IfOk result (λ all. shown_definitions all.items ≡ changed_program (change_of site changes.now) (shown_definitions defs.now)) }
 {
     let mut all = Vec::new(alloc);
     let mut unit = 0;
@@ -55,19 +54,6 @@ fn with_other_body(alloc: Global, def: &Def, body: Expr) -> Result<Def, NoMemory
         width: def.width,
         body,
     })
-}
-
-/// The same definitions.
-pub fn copy_defs(alloc: Global, defs: &[Def]) -> Result<Vec<Def>, NoMemory>
-    ensures { IfOk result (λ all. shown_definitions all.items ≡ shown_definitions defs.now) }
-{
-    let mut all = Vec::new(alloc);
-    for def in defs {
-        let body = copy_expr(alloc, &def.body)?;
-        let copy = with_other_body(alloc, def, body)?;
-        all.push(copy)?;
-    }
-    Ok(all)
 }
 
 /// The same parameters.

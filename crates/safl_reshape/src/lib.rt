@@ -17,4 +17,4 @@ pub mod program;
 mod unfold;
 
 pub use crate::error::ReshapeErr;
-pub use crate::program::{copy_site, unfold_site};
+pub use crate::program::{copy_checked, copy_site, unfold_checked, unfold_site};

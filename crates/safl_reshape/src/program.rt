@@ -1,22 +1,21 @@
 //! Programs that are reshaped.
 
-ghost use Rattle.std.specs.Prelude.{◌≡◌, IfOk, IfErr};
-ghost use Rattle.safl_tree.specs.Shown.{shown_definitions, shown_program};
-ghost use Rattle.safl_tree.specs.Printable.{IsFormedProgram, IsPrintable};
+ghost use Rattle.std.specs.Prelude.{IfOk, IfErr};
+ghost use Rattle.safl_tree.specs.Shown.{shown_program};
+ghost use Rattle.safl_tree.specs.Printable.{IsPrintable};
 ghost use Rattle.safl_typing.specs.Forms.{IsFormOf, shown};
 ghost use Rattle.safl_reshape.specs.Refusals.{HasForm, CopyRefused, IsCopied, GivesAlike, UnfoldingRefused, IsUnfolded, GivesSparing};
 
 use crate::copy::copied_defs;
-use crate::defs::copy_defs;
 use crate::error::ReshapeErr;
 use crate::inline::unfolded_defs;
 use crate::laws::{copy_law, unfolding_law};
 use crate::limits::look_at_limits;
 use safl_check::laws::forms_are_numbered_law;
-use safl_check::{CheckErr, check};
+use safl_check::{CheckErr, check_defs};
 use safl_term::Checked;
 use safl_tree::laws::{printed_law, shallow_law};
-use safl_tree::{Def, Program, levels_ok};
+use safl_tree::{Program, levels_ok};
 use safl_typing::laws::{fault_or_form_law, one_form_law};
 use safl_word::NoMemory;
 use std::alloc::Global;
@@ -32,11 +31,28 @@ pub fn copy_site(alloc: Global, program: Program, site: u32) -> Result<Program, 
     ensures alike { IfOk result (λ q. GivesAlike (shown_program program) (shown_program q)) }
     ensures refused { IfErr result (CopyRefused (shown_program program) site) }
 {
+    let checked = checked_of(alloc, &program)?;
+    copy_checked(alloc, &program, &checked, site)
+}
+
+/// The same of a program that has been checked.
+pub fn copy_checked(
+    alloc: Global,
+    program: &Program,
+    checked: &Checked,
+    site: u32,
+) -> Result<Program, ReshapeErr>
+    requires printable { IsPrintable (shown_program program.now) }
+    requires form { IsFormOf (shown_program program.now) (shown checked.now) }
+    ensures copied { IfOk result (λ q. IsCopied (shown_program program.now) site (shown_program q)) }
+    ensures printable { IfOk result (λ q. IsPrintable (shown_program q)) }
+    ensures alike { IfOk result (λ q. GivesAlike (shown_program program.now) (shown_program q)) }
+    ensures refused { IfErr result (CopyRefused (shown_program program.now) site) }
+{
     forms_are_numbered_law();
     one_form_law();
     copy_law();
-    let checked = checked_of(alloc, &program.defs)?;
-    let defs = copied_defs(alloc, &checked, &program.defs, site)?;
+    let defs = copied_defs(alloc, checked, &program.defs, site)?;
     look_at_limits(alloc, &defs)?;
     let copy = Program { defs };
     if !levels_ok(&copy) {
@@ -56,11 +72,28 @@ pub fn unfold_site(alloc: Global, program: Program, site: u32) -> Result<Program
     ensures sparing { IfOk result (λ q. GivesSparing site (shown_program program) (shown_program q)) }
     ensures refused { IfErr result (UnfoldingRefused (shown_program program) site) }
 {
+    let checked = checked_of(alloc, &program)?;
+    unfold_checked(alloc, &program, &checked, site)
+}
+
+/// The same of a program that has been checked.
+pub fn unfold_checked(
+    alloc: Global,
+    program: &Program,
+    checked: &Checked,
+    site: u32,
+) -> Result<Program, ReshapeErr>
+    requires printable { IsPrintable (shown_program program.now) }
+    requires form { IsFormOf (shown_program program.now) (shown checked.now) }
+    ensures unfolded { IfOk result (λ q. IsUnfolded (shown_program program.now) site (shown_program q)) }
+    ensures printable { IfOk result (λ q. IsPrintable (shown_program q)) }
+    ensures sparing { IfOk result (λ q. GivesSparing site (shown_program program.now) (shown_program q)) }
+    ensures refused { IfErr result (UnfoldingRefused (shown_program program.now) site) }
+{
     forms_are_numbered_law();
     one_form_law();
     unfolding_law();
-    let checked = checked_of(alloc, &program.defs)?;
-    let defs = unfolded_defs(alloc, &checked, &program.defs, site)?;
+    let defs = unfolded_defs(alloc, checked, &program.defs, site)?;
     look_at_limits(alloc, &defs)?;
     let unfolded = Program { defs };
     if !levels_ok(&unfolded) {
@@ -69,18 +102,17 @@ pub fn unfold_site(alloc: Global, program: Program, site: u32) -> Result<Program
     Ok(unfolded)
 }
 
-// The checked program of printable definitions that have a form. The checker takes a program, so it is given a copy.
+// The checked program of a printable one that has a form.
 #[tactic(auto, using(crate::proofs::Checkable::never_refused, crate::proofs::Checkable::never_deep))]
-fn checked_of(alloc: Global, defs: &[Def]) -> Result<Checked, NoMemory>
-    requires printable { IsPrintable (shown_definitions defs.now) }
-    requires form { HasForm (shown_definitions defs.now) }
-    ensures form { IfOk result (λ c. IsFormOf (shown_definitions defs.now) (shown c)) }
+fn checked_of(alloc: Global, program: &Program) -> Result<Checked, NoMemory>
+    requires printable { IsPrintable (shown_program program.now) }
+    requires form { HasForm (shown_program program.now) }
+    ensures form { IfOk result (λ c. IsFormOf (shown_program program.now) (shown c)) }
 {
     fault_or_form_law();
     printed_law();
     shallow_law();
-    let copy = copy_defs(alloc, defs)?;
-    match check(alloc, Program { defs: copy }) {
+    match check_defs(alloc, &program.defs) {
         Ok(checked) => Ok(checked),
         Err(CheckErr::NoMemory) => Err(NoMemory),
         Err(CheckErr::TooDeep) => unreachable!(),

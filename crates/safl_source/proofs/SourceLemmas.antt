@@ -1,7 +1,6 @@
 -- A source's program and its first fault, from the laws of the grammar and of checking.
 use Rattle.std.proofs.Common.{◌≡◌, ℕ, ◌≤◌, List, [], ◌∷◌, Option, Some, None, ◌⊎◌, inl, inr, refl, sym, ap, ◌∙◌, subst, ⊎_elim, arith}
 use Rattle.std.specs.List.{AllByRecursion}
-use Rattle.std.specs.Prelude.{Result, Ok, Err, IfErr}
 use Rattle.safl_word.specs.declared.fault.Fault.{Fault}
 use Rattle.safl_term.specs.Program.{Program}
 use Rattle.safl_tree.specs.Laws as grammar
@@ -27,15 +26,11 @@ shallower : (ds : List Definition) → AllByRecursion (λ d. depth d.body ≤ 11
 shallower [] h = tt
 shallower (d ∷ ds) h = (omega (arith, h.0), shallower ds h.1)
 
-refuses : grammar.SourcesAreShallow → (source : List ℕ) (ds : List Definition) (e : CheckErr) → SpellsProgram source ds → RefusesProgram ds e → RefusesSource source e
+-- a refusal of the program is one of its source
+pub refuses : grammar.SourcesAreShallow → (source : List ℕ) (ds : List Definition) (e : CheckErr) → SpellsProgram source ds → RefusesProgram ds e → RefusesSource source e
 refuses texts source ds (errors.Refused f) spelled h = check_fault ds spelled h.0
 refuses texts source ds errors.TooDeep spelled h = h.1 (shallower ds (texts source ds spelled))
 refuses texts source ds errors.NoMemory spelled h = tt
-
--- a refusal of the program is one of its source
-pub if_refuses : grammar.SourcesAreShallow → {A : Type 0} (r : Result A CheckErr) (source : List ℕ) (ds : List Definition) → SpellsProgram source ds → IfErr r (RefusesProgram ds) → IfErr r (RefusesSource source)
-if_refuses texts (Ok a) source ds spelled h = h
-if_refuses texts (Err e) source ds spelled h = refuses texts source ds e spelled h
 
 -- ---- laws
 

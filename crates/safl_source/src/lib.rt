@@ -6,7 +6,7 @@ pub mod circuit;
 pub mod laws;
 pub mod optimised;
 
-pub use crate::accepted::{accept, accepted_program};
+pub use crate::accepted::{Accepted, accept, accepted_program};
 pub use crate::circuit::{circuit_of, plan_of, planned_circuit};
 pub use crate::optimised::{optimised_circuit_of, ordered};
 pub use safl_check::CheckErr;

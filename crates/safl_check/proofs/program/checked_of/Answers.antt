@@ -1,5 +1,5 @@
 use Rattle.std.proofs.Common.{◌≤◌, List, length, map, refl, sym, ap, ◌∙◌, subst}
-use Rattle.safl_term.specs.Checked.{CheckedProgram}
+use Rattle.safl_term.specs.Checked.{CheckedProgram, IsChecked}
 use Rattle.safl_term.specs.declared.checked.Function.{Function}
 use Rattle.safl_tree.specs.Shown.{shown_definitions}
 use Rattle.safl_typing.specs.Forms.{IsFormOf, all_sites, shown, shown_function}
@@ -25,3 +25,9 @@ returns-clause-form c =
     let sites = c.in_ok-sites.ensures ∙ ap (λ (l : List Function). all_sites 0 (map shown_function l)) c.deref.ensures.value in
     let form = form_shown c.walk_law.ensures (shown_definitions c.args.defs.now) c.args.functions.items c.in_ok-sites.sites.items c.requires.formed c.requires.within c.requires.functions (sym c.in_default.ensures) sites in
     subst (λ (p : CheckedProgram). IsFormOf (shown_definitions c.args.defs.now) (shown p)) (sym c.new.ensures) form
+
+pub returns-clause-checked : goal.returns-clause-checked
+returns-clause-checked c =
+    let sites = c.in_ok-sites.ensures ∙ ap (λ (l : List Function). all_sites 0 (map shown_function l)) c.deref.ensures.value in
+    let form = form_shown c.walk_law.ensures (shown_definitions c.args.defs.now) c.args.functions.items c.in_ok-sites.sites.items c.requires.formed c.requires.within c.requires.functions (sym c.in_default.ensures) sites in
+    subst IsChecked (sym c.new.ensures) (c.forms_are_checked_law.ensures (shown_definitions c.args.defs.now) _ c.requires.formed c.requires.shallow form c.requires.slots)
