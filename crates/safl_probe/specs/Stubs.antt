@@ -12,3 +12,8 @@ pub record Stub : Type 0 where
 -- the next call is to fail; the first one has number 1
 abbrev pub FailsNext : Stub → Type 0
 FailsNext s = raised s.calls ≡ s.fail_at
+
+-- one more call was counted, and the same call is to fail
+pub record CountsCall (old new : Stub) : Type 0 where
+  pub calls : new.calls ≡ raised old.calls
+  pub fail_at : new.fail_at ≡ old.fail_at

@@ -24,8 +24,8 @@ pub enum Group {
     StartWires,
 }
 
-/// The kind of a number.
-pub(crate) fn kind_of(number: u8) -> TraceKind
+/// The kind of a number: 1 is Vcd, 2 is Starts, 3 is Toggles, and any other is Silent.
+pub fn kind_of(number: u8) -> TraceKind
     ensures { result ≡ kind_of number }
 {
     match number {

@@ -7,7 +7,8 @@ use safl_word::Word;
 use std::alloc::Global;
 use std::marker::Model;
 
-/// A probe of any kind, which gives the texts of that kind. One call fails, counts that, and appends nothing.
+/// A probe of any kind, which gives the texts of that kind. One call fails, counts that, and appends nothing: that whose
+/// number is the one that was given.
 #[derive(Drop)]
 pub struct StubProbe {
     tracer: Tracer,
@@ -61,13 +62,29 @@ impl StubProbe {
 }
 
 impl Probe for StubProbe {
+    ghost use Rattle.std.specs.Prelude.{◌≡◌, ◌↔◌, ◌≤◌, ◌<◌, map, OnOk, OnErr, IsErrOf};
+    ghost use Rattle.safl_word.specs.Words.{Word};
+    ghost use Rattle.safl_io.specs.Counts.{Rose};
+    ghost use Rattle.safl_io.specs.Sink.{Sends, SendsPart};
+    ghost use Rattle.safl_probe.specs.Probing.{Tells, FrameFits, begun, after_frame, begin_text, cycle_text, finish_text};
+    ghost use Rattle.safl_probe.specs.Stubs.{FailsNext, CountsCall};
+
     ghost state = { λ stub. stub.probe };
 
     fn kind(&self) -> u8 {
         self.tracer.kind()
     }
 
-    fn begin(&mut self, net: &Net, out: &mut Vec<u8>) -> Result<(), ProbeErr> {
+    fn begin(&mut self, net: &Net, out: &mut Vec<u8>) -> Result<(), ProbeErr>
+        ensures added { OnOk result (Sends (begin_text net.now self.old.probe) out.old.items out.new.items) }
+        ensures part { OnErr result (SendsPart (begin_text net.now self.old.probe) out.old.items out.new.items) }
+        ensures tells { OnOk result (Tells (begun net.now self.old.probe) self.new.probe) }
+        ensures same_kind { self.new.probe.kind ≡ self.old.probe.kind }
+        ensures failed { IsErrOf result ProbeErr.Failed → Rose self.old.probe.faults self.new.probe.faults }
+        ensures faults_later { self.old.probe.faults ≤ self.new.probe.faults }
+        ensures fails { IsErrOf result ProbeErr.Failed ↔ FailsNext self.old }
+        ensures counts { CountsCall self.old self.new }
+    {
         if self.next_fails() {
             return Err(ProbeErr::Failed);
         }
@@ -75,7 +92,19 @@ impl Probe for StubProbe {
         Ok(())
     }
 
-    fn cycle(&mut self, t: u64, frame: &[Word], out: &mut Vec<u8>) -> Result<(), ProbeErr> {
+    fn cycle(&mut self, t: u64, frame: &[Word], out: &mut Vec<u8>) -> Result<(), ProbeErr>
+        requires fits { FrameFits self.old.probe.shape (map (λ (w : Word). w.bits) frame.now) }
+        requires turn { t ≡ self.old.probe.turn }
+        requires room { t < 0xffff_ffff_ffff_ffff }
+        ensures added { OnOk result (Sends (cycle_text (map (λ (w : Word). w.bits) frame.now) self.old.probe) out.old.items out.new.items) }
+        ensures part { OnErr result (SendsPart (cycle_text (map (λ (w : Word). w.bits) frame.now) self.old.probe) out.old.items out.new.items) }
+        ensures tells { OnOk result (Tells (after_frame (map (λ (w : Word). w.bits) frame.now) self.old.probe) self.new.probe) }
+        ensures same_kind { self.new.probe.kind ≡ self.old.probe.kind }
+        ensures failed { IsErrOf result ProbeErr.Failed → Rose self.old.probe.faults self.new.probe.faults }
+        ensures faults_later { self.old.probe.faults ≤ self.new.probe.faults }
+        ensures fails { IsErrOf result ProbeErr.Failed ↔ FailsNext self.old }
+        ensures counts { CountsCall self.old self.new }
+    {
         if self.next_fails() {
             return Err(ProbeErr::Failed);
         }
@@ -83,7 +112,16 @@ impl Probe for StubProbe {
         Ok(())
     }
 
-    fn finish(&mut self, out: &mut Vec<u8>) -> Result<(), ProbeErr> {
+    fn finish(&mut self, out: &mut Vec<u8>) -> Result<(), ProbeErr>
+        ensures added { OnOk result (Sends (finish_text self.old.probe) out.old.items out.new.items) }
+        ensures part { OnErr result (SendsPart (finish_text self.old.probe) out.old.items out.new.items) }
+        ensures tells { OnOk result (Tells (self.old.probe) self.new.probe) }
+        ensures same_kind { self.new.probe.kind ≡ self.old.probe.kind }
+        ensures failed { IsErrOf result ProbeErr.Failed → Rose self.old.probe.faults self.new.probe.faults }
+        ensures faults_later { self.old.probe.faults ≤ self.new.probe.faults }
+        ensures fails { IsErrOf result ProbeErr.Failed ↔ FailsNext self.old }
+        ensures counts { CountsCall self.old self.new }
+    {
         if self.next_fails() {
             return Err(ProbeErr::Failed);
         }

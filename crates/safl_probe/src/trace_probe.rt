@@ -1,4 +1,4 @@
-//! The probe of value change dumps.
+//! The probes of the kinds of traces.
 
 use crate::probe::{Probe, ProbeErr};
 use crate::tracer::Tracer;
@@ -7,13 +7,22 @@ use safl_word::Word;
 use std::alloc::Global;
 use std::marker::Model;
 
-/// The probe of value change dumps, kind 1. It fails only if out of memory: its faults stay 0.
+/// The probe of a kind. It fails only if out of memory: its faults stay 0.
 #[derive(Drop)]
-pub struct VcdProbe {
+pub struct TraceProbe<const KIND: u8> {
     tracer: Tracer,
 }
 
-impl Model for VcdProbe {
+/// The probe of value change dumps.
+pub type VcdProbe = TraceProbe<1>;
+
+/// The probe of the cycles in which calls start.
+pub type StartsProbe = TraceProbe<2>;
+
+/// The probe of the bits of registers that change.
+pub type ToggleProbe = TraceProbe<3>;
+
+impl<const KIND: u8> Model for TraceProbe<KIND> {
     ghost use Rattle.safl_probe.specs.Probing.{ProbeState};
 
     ghost Value = { ProbeState };
@@ -21,20 +30,20 @@ impl Model for VcdProbe {
     ghost view = { λ p. p.tracer };
 }
 
-impl VcdProbe {
+impl<const KIND: u8> TraceProbe<KIND> {
     ghost use Rattle.std.specs.Prelude.{◌≡◌};
     ghost use Rattle.safl_probe.specs.Probing.{fresh};
 
-    pub fn new(alloc: Global) -> VcdProbe
-        ensures { result ≡ fresh 1 }
+    pub fn new(alloc: Global) -> Self
+        ensures { result ≡ fresh KIND }
     {
-        VcdProbe {
-            tracer: Tracer::new(alloc, 1),
+        TraceProbe {
+            tracer: Tracer::new(alloc, KIND),
         }
     }
 }
 
-impl Probe for VcdProbe {
+impl<const KIND: u8> Probe for TraceProbe<KIND> {
     ghost state = { λ told. record told { faults = 0 } };
 
     fn kind(&self) -> u8 {

@@ -1,0 +1,31 @@
+use Rattle.std.proofs.Common.{◌≡◌, List, map, length, slice_index, Option, OnSome}
+use Rattle.safl_io.specs.Told.{TellsOn}
+use Rattle.safl_io.specs.Shelf.{Files}
+use Rattle.safl_net.specs.Valuations.{Valuation}
+use Rattle.safl_drive.specs.Asked.{Asked, SameUnasked, asked}
+use Rattle.safl_drive.specs.Growth.{AllThere, NowThere}
+use Rattle.safl_drive.specs.Stopping.{SameProbes, SameReads}
+use Rattle.safl_drive.specs.Watching.{Shown}
+use Rattle.safl_drive.proofs.Rounds.{IsSteady}
+use Rattle.safl_drive.specs.declared.moment.Moment.TheVariants as moments
+use Rattle.safl_drive.proofs.watch.watch.Given as goal
+
+abbrev pub invariant-cycles : goal.invariant-cycles
+invariant-cycles g l =
+    let names : Asked = asked l.files in
+    let x : Option Files = (g.S.Shelf.told l.fn.shelf).holds in
+    let y : Option Files = (g.S.Shelf.told l.shelf).holds in
+    record {
+      net : l.sim.net ≡ l.fn.sim.net;
+      frames : List Valuation;
+      count : length frames ≡ l.cycle;
+      steady : IsSteady l.fn.sim.net (slice_index l.fn.sim.state) l.schedule frames (slice_index l.sim.state);
+      shown : Shown frames names (map (λ p. (goal.Probe-dyn g (p.vtable, p.value)).state p.value) l.fn.probes) (map (λ p. (goal.Probe-dyn g (p.vtable, p.value)).state p.value) l.probes) x y;
+      room : length l.room.frame.items ≡ length l.fn.sim.net.signals;
+      long : length l.probes ≡ length l.fn.probes;
+      unasked : SameUnasked names l.fn.probes l.probes;
+      probes : SameProbes (map (λ p. (goal.Probe-dyn g (p.vtable, p.value)).state p.value) l.fn.probes) (map (λ p. (goal.Probe-dyn g (p.vtable, p.value)).state p.value) l.probes);
+      reads : SameReads (g.S.Shelf.told l.fn.shelf) (g.S.Shelf.told l.shelf);
+      strays : AllThere moments.End names x → OnSome x ((g.S.Shelf.told l.shelf).strays ≡ (g.S.Shelf.told l.fn.shelf).strays);
+      there : AllThere moments.End names x → TellsOn (λ _ now. NowThere names now) x y;
+    }
