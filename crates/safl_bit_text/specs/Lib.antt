@@ -1,0 +1,2 @@
+pub mod BitLevel
+pub mod Lines

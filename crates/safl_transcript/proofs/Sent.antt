@@ -1,0 +1,52 @@
+-- What is sent after something that was sent.
+use Rattle.std.proofs.Common.{◌≡◌, ℕ, ◌≤◌, List, [], ◌++◌, length, take, drop, Option, Some, None, Result, Ok, Err, refl, sym, ap, ◌∙◌, arith, inl, inr, append_assoc}
+use Rattle.std.specs.Prelude.{OnErr}
+use Rattle.std.proofs.lemmas.List.{append-nil, take-append-drop, take_at}
+use Rattle.safl_io.specs.Counts.{Rose}
+use Rattle.safl_io.specs.Sink.{Sends, SendsPart}
+use Rattle.safl_io.specs.Told.{TellsOn}
+
+pub nothing_sent : (old : Option (List ℕ)) → TellsOn (Sends []) old old
+nothing_sent None = tt
+nothing_sent (Some x) = sym (append-nil x)
+
+pub none_sent : (text : List ℕ) (old : Option (List ℕ)) → TellsOn (SendsPart text) old old
+none_sent text None = tt
+none_sent text (Some x) = (0, sym (append-nil x))
+
+pub both_sent : (a b : List ℕ) (old mid new : Option (List ℕ)) → TellsOn (Sends a) old mid → TellsOn (Sends b) mid new → TellsOn (Sends (a ++ b)) old new
+both_sent a b None mid new p q = tt
+both_sent a b (Some x) None new p q = absurd p
+both_sent a b (Some x) (Some y) None p q = absurd q
+both_sent a b (Some x) (Some y) (Some z) p q = q ∙ ap (λ (l : List ℕ). l ++ b) p ∙ append_assoc x a b
+
+-- a text and a part of another one are a part of both with more behind them
+part_of : (a b c : List ℕ) (k : ℕ) → take (length (a ++ take k b)) ((a ++ b) ++ c) ≡ a ++ take k b
+part_of a b c k =
+    let split : (a ++ b) ++ c ≡ (a ++ take k b) ++ (drop k b ++ c) =
+    ap (λ (l : List ℕ). (a ++ l) ++ c) (sym (take-append-drop k b)) ∙ ap (λ (l : List ℕ). l ++ c) (sym (append_assoc a (take k b) (drop k b))) ∙ append_assoc (a ++ take k b) (drop k b) c in
+    ap (λ (l : List ℕ). take (length (a ++ take k b)) l) split ∙ take_at (a ++ take k b) (drop k b ++ c) (length (a ++ take k b)) refl
+
+pub part_sent : (a b c whole : List ℕ) → whole ≡ (a ++ b) ++ c → (old mid new : Option (List ℕ)) → TellsOn (Sends a) old mid → TellsOn (SendsPart b) mid new → TellsOn (SendsPart whole) old new
+part_sent a b c whole e None mid new p q = tt
+part_sent a b c whole e (Some x) None new p q = absurd p
+part_sent a b c whole e (Some x) (Some y) None p q = absurd q
+part_sent a b c whole e (Some x) (Some y) (Some z) p q = (
+  length (a ++ take q.0 b),
+  q.1 ∙ ap (λ (l : List ℕ). l ++ take q.0 b) p ∙ append_assoc x a (take q.0 b)
+      ∙ ap (λ (l : List ℕ). x ++ l) (sym (part_of a b c q.0)) ∙ ap (λ (l : List ℕ). x ++ take (length (a ++ take q.0 b)) l) (sym e),
+)
+
+-- a count that rises later has risen
+pub rose_later : (old mid new : ℕ) → old ≤ mid → Rose mid new → Rose old new
+rose_later old mid new h r = elim r [ inl up ↦ inl (omega (arith, h, up)) | inr end ↦ inr end ]
+
+-- a text that is made of three pieces
+pub joined : (old x y z a b c : List ℕ) → x ≡ old ++ a → y ≡ x ++ b → z ≡ y ++ c → z ≡ old ++ ((a ++ b) ++ c)
+joined old x y z a b c p q r =
+    r ∙ ap (λ (l : List ℕ). l ++ c) (q ∙ ap (λ (l : List ℕ). l ++ b) p) ∙ append_assoc (old ++ a) b c ∙ append_assoc old a (b ++ c) ∙ ap (λ (l : List ℕ). old ++ l) (sym (append_assoc a b c))
+
+-- what is so anyhow is so after an error
+pub on_err : {T E : Type 0} (Q : Type 0) (r : Result T E) → Q → OnErr r Q
+on_err Q (Ok x) q = tt
+on_err Q (Err e) q = q
