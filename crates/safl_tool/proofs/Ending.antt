@@ -1,5 +1,5 @@
 -- How a command ends, by what its parts answer.
-use Rattle.std.proofs.Common.{◌≡◌, ℕ, List, [], ◌∷◌, ◌++◌, length, take, bytes_eq, if◌then◌else◌, Bool, true, false, Option, Some, None, Result, Ok, Err, Contains, refl, sym, ap, ◌∙◌, subst, inl, inr, arith}
+use Rattle.std.proofs.Common.{◌≡◌, ℕ, ◌<◌, ◌≤◌, List, [], ◌∷◌, ◌++◌, length, take, bytes_eq, if◌then◌else◌, Bool, true, false, Option, Some, None, Result, Ok, Err, Contains, refl, sym, ap, ◌∙◌, subst, inl, inr, arith}
 use Rattle.std.specs.Prelude.{◌⊎◌, IfOk, IsSomeAnd, OnSome}
 use Rattle.std.specs.Option.{option_or}
 use Rattle.std.proofs.lemmas.List.{take_all}
@@ -9,9 +9,10 @@ use Rattle.safl_io.specs.Shelf.{Files, ShelfState, file_of, Leaves, LeavesOldOrP
 use Rattle.safl_io.specs.Told.{TellsOn}
 use Rattle.safl_io.specs.Sink.{SinkState, Sends, SendsPart}
 use Rattle.safl_tool.specs.Lines.{memory_line, read_line, long_line}
-use Rattle.safl_tool.specs.Tasks.{Input, Task, end_of, files_of, AreContents, HoldsInputs}
+use Rattle.safl_transcript.proofs.Sent.{rose_later}
+use Rattle.safl_tool.specs.Tasks.{Input, Task, OfFile, end_of, files_of, AreContents, HoldsInputs}
 use Rattle.safl_tool.specs.Endings.{Outside, outside, Untouched, LeavesAll, LeavesParts, Began, Left, Reaches, Stops, refused, unread, long, unwritten, unprinted, starved, Ended, Ends, gave, told, cut, may_give}
-use Rattle.safl_tool.specs.Refusals.{StopsBy, RefusesBy, RefusesReading, RefusesInputs, SendsLine, sent, SendsRefusal, made, unmade, status_of, line_of}
+use Rattle.safl_tool.specs.Refusals.{StopsBy, RefusesBy, RefusesReading, RefusesPair, RefusesInputs, SendsLine, sent, SendsRefusal, made, unmade, status_of, line_of}
 use Rattle.safl_tool.specs.Refusals as refusals
 use Rattle.safl_tool.specs.Inputs.{contents_in, AreWithin}
 use Rattle.safl_tool.specs.Answers.{given_of, outputs_of, Answers, IsForOutputs, GivesAll, GivesPart, GivingFails}
@@ -127,7 +128,8 @@ contents_are holds inputs is read content e same h =
 
 pub contents_within : (holds : Option Files) (inputs : List Input) (content : List ℕ) → AreContents holds inputs (contents_in inputs content) → AreWithin inputs content
 contents_within holds [] content h = tt
-contents_within holds (i ∷ is) content h = h.0
+contents_within holds (i ∷ []) content h = h.0
+contents_within holds (i ∷ (j ∷ is)) content h = absurd h.2
 
 -- no stray name is used, in reading and in giving
 pub strays_after : (old mid new : ShelfState) (inputs is : List Input) → inputs ≡ is → (HoldsInputs old.holds is → OnSome old.holds (mid.strays ≡ old.strays)) → mid.holds ≡ old.holds → OnSome mid.holds (new.strays ≡ mid.strays)
@@ -148,6 +150,20 @@ both_ok (Err e) P Q R f p q = tt
 pub inputs_stop : (t : Task) (old new : Outside) (is : List Input) → t.inputs ≡ is → Untouched old new → (r : Refusal) → RefusesInputs is old.shelf new.shelf r → StopsBy t old new r
 inputs_stop t old new [] e kept r h = subst (λ (x : Refusal). StopsBy t old new x) (sym h) (starved (inl kept))
 inputs_stop t old new (i ∷ is) e kept r h = reading_stops t old new i (first_reached t old.shelf.holds i is e) kept r h
+
+-- one of its two files was not read
+pub pair_stops : (t : Task) (old new : Outside) (i j : Input) → t.inputs ≡ i ∷ j ∷ [] → Untouched old new → (r : Refusal) → RefusesPair i j old.shelf new.shelf r → StopsBy t old new r
+pair_stops t old new i j e kept r h = elim h [
+  | inl a ↦ reading_stops t old new i (first_reached t old.shelf.holds i (j ∷ []) e) kept r a
+  | inr b ↦ reading_stops t old new j (record { before = i ∷ []; after = []; is = e; held = b.0 }) kept r b.1
+]
+
+-- a file is not read after another one was
+pub refuses_later : (limit : ℕ) (old mid new : ShelfState) (name : List ℕ) → mid.holds ≡ old.holds → old.read_faults ≤ mid.read_faults → (r : Refusal) → RefusesReading limit mid new name r → RefusesReading limit old new name r
+refuses_later limit old mid new name same later (refusal.Read n) h = (h.0, rose_later old.read_faults mid.read_faults new.read_faults later h.1)
+refuses_later limit old mid new name same later (refusal.TooLong n k) h = (h.0, h.1, subst (λ (o : Option Files). OfFile o name (λ bytes. limit < length bytes)) same h.2)
+refuses_later limit old mid new name same later refusal.NoMemory h = tt
+refuses_later limit old mid new name same later _ never = absurd never
 
 -- its answer is given
 module _ (t : Task) (old new : Outside) (mid : ShelfState) (same : mid.holds ≡ old.shelf.holds) (bytes : List ℕ) (are : AreContents old.shelf.holds t.inputs (contents_in t.inputs bytes)) (a : Answer) (gives : Answers t bytes a) (for_outputs : IsForOutputs t a) where

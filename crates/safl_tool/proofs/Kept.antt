@@ -14,6 +14,7 @@ use Rattle.safl_sim.specs.declared.done.Done.{Done}
 use Rattle.safl_sim.specs.Outcomes.{IsDone}
 use Rattle.safl_source.specs.Laws.{OneProgram, NotBoth}
 use Rattle.safl_verilog.specs.Laws as verilog
+use Rattle.safl_aig.specs.ReadLaws.{NoFault}
 use Rattle.safl_core.specs.declared.walking.Walked.{Walked}
 use Rattle.safl_command.specs.Commands.{Command, Check, Build, Sim, Walk, Run, Optimise, Report, Gen, Bench, CopySite, UnfoldSite, Session, Aig, Aigstat}
 use Rattle.safl_tool.specs.Sources.{IsAccepted}
@@ -21,9 +22,13 @@ use Rattle.safl_tool.specs.Arguments.{IsRead, AreRead, HaveFault}
 use Rattle.safl_tool.specs.Simulating.{Simulates, IsMisgiven, Evaluates}
 use Rattle.safl_tool.specs.Walking.{MainGives, Walks}
 use Rattle.safl_tool.specs.Running.{RunsText, IsMisrun, IsUnrunnable, faulty, looped, Finishes}
-use Rattle.safl_tool.specs.Tasks.{Given, Only}
-use Rattle.safl_tool.specs.CommandTasks.{usage_task, check_task, build_task, optimise_task, sim_task, walk_task, run_task, report_task, gen_task, bench_task, reshape_task, task_of}
-use Rattle.safl_tool.specs.CommandTasks.{RefusesSourceOf, RefusesGiven, RefusesText, GivesNumbers, GivesCircuit, GivesOptimised, GivesOutcome, GivesWalk, GivesRun, end_of_walk, IsCount, GivesMeasure, RefusesReshaping}
+use Rattle.safl_tool.specs.Tasks.{Given, Only, Both}
+use Rattle.safl_tool.specs.CommandTasks.{usage_task, check_task, build_task, optimise_task, sim_task, walk_task, run_task, report_task, gen_task, bench_task, reshape_task, session_task, aig_task, aigstat_task, task_of}
+use Rattle.safl_tool.specs.CommandTasks.{RefusesSourceOf, RefusesGiven, RefusesText, GivesNumbers, GivesCircuit, GivesOptimised, GivesOutcome, GivesWalk, GivesRun, end_of_walk, IsCount, GivesMeasure, RefusesReshaping, RefusesSession}
+use Rattle.safl_tool.specs.BitLevel.{GivesBits, GivesCounts, HasBits, IsAig, RefusesAig, RefusesBitsOf}
+use Rattle.safl_tool.specs.Calling.{GivesReplies, EvaluatesEach}
+use Rattle.safl_session.specs.Circuits.{CircuitsReply, ResetIsQuiet}
+use Rattle.safl_session.specs.Laws as sessions
 use Rattle.safl_tree.specs.Laws.{OneProgram as OneTree}
 use Rattle.safl_check.specs.Numbered.{program_in}
 use Rattle.safl_source.specs.Sources.{names_in}
@@ -35,6 +40,8 @@ use Rattle.safl_tool.specs.declared.status.Status.{Status}
 use Rattle.safl_tool.proofs.Following.{IsKept, end_completes}
 use Rattle.safl_tool.proofs.Simulated.{read_words}
 use Rattle.safl_tool.proofs.Ran.{done_not_done}
+use Rattle.safl_tool.proofs.Bits.{bits_not_refused, aig_not_refused}
+use Rattle.safl_tool.proofs.Conversed.{misscripted_not, replies_come}
 
 -- arguments are read in one way, and without a fault
 same_words : (widths : List ℕ) (args : List (List ℕ)) (vs us : List Word) → AreRead widths args vs → AreRead widths args us → vs ≡ us
@@ -256,7 +263,35 @@ reshape_kept apart trees r o input output site = record {
   gives = λ contents g. only (IsReshapable r) (λ source. GivesReshaped r source g) (g.comes ≡ true) (λ source k h. ap (λ (x : Given). x.comes) h.is) contents;
 }
 
--- what is true of sources and of Verilog texts
+aig_kept : verilog.OneNetlist → verilog.NotBoth → (input output : List ℕ) → IsKept (aig_task input output)
+aig_kept one apart input output = record {
+  refuses = λ contents s line. only HasBits (λ text. RefusesBitsOf input text s line) ⊥ (bits_not_refused one apart input s line) contents;
+  gives = λ contents g. only HasBits (λ text. GivesBits text g) (g.comes ≡ true) (λ text p h. ap (λ (x : Given). x.comes) h.is) contents;
+}
+
+aigstat_kept : NoFault → (input : List ℕ) → IsKept (aigstat_task input)
+aigstat_kept sound input = record {
+  refuses = λ contents s line. only IsAig (λ text. RefusesAig input text s line) ⊥ (aig_not_refused sound input s line) contents;
+  gives = λ contents g. only IsAig (λ text. GivesCounts text g) (g.comes ≡ true) (λ text a h. ap (λ (x : Given). x.comes) h.2) contents;
+}
+
+-- what is said of the only two contents
+both : (P Q : List ℕ → List ℕ → Type 0) (R : Type 0) → ((first second : List ℕ) → P first second → Q first second → R) → (contents : List (List ℕ)) → Both P contents → Both Q contents → R
+both P Q R f [] p q = absurd p
+both P Q R f (c ∷ []) p q = absurd p
+both P Q R f (c ∷ (d ∷ [])) p q = f c d p q
+both P Q R f (c ∷ (d ∷ (e ∷ cs))) p q = absurd p
+
+session_kept : OneProgram → NotBoth → CircuitsReply → ResetIsQuiet → sessions.OneScript → sessions.NotBoth → (input script : List ℕ) (limit : ℕ) → IsKept (session_task input script limit)
+session_kept once apart replies reset script_once misread input script limit = record {
+  refuses = λ contents s line. both (λ source text. EvaluatesEach source text limit) (λ source text. RefusesSession input source text s line) ⊥ (λ source text e r. elim r [
+    | inl f ↦ apart source e.program e.names f.1.0 e.source_of f.1.1
+    | inr m ↦ misscripted_not once misread source text limit line e m.1
+  ]) contents;
+  gives = λ contents g. both (λ source text. EvaluatesEach source text limit) (λ source text. GivesReplies limit source text g) (g.comes ≡ true) (λ source text e h. replies_come once replies reset script_once limit source text g e h) contents;
+}
+
+-- what is true of sources, of scripts, of Verilog texts and of AIGER texts
 pub record Laws : Type 1 where
   pub once : OneProgram
   pub apart : NotBoth
@@ -264,6 +299,11 @@ pub record Laws : Type 1 where
   pub one : verilog.OneNetlist
   pub free : verilog.NotBoth
   pub trees : OneTree
+  pub sound : NoFault
+  pub replies : CircuitsReply
+  pub reset : ResetIsQuiet
+  pub script : sessions.OneScript
+  pub misread : sessions.NotBoth
 
 kept : Laws → (command : Option Command) → IsKept (task_of command)
 kept l None = usage_kept
@@ -278,9 +318,9 @@ kept l (Some (Gen seed count)) = gen_kept seed count
 kept l (Some (Bench seed count limit)) = bench_kept l.once l.apart seed count limit
 kept l (Some (CopySite input output site)) = reshape_kept l.apart l.trees (copies site) (copying_once site) input output site
 kept l (Some (UnfoldSite input output site)) = reshape_kept l.apart l.trees (unfolds site) (unfolding_once site) input output site
-kept l (Some (Session input script limit)) = usage_kept
-kept l (Some (Aig input output)) = usage_kept
-kept l (Some (Aigstat input)) = usage_kept
+kept l (Some (Session input script limit)) = session_kept l.once l.apart l.replies l.reset l.script l.misread input script limit
+kept l (Some (Aig input output)) = aig_kept l.one l.free input output
+kept l (Some (Aigstat input)) = aigstat_kept l.sound input
 
 pub completes : Laws → (command : Option Command) (old new : Outside) (before after : SinkState) (s : Status) → Ends (task_of command) old new before after s → Completes (task_of command) old new s
 completes l command old new before after s ends = end_completes (task_of command) (kept l command) old new before after s ends

@@ -5,6 +5,8 @@ pub mod Following
 pub mod Simulated
 pub mod Walked
 pub mod Ran
+pub mod Bits
+pub mod Conversed
 pub mod Quiet
 pub mod Joining
 pub mod Reshaped

@@ -2,21 +2,31 @@
 use Rattle.std.proofs.Common.{◌≡◌, ℕ, List, [], ◌∷◌, Option, Some, None, false, ap, inl, inr}
 use Rattle.std.specs.Prelude.{codes}
 use Rattle.safl_command.specs.Commands.{Command, Check, Build, Sim, Walk, Run, Optimise, Report, Gen, Bench, CopySite, UnfoldSite, Session, Aig, Aigstat}
-use Rattle.safl_tool.specs.CommandTasks.{task_of, RefusesSourceOf, RefusesGiven, RefusesText, RefusesReshaping}
+use Rattle.safl_tool.specs.CommandTasks.{task_of, RefusesSourceOf, RefusesGiven, RefusesText, RefusesReshaping, RefusesSession}
+use Rattle.safl_tool.specs.BitLevel.{RefusesAig, RefusesBitsOf}
 use Rattle.safl_tool.specs.Reshaping.{copies, unfolds}
 use Rattle.safl_tool.proofs.Reshaped.{reshaping_quiet}
 use Rattle.safl_tool.specs.Endings.{may_give}
 use Rattle.safl_tool.specs.Reporting.{made_args, made_source}
-use Rattle.safl_tool.specs.Tasks.{Only}
+use Rattle.safl_tool.specs.Tasks.{Only, Both}
 use Rattle.safl_tool.specs.declared.status.Status.{Status}
 use Rattle.safl_tool.proofs.Simulated.{source_quiet, given_quiet}
 use Rattle.safl_tool.proofs.Ran.{text_quiet}
+use Rattle.safl_tool.proofs.Bits.{bits_quiet, aig_quiet}
+use Rattle.safl_tool.proofs.Conversed.{session_quiet}
 
 only : (R : List ℕ → Status → List ℕ → Type 0) → ((content : List ℕ) (s : Status) (line : List ℕ) → R content s line → may_give s ≡ false)
     → (contents : List (List ℕ)) (s : Status) (line : List ℕ) → Only (λ content. R content s line) contents → may_give s ≡ false
 only R quiet [] s line h = absurd h
 only R quiet (c ∷ []) s line h = quiet c s line h
 only R quiet (c ∷ (d ∷ cs)) s line h = absurd h
+
+both : (R : List ℕ → List ℕ → Status → List ℕ → Type 0) → ((first second : List ℕ) (s : Status) (line : List ℕ) → R first second s line → may_give s ≡ false)
+    → (contents : List (List ℕ)) (s : Status) (line : List ℕ) → Both (λ first second. R first second s line) contents → may_give s ≡ false
+both R quiet [] s line h = absurd h
+both R quiet (c ∷ []) s line h = absurd h
+both R quiet (c ∷ (d ∷ [])) s line h = quiet c d s line h
+both R quiet (c ∷ (d ∷ (e ∷ cs))) s line h = absurd h
 
 pub quiet : (command : Option Command) (contents : List (List ℕ)) (s : Status) (line : List ℕ) → (task_of command).Refuses contents s line → may_give s ≡ false
 quiet None contents s line h = ap may_give h.0
@@ -32,6 +42,6 @@ quiet (Some (Bench seed count limit)) contents s line h =
     elim h [ inl n ↦ ap may_give n.1 | inr r ↦ given_quiet (codes "bench") (made_args seed count) (made_source seed count) s line r ]
 quiet (Some (CopySite input output site)) contents s line h = only (RefusesReshaping (copies site) input site) (reshaping_quiet (copies site) input site) contents s line h
 quiet (Some (UnfoldSite input output site)) contents s line h = only (RefusesReshaping (unfolds site) input site) (reshaping_quiet (unfolds site) input site) contents s line h
-quiet (Some (Session input script limit)) contents s line h = ap may_give h.0
-quiet (Some (Aig input output)) contents s line h = ap may_give h.0
-quiet (Some (Aigstat input)) contents s line h = ap may_give h.0
+quiet (Some (Session input script limit)) contents s line h = both (RefusesSession input) (session_quiet input) contents s line h
+quiet (Some (Aig input output)) contents s line h = only (RefusesBitsOf input) (bits_quiet input) contents s line h
+quiet (Some (Aigstat input)) contents s line h = only (RefusesAig input) (aig_quiet input) contents s line h

@@ -17,7 +17,9 @@ use Rattle.safl_source.specs.Sources.{IsSourceOf}
 use Rattle.safl_source.specs.Circuits.{IsCircuitOf}
 use Rattle.safl_tool.specs.Sources.{IsFaultLine, IsAccepted}
 use Rattle.safl_command.specs.Commands.{Command, Check, Build, Sim, Walk, Run, Optimise, Report, Gen, Bench, CopySite, UnfoldSite, Session, Aig, Aigstat}
-use Rattle.safl_tool.specs.Inputs.{source_file, verilog_file}
+use Rattle.safl_tool.specs.BitLevel.{GivesBits, GivesCounts, HasBits, IsAig, RefusesAig, RefusesBitsOf}
+use Rattle.safl_tool.specs.Calling.{GivesReplies, IsMisscripted, EvaluatesEach}
+use Rattle.safl_tool.specs.Inputs.{source_file, script_file, verilog_file, aig_file}
 use Rattle.safl_tool.specs.Lines.{usage_line, program_lines, outcome_lines, walk_lines, short_line}
 use Rattle.safl_tool.specs.Running.{RunsText, IsMisrun, IsUnrunnable, Finishes}
 use Rattle.safl_tool.specs.Reporting.{GivesReport, RefusesCount, Measures, made_source, made_args}
@@ -25,7 +27,7 @@ use Rattle.safl_tool.specs.Limits.{functions_max}
 use Rattle.safl_tool.specs.Reshaping.{Reshaping, copies, unfolds, IsUnshaped, IsReshapable, GivesReshaped}
 use Rattle.safl_tool.specs.Simulating.{Simulates, IsMisgiven, Evaluates}
 use Rattle.safl_tool.specs.Walking.{Walks}
-use Rattle.safl_tool.specs.Tasks.{Given, Task, Only}
+use Rattle.safl_tool.specs.Tasks.{Given, Task, Only, Both}
 use Rattle.safl_tool.specs.declared.status.Status.{Status}
 use Rattle.safl_tool.specs.declared.status.Status.TheVariants as status
 
@@ -217,6 +219,37 @@ reshape_task r input output site = record {
   Promises = Only (IsReshapable r);
 }
 
+-- the source has a fault, or else the script has one for main's parameters
+abbrev pub RefusesSession : List ℕ → List ℕ → List ℕ → Status → List ℕ → Type 0
+RefusesSession name source script s line = RefusesSourceOf name source s line ⊎ ((s ≡ status.BadArgs) × IsMisscripted source script line)
+
+abbrev pub session_task : List ℕ → List ℕ → ℕ → Task
+session_task input script limit = record {
+  inputs = source_file input ∷ script_file script ∷ [];
+  outputs = [];
+  Refuses = λ files s line. Both (λ source text. RefusesSession input source text s line) files;
+  Gives = λ files g. Both (λ source text. GivesReplies limit source text g) files;
+  Promises = Both (λ source text. EvaluatesEach source text limit);
+}
+
+abbrev pub aig_task : List ℕ → List ℕ → Task
+aig_task input output = record {
+  inputs = verilog_file input ∷ [];
+  outputs = output ∷ [];
+  Refuses = λ files s line. Only (λ text. RefusesBitsOf input text s line) files;
+  Gives = λ files g. Only (λ text. GivesBits text g) files;
+  Promises = Only HasBits;
+}
+
+abbrev pub aigstat_task : List ℕ → Task
+aigstat_task input = record {
+  inputs = aig_file input ∷ [];
+  outputs = [];
+  Refuses = λ files s line. Only (λ text. RefusesAig input text s line) files;
+  Gives = λ files g. Only (λ text. GivesCounts text g) files;
+  Promises = Only IsAig;
+}
+
 -- the task of a command; words that are none are one too
 abbrev pub task_of : Option Command → Task
 task_of None = usage_task
@@ -231,7 +264,6 @@ task_of (Some (Gen seed count)) = gen_task seed count
 task_of (Some (Bench seed count limit)) = bench_task seed count limit
 task_of (Some (CopySite input output site)) = reshape_task (copies site) input output site
 task_of (Some (UnfoldSite input output site)) = reshape_task (unfolds site) input output site
--- not built yet
-task_of (Some (Session input script limit)) = usage_task
-task_of (Some (Aig input output)) = usage_task
-task_of (Some (Aigstat input)) = usage_task
+task_of (Some (Session input script limit)) = session_task input script limit
+task_of (Some (Aig input output)) = aig_task input output
+task_of (Some (Aigstat input)) = aigstat_task input

@@ -9,9 +9,12 @@ pub mod Walking
 pub mod VerilogLines
 pub mod Running
 pub mod Tasks
+pub mod Calling
 pub mod Endings
 pub mod Inputs
+pub mod BitLevel
 pub mod CommandTasks
+pub mod Opening
 pub mod Refusals
 pub mod Answers
 pub mod Statuses

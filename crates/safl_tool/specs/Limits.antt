@@ -5,9 +5,17 @@ use Rattle.std.specs.Prelude.{ℕ}
 abbrev pub source_max : ℕ
 source_max = 1048576
 
+-- the most bytes of a script
+abbrev pub script_max : ℕ
+script_max = 1048576
+
 -- the most bytes of a Verilog file
 abbrev pub verilog_max : ℕ
 verilog_max = 67108864
+
+-- the most bytes of an AIGER file
+abbrev pub aig_max : ℕ
+aig_max = 536870912
 
 -- the most functions of a made source, besides main
 abbrev pub functions_max : ℕ

@@ -5,6 +5,7 @@ use Rattle.std.specs.Fmt.{decimal}
 use Rattle.safl_sim.specs.declared.done.Done.{Done}
 use Rattle.safl_word.specs.declared.fault.Fault.{Fault}
 use Rattle.safl_word.specs.Faults.{fault_text}
+use Rattle.safl_transcript.specs.Texts.{late_line}
 
 abbrev pub usage_line : List ℕ
 usage_line = codes "usage: safl check IN | build IN OUT | sim IN --cycles L [ARG..] | run FILE --cycles L [ARG..] | walk IN --order SEED --steps N [ARG..] | report IN | gen SEED COUNT | bench SEED COUNT --cycles L\n"
@@ -32,18 +33,19 @@ count_line params given = codes "main takes " ++ decimal params ++ codes " argum
 abbrev pub argument_line : ℕ → ℕ → List ℕ
 argument_line index width = codes "argument " ++ decimal index ++ codes " is no number of " ++ decimal width ++ codes " bits\n"
 
+-- what is said of the line of this number, from 1, of a script
+abbrev pub numbered_line : ℕ → List ℕ → List ℕ
+numbered_line number text = codes "line " ++ decimal number ++ codes ": " ++ text
+
 -- what `check` prints: how many functions and how many call sites the program has
 abbrev pub program_lines : ℕ → ℕ → List ℕ
 program_lines functions sites = codes "functions " ++ decimal functions ++ codes "\nsites " ++ decimal sites ++ codes "\n"
 
--- what a run prints: its result and the cycle in which it came, or that none came in so many cycles
+-- what a run prints: its result and the cycle in which it came
 abbrev pub done_lines : ℕ → ℕ → List ℕ
 done_lines result cycle = codes "result " ++ decimal result ++ codes "\ncycle " ++ decimal cycle ++ codes "\n"
 
-abbrev pub late_line : ℕ → List ℕ
-late_line limit = codes "no result in " ++ decimal limit ++ codes " cycles\n"
-
--- what a run prints, by its outcome
+-- what a run prints, by its outcome: where there is none, that none came in so many cycles
 abbrev pub outcome_lines : ℕ → Option Done → List ℕ
 outcome_lines limit (Some d) = done_lines d.result.bits d.cycle
 outcome_lines limit None = late_line limit

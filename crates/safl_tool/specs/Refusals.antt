@@ -5,10 +5,11 @@ use Rattle.safl_io.specs.Told.{TellsOn}
 use Rattle.safl_io.specs.Shelf.{ShelfState}
 use Rattle.safl_io.specs.Sink.{SinkState, Sends, SendsPart}
 use Rattle.safl_word.specs.Faults.{fault_text}
+use Rattle.safl_bit_text.specs.Lines.{fault_line, weight_line}
 use Rattle.safl_tool.specs.Arguments.{HaveFault}
-use Rattle.safl_tool.specs.Tasks.{Input, OfFile, Task}
+use Rattle.safl_tool.specs.Tasks.{Input, OfFile, OfInputs, Task}
 use Rattle.safl_tool.specs.Endings.{Outside, Stops, Got}
-use Rattle.safl_tool.specs.Lines.{usage_line, read_line, write_line, output_line, count_line, argument_line, long_line, memory_line, placed_line, site_line}
+use Rattle.safl_tool.specs.Lines.{usage_line, read_line, write_line, output_line, count_line, argument_line, numbered_line, long_line, memory_line, placed_line, site_line}
 use Rattle.safl_tool.specs.declared.status.Status.{Status}
 use Rattle.safl_tool.specs.declared.status.Status.TheVariants as status
 use Rattle.safl_tool.specs.declared.refusal.Refusal.{Refusal}
@@ -24,7 +25,12 @@ status_of refusal.Output = status.WriteFault
 status_of (refusal.Verilog line) = status.VerilogRefused
 status_of (refusal.Count params given) = status.BadArgs
 status_of (refusal.Argument index width) = status.BadArgs
+status_of (refusal.ScriptCount line params given) = status.BadArgs
+status_of (refusal.ScriptArgument line index width) = status.BadArgs
 status_of (refusal.Site site text) = status.ReshapeRefused
+status_of (refusal.Aig name line rule) = status.AigRefused
+status_of (refusal.Heavy weight) = status.CircuitTooLarge
+status_of (refusal.Register line) = status.NotZero
 status_of refusal.NoMemory = status.NoMemory
 
 abbrev pub line_of : Refusal → List ℕ
@@ -37,7 +43,12 @@ line_of refusal.Output = output_line
 line_of (refusal.Verilog line) = line.items
 line_of (refusal.Count params given) = count_line params given
 line_of (refusal.Argument index width) = argument_line index width
+line_of (refusal.ScriptCount line params given) = numbered_line line (count_line params given)
+line_of (refusal.ScriptArgument line index width) = numbered_line line (argument_line index width)
 line_of (refusal.Site site text) = site_line site text.now
+line_of (refusal.Aig name line rule) = fault_line name.now line rule
+line_of (refusal.Heavy weight) = weight_line weight
+line_of (refusal.Register line) = line.items
 line_of refusal.NoMemory = memory_line
 
 -- a command stops with the refusal's status and line
@@ -58,6 +69,11 @@ RefusesReading limit old new input (refusal.Read name) = (name.now ≡ input) ×
 RefusesReading limit old new input (refusal.TooLong name n) = (name.now ≡ input) × (n ≡ limit) × OfFile old.holds input (λ bytes. limit < length bytes)
 RefusesReading limit old new input refusal.NoMemory = Unit {0}
 RefusesReading limit old new input _ = ⊥
+
+-- why one of two inputs is not read: the first one, or else the second one
+abbrev pub RefusesPair : Input → Input → ShelfState → ShelfState → Refusal → Type 0
+RefusesPair i j old new r =
+    RefusesReading i.limit old new i.name r ⊎ (OfInputs old.holds (i ∷ []) (λ contents. Unit {0}) × RefusesReading j.limit old new j.name r)
 
 -- why the first of the inputs is not read
 abbrev pub RefusesInputs : List Input → ShelfState → ShelfState → Refusal → Type 0

@@ -15,4 +15,7 @@ number_of status.VerilogRefused = 7
 number_of status.BadArgs = 8
 number_of status.ProbeFault = 9
 number_of status.TooLong = 10
+number_of status.AigRefused = 11
+number_of status.CircuitTooLarge = 12
 number_of status.ReshapeRefused = 13
+number_of status.NotZero = 14

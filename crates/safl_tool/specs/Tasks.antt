@@ -62,3 +62,8 @@ OfInputs holds inputs P = (contents : List (List ℕ)) × AreContents holds inpu
 abbrev pub Only : (List ℕ → Type 0) → List (List ℕ) → Type 0
 Only P (content ∷ []) = P content
 Only P _ = ⊥
+
+-- there are two, and their contents are so
+abbrev pub Both : (List ℕ → List ℕ → Type 0) → List (List ℕ) → Type 0
+Both P (first ∷ second ∷ []) = P first second
+Both P _ = ⊥

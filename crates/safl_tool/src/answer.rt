@@ -55,7 +55,8 @@ fn print<'a, O: Sink>(out: &mut O, comes: bool, text: &[u8]) -> Result<Status, R
     }
 }
 
-fn status_if(comes: bool) -> Status
+/// The status where a result came, and where none did.
+pub fn status_if(comes: bool) -> Status
     ensures { result ≡ status_if comes }
 {
     if comes { Status::Ok } else { Status::NoResult }

@@ -2,7 +2,7 @@
 
 ghost use Rattle.std.specs.Prelude.{◌≡◌, ◌≤◌, length, OnSome, IfOk, IfErr, IfSome};
 ghost use Rattle.safl_io.specs.Reading.{HasFile};
-ghost use Rattle.safl_tool.specs.Inputs.{inputs_of, contents_in, shown_input, source_file, verilog_file};
+ghost use Rattle.safl_tool.specs.Inputs.{inputs_of, contents_in, shown_input, source_file, verilog_file, aig_file};
 ghost use Rattle.safl_tool.specs.Refusals.{RefusesReading, RefusesInputs};
 ghost use Rattle.safl_tool.specs.Tasks.{OfFile, AreContents, HoldsInputs};
 
@@ -11,10 +11,16 @@ use safl_io::{ReadErr, Shelf, read_file};
 use std::alloc::Global;
 
 /// The most bytes of a source.
-const SOURCE_MAX: u64 = 1_048_576;
+pub const SOURCE_MAX: u64 = 1_048_576;
+
+/// The most bytes of a script.
+pub const SCRIPT_MAX: u64 = 1_048_576;
 
 /// The most bytes of a Verilog file.
 const VERILOG_MAX: u64 = 67_108_864;
+
+/// The most bytes of an AIGER file.
+const AIG_MAX: u64 = 536_870_912;
 
 /// A file that is read, and the most bytes that it may have.
 #[derive(Clone, Copy)]
@@ -43,6 +49,16 @@ impl<'a> Input<'a> {
             limit: VERILOG_MAX,
         }
     }
+
+    /// The file of an AIGER text.
+    pub fn aig(name: &'a str) -> Self
+        ensures { shown_input result ≡ aig_file name.now }
+    {
+        Input {
+            name,
+            limit: AIG_MAX,
+        }
+    }
 }
 
 /// The bytes of the file, where there is one.
@@ -63,8 +79,8 @@ pub fn read_content<'a, S: Shelf>(
     }
 }
 
-// The file of a name, of at most `limit` bytes.
-fn read_input<'a, S: Shelf>(
+/// The file of a name, of at most `limit` bytes.
+pub fn read_input<'a, S: Shelf>(
     alloc: Global,
     shelf: &mut S,
     input: &'a str,
@@ -75,6 +91,7 @@ fn read_input<'a, S: Shelf>(
     ensures refused { IfErr result (RefusesReading limit (S.told shelf.old) (S.told shelf.new) input.now) }
     ensures same_files { (S.told shelf.new).holds ≡ (S.told shelf.old).holds }
     ensures same_writes { (S.told shelf.new).write_faults ≡ (S.told shelf.old).write_faults }
+    ensures reads_later { (S.told shelf.old).read_faults ≤ (S.told shelf.new).read_faults }
     ensures no_stray { OfFile (S.told shelf.old).holds input.now (λ bytes. Unit {0}) → OnSome (S.told shelf.old).holds ((S.told shelf.new).strays ≡ (S.told shelf.old).strays) }
 {
     match read_file(alloc, shelf, input, limit) {

@@ -3,6 +3,7 @@
 
 mod answer;
 mod arguments;
+mod bit_level;
 mod build;
 mod check;
 mod input;
@@ -11,6 +12,7 @@ mod refusal;
 mod report;
 mod reshape;
 mod run_file;
+mod session;
 mod simulate;
 mod source;
 mod status;

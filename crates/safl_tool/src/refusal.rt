@@ -1,11 +1,13 @@
 //! Why a command ends without its result, and the line that says so.
 
 ghost use Rattle.std.specs.Prelude.{◌≡◌, ◌++◌, IfOk, OnOk, codes};
-ghost use Rattle.safl_tool.specs.Lines.{line_at, column_at, count_line, argument_line, placed_line, long_line, site_line};
+ghost use Rattle.safl_tool.specs.Lines.{line_at, column_at, count_line, argument_line, numbered_line, placed_line, long_line, site_line};
 ghost use Rattle.safl_tool.specs.Refusals.{status_of, line_of};
 ghost use Rattle.safl_word.specs.Faults.{fault_text};
 
 use crate::status::Status;
+use safl_aig::AigRule;
+use safl_bit_text::{fault_line, weight_line};
 use safl_word::{Fault, NoMemory, Raw, push_decimal, push_fault};
 use std::alloc::Global;
 
@@ -34,8 +36,18 @@ pub enum Refusal<'a> {
     Count(usize, usize),
     /// The argument of this number, from 1, is no number of so many bits.
     Argument(usize, u8),
+    /// The line of this number of a script, from 1, is no call: so many parameters are not so many words.
+    ScriptCount(u32, usize, usize),
+    /// The line of this number of a script, from 1, is no call: its word of this number, from 1, is no number of so many bits.
+    ScriptArgument(u32, usize, u8),
     /// The site of this number is not reshaped; this says why.
     Site(u64, &'static str),
+    /// This line, counted from 1, of the AIGER file of this name breaks this rule.
+    Aig(&'a str, u32, AigRule),
+    /// The netlist has this weight, which is too great.
+    Heavy(u64),
+    /// A register does not reset to 0; this line names it.
+    Register(Vec<u8>),
     NoMemory,
 }
 
@@ -54,7 +66,12 @@ impl<'a> Refusal<'a> {
             Refusal::Verilog(_) => Status::VerilogRefused,
             Refusal::Count(_, _) => Status::BadArgs,
             Refusal::Argument(_, _) => Status::BadArgs,
+            Refusal::ScriptCount(_, _, _) => Status::BadArgs,
+            Refusal::ScriptArgument(_, _, _) => Status::BadArgs,
             Refusal::Site(_, _) => Status::ReshapeRefused,
+            Refusal::Aig(_, _, _) => Status::AigRefused,
+            Refusal::Heavy(_) => Status::CircuitTooLarge,
+            Refusal::Register(_) => Status::NotZero,
             Refusal::NoMemory => Status::NoMemory,
         }
     }
@@ -75,7 +92,16 @@ impl<'a> Refusal<'a> {
             Refusal::Verilog(line) => Ok(line),
             Refusal::Count(params, given) => count_line(alloc, params, given),
             Refusal::Argument(index, width) => argument_line(alloc, index, width),
+            Refusal::ScriptCount(line, params, given) => {
+                numbered_line(alloc, line, &count_line(alloc, params, given)?)
+            }
+            Refusal::ScriptArgument(line, index, width) => {
+                numbered_line(alloc, line, &argument_line(alloc, index, width)?)
+            }
             Refusal::Site(site, text) => site_line(alloc, site, text),
+            Refusal::Aig(name, line, rule) => fault_line(alloc, name, line, rule),
+            Refusal::Heavy(weight) => weight_line(alloc, weight),
+            Refusal::Register(line) => Ok(line),
             Refusal::NoMemory => text_of(alloc, b"out of memory\n"),
         }
     }
@@ -152,6 +178,18 @@ fn argument_line(alloc: Global, index: usize, width: u8) -> Result<Vec<u8>, NoMe
     push(&mut out, b" is no number of ")?;
     push_decimal(Raw::from(width), &mut out)?;
     push(&mut out, b" bits\n")?;
+    Ok(out)
+}
+
+// What is said of a line of a script.
+fn numbered_line(alloc: Global, number: u32, text: &[u8]) -> Result<Vec<u8>, NoMemory>
+    ensures { IfOk result (λ line. line.items ≡ numbered_line number text.now) }
+{
+    let mut out = Vec::new(alloc);
+    push(&mut out, b"line ")?;
+    push_decimal(Raw::from(number), &mut out)?;
+    push(&mut out, b": ")?;
+    push(&mut out, text)?;
     Ok(out)
 }
 

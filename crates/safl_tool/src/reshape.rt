@@ -14,7 +14,7 @@ use crate::answer::Answer;
 use crate::refusal::Refusal;
 use crate::source::read_program;
 use safl_reshape::laws::printed_form_law;
-use safl_reshape::{ReshapeErr, copy_site, unfold_site};
+use safl_reshape::{ReshapeErr, copy_checked, unfold_checked};
 use safl_tree::{Program, print};
 use safl_word::SOURCE_MAX;
 use std::alloc::Global;
@@ -33,15 +33,15 @@ pub fn copied<'a>(
     ensures refused { IfErr result (RefusesBy (RefusesReshaping (copies site) name.now site source.now)) }
 {
     printed_form_law();
-    let program = match read_program(alloc, name, source) {
-        Ok(program) => program,
+    let accepted = match read_program(alloc, name, source) {
+        Ok(accepted) => accepted,
         Err(refusal) => return Err(refusal),
     };
     let number = match site_number(site) {
         Some(number) => number,
         None => return Err(refusal_of(site, ReshapeErr::NoSite)),
     };
-    match copy_site(alloc, program, number) {
+    match copy_checked(alloc, &accepted.program, &accepted.checked, number) {
         Ok(copy) => text_of(alloc, output, site, &copy),
         Err(error) => Err(refusal_of(site, error)),
     }
@@ -62,15 +62,15 @@ pub fn unfolded<'a>(
     ensures refused { IfErr result (RefusesBy (RefusesReshaping (unfolds site) name.now site source.now)) }
 {
     printed_form_law();
-    let program = match read_program(alloc, name, source) {
-        Ok(program) => program,
+    let accepted = match read_program(alloc, name, source) {
+        Ok(accepted) => accepted,
         Err(refusal) => return Err(refusal),
     };
     let number = match site_number(site) {
         Some(number) => number,
         None => return Err(refusal_of(site, ReshapeErr::NoSite)),
     };
-    match unfold_site(alloc, program, number) {
+    match unfold_checked(alloc, &accepted.program, &accepted.checked, number) {
         Ok(unfolded) => text_of(alloc, output, site, &unfolded),
         Err(error) => Err(refusal_of(site, error)),
     }

@@ -70,8 +70,8 @@ fn run_text<'a>(
     }
 }
 
-// The netlist of the text of a file of this name, with its wires in an order of evaluation.
-fn ordered_net<'a>(alloc: Global, name: &'a str, text: &[u8]) -> Result<Ordered, Refusal<'a>>
+/// The netlist of the text of a file of this name, with its wires in an order of evaluation.
+pub fn ordered_net<'a>(alloc: Global, name: &'a str, text: &[u8]) -> Result<Ordered, Refusal<'a>>
     requires { length text.now ≤ verilog_max }
     ensures runnable { IfOk result (λ o. IsRunnable text.now o.net) }
     ensures whole { IfOk result (λ o. IsWhole o.net) }

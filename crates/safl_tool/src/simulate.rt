@@ -7,7 +7,7 @@ ghost use Rattle.safl_sim.specs.Arguments.{argument_widths};
 ghost use Rattle.safl_tool.specs.Answers.{given_of, outputs_of};
 ghost use Rattle.safl_tool.specs.CommandTasks.{outcome, GivesOutcome, RefusesGiven};
 ghost use Rattle.safl_tool.specs.Limits.{source_max};
-ghost use Rattle.safl_tool.specs.Lines.{done_lines, late_line, outcome_lines};
+ghost use Rattle.safl_tool.specs.Lines.{done_lines, outcome_lines};
 ghost use Rattle.safl_tool.specs.Refusals.{RefusesBy, RefusesArguments};
 ghost use Rattle.safl_tool.specs.Running.{Gives};
 ghost use Rattle.safl_tool.specs.Simulating.{Simulates};
@@ -20,6 +20,7 @@ use safl_net::Net;
 use safl_order::Ordered;
 use safl_sim::{Done, Sim, argument_widths, run_until_done};
 use safl_source::ordered;
+use safl_transcript::push_late;
 use safl_word::{NoMemory, Raw, push_decimal};
 use std::alloc::Global;
 
@@ -148,14 +149,5 @@ fn push_done(text: &mut Vec<u8>, done: Done) -> Result<(), NoMemory>
     push(text, b"\ncycle ")?;
     push_decimal(Raw::from(done.cycle), text)?;
     push(text, b"\n")?;
-    Ok(())
-}
-
-fn push_late(text: &mut Vec<u8>, limit: u64) -> Result<(), NoMemory>
-    ensures { OnOk result (text.new.items ≡ text.old.items ++ late_line limit) }
-{
-    push(text, b"no result in ")?;
-    push_decimal(Raw::from(limit), text)?;
-    push(text, b" cycles\n")?;
     Ok(())
 }

@@ -2,11 +2,12 @@
 
 ghost use Rattle.std.specs.Prelude.{◌≡◌, ◌≤◌, length, IfOk, IfErr};
 ghost use Rattle.safl_circuit.specs.Names.{names_of};
-ghost use Rattle.safl_source.specs.Sources.{HasFewSites, HasForm, IsSourceOf};
+ghost use Rattle.safl_source.specs.Sources.{HasFewSites, IsSourceOf};
 ghost use Rattle.safl_tree.specs.Printable.{IsPrintable};
 ghost use Rattle.safl_tree.specs.Shown.{shown_program};
 ghost use Rattle.safl_tree.specs.Source.{SpellsProgram};
 ghost use Rattle.safl_term.specs.Checked.{program_of};
+ghost use Rattle.safl_typing.specs.Forms.{IsFormOf, shown};
 ghost use Rattle.safl_tool.specs.CommandTasks.{RefusesSourceOf};
 ghost use Rattle.safl_tool.specs.Limits.{source_max};
 ghost use Rattle.safl_tool.specs.Lines.{source_line};
@@ -17,9 +18,8 @@ use crate::refusal::{Refusal, column_number, line_number};
 use crate::status::Status;
 use safl_net::Net;
 use safl_sites::Planned;
-use safl_source::{CheckErr, accept, accepted_program, circuit_of, plan_of};
+use safl_source::{Accepted, CheckErr, accept, accepted_program, circuit_of, plan_of};
 use safl_term::Checked;
-use safl_tree::Program;
 use safl_word::{Fault, NoMemory};
 use std::alloc::Global;
 
@@ -72,16 +72,20 @@ pub fn plan_source<'a>(alloc: Global, name: &'a str, source: &[u8]) -> Result<Pl
 }
 
 /// The program that a source spells, or why the source in the file of this name is refused.
-pub fn read_program<'a>(alloc: Global, name: &'a str, source: &[u8]) -> Result<Program, Refusal<'a>>
+pub fn read_program<'a>(
+    alloc: Global,
+    name: &'a str,
+    source: &[u8],
+) -> Result<Accepted, Refusal<'a>>
     requires { length source.now ≤ source_max }
-    ensures spelled { IfOk result (λ p. SpellsProgram source.now (shown_program p)) }
-    ensures printable { IfOk result (λ p. IsPrintable (shown_program p)) }
-    ensures form { IfOk result (λ p. HasForm (shown_program p)) }
-    ensures few { IfOk result (λ p. HasFewSites (shown_program p)) }
+    ensures spelled { IfOk result (λ a. SpellsProgram source.now (shown_program a.program)) }
+    ensures printable { IfOk result (λ a. IsPrintable (shown_program a.program)) }
+    ensures form { IfOk result (λ a. IsFormOf (shown_program a.program) (shown a.checked)) }
+    ensures few { IfOk result (λ a. HasFewSites (shown_program a.program)) }
     ensures refused { IfErr result (RefusesBy (RefusesSourceOf name.now source.now)) }
 {
     match accepted_program(alloc, source) {
-        Ok(program) => Ok(program),
+        Ok(accepted) => Ok(accepted),
         Err(CheckErr::Refused(fault)) => Err(refusal_of(name, source, fault)),
         Err(CheckErr::TooDeep | CheckErr::NoMemory) => Err(Refusal::NoMemory),
     }

@@ -26,8 +26,14 @@ pub enum Status {
     ProbeFault = 9,
     /// The input file is longer than the limit.
     TooLong = 10,
+    /// The AIGER file is refused.
+    AigRefused = 11,
+    /// The netlist is too heavy for a bit-level circuit.
+    CircuitTooLarge = 12,
     /// The site is not reshaped.
     ReshapeRefused = 13,
+    /// A register of the netlist does not reset to 0.
+    NotZero = 14,
 }
 
 impl Status {

@@ -9,8 +9,10 @@ ghost use Rattle.safl_tool.specs.Refusals.{StopsBy, SendsLine, SendsRefusal};
 use crate::refusal::Refusal;
 use crate::status::Status;
 use crate::work::perform;
+use safl_aig::laws::no_fault_law;
 use safl_command::{Command, read_words};
 use safl_io::{OutErr, Shelf, Sink};
+use safl_session::laws as sessions;
 use safl_source::laws::{not_both_law, one_program_law};
 use safl_term::laws::meaning_law;
 use safl_tree::laws as trees;
@@ -54,6 +56,9 @@ pub fn run<S: Shelf, O: Sink, E: Sink>(
     meaning_law();
     verilog::one_netlist_law();
     verilog::not_both_law();
+    no_fault_law();
+    sessions::script_law();
+    sessions::session_law();
     dispatch(alloc, words, shelf, out, err)
 }
 

@@ -1,7 +1,8 @@
-//! What every command does: it reads its file, works out an answer, and gives it.
+//! What every command does: it reads its file, works out an answer, and gives it. A session alone reads two files, and gives its
+//! answer line by line.
 
-ghost use Rattle.std.specs.Prelude.{◌≡◌, IfOk, IfErr, Some};
-ghost use Rattle.safl_command.specs.Commands.{shown};
+ghost use Rattle.std.specs.Prelude.{◌≡◌, ◌≤◌, IfOk, IfErr, IfSome, IfNone, Some, length};
+ghost use Rattle.safl_command.specs.Commands.{shown, Session};
 ghost use Rattle.safl_tool.specs.Answers.{Answers, Declines, IsForOutputs};
 ghost use Rattle.safl_tool.specs.CommandTasks.{task_of};
 ghost use Rattle.safl_tool.specs.Endings.{Ended, SameStrays, outside};
@@ -9,6 +10,7 @@ ghost use Rattle.safl_tool.specs.Inputs.{AreWithin, inputs_of};
 ghost use Rattle.safl_tool.specs.Refusals.{StopsBy};
 
 use crate::answer::{Answer, give};
+use crate::bit_level::{bit_level_circuit, circuit_counts};
 use crate::build::{circuit, optimised};
 use crate::check::numbers;
 use crate::input::{Input, read_content};
@@ -17,6 +19,7 @@ use crate::refusal::Refusal;
 use crate::report::plan_report;
 use crate::reshape::{copied, unfolded};
 use crate::run_file::netlist_outcome;
+use crate::session::{Talk, hold};
 use crate::simulate::circuit_outcome;
 use crate::status::Status;
 use crate::walk::walk_outcome;
@@ -37,6 +40,57 @@ pub fn perform<'a, S: Shelf, O: Sink>(
         (outside (S.told shelf.old) (O.told out.old)) (outside (S.told shelf.new) (O.told out.new))) }
     ensures no_stray { SameStrays (task_of (Some (shown command.now))) (S.told shelf.old) (S.told shelf.new) }
 {
+    match talk_of(command) {
+        Some(talk) => hold(alloc, shelf, out, talk),
+        None => give_answer(alloc, command, shelf, out),
+    }
+}
+
+// The session that a command asks for.
+fn talk_of(command: &Command) -> Option<Talk<'_>>
+    ensures session { IfSome result (λ t. shown command.now ≡ Session t.input.now t.script.now t.limit) }
+    ensures other { IfNone result (length (task_of (Some (shown command.now))).inputs ≤ 1) }
+{
+    match command {
+        Command::Session {
+            input,
+            script,
+            limit,
+        } => Some(Talk {
+            input,
+            script,
+            limit: *limit,
+        }),
+        Command::Check { .. } => None,
+        Command::Build { .. } => None,
+        Command::Optimise { .. } => None,
+        Command::Sim { .. } => None,
+        Command::Walk { .. } => None,
+        Command::Run { .. } => None,
+        Command::Report { .. } => None,
+        Command::Gen { .. } => None,
+        Command::Bench { .. } => None,
+        Command::CopySite { .. } => None,
+        Command::UnfoldSite { .. } => None,
+        Command::Aig { .. } => None,
+        Command::Aigstat { .. } => None,
+    }
+}
+
+// Does what a command asks for that reads one file at most.
+fn give_answer<'a, S: Shelf, O: Sink>(
+    alloc: Global,
+    command: &'a Command,
+    shelf: &mut S,
+    out: &mut O,
+) -> Result<Status, Refusal<'a>>
+    requires { length (task_of (Some (shown command.now))).inputs ≤ 1 }
+    ensures ended { IfOk result (Ended (task_of (Some (shown command.now)))
+        (outside (S.told shelf.old) (O.told out.old)) (outside (S.told shelf.new) (O.told out.new))) }
+    ensures refused { IfErr result (StopsBy (task_of (Some (shown command.now)))
+        (outside (S.told shelf.old) (O.told out.old)) (outside (S.told shelf.new) (O.told out.new))) }
+    ensures no_stray { SameStrays (task_of (Some (shown command.now))) (S.told shelf.old) (S.told shelf.new) }
+{
     let bytes = match read_content(alloc, shelf, input_of(command)) {
         Ok(bytes) => bytes,
         Err(refusal) => return Err(refusal),
@@ -50,6 +104,7 @@ pub fn perform<'a, S: Shelf, O: Sink>(
 
 // The file that a command reads.
 fn input_of(command: &Command) -> Option<Input<'_>>
+    requires { length (task_of (Some (shown command.now))).inputs ≤ 1 }
     ensures { (task_of (Some (shown command.now))).inputs ≡ inputs_of result }
 {
     match command {
@@ -64,9 +119,9 @@ fn input_of(command: &Command) -> Option<Input<'_>>
         Command::Bench { .. } => None,
         Command::CopySite { input, .. } => Some(Input::source(input)),
         Command::UnfoldSite { input, .. } => Some(Input::source(input)),
-        Command::Session { .. } => None,
-        Command::Aig { .. } => None,
-        Command::Aigstat { .. } => None,
+        Command::Session { .. } => unreachable!(),
+        Command::Aig { input, .. } => Some(Input::verilog(input)),
+        Command::Aigstat { input } => Some(Input::aig(input)),
     }
 }
 
@@ -101,9 +156,8 @@ fn answer_of<'a>(
             output,
             site,
         } => unfolded(alloc, input, output, bytes, *site),
-        // Not built yet.
-        Command::Session { .. } => Err(Refusal::Usage),
-        Command::Aig { .. } => Err(Refusal::Usage),
-        Command::Aigstat { .. } => Err(Refusal::Usage),
+        Command::Session { .. } => unreachable!(),
+        Command::Aig { input, output } => bit_level_circuit(alloc, input, output, bytes),
+        Command::Aigstat { input } => circuit_counts(alloc, input, bytes),
     }
 }

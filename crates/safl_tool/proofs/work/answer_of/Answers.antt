@@ -1,14 +1,14 @@
-use Rattle.std.proofs.Common.{ℕ, List, String, Global, [], ◌∷◌, ◌≡◌, map, string_bytes, subst, sym, refl, inr}
+use Rattle.std.proofs.Common.{ℕ, List, String, Global, [], ◌∷◌, ◌≡◌, map, string_bytes, subst, sym}
 use Rattle.std.specs.Prelude.{Some, IfOk, IfErr}
 use Rattle.safl_command.specs.Commands.{shown}
 use Rattle.safl_command.specs.declared.command.Command.{Command}
 use Rattle.safl_tool.specs.Answers.{Answers, Declines, IsForOutputs, given_of, outputs_of}
+use Rattle.safl_tool.specs.BitLevel.{RefusesAig, RefusesBitsOf}
 use Rattle.safl_tool.specs.CommandTasks.{task_of, RefusesSourceOf, RefusesGiven, RefusesText, GivesOutcome, GivesWalk, GivesRun, RefusesReshaping}
 use Rattle.safl_tool.specs.Inputs.{AreWithin}
 use Rattle.safl_tool.specs.Refusals.{RefusesBy}
 use Rattle.safl_tool.specs.Reshaping.{copies, unfolds}
 use Rattle.safl_tool.specs.Tasks.{Task}
-use Rattle.safl_tool.specs.declared.refusal.Refusal.TheVariants as refusal
 use Rattle.safl_tool.proofs.work.answer_of.Goals as goal
 
 abbrev task : Command → Task
@@ -209,11 +209,41 @@ returns-in-UnfoldSite-clause-refused c =
     subst (λ (m : Command). IfErr c.unfolded.result (Declines (task m) c.args.bytes.now)) (sym c.in-UnfoldSite.is)
     (subst (λ (n : List ℕ). IfErr c.unfolded.result (RefusesBy (RefusesReshaping (unfolds c.in-UnfoldSite.site) n c.in-UnfoldSite.site c.args.bytes.now))) c.deref-in-UnfoldSite.ensures c.unfolded.ensures.refused)
 
-pub returns-in-Session-clause-refused : goal.returns-in-Session-clause-refused
-returns-in-Session-clause-refused c = subst (λ (m : Command). Declines (task m) c.args.bytes.now refusal.Usage) (sym c.in-Session.is) (inr (refl, refl))
+pub unreachable-requires : goal.unreachable-requires
+unreachable-requires c = subst (λ (m : Command). AreWithin (task m).inputs c.args.bytes.now) c.in-Session.is c.requires
+
+pub bit_level_circuit-requires : goal.bit_level_circuit-requires
+bit_level_circuit-requires c = subst (λ (m : Command). AreWithin (task m).inputs c.args.bytes.now) c.in-Aig.is c.requires
+
+pub returns-in-Aig-clause-gives : goal.returns-in-Aig-clause-gives
+returns-in-Aig-clause-gives c =
+    subst (λ (m : Command). IfOk c.bit_level_circuit.result (Answers (task m) c.args.bytes.now)) (sym c.in-Aig.is)
+    c.bit_level_circuit.ensures.gives
+
+pub returns-in-Aig-clause-outputs : goal.returns-in-Aig-clause-outputs
+returns-in-Aig-clause-outputs c =
+    subst (λ (m : Command). IfOk c.bit_level_circuit.result (IsForOutputs (task m))) (sym c.in-Aig.is)
+    (subst (λ (l : List ℕ). IfOk c.bit_level_circuit.result (λ a. l ∷ [] ≡ outputs_of a)) c.deref-in-Aig-2.ensures c.bit_level_circuit.ensures.writes)
 
 pub returns-in-Aig-clause-refused : goal.returns-in-Aig-clause-refused
-returns-in-Aig-clause-refused c = subst (λ (m : Command). Declines (task m) c.args.bytes.now refusal.Usage) (sym c.in-Aig.is) (inr (refl, refl))
+returns-in-Aig-clause-refused c =
+    subst (λ (m : Command). IfErr c.bit_level_circuit.result (Declines (task m) c.args.bytes.now)) (sym c.in-Aig.is)
+    (subst (λ (n : List ℕ). IfErr c.bit_level_circuit.result (RefusesBy (RefusesBitsOf n c.args.bytes.now))) c.deref-in-Aig.ensures c.bit_level_circuit.ensures.refused)
+
+pub circuit_counts-requires : goal.circuit_counts-requires
+circuit_counts-requires c = subst (λ (m : Command). AreWithin (task m).inputs c.args.bytes.now) c.in-Aigstat.is c.requires
+
+pub returns-in-Aigstat-clause-gives : goal.returns-in-Aigstat-clause-gives
+returns-in-Aigstat-clause-gives c =
+    subst (λ (m : Command). IfOk c.circuit_counts.result (Answers (task m) c.args.bytes.now)) (sym c.in-Aigstat.is)
+    c.circuit_counts.ensures.gives
+
+pub returns-in-Aigstat-clause-outputs : goal.returns-in-Aigstat-clause-outputs
+returns-in-Aigstat-clause-outputs c =
+    subst (λ (m : Command). IfOk c.circuit_counts.result (IsForOutputs (task m))) (sym c.in-Aigstat.is)
+    c.circuit_counts.ensures.prints
 
 pub returns-in-Aigstat-clause-refused : goal.returns-in-Aigstat-clause-refused
-returns-in-Aigstat-clause-refused c = subst (λ (m : Command). Declines (task m) c.args.bytes.now refusal.Usage) (sym c.in-Aigstat.is) (inr (refl, refl))
+returns-in-Aigstat-clause-refused c =
+    subst (λ (m : Command). IfErr c.circuit_counts.result (Declines (task m) c.args.bytes.now)) (sym c.in-Aigstat.is)
+    (subst (λ (n : List ℕ). IfErr c.circuit_counts.result (RefusesBy (RefusesAig n c.args.bytes.now))) c.deref-in-Aigstat.ensures c.circuit_counts.ensures.refused)

@@ -1,0 +1,226 @@
+-- What a session of a compiled source says.
+use Rattle.std.proofs.Common.{◌≡◌, ℕ, zero, suc, ◌<◌, ◌≤◌, List, [], ◌∷◌, map, length, Bool, true, false, Option, Some, slice_get, slice_index, refl, sym, ap, subst, ◌∙◌, arith, inl, inr}
+use Rattle.std.specs.Prelude.{All}
+use Rattle.std.proofs.Math.Path.{fun_ext}
+use Rattle.std.proofs.lemmas.Bool.{eq-eqb}
+use Rattle.std.proofs.lemmas.List.Elements.{All-nil, All-cons}
+use Rattle.safl_io.specs.Shelf.{Files}
+use Rattle.safl_word.specs.Words.{Word, AreWords}
+use Rattle.safl_net.specs.Netlist.{Netlist, Signal}
+use Rattle.safl_net.specs.Valuations.{kind_reset, reset_number, reset_state}
+use Rattle.safl_sim.specs.Arguments.{argument_widths}
+use Rattle.safl_sim.specs.Places.{resets}
+use Rattle.safl_sim.proofs.Builds.{resets_fit}
+use Rattle.safl_term.specs.Program.{Program}
+use Rattle.safl_term.specs.WellFormed.{AreWordsOf}
+use Rattle.safl_session.specs.declared.script.ScriptErr.{ScriptErr}
+use Rattle.safl_session.specs.declared.script.ScriptErr.TheVariants as errors
+use Rattle.safl_session.specs.declared.session.Reply.{Reply}
+use Rattle.safl_session.specs.Circuits.{CircuitsServe, CircuitsReply, ResetIsQuiet, IsInTime}
+use Rattle.safl_session.specs.Laws as sessions
+use Rattle.safl_session.specs.Laws.{AreCallsOf}
+use Rattle.safl_session.specs.Lines as lines
+use Rattle.safl_session.specs.Replies.{AreReplies}
+use Rattle.safl_session.specs.Scripts.{AreCalls, IsScript, IsScriptFault, RefusesScript, lists_of}
+use Rattle.safl_session.specs.Sessions.{Opened}
+use Rattle.safl_source.specs.Laws.{OneProgram}
+use Rattle.safl_transcript.specs.Holding.{IsReady, IsHeld, IsBegun}
+use Rattle.safl_tool.specs.Calling.{Converses, GivesReplies, IsMisscripted, EvaluatesEach, script_line, told}
+use Rattle.safl_tool.specs.CommandTasks.{RefusesSession, session_task}
+use Rattle.safl_tool.specs.Endings.{Outside, Began, Ended, may_give}
+use Rattle.safl_tool.specs.Inputs.{source_file, script_file}
+use Rattle.safl_tool.specs.Lines.{count_line, argument_line, numbered_line}
+use Rattle.safl_tool.specs.Opening.{IsOpening}
+use Rattle.safl_tool.specs.Sources.{IsCompiled}
+use Rattle.safl_tool.specs.Tasks.{Given, AreContents, status_if}
+use Rattle.safl_tool.specs.declared.session.Opening.{Opening}
+use Rattle.safl_tool.specs.declared.status.Status.{Status}
+use Rattle.safl_tool.specs.declared.status.Status.TheVariants as status
+use Rattle.safl_tool.proofs.Ending.{same_all, same_parts}
+
+-- nothing is given where the source or the script is refused
+pub session_quiet : (name source script : List ℕ) (s : Status) (line : List ℕ) → RefusesSession name source script s line → may_give s ≡ false
+session_quiet name source script s line r = elim r [ inl f ↦ ap may_give f.0 | inr m ↦ ap may_give m.0 ]
+
+-- the contents of both files, as they were read
+pub texts_are : (holds : Option Files) (input file a b x y : List ℕ) → x ≡ a → y ≡ b → AreContents holds (source_file input ∷ script_file file ∷ []) (a ∷ b ∷ []) → AreContents holds (source_file input ∷ script_file file ∷ []) (x ∷ y ∷ [])
+texts_are holds input file a b x y e f h =
+    subst (λ (l : List ℕ). AreContents holds (source_file input ∷ script_file file ∷ []) (l ∷ y ∷ [])) (sym e)
+    (subst (λ (l : List ℕ). AreContents holds (source_file input ∷ script_file file ∷ []) (a ∷ l ∷ [])) (sym f) h)
+
+-- ---- the calls of a script
+
+words_fit : (widths : List ℕ) (texts : List (List ℕ)) (args : List Word) → lines.AreArguments widths texts args → AreWords args × (map (λ (w : Word). w.width) args ≡ widths)
+words_fit [] [] [] a = (tt, refl)
+words_fit [] [] (v ∷ vs) a = absurd a
+words_fit [] (t ∷ ts) vs a = absurd a
+words_fit (w ∷ ws) [] vs a = absurd a
+words_fit (w ∷ ws) (t ∷ ts) [] a = absurd a
+words_fit (w ∷ ws) (t ∷ ts) (v ∷ vs) a =
+    let rest = words_fit ws ts vs a.1 in
+    ((a.0.word, rest.0), ap (λ x. x ∷ map (λ (u : Word). u.width) vs) (ap (λ (x : Word). x.width) a.0.is) ∙ ap (λ l. w ∷ l) rest.1)
+
+words_sized : (widths : List ℕ) (texts : List (List ℕ)) (args : List Word) → lines.AreArguments widths texts args → AreWordsOf args widths
+words_sized [] [] [] a = tt
+words_sized [] [] (v ∷ vs) a = absurd a
+words_sized [] (t ∷ ts) vs a = absurd a
+words_sized (w ∷ ws) [] vs a = absurd a
+words_sized (w ∷ ws) (t ∷ ts) [] a = absurd a
+words_sized (w ∷ ws) (t ∷ ts) (v ∷ vs) a = (a.0.word, ap (λ (x : Word). x.width) a.0.is, words_sized ws ts vs a.1)
+
+calls_fit_in : (widths : List ℕ) (texts : List (List ℕ)) (calls : List (List Word)) → AreCalls widths texts calls → All (λ args. AreWords args × (map (λ (w : Word). w.width) args ≡ widths)) calls
+calls_fit_in widths [] [] a = All-nil (λ args. AreWords args × (map (λ (w : Word). w.width) args ≡ widths))
+calls_fit_in widths [] (c ∷ calls) a = absurd a
+calls_fit_in widths (t ∷ texts) [] a = absurd a
+calls_fit_in widths (t ∷ texts) (c ∷ calls) a =
+    All-cons (λ args. AreWords args × (map (λ (w : Word). w.width) args ≡ widths)) c calls (words_fit widths a.0.0 c a.0.2) (calls_fit_in widths texts calls a.1)
+
+calls_sized_in : (widths : List ℕ) (texts : List (List ℕ)) (calls : List (List Word)) → AreCalls widths texts calls → All (λ args. AreWordsOf args widths) calls
+calls_sized_in widths [] [] a = All-nil (λ args. AreWordsOf args widths)
+calls_sized_in widths [] (c ∷ calls) a = absurd a
+calls_sized_in widths (t ∷ texts) [] a = absurd a
+calls_sized_in widths (t ∷ texts) (c ∷ calls) a = All-cons (λ args. AreWordsOf args widths) c calls (words_sized widths a.0.0 c a.0.2) (calls_sized_in widths texts calls a.1)
+
+calls_sized : (widths script : List ℕ) (calls : List (List Word)) → IsScript widths script calls → All (λ args. AreWordsOf args widths) calls
+calls_sized widths script calls s = calls_sized_in widths s.0 calls s.2
+
+-- ---- a session that is opened
+
+-- a simulator at reset is in the state at reset
+reset_at : (gs : List Signal) (s : ℕ) → slice_index (map (λ (g : Signal). kind_reset g.kind) gs) s ≡ reset_number (slice_get gs s)
+reset_at [] s = refl
+reset_at (g ∷ gs) zero = refl
+reset_at (g ∷ gs) (suc s) = reset_at gs s
+
+module _ (source script : List ℕ) (o : Opening) (is : IsOpening source script o) where
+  abbrev net : Netlist
+  net = is.net
+
+  abbrev calls : List (List Word)
+  calls = lists_of o.calls.items
+
+  pub ready : IsReady o.session
+  ready = subst (λ (x : Opened). IsReady x) (sym is.fresh) (record {
+    opened = refl;
+    made = is.compiled.made;
+    whole = is.compiled.whole;
+    acyclic = is.compiled.circuit.circuit.correct.acyclic;
+    state = resets_fit is.net is.compiled.made;
+  })
+
+  pub calls_fit : AreCallsOf o.session.net (lists_of o.calls.items)
+  calls_fit = subst (λ (x : Opened). AreCallsOf x.net (lists_of o.calls.items)) (sym is.fresh) (calls_fit_in (argument_widths is.net.signals) is.calls.0 (lists_of o.calls.items) is.calls.2)
+
+  module _ (serves : CircuitsServe) (reset : ResetIsQuiet) (limit : ℕ) where
+    replied : (rs : List Reply) → AreReplies o.session.net limit (slice_index o.session.state) calls rs → AreReplies net limit (reset_state net) calls rs
+    replied rs a =
+        let e : slice_index (resets net) ≡ reset_state net = fun_ext (reset_at net.signals) in
+        subst (λ (f : ℕ → ℕ). AreReplies net limit f calls rs) e (subst (λ (x : Opened). AreReplies x.net limit (slice_index x.state) calls rs) is.fresh a)
+
+    conversed : (rs : List Reply) → AreReplies o.session.net limit (slice_index o.session.state) calls rs → Converses source script limit calls rs
+    conversed rs a =
+        let c = is.compiled in
+        let read : IsScript (c.program.params c.program.main) script calls = subst (λ (ws : List ℕ). IsScript ws script calls) c.params is.calls in
+        record {
+          program = c.program;
+          names = c.names;
+          net = net;
+          source_of = c.source_of;
+          circuit = c.circuit;
+          made = c.made;
+          whole = c.whole;
+          read = read;
+          replied = replied rs a;
+          serves =
+              serves c.program c.names c.circuit.choice net c.circuit.scheme c.circuit.circuit c.made c.whole limit (reset_state net) (reset c.program c.names c.circuit.choice net c.circuit.scheme)
+              calls (calls_sized (c.program.params c.program.main) script calls read) rs (replied rs a);
+        }
+
+    -- what it gives, and parts of it
+    module _ (input file : List ℕ) (old new : Outside) (same : new.shelf.holds ≡ old.shelf.holds) (contents : AreContents old.shelf.holds (source_file input ∷ script_file file ∷ []) (source ∷ script ∷ [])) where
+      pub held_ended : (complete : Bool) → IsHeld o.session (lists_of o.calls.items) limit old.out.sent new.out.sent complete → (s : Status) → s ≡ status_if complete → Ended (session_task input file limit) old new s
+      held_ended complete h s e = (
+        told limit calls h.replies,
+        record {
+          given = (source ∷ script ∷ [], contents, (calls, h.replies, conversed h.replies h.are, refl));
+          files = same_all old.shelf.holds new.shelf.holds same;
+          printed = h.sent;
+        },
+        ap (λ (b : Bool). status_if b) (sym h.is) ∙ sym e,
+      )
+
+      pub begun_began : IsBegun o.session (lists_of o.calls.items) limit old.out.sent new.out.sent → Began (session_task input file limit) old new
+      begun_began h = record {
+        whole = told limit calls h.replies;
+        given = (source ∷ script ∷ [], contents, (calls, h.replies, conversed h.replies h.are, refl));
+        files = same_parts [] old.shelf.holds new.shelf.holds same;
+        printed = h.sent;
+      }
+
+-- ---- a script that is refused
+
+pub misscripted : (name source script : List ℕ) (n : Netlist) → IsCompiled source n → (e : ScriptErr) → (e ≡ errors.NoMemory → ⊥) → RefusesScript (argument_widths n.signals) script e
+    → (line : List ℕ) → line ≡ script_line (argument_widths n.signals) e → RefusesSession name source script status.BadArgs line
+misscripted name source script n c e not r line is = elim r [
+  | inl none ↦ absurd (not none)
+  | inr f ↦ inr (
+    refl,
+    record {
+      program = c.program;
+      names = c.names;
+      source_of = c.source_of;
+      fault = e;
+      first = subst (λ (ws : List ℕ). IsScriptFault ws script e) c.params f;
+      is = subst (λ (ws : List ℕ). line ≡ script_line ws e) c.params is;
+    },
+  )
+]
+
+pub count_not_memory : (l given : ℕ) → errors.Count l given ≡ errors.NoMemory → ⊥
+count_not_memory l given e = cc
+
+pub argument_not_memory : (l p : ℕ) → errors.Argument l p ≡ errors.NoMemory → ⊥
+argument_not_memory l p e = cc
+
+within : (widths : List ℕ) (i w : ℕ) → slice_get widths i ≡ Some w → i < length widths
+within [] i w e = absurd (cc)
+within (x ∷ ws) zero w e = omega arith
+within (x ∷ ws) (suc i) w e = let h = within ws i w e in omega (arith, h)
+
+-- the place of an argument that is refused
+pub placed : (widths script : List ℕ) (l p : ℕ) → RefusesScript widths script (errors.Argument l p) → (0 < p) × (p ≤ length widths)
+placed widths script l p r = elim r [
+  | inl none ↦ absurd (cc)
+  | inr f ↦
+      let m = f.fault.1 in
+      let a = within widths m.index m.width m.at_width in
+      let b = m.is in
+      (omega (arith, b), omega (arith, a, b))
+]
+
+-- the lines of both faults
+pub count_told : (l m k n g h : ℕ) → l ≡ m → k ≡ n → g ≡ h → numbered_line l (count_line k g) ≡ numbered_line m (count_line n h)
+count_told l m k n g h a b c =
+    ap (λ (x : ℕ). numbered_line x (count_line k g)) a ∙ ap (λ (x : ℕ). numbered_line m (count_line x g)) b ∙ ap (λ (x : ℕ). numbered_line m (count_line n x)) c
+
+pub argument_told : (l m q p w v : ℕ) → l ≡ m → q ≡ p → w ≡ v → numbered_line l (argument_line q w) ≡ numbered_line m (argument_line p v)
+argument_told l m q p w v a b c =
+    ap (λ (x : ℕ). numbered_line x (argument_line q w)) a ∙ ap (λ (x : ℕ). numbered_line m (argument_line x w)) b ∙ ap (λ (x : ℕ). numbered_line m (argument_line p x)) c
+
+-- ---- what is promised
+
+pub misscripted_not : OneProgram → sessions.NotBoth → (source script : List ℕ) (limit : ℕ) (line : List ℕ) → EvaluatesEach source script limit → IsMisscripted source script line → ⊥
+misscripted_not once apart source script limit line e m =
+    let C : m.program ≡ e.program = (once source m.program e.program m.names e.names m.source_of e.source_of).0 in
+    apart (m.program.params m.program.main) script e.calls m.fault (subst (λ (x : Program). IsScript (x.params x.main) script e.calls) (sym C) e.read) m.first
+
+pub replies_come : OneProgram → CircuitsReply → ResetIsQuiet → sessions.OneScript → (limit : ℕ) (source script : List ℕ) (g : Given) → EvaluatesEach source script limit → GivesReplies limit source script g → g.comes ≡ true
+replies_come once reply reset script_once limit source script g e (calls, rs, v, is) =
+    let C : v.program ≡ e.program = (once source v.program e.program v.names e.names v.source_of e.source_of).0 in
+    let read : IsScript (v.program.params v.program.main) script e.calls = subst (λ (x : Program). IsScript (x.params x.main) script e.calls) (sym C) e.read in
+    let same : e.calls ≡ calls = script_once (v.program.params v.program.main) script e.calls calls read v.read in
+    let each : All (IsInTime v.program limit) calls = subst (λ (l : List (List Word)). All (IsInTime v.program limit) l) same (subst (λ (x : Program). All (IsInTime x limit) e.calls) (sym C) e.each) in
+    let long : length rs ≡ length calls =
+    reply v.program v.names v.circuit.choice v.net v.circuit.scheme v.circuit.circuit v.made v.whole limit (reset_state v.net) (reset v.program v.names v.circuit.choice v.net v.circuit.scheme)
+    calls (calls_sized (v.program.params v.program.main) script calls v.read) each rs v.replied in
+    ap (λ (x : Given). x.comes) is ∙ eq-eqb (length rs) (length calls) long

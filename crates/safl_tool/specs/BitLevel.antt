@@ -1,0 +1,52 @@
+-- Bit-level circuits: those of the netlists of Verilog files, and those of AIGER files.
+use Rattle.std.specs.Prelude.{◌≡◌, ℕ, ◌<◌, ◌⊎◌, List, [], ◌∷◌, true}
+use Rattle.safl_net.specs.Netlist.{Netlist}
+use Rattle.safl_net.specs.Making.{name_at}
+use Rattle.safl_aig.specs.Circuits.{Circuit}
+use Rattle.safl_aig.specs.Reads.{AigReads, HasFault}
+use Rattle.safl_aig.specs.declared.reading.AigRule.{AigRule}
+use Rattle.safl_blast.specs.Weights.{weight, most_weight, AllZero, IsLeastNonzero}
+use Rattle.safl_bit_text.specs.BitLevel.{IsLight, IsTextOf}
+use Rattle.safl_bit_text.specs.Lines.{counts_lines, fault_line, register_line, weight_line}
+use Rattle.safl_tool.specs.Running.{IsRunnable, IsUnrunnable}
+use Rattle.safl_tool.specs.Tasks.{Given}
+use Rattle.safl_tool.specs.declared.status.Status.{Status}
+use Rattle.safl_tool.specs.declared.status.Status.TheVariants as status
+
+-- ---- from a Verilog file to an AIGER file
+
+-- what `aig` gives of the text of a Verilog file: a text that reads as a bit-level circuit of the netlist that the file's reads as
+pub record GivesBits (text : List ℕ) (g : Given) : Type 0 where
+  pub net : Netlist
+  pub runnable : IsRunnable text net
+  pub out : List ℕ
+  pub is_text : IsTextOf net out
+  pub is : g ≡ record { comes = true; printed = []; texts = out ∷ [] }
+
+-- the least register that does not reset to 0 is named; if all do, the weight is told, which is too great
+pub data RefusesNetlist (n : Netlist) (s : Status) (line : List ℕ) : Type 0 where
+  nonzero : (r : ℕ) → IsLeastNonzero n r → s ≡ status.NotZero → line ≡ register_line (name_at n r) → RefusesNetlist n s line
+  heavy : AllZero n → most_weight < weight n → s ≡ status.CircuitTooLarge → line ≡ weight_line (weight n) → RefusesNetlist n s line
+
+-- the text in the file of this name is none of a netlist without a loop, or its netlist is refused so
+abbrev pub RefusesBitsOf : List ℕ → List ℕ → Status → List ℕ → Type 0
+RefusesBitsOf name text s line =
+    ((s ≡ status.VerilogRefused) × IsUnrunnable name text line) ⊎ ((n : Netlist) × IsRunnable text n × RefusesNetlist n s line)
+
+-- the text is that of a netlist without a loop, which is light and all of whose registers reset to 0
+abbrev pub HasBits : List ℕ → Type 0
+HasBits text = (n : Netlist) × IsRunnable text n × IsLight n
+
+-- ---- AIGER files
+
+-- what `aigstat` gives: the numbers of the circuit that the text is
+abbrev pub GivesCounts : List ℕ → Given → Type 0
+GivesCounts text g = (a : Circuit) × AigReads text a × (g ≡ record { comes = true; printed = counts_lines a; texts = [] })
+
+-- the text in the file of this name has a first fault, which the line tells
+abbrev pub RefusesAig : List ℕ → List ℕ → Status → List ℕ → Type 0
+RefusesAig name text s line = (s ≡ status.AigRefused) × (e : AigRule) × (n : ℕ) × HasFault text e n × (line ≡ fault_line name n e)
+
+-- the text is a circuit
+abbrev pub IsAig : List ℕ → Type 0
+IsAig text = (a : Circuit) × AigReads text a

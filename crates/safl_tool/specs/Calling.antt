@@ -1,0 +1,67 @@
+-- What a session of the circuit of a source gives.
+use Rattle.std.specs.Prelude.{◌≡◌, ℕ, ◌-◌, List, [], length, All, slice_index}
+use Rattle.safl_word.specs.Words.{Word}
+use Rattle.safl_net.specs.Netlist.{Netlist}
+use Rattle.safl_net.specs.Rules.{IsNetlist}
+use Rattle.safl_net.specs.Valuations.{reset_state}
+use Rattle.safl_net.specs.Whole.{IsWhole}
+use Rattle.safl_term.specs.Program.{Program}
+use Rattle.safl_circuit.specs.Names.{Names}
+use Rattle.safl_session.specs.declared.script.ScriptErr.{ScriptErr}
+use Rattle.safl_session.specs.declared.script.ScriptErr.TheVariants as errors
+use Rattle.safl_session.specs.declared.session.Reply.{Reply}
+use Rattle.safl_session.specs.Scripts.{IsScript, IsScriptFault}
+use Rattle.safl_session.specs.Replies.{AreReplies}
+use Rattle.safl_session.specs.Circuits.{Serves, IsInTime}
+use Rattle.safl_source.specs.Sources.{IsSourceOf}
+use Rattle.safl_source.specs.Circuits.{IsCircuitOf}
+use Rattle.safl_transcript.specs.Texts.{are_all, transcript}
+use Rattle.safl_tool.specs.Lines.{count_line, argument_line, numbered_line}
+use Rattle.safl_tool.specs.Tasks.{Given}
+
+-- The source is a program's, each line of the script has words for main's parameters, and these are the replies of a netlist that
+-- is the program's circuit, from reset, one call after the other: each reply is main's, and each call starts in a quiet state
+pub record Converses (source script : List ℕ) (limit : ℕ) (calls : List (List Word)) (replies : List Reply) : Type 0 where
+  pub program : Program
+  pub names : Names
+  pub net : Netlist
+  pub source_of : IsSourceOf source program names
+  pub circuit : IsCircuitOf program names net
+  pub made : IsNetlist net
+  pub whole : IsWhole net
+  pub read : IsScript (program.params program.main) script calls
+  pub replied : AreReplies net limit (reset_state net) calls replies
+  pub serves : Serves program names net limit (reset_state net) calls replies
+
+-- the transcript of the replies to calls, which is a result where each call has its reply
+abbrev pub told : ℕ → List (List Word) → List Reply → Given
+told limit calls replies = record { comes = are_all (length calls) replies; printed = transcript limit (length calls) replies; texts = [] }
+
+-- what a session gives
+abbrev pub GivesReplies : ℕ → List ℕ → List ℕ → Given → Type 0
+GivesReplies limit source script g = (calls : List (List Word)) × (replies : List Reply) × Converses source script limit calls replies × (g ≡ told limit calls replies)
+
+-- the line of a script's fault, for parameters of these widths
+abbrev pub script_line : List ℕ → ScriptErr → List ℕ
+script_line widths (errors.Count line given) = numbered_line line (count_line (length widths) given)
+script_line widths (errors.Argument line place) = numbered_line line (argument_line place (slice_index widths (place - 1)))
+script_line widths errors.NoMemory = []
+
+-- the source is a program's, and the script has a first faulty line for main's parameters, which the line tells
+pub record IsMisscripted (source script line : List ℕ) : Type 0 where
+  pub program : Program
+  pub names : Names
+  pub source_of : IsSourceOf source program names
+  pub fault : ScriptErr
+  pub first : IsScriptFault (program.params program.main) script fault
+  pub is : line ≡ script_line (program.params program.main) fault
+
+-- the source is a program's, and from the words of each line main gives a value, in so few calls that three cycles for each are at
+-- most the limit
+pub record EvaluatesEach (source script : List ℕ) (limit : ℕ) : Type 0 where
+  pub program : Program
+  pub names : Names
+  pub source_of : IsSourceOf source program names
+  pub calls : List (List Word)
+  pub read : IsScript (program.params program.main) script calls
+  pub each : All (IsInTime program limit) calls
