@@ -1,48 +1,53 @@
 //! Short texts, right and wrong, with the lines of their faults.
 
-use safl_aig::{AigErr, AigRule, aig_text, read_aig};
+use safl_aig::{Aig, AigErr, AigRule, aig_text, read_aig};
 use std::alloc::Global;
 use std::test::Fail;
 
 // A text, and the rule that one of its lines breaks.
-#[derive(Clone, Copy)]
-struct Wrong {
-    text: &'static [u8],
-    rule: AigRule,
-    line: u32,
-}
-
-const fn header(text: &'static [u8]) -> Wrong {
-    Wrong {
-        text,
-        rule: AigRule::B01,
-        line: 1,
-    }
-}
-
-const fn form(text: &'static [u8], line: u32) -> Wrong {
-    Wrong {
-        text,
-        rule: AigRule::B02,
-        line,
-    }
-}
-
-const fn literal(text: &'static [u8], line: u32) -> Wrong {
-    Wrong {
-        text,
-        rule: AigRule::B03,
-        line,
-    }
-}
-
-const fn symbol(text: &'static [u8], line: u32) -> Wrong {
-    Wrong {
-        text,
-        rule: AigRule::B04,
-        line,
-    }
-}
+static WRONG: [(&'static [u8], AigRule, u32); 37] = [
+    (b"", AigRule::B01, 1),
+    (b"\n", AigRule::B01, 1),
+    (b"aag 5 1 1 2 2\n2\n", AigRule::B01, 1),
+    (b"aag 4 1 1 2\n2\n", AigRule::B01, 1),
+    (b"aag  1 1 0 0 0\n2\n", AigRule::B01, 1),
+    (b"aag 1 1 0 0 0 \n2\n", AigRule::B01, 1),
+    (b"aig 1 1 0 0 0\n2\n", AigRule::B01, 1),
+    (b"aag 00000000001 1 0 0 0\n2\n", AigRule::B01, 1),
+    (b"aag 2147483648 2147483648 0 0 0\n", AigRule::B01, 1),
+    (b"aag 1 1 0 0 0 0\n2\n", AigRule::B01, 1),
+    (b"aag 1 1 0 0 0\n", AigRule::B02, 2),
+    (b"aag 1 1 0 0 0\n2 3\n", AigRule::B02, 2),
+    (b"aag 1 1 0 0 0\n00000000002\n", AigRule::B02, 2),
+    (b"aag 1 1 0 0 0\n2147483648\n", AigRule::B02, 2),
+    (b"aag 1 1 0 0 0\n4\n", AigRule::B03, 2),
+    (b"aag 1 0 1 0 0\n2\n", AigRule::B02, 2),
+    (b"aag 1 0 1 0 0\nc\n", AigRule::B02, 2),
+    (b"aag 1 0 1 0 0\n2 4\n", AigRule::B03, 2),
+    (b"aag 2 1 1 0 0\n2\n2 4\n", AigRule::B03, 3),
+    (b"aag 0 0 0 1 0\nx\n", AigRule::B02, 2),
+    (b"aag 0 0 0 2 0\n1\n", AigRule::B02, 3),
+    (b"aag 0 0 0 1 0\n2\n", AigRule::B03, 2),
+    (b"aag 1 0 0 0 1\n2 1\n", AigRule::B02, 2),
+    (b"aag 1 0 0 0 1\n3 0 1\n", AigRule::B03, 2),
+    (b"aag 1 0 0 0 1\n2 2 0\n", AigRule::B03, 2),
+    (b"aag 1 0 0 0 1\n2 0 3\n", AigRule::B03, 2),
+    (
+        b"aag 2 1 1 1 0\n2\n4 5\ni0 start[0]\nl0 t[0]\no0 q[0]\n",
+        AigRule::B02,
+        4,
+    ),
+    (b"aag 1 1 0 0 0\n2\n\n", AigRule::B04, 3),
+    (b"aag 1 1 0 0 0\n2\ni00 x\n", AigRule::B04, 3),
+    (b"aag 1 1 0 0 0\n2\ni1 x\n", AigRule::B04, 3),
+    (b"aag 1 1 0 0 0\n2\ni0 \n", AigRule::B04, 3),
+    (b"aag 1 1 0 0 0\n2\ni0", AigRule::B04, 3),
+    (b"aag 1 1 0 0 0\n2\ni0 x\ni0 y\n", AigRule::B04, 4),
+    (b"aag 1 1 0 0 0\n2\nk0 x\n", AigRule::B04, 3),
+    (b"aag 1 1 0 0 0\n2\no0 x\n", AigRule::B04, 3),
+    (b"aag 1 1 0 0 0\n2\ni0 x\nc \n", AigRule::B04, 4),
+    (b"aag 1 0 0 0 1\n2 0 1\na0 x\n", AigRule::B04, 3),
+];
 
 // Why a text is read as no circuit.
 fn refusal(alloc: Global, text: &[u8]) -> Option<AigErr> {
@@ -53,76 +58,11 @@ fn refusal(alloc: Global, text: &[u8]) -> Option<AigErr> {
 }
 
 #[test]
-fn wrong_headers(rt: HostRuntime) -> Result<(), Fail> {
-    let rows = [
-        header(b""),
-        header(b"\n"),
-        header(b"aag 5 1 1 2 2\n2\n"),
-        header(b"aag 4 1 1 2\n2\n"),
-        header(b"aag  1 1 0 0 0\n2\n"),
-        header(b"aag 1 1 0 0 0 \n2\n"),
-        header(b"aig 1 1 0 0 0\n2\n"),
-        header(b"aag 00000000001 1 0 0 0\n2\n"),
-        header(b"aag 2147483648 2147483648 0 0 0\n"),
-        header(b"aag 1 1 0 0 0 0\n2\n"),
-    ];
-    for row in rows.iter() {
+fn wrong_texts(rt: HostRuntime) -> Result<(), Fail> {
+    for row in WRONG.iter() {
         assert_eq!(rt;
-            refusal(rt.alloc(), row.text),
-            Some(AigErr::Refused(row.rule, row.line))
-        );
-    }
-    Ok(())
-}
-
-#[test]
-fn wrong_lines(rt: HostRuntime) -> Result<(), Fail> {
-    let rows = [
-        form(b"aag 1 1 0 0 0\n", 2),
-        form(b"aag 1 1 0 0 0\n2 3\n", 2),
-        form(b"aag 1 1 0 0 0\n00000000002\n", 2),
-        form(b"aag 1 1 0 0 0\n2147483648\n", 2),
-        literal(b"aag 1 1 0 0 0\n4\n", 2),
-        form(b"aag 1 0 1 0 0\n2\n", 2),
-        form(b"aag 1 0 1 0 0\nc\n", 2),
-        literal(b"aag 1 0 1 0 0\n2 4\n", 2),
-        literal(b"aag 2 1 1 0 0\n2\n2 4\n", 3),
-        form(b"aag 0 0 0 1 0\nx\n", 2),
-        form(b"aag 0 0 0 2 0\n1\n", 3),
-        literal(b"aag 0 0 0 1 0\n2\n", 2),
-        form(b"aag 1 0 0 0 1\n2 1\n", 2),
-        literal(b"aag 1 0 0 0 1\n3 0 1\n", 2),
-        literal(b"aag 1 0 0 0 1\n2 2 0\n", 2),
-        literal(b"aag 1 0 0 0 1\n2 0 3\n", 2),
-        form(b"aag 2 1 1 1 0\n2\n4 5\ni0 start[0]\nl0 t[0]\no0 q[0]\n", 4),
-    ];
-    for row in rows.iter() {
-        assert_eq!(rt;
-            refusal(rt.alloc(), row.text),
-            Some(AigErr::Refused(row.rule, row.line))
-        );
-    }
-    Ok(())
-}
-
-#[test]
-fn wrong_symbols(rt: HostRuntime) -> Result<(), Fail> {
-    let rows = [
-        symbol(b"aag 1 1 0 0 0\n2\n\n", 3),
-        symbol(b"aag 1 1 0 0 0\n2\ni00 x\n", 3),
-        symbol(b"aag 1 1 0 0 0\n2\ni1 x\n", 3),
-        symbol(b"aag 1 1 0 0 0\n2\ni0 \n", 3),
-        symbol(b"aag 1 1 0 0 0\n2\ni0", 3),
-        symbol(b"aag 1 1 0 0 0\n2\ni0 x\ni0 y\n", 4),
-        symbol(b"aag 1 1 0 0 0\n2\nk0 x\n", 3),
-        symbol(b"aag 1 1 0 0 0\n2\no0 x\n", 3),
-        symbol(b"aag 1 1 0 0 0\n2\ni0 x\nc \n", 4),
-        symbol(b"aag 1 0 0 0 1\n2 0 1\na0 x\n", 3),
-    ];
-    for row in rows.iter() {
-        assert_eq!(rt;
-            refusal(rt.alloc(), row.text),
-            Some(AigErr::Refused(row.rule, row.line))
+            refusal(rt.alloc(), row.0),
+            Some(AigErr::Refused(row.1, row.2))
         );
     }
     Ok(())
@@ -137,43 +77,68 @@ struct Numbers {
     ands: u32,
 }
 
-const fn counts(inputs: u32, latches: u32, outputs: u32, ands: u32) -> Numbers {
+// A text, what is written of its circuit, and the circuit's numbers.
+struct Right {
+    text: &'static [u8],
+    written: &'static [u8],
+    numbers: Numbers,
+}
+
+static RIGHT: [Right; 3] = [
+    Right {
+        text: b"aag 2 1 1 1 0\n2\n4 5\n4\ni0 start[0]\nl0 t[0]\no0 q[0]\n",
+        written: b"aag 2 1 1 1 0\n2\n4 5\n4\ni0 start[0]\nl0 t[0]\no0 q[0]\n",
+        numbers: Numbers {
+            inputs: 1,
+            latches: 1,
+            outputs: 1,
+            ands: 0,
+        },
+    },
+    Right {
+        text: b"aag 0004 1 1 2 2\n2\n4 9\n8\n05\n6 2 4\n8 7 3\no1 b c\ni0 a\nc\nanything",
+        written: b"aag 4 1 1 2 2\n2\n4 9\n8\n5\n6 2 4\n8 7 3\ni0 a\no1 b c\n",
+        numbers: Numbers {
+            inputs: 1,
+            latches: 1,
+            outputs: 2,
+            ands: 2,
+        },
+    },
+    Right {
+        text: b"aag 0 0 0 0 0",
+        written: b"aag 0 0 0 0 0\n",
+        numbers: Numbers {
+            inputs: 0,
+            latches: 0,
+            outputs: 0,
+            ands: 0,
+        },
+    },
+];
+
+fn numbers_of(circuit: &Aig) -> Numbers {
     Numbers {
-        inputs,
-        latches,
-        outputs,
-        ands,
+        inputs: circuit.inputs(),
+        latches: circuit.latches(),
+        outputs: circuit.outputs(),
+        ands: circuit.ands(),
     }
 }
 
-// What is written of the circuit that a text is, and its numbers.
-fn again(alloc: Global, text: &[u8]) -> Result<(Vec<u8>, Numbers), Fail> {
-    if text.len() >= 4294967296 {
-        return Err("too long")?;
+fn is_read(alloc: Global, row: &Right) -> Result<bool, Fail> {
+    if row.text.len() >= 4294967296 {
+        return Ok(false);
     }
-    let circuit = read_aig(alloc, text)?;
-    let found = counts(
-        circuit.inputs(),
-        circuit.latches(),
-        circuit.outputs(),
-        circuit.ands(),
-    );
-    Ok((aig_text(alloc, &circuit)?, found))
+    let circuit = read_aig(alloc, row.text)?;
+    let written = aig_text(alloc, &circuit)?;
+    Ok(written.as_slice() == row.written && numbers_of(&circuit) == row.numbers)
 }
 
 #[test]
 fn right_texts(rt: HostRuntime) -> Result<(), Fail> {
-    let one: &[u8] = b"aag 2 1 1 1 0\n2\n4 5\n4\ni0 start[0]\nl0 t[0]\no0 q[0]\n";
-    let (written, found) = again(rt.alloc(), one)?;
-    assert_eq!(rt; written.as_slice(), one);
-    assert_eq!(rt; found, counts(1, 1, 1, 0));
-    let loose: &[u8] = b"aag 0004 1 1 2 2\n2\n4 9\n8\n05\n6 2 4\n8 7 3\no1 b c\ni0 a\nc\nanything";
-    let (written, found) = again(rt.alloc(), loose)?;
-    let strict: &[u8] = b"aag 4 1 1 2 2\n2\n4 9\n8\n5\n6 2 4\n8 7 3\ni0 a\no1 b c\n";
-    assert_eq!(rt; written.as_slice(), strict);
-    assert_eq!(rt; found, counts(1, 1, 2, 2));
-    let (written, _) = again(rt.alloc(), b"aag 0 0 0 0 0")?;
-    let least: &[u8] = b"aag 0 0 0 0 0\n";
-    assert_eq!(rt; written.as_slice(), least);
+    for row in RIGHT.iter() {
+        assert!(rt; is_read(rt.alloc(), row)?);
+    }
     Ok(())
 }

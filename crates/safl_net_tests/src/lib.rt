@@ -1,5 +1,4 @@
-//! Nets that are built by hand, their texts as Verilog and bit-level circuits, traces of their cycles, and the files and
-//! sinks that texts go to: what is refused, loops, and the words of cycles.
+//! Traces of nets, their files, and texts of bit-level circuits.
 //!
 //! Tests are in a crate above the libraries, since a library with tests is proved twice.
 #![tactic(auto)]
@@ -7,16 +6,6 @@
 #[cfg(test)]
 mod aig_texts;
 #[cfg(test)]
-mod nets;
-#[cfg(test)]
-mod refusals;
-#[cfg(test)]
-mod shelves;
+mod files;
 #[cfg(test)]
 mod traces;
-#[cfg(test)]
-mod verilog_files;
-#[cfg(test)]
-mod verilog_nets;
-#[cfg(test)]
-mod verilog_texts;
