@@ -25,6 +25,7 @@ import threading
 TOP = os.path.dirname(os.path.dirname(os.path.abspath(__file__)))
 sys.path.insert(0, f"{TOP}/scripts/oracle")
 
+import aiger  # noqa: E402
 import language  # noqa: E402
 from circuit import Circuit, meaning  # noqa: E402
 from gallery import DRAWS, PAGES  # noqa: E402
@@ -122,10 +123,12 @@ class Example:
         lines = [f"# {self.name}", "file p"] + [f"    {line}" for line in self.source.splitlines()]
         lines += ["words:", f"    check p -> 0 {counts}", f"words: sim p --cycles {self.limit}"] + rows
         lines += ["safl build p o --opt -> 0", f"words: run o --cycles {self.limit}"] + rows
-        return lines + ["safl build p v -> 0", f"words: run v --cycles {self.limit}"] + rows
+        lines += ["safl build p v -> 0", f"words: run v --cycles {self.limit}"] + rows
+        places = ", ".join(aiger.Blasted.of_circuit(self.circuit).counts())
+        return lines + ["safl aig v a -> 0", "words:", f"    aigstat a -> 0 {places}, ands .."]
 
     def case_count(self):
-        return 3 + 3 * len(self.rows)
+        return 5 + 3 * len(self.rows)
 
     def blocks(self):
         """What stands between the markers of the page, by the markers' names."""

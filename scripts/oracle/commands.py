@@ -1,4 +1,5 @@
 """The commands: words, the order of refusals, and what is printed. Written from README.md and the documents that it names."""
+import aiger
 import generator
 import language
 import machine
@@ -78,20 +79,48 @@ def sim(words, files):
     return timed(Circuit(program).run(arguments(words[4:], widths_of(program)), limit), limit, "cycles")
 
 
+def netlist(files, name):
+    text = read(files, name, verilog.FILE_MAX)
+    try:
+        return verilog.Netlist(text)
+    except Fault as fault:
+        raise Refusal(7, verilog.fault_line(name, text, fault)) from None
+    except verilog.Loop as loop:
+        raise Refusal(7, f"{name}: V09 combinational loop: {' '.join(loop.names)}") from None
+
+
 def run_file(words, files):
     limit = decimal(words[3], 1, 1_000_000_000)
     name = words[1]
     if isinstance(files.get(name), Circuit):
         circuit = files[name]
         return timed(circuit.run(arguments(words[4:], widths_of(circuit.program)), limit), limit, "cycles")
-    text = read(files, name, verilog.FILE_MAX)
-    try:
-        net = verilog.Netlist(text)
-    except Fault as fault:
-        raise Refusal(7, verilog.fault_line(name, text, fault)) from None
-    except verilog.Loop as loop:
-        raise Refusal(7, f"{name}: V09 combinational loop: {' '.join(loop.names)}") from None
+    net = netlist(files, name)
     return timed(net.run(arguments(words[4:], net.arguments()), limit), limit, "cycles")
+
+
+def aig(words, files):
+    if isinstance(files.get(words[1]), Circuit):
+        known = aiger.Blasted.of_circuit(files[words[1]])
+    else:
+        known = aiger.Blasted.of_netlist(netlist(files, words[1]))
+    fault = known.fault()
+    if fault:
+        raise Refusal(*fault)
+    files[words[2]] = known
+    return 0, []
+
+
+def aigstat(words, files):
+    """How many ANDs the program makes of a netlist is left open."""
+    name = words[1]
+    if isinstance(files.get(name), aiger.Blasted):
+        return 0, files[name].counts() + ["ands .."]
+    text = read(files, name, aiger.FILE_MAX)
+    try:
+        return 0, aiger.read(text).counts()
+    except Fault as fault:
+        raise Refusal(11, aiger.fault_line(name, fault)) from None
 
 
 def walk(words, files):
@@ -168,6 +197,10 @@ def answered(words, files):
         return walk(words, files)
     if verb == "session":
         return called(words, files)
+    if verb == "aig":
+        return aig(words, files)
+    if verb == "aigstat":
+        return aigstat(words, files)
     if verb == "report":
         return reported(words, files)
     if verb == "gen":

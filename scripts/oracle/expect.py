@@ -10,6 +10,7 @@ import re
 import sys
 import threading
 
+import aiger
 import commands
 from circuit import Circuit
 from verilog import written_lines
@@ -150,6 +151,9 @@ class CaseFile:
 
     def stands(self, word, name, body):
         circuit = self.files.get(name)
+        if word == "holds" and isinstance(circuit, aiger.Blasted):
+            self.counts["worked out"] += 1
+            return [line for line in body if line in circuit.symbols()]
         if not isinstance(circuit, Circuit):
             raise Open
         self.counts["worked out"] += 1
