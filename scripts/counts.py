@@ -1,6 +1,7 @@
 #!/usr/bin/env python3
 """Checks that README.md and docs/ have the numbers that the repository has, and names each crate: the crates, the cases by file, and
-the definitions that the contract of `run` reaches (scripts/trusted.py)."""
+the definitions that the contract of `run` reaches (scripts/trusted.py). The signals with and without `--opt` in README.md have to be
+those of docs/SPEED.md, which scripts/speed_tools.py prints."""
 import pathlib
 import re
 import subprocess
@@ -39,8 +40,14 @@ def in_table(page, name, number):
     return False
 
 
+def smaller(page):
+    """The rows of the table of signals with and without `--opt`."""
+    return page.split("\n| source | signals | with `--opt` | less |\n|---|---|---|---|\n")[1].split("\n\n")[0].splitlines()
+
+
 def missing():
     readme, architecture, page = text("README.md"), text("docs/ARCHITECTURE.md"), text("docs/CASES.md")
+    measured = text("docs/SPEED.md").splitlines()
     by_file, total = cases()
     for crate in crates():
         if not re.search(rf"\b{crate}\b", readme):
@@ -52,6 +59,9 @@ def missing():
     for name, where in (("README.md", readme), ("docs/CASES.md", page)):
         if f"{total:,} cases" not in where:
             yield f"{name} does not say '{total:,} cases'"
+    for row in smaller(readme):
+        if not any(line.startswith(row) for line in measured):
+            yield f"docs/SPEED.md has no row '{row}'"
     for name, number in by_file:
         if not in_table(page, name, number):
             yield f"docs/CASES.md does not say that {name} has {number} cases"

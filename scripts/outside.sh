@@ -1,10 +1,11 @@
 #!/bin/bash
 # Compares the Verilog that the program writes for all examples with what other tools make of it: Icarus Verilog has to print the
-# same result in the same cycle, Yosys has to synthesise it (scripts/cells.py, which prints what it makes) and Verilator to read it
-# without an error. The same goes for what `build --opt` writes. Traces have to be those of Icarus Verilog, and vcd2fst has to read
-# them. The circuits of examples/by_hand have to give the same results. A refusal has to come on the error output. The arguments of
-# the gallery are those of scripts/examples.py, which also looks at its pages and cases. The last line says how much was compared,
-# and what is missing. The program is built if it is missing (SAFL names another one).
+# same result in the same cycle, Yosys has to synthesise it (scripts/cells.py, which prints what it makes), Verilator to read it
+# without an error, and ABC has to find its bit-level circuit equal to what Yosys makes of it (scripts/bits.py). The same goes for
+# what `build --opt` writes. Traces have to be those of Icarus Verilog, and vcd2fst has to read them. The circuits of
+# examples/by_hand have to give the same results. A refusal has to come on the error output. The arguments of the gallery are those
+# of scripts/examples.py, which also looks at its pages and cases. The last line says how much was compared, and what is missing.
+# The program is built if it is missing (SAFL names another one).
 set -u
 cd "$(dirname "$0")/.." || exit 1
 program=$(realpath -m "${SAFL:-crates/safl/out/safl}")
@@ -56,6 +57,10 @@ build() {
         if has verilator; then
             verilator --lint-only -Wno-fatal --top-module safl "$folder/built$option.v" >"$folder/log" 2>&1 ||
                 say "verilator refuses $source $option"
+        fi
+        if has python3; then
+            python3 scripts/bits.py "$program" "$folder/built$option.v" >"$folder/log" 2>&1 ||
+                say "bit-level circuit of $source $option: $(tail -n 3 "$folder/log")"
         fi
     done
 }
@@ -148,7 +153,7 @@ fi
 if has yosys && has python3; then
     python3 scripts/cells.py "$program" || say "yosys refuses a file"
 fi
-for name in iverilog yosys verilator vcd2fst python3; do
+for name in iverilog yosys verilator vcd2fst berkeley-abc python3; do
     has "$name" || skipped="$skipped, SKIPPED $name"
 done
 echo "outside: $sources sources with $rows rows of arguments, $tried simulations and $traces traces compared, $failed differences$skipped"

@@ -32,6 +32,9 @@ COMMANDS = {
     "sim": ["sim", "p", "--cycles", "100"],
     "walk": ["walk", "p", "--order", "1", "--steps", "100"],
     "run": ["run", "built", "--cycles", "100"],
+    "session": ["session", "p", "script", "--cycles", "100"],
+    "aig": ["aig", "built", "v"],
+    "aigstat": ["aigstat", "bits"],
 }
 MAKERS = {
     "gen": ["gen", "1", "3"],
@@ -109,7 +112,10 @@ def main():
         for title, (args, source) in SOURCES.items():
             with open(f"{room}/p", "w", encoding="utf-8") as file:
                 file.write(source)
+            with open(f"{room}/script", "w", encoding="utf-8") as file:
+                file.write(f"{' '.join(args)}\n" * 2)
             subprocess.run([bench.program, "build", "p", "built"], cwd=room, check=True)
+            subprocess.run([bench.program, "aig", "built", "bits"], cwd=room, check=True)
             found.append(refuse_commands(bench, title, COMMANDS, args))
     tried, wrong = (sum(column) for column in zip(*found))
     print(f"refusals: {tried} tried, {wrong} ended wrongly")

@@ -4,6 +4,7 @@
     compile    nodes, signals, signals with --opt, the longest path, bytes of Verilog, and the time of `build`
     simulate   the time of a cycle of `sim`, and of Icarus Verilog and Verilator on the same file where they are there
     plan       the plan of nearly 4,000 call sites alone
+    sessions   `session` with 100,000 calls beside `sim` of a circuit that does the same again and again, and reading a long script
     nets       the simulator on nets in which nearly all wires change in every cycle
 
 All parts are done where none is named. Verilator is left out for sources of more than 100 functions, or of another number, as
@@ -151,6 +152,48 @@ def plan():
     table("The plan of 1,000 functions with 3,981 call sites", head, [(as_time(checked), as_memory(before), as_time(planned - checked), more)])
 
 
+MULTIPLY = (
+    "fun mul(x:8, y:8, acc:8):8 =\n  if (x==0)|(y==0) then acc\n"
+    "  else mul(x<<1, y>>1, if bits(y,0,0)==1 then acc+x else acc)\n"
+)
+LOOPED = "fun main(n:24, x:8, y:8):8 = let z = mul(x, y, 0) in if n == 0 then z else main(n - 1, x, y)\n"
+CALLS = 100_000
+SCRIPT_MAX, BAD_ARGS = 1_048_576, 8
+
+
+def written(folder, name, text):
+    path = os.path.join(folder, name)
+    with open(path, "w", encoding="utf-8") as file:
+        file.write(text)
+    return path
+
+
+def session_row(folder):
+    """The time of a cycle of many calls, and of one run of a circuit that makes the same calls again and again."""
+    source = written(folder, "source.safl", MULTIPLY + "fun main(a:8, b:8):8 = mul(a, b, 0)\n")
+    looped = written(folder, "looped.safl", MULTIPLY + LOOPED)
+    many, one = written(folder, "many", "255 255\n" * CALLS), written(folder, "one", "255 255\n")
+    calls = [PROGRAM, "session", source, many, "--cycles", "100"]
+    printed = subprocess.run(calls, capture_output=True, text=True, check=True).stdout
+    cycles = sum(int(line.split()[1]) + 1 for line in printed.splitlines()[:-1])
+    took, begun = seconds_between(calls, [PROGRAM, "session", source, one, "--cycles", "100"])
+    run = [PROGRAM, "sim", looped, "--cycles", "100000000", str(CALLS), "255", "255"]
+    run_took, run_begun = seconds_between(run, [PROGRAM, "sim", looped, "--cycles", "1", str(CALLS), "255", "255"])
+    turns = as_nanoseconds((took - begun) / cycles), as_nanoseconds((run_took - run_begun) / cycles_of(run, 0))
+    long = written(folder, "long", "5 3\n" * (SCRIPT_MAX // 4 - 1) + "x y\n")
+    short = written(folder, "short", "x y\n")
+    words = [[PROGRAM, "session", source, script, "--cycles", "100"] for script in (long, short)]
+    read, begun = seconds_between(*words, (BAD_ARGS,))
+    return f"{CALLS:,}", f"{cycles:,}", *turns, as_time(read - begun)
+
+
+def sessions():
+    with tempfile.TemporaryDirectory() as folder:
+        rows = [session_row(folder)]
+    head = ("calls", "cycles", "`session`, ns a cycle", "`sim` of such a circuit, ns a cycle", f"a script of {SCRIPT_MAX:,} bytes is read")
+    table("Sessions", head, rows)
+
+
 def net_row(folder, number, line):
     """A net that the benchmark knows by its number, and what it has to print."""
     out = os.path.join(folder, "printed")
@@ -175,16 +218,18 @@ def nets():
 
 def main():
     parser = argparse.ArgumentParser(description="Times the program on sources of growing size.")
-    parser.add_argument("parts", nargs="*", metavar="PART", help="compile, simulate, plan or nets; all where none is named")
+    parser.add_argument("parts", nargs="*", metavar="PART", help="compile, simulate, plan, sessions or nets; all where none is named")
     parser.add_argument("--verilator", type=int, default=100, metavar="FUNCTIONS", help="the most functions for Verilator")
     words = parser.parse_args()
-    parts = words.parts or ["compile", "simulate", "plan", "nets"]
+    parts = words.parts or ["compile", "simulate", "plan", "sessions", "nets"]
     if "compile" in parts and is_there(PROGRAM):
         compiling()
     if "simulate" in parts and is_there(PROGRAM):
         simulating(words.verilator)
     if "plan" in parts and is_there(PLAN):
         plan()
+    if "sessions" in parts and is_there(PROGRAM):
+        sessions()
     if "nets" in parts and is_there(NETS):
         nets()
 

@@ -2,17 +2,21 @@
 """Times the commands that speed.py doesn't: speed_tools.py [PART..], with these parts, all where none is named.
 
     commands   `gen`, `bench`, `report` and `reshape` on sources as large as the language allows
-    optimise   `build --opt` less `build`, and how many signals are left, on the speed sources
+    optimise   `build --opt` less `build`, and how many signals are left, on the speed sources; the same without the rest of `build`
+               on nets of up to 3,000,000 wires that safl_bench_opt makes at random
     signals    the same number of signals for the examples
     files      `run` of a Verilog file of 1,000,000 wires: reading, the set-up of the simulator, and a cycle
     walk       what an event takes, and apart from it the set-up
     session    what a cycle of a session takes beside a cycle of `sim`, what a call takes besides, and the reading of a script
+    ands       the ANDs of the bit-level circuits of the examples, beside what Yosys and ABC make of the same files
     vcd        what a cycle takes with a trace and without, and in Icarus Verilog with a trace of the same signals
 
-The program is crates/safl/out/safl, or SAFL names it. A command that it doesn't have is skipped.
+The program is crates/safl/out/safl, or SAFL names it; a command that it doesn't have is skipped. So are the nets where
+crates/safl_bench_opt/out/safl_bench_opt isn't built, or OPT doesn't name it.
 """
 import glob
 import os
+import re
 import shutil
 import subprocess
 import sys
@@ -20,8 +24,8 @@ import tempfile
 
 import speed_sources
 from bench import bench
-from measure import NO_RESULT, PROGRAM, Ended, Rate, as_memory, as_nanoseconds, as_time, ended, is_there, knows, peak, seconds
-from measure import seconds_between, signals_of, table
+from measure import NO_RESULT, PROGRAM, USAGE, Ended, Rate, as_memory, as_nanoseconds, as_time, ended, is_there, knows, peak, program_of
+from measure import seconds, seconds_between, signals_of, table
 
 TOP = os.path.dirname(os.path.dirname(os.path.abspath(__file__)))
 LOOP = ["9999", "3", "200"]
@@ -30,6 +34,7 @@ CALLS = 100_000
 SCRIPT_MAX = 1_048_576
 WRONG_ARGUMENT = 8
 WIRES = 1_000_000
+OPT = program_of("OPT", "safl_bench_opt")
 
 
 def written(folder, name, text):
@@ -70,16 +75,21 @@ def reporting(folder):
 
 
 def reshaping(folder):
+    """`reshape` of nearly as many nodes as a source may have. The 0.1 s that is wanted is for its own work, so less `check`, which reads
+    and checks the same source; less the start it is all that a user waits for.
+    """
     text, nodes = speed_sources.sums(484, 16)
     path, out = written(folder, "sums.safl", text), os.path.join(folder, "reshaped.safl")
     if not knows(["reshape", path, out, "--copy", "484"]):
         return skipped("reshape")
-    words = ["reshape", path, out]
-    return [
-        less(f"reshape {option} {site}", f"{nodes:,} nodes", [*words, option, site], ["check", path], "100 ms less `check`", (0,))
-        for option in ("--copy", "--unfold")
-        for site in ("1", "484")
-    ]
+    words, what = ["reshape", path, out], f"{nodes:,} nodes"
+    rows = []
+    for option in ("--copy", "--unfold"):
+        for site in ("1", "484"):
+            name = f"reshape {option} {site}"
+            rows.append(less(name, what, [*words, option, site], ["check", path], "100 ms less `check`", (0,)))
+            rows.append(less(name, what, [*words, option, site], [], "", (0, USAGE)))
+    return rows
 
 
 def commands():
@@ -124,13 +134,28 @@ def has_opt(folder):
     return knows(["build", path, os.path.join(folder, "seven.v"), "--opt"])
 
 
+def net_row(wires):
+    """A net of so many wires: what making and ordering it takes, and what making it smaller takes besides."""
+    words = [OPT, str(wires), "1"]
+    ordered = [*words, "1"]
+    told = subprocess.run(words, capture_output=True, text=True, check=True).stdout
+    before, after = (int(line.split()[1]) for line in told.splitlines())
+    whole, part = seconds_between(words, ordered, (0,))
+    sizes = (f"{before:,}", f"{after:,}", f"{100 * (before - after) / before:.0f} %")
+    return *sizes, as_time(part), as_time(whole - part), as_memory(peak(ordered)), as_memory(peak(words))
+
+
 def optimise():
     with tempfile.TemporaryDirectory() as folder:
         if not has_opt(folder):
             return skipped("build --opt")
         rows = [optimise_row(folder, *each) for each in speed_list()]
     head = ("source", "signals", "with `--opt`", "less", "`build`", "`build --opt`", "difference", "memory of `build`", "of `build --opt`")
-    return table("Optimising", head, rows)
+    table("Optimising", head, rows)
+    if is_there(OPT):
+        head = ("signals", "made smaller", "less", "making and ordering", "making smaller", "memory of the first", "of both")
+        table("Optimising nets of single bits", head, [net_row(wires) for wires in (50_000, 500_000, 3_000_000)])
+    return None
 
 
 def signals():
@@ -262,6 +287,49 @@ def vcd():
     return table("Traces", head, [vcd_row(*each) for each in large + small])
 
 
+PLAIN = "read_verilog {file}; proc; flatten; techmap; dffunmap; aigmap; tee -q -o {room}/stat stat"
+WRITTEN = "setundef -zero -init; delete -port */clk; write_aiger {room}/plain.aig"
+SYNTH = "read_verilog {file}; synth -flatten -top safl; dffunmap; aigmap; tee -q -o {room}/stat stat"
+
+
+def ands_of_yosys(folder, script):
+    subprocess.run(["yosys", "-q", "-p", script], capture_output=True, check=True)
+    with open(os.path.join(folder, "stat"), encoding="utf-8") as file:
+        found = re.findall(r"\$_AND_ +(\d+)", file.read())
+    return int(found[-1]) if found else 0
+
+
+def ands_of_abc(folder):
+    """The ANDs of the circuit that Yosys has not optimised, with equal ones shared by ABC."""
+    script = f"read {folder}/plain.aig; strash; &get; &ps"
+    told = subprocess.run(["berkeley-abc", "-c", script], capture_output=True, text=True, check=True).stdout
+    return int(re.search(r"and =\s*(\d+)", re.sub(r"\x1b\[[\d;]*m", "", told)).group(1))
+
+
+def ands_row(folder, path):
+    built, bits = os.path.join(folder, "v"), os.path.join(folder, "aag")
+    ended([PROGRAM, "build", path, built])
+    ended([PROGRAM, "aig", built, bits])
+    with open(bits, encoding="ascii") as file:
+        own = int(file.readline().split()[-1])
+    plain = ands_of_yosys(folder, f"{PLAIN}; {WRITTEN}".format(file=built, room=folder))
+    shared = ands_of_abc(folder)
+    synth = ands_of_yosys(folder, SYNTH.format(file=built, room=folder))
+    name = os.path.splitext(os.path.basename(path))[0]
+    return name, f"{own:,}", f"{plain:,}", f"{own / max(plain, 1):.2f}", f"{shared:,}", f"{synth:,}"
+
+
+def ands():
+    """The ANDs of the examples' circuits, beside what other tools make of the same files."""
+    if not shutil.which("yosys") or not shutil.which("berkeley-abc"):
+        return skipped("yosys or berkeley-abc")
+    paths = sorted(glob.glob(f"{TOP}/examples/*.safl") + glob.glob(f"{TOP}/examples/*/*.safl"))
+    with tempfile.TemporaryDirectory() as folder:
+        rows = [ands_row(folder, path) for path in paths]
+    head = ("example", "ANDs of `aig`", "Yosys, nothing optimised", "ratio (1.3 wanted)", "the same, shared by ABC", "Yosys, `synth; aigmap`")
+    return table("ANDs of bit-level circuits", head, rows)
+
+
 PARTS = {
     "commands": commands,
     "optimise": optimise,
@@ -269,6 +337,7 @@ PARTS = {
     "files": files,
     "walk": walk,
     "session": session,
+    "ands": ands,
     "vcd": vcd,
 }
 
