@@ -14,7 +14,7 @@ _safl_options() {
     # the options of a command
     case "$1" in
         build) echo --opt ;;
-        sim | run | bench) echo --cycles ;;
+        sim | run | bench | session) echo --cycles ;;
         walk) echo --order --steps ;;
         reshape) echo --copy --unfold ;;
     esac
@@ -24,7 +24,7 @@ _safl() {
     local word=${COMP_WORDS[COMP_CWORD]} verb=${COMP_WORDS[1]} before=${COMP_WORDS[COMP_CWORD - 1]} place=0 i
     COMPREPLY=()
     if [ "$COMP_CWORD" -eq 1 ]; then
-        mapfile -t COMPREPLY < <(compgen -W "check build sim run walk report gen bench reshape" -- "$word")
+        mapfile -t COMPREPLY < <(compgen -W "check build sim run walk report gen bench reshape session aig aigstat" -- "$word")
         return
     fi
     case "$before" in
@@ -41,9 +41,11 @@ _safl() {
     done
     case "$verb:$place:$word" in
         *:-*) mapfile -t COMPREPLY < <(compgen -W "$(_safl_options "$verb")" -- "$word") ;;
-        run:1:* | build:2:*) _safl_files v "$word" ;;
-        check:1:* | build:1:* | sim:1:* | walk:1:* | report:1:* | reshape:[12]:*) _safl_files safl "$word" ;;
-        build:3:* | sim:2:* | run:2:* | walk:2:* | bench:3:* | reshape:3:*)
+        run:1:* | build:2:* | aig:1:*) _safl_files v "$word" ;;
+        aig:2:* | aigstat:1:*) _safl_files aag "$word" ;;
+        session:2:*) mapfile -t COMPREPLY < <(compgen -f -- "$word") ;;
+        check:1:* | build:1:* | sim:1:* | walk:1:* | report:1:* | reshape:[12]:* | session:1:*) _safl_files safl "$word" ;;
+        build:3:* | sim:2:* | run:2:* | walk:2:* | bench:3:* | reshape:3:* | session:3:*)
             mapfile -t COMPREPLY < <(compgen -W "$(_safl_options "$verb")" -- "$word") ;;
     esac
 }
