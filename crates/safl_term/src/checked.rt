@@ -178,14 +178,14 @@ impl Checked {
         requires { f < (program_of self.now).functions }
         ensures { first_site_of self.now f + result ≡ first_site_of self.now (suc f) }
     {
-        let _functions = self.functions();
         self.next_site(f) - self.first_site(f)
     }
 
     // The number of the first site after a function's body.
     fn next_site(&self, f: u32) -> u32
         requires { f < (program_of self.now).functions }
-        ensures { result ≡ first_site_of self.now (suc f) }
+        ensures number { result ≡ first_site_of self.now (suc f) }
+        ensures checked { IsChecked self.now }
     {
         match self.functions.get(f as usize + 1) {
             Some(next) => next.first_site,
