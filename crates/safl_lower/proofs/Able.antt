@@ -10,7 +10,7 @@ use Rattle.safl_net.specs.declared.cell.Sig.{Sig}
 use Rattle.safl_net.specs.Netlist.{Netlist}
 use Rattle.safl_net.specs.Growth.{Grows}
 use Rattle.safl_net.proofs.Growth.{grows_on}
-use Rattle.safl_lower.specs.declared.parts.Ports.{Ports}
+use Rattle.safl_lower.specs.declared.parts.SiteTable.{SiteTable}
 use Rattle.safl_lower.specs.declared.parts.Lowered.{Lowered}
 use Rattle.safl_lower.specs.declared.parts.LoweredAll.{LoweredAll}
 use Rattle.safl_lower.specs.declared.parts.Out.{Out}
@@ -30,7 +30,7 @@ there [] i h = absurd (omega arith)
 there (x ∷ xs) zero h = (x, refl)
 there (x ∷ xs) (suc i) h = there xs i (omega arith)
 
-module _ {P : Ports} {slots : List Sig} {path : Sig} {n0 : Netlist} where
+module _ {P : SiteTable} {slots : List Sig} {path : Sig} {n0 : Netlist} where
   pub able_var : {i : ℕ} → Lowerable n0 P slots path (Var i) → i < length slots
   able_var {i} h = slot_within n0 slots h.env i h.width h.setting.slots_sized h.typed.width
 
@@ -104,8 +104,8 @@ module _ {P : Ports} {slots : List Sig} {path : Sig} {n0 : Netlist} where
       let upto = t.upto in
       let low = t.spans.0 in
       let below = fits_all_le h.owner.program h.owner.function (suc t.low) t.high ts t.spans.4 in
-      let p = there P.sites.items (k - P.first_site) (omega (arith, first, last, from, upto, low, below)) in
-      record { from = omega (arith, first, from, low); port = p.0; at = p.1; sent = source_grown g p.0.sent 1 (s.sites_sized (k - P.first_site) p.0 p.1).sent }
+      let p = there P.ports.items (k - P.first) (omega (arith, first, last, from, upto, low, below)) in
+      record { from = omega (arith, first, from, low); port = p.0; at = p.1; sent = source_grown g p.0.sent 1 (s.sites_sized (k - P.first) p.0 p.1).sent }
 
   -- what a call shows has the width of its callee's result
   pub call_shape : (F : Owner) (tail : Bool) (env : List ℕ) (w : ℕ) {f k : ℕ} {ts : Terms} {n1 : Netlist} {r : Lowered} → Grows n0 n1 → Shows P k r → Setting n0 F P slots env path → Typed F tail env (Call f k ts) w → Shaped n1 r w
@@ -113,9 +113,9 @@ module _ {P : Ports} {slots : List Sig} {path : Sig} {n0 : Netlist} where
       let first = s.first in
       let from = t.from in
       let low = t.spans.0 in
-      let place : P.first_site + (k - P.first_site) ≡ k = omega (arith, first, from, low) in
-      let wide : F.program.result (F.program.callee (P.first_site + (k - P.first_site))) ≡ w = ap (λ (i : ℕ). F.program.result (F.program.callee i)) place ∙ ap F.program.result t.spans.1 ∙ t.width.1 in
-      let q = sited_kept g h.port w (subst (Sited n0 h.port) wide (s.sites_sized (k - P.first_site) h.port h.at)) in
+      let place : P.first + (k - P.first) ≡ k = omega (arith, first, from, low) in
+      let wide : F.program.result (F.program.callee (P.first + (k - P.first))) ≡ w = ap (λ (i : ℕ). F.program.result (F.program.callee i)) place ∙ ap F.program.result t.spans.1 ∙ t.width.1 in
+      let q = sited_kept g h.port w (subst (Sited n0 h.port) wide (s.sites_sized (k - P.first) h.port h.at)) in
       subst (λ (x : Lowered). Shaped n1 x w) (sym h.is) (record { ready = q.returned; width = λ ever. q.value })
 
   pub able_next : {g : ℕ} {ts : Terms} → Lowerable n0 P slots path (Loop g ts) → LowerableAll n0 P slots path ts
@@ -164,15 +164,15 @@ nodes_joined : (ts us : Terms) → nodes_in (joined ts us) ≡ nodes_in ts + nod
 nodes_joined Nil us = omega arith
 nodes_joined (Cons t ts) us = let h = nodes_joined ts us in omega arith
 
-pub able_at : {P : Ports} {slots : List Sig} {path : Sig} {n0 n1 : Netlist} {o0 o1 : Out} {r : LoweredAll} {ts : Terms} {t : Term} (us : Terms)
+pub able_at : {P : SiteTable} {slots : List Sig} {path : Sig} {n0 n1 : Netlist} {o0 o1 : Out} {r : LoweredAll} {ts : Terms} {t : Term} (us : Terms)
     → LowerableAll n0 P slots path (joined ts (Cons t us)) → LowersAll P slots path n0 n1 o0 o1 r ts → Lowerable n1 P slots path t
 able_at {ts = ts} {t = t} us h hs =
     let w = typed_next h.owner h.env ts t us h.widths h.typed in
     record { owner = h.owner; tail = false; env = h.env; width = w.0; setting = setting_kept hs.grows h.setting; typed = w.1; room = let r = h.room in let i = hs.count in omega (arith, nodes_joined ts (Cons t us)) }
 
-pub front_ready : {P : Ports} {slots : List Sig} {path : Sig} {n0 n1 : Netlist} {o0 o1 : Out} {r : LoweredAll} {ts : Terms} (us : Terms)
+pub front_ready : {P : SiteTable} {slots : List Sig} {path : Sig} {n0 n1 : Netlist} {o0 o1 : Out} {r : LoweredAll} {ts : Terms} (us : Terms)
     → LowerableAll n0 P slots path (joined ts us) → LowersAll P slots path n0 n1 o0 o1 r ts → ReadyAt n1 r.ready
 front_ready {ts = ts} us h hs = let x = typed_front h.owner h.env ts us h.widths h.typed in (hs.shape h.owner h.env x.0 h.setting x.1).ready
 
-pub one_ready : {P : Ports} {slots : List Sig} {path : Sig} {n1 n2 : Netlist} {o1 o2 : Out} {one : Lowered} {t : Term} → Lowerable n1 P slots path t → Lowers P slots path n1 n2 o1 o2 one t → ReadyAt n2 one.ready
+pub one_ready : {P : SiteTable} {slots : List Sig} {path : Sig} {n1 n2 : Netlist} {o1 o2 : Out} {one : Lowered} {t : Term} → Lowerable n1 P slots path t → Lowers P slots path n1 n2 o1 o2 one t → ReadyAt n2 one.ready
 one_ready h ht = (ht.shape h.owner h.tail h.env h.width h.setting h.typed).ready

@@ -2,7 +2,7 @@
 use Rattle.std.proofs.Common.{◌≡◌, List, [], ◌∷◌, ◌++◌, Option, Some, None, Bool, true, false, not, ◌&&◌, cond, ◌==◌, refl, sym, ap, ◌∙◌}
 use Rattle.safl_word.specs.Words.{Word, choose}
 use Rattle.safl_term.specs.Readiness.{Answer, Ready, LoopTo, NotYet, word_of, select, with_all, or_else}
-use Rattle.safl_net.specs.Bits.{gate, on}
+use Rattle.safl_net.specs.Bits.{gate}
 use Rattle.safl_gates.proofs.BitWords.{choose_is}
 
 -- ---- options

@@ -9,7 +9,7 @@ use Rattle.safl_net.specs.Growth.{Val, words, Wired, Grows}
 use Rattle.safl_net.proofs.Growth.{grows_on, wired_before}
 use Rattle.safl_lower.specs.declared.parts.Readiness.{Readiness}
 use Rattle.safl_lower.specs.declared.parts.Readiness.TheVariants.{Never}
-use Rattle.safl_lower.specs.declared.parts.Ports.{Ports}
+use Rattle.safl_lower.specs.declared.parts.SiteTable.{SiteTable}
 use Rattle.safl_lower.specs.declared.parts.Lowered.{Lowered}
 use Rattle.safl_lower.specs.declared.parts.LoweredAll.{LoweredAll}
 use Rattle.safl_lower.specs.declared.parts.Out.{Out}
@@ -23,7 +23,7 @@ use Rattle.safl_lower.proofs.Arms.{or_assoc, gate_or, gate_none, if_value, if_wa
 use Rattle.safl_lower.proofs.Kept.{shaped_kept, setting_on, setting_below}
 use Rattle.safl_lower.proofs.Typing.{test_typed, yes_typed, no_typed, bound_typed, body_typed}
 use Rattle.safl_lower.proofs.Quiet.{no_wants, no_going}
-use Rattle.safl_lower.proofs.Gathered.{words_more, stays, and_true, pick_ap, no_goes, more_twice, out_kept, told_by, told_more, never_is, gate_is_none, if_first, if_second, let_second, between_same}
+use Rattle.safl_lower.proofs.Gathered.{words_more, stays, and_true, pick_ap, no_goes, more_twice, out_kept, told_by, told_more, never_is, gate_is_none, if_first, if_second, let_second, mates_same}
 use Rattle.safl_gates.specs.Sources.{IsSource}
 use Rattle.safl_net.specs.Settled.{Settles}
 use Rattle.safl_gates.proofs.Building.{source_grown, sources_grown}
@@ -78,7 +78,7 @@ pub record Chosen (n m : Netlist) (test yes no r : Lowered) : Type 0 where
   pub never : r.ready ≡ Never → (test.ready ≡ Never) ⊎ ((yes.ready ≡ Never) × (no.ready ≡ Never))
   pub settles : Settles n m
 
-pub lowers_if : {P : Ports} {slots : List Sig} {path py pn : Sig} {n0 n1 n2 n3 n4 n5 : Netlist} {o0 o1 o2 o3 : Out} {test yes no r : Lowered} {c a b : Term}
+pub lowers_if : {P : SiteTable} {slots : List Sig} {path py pn : Sig} {n0 n1 n2 n3 n4 n5 : Netlist} {o0 o1 o2 o3 : Out} {test yes no r : Lowered} {c a b : Term}
     → Lowers P slots path n0 n1 o0 o1 test c → Branches path n1 n2 test a b py pn → Lowers P slots py n2 n3 o1 o2 yes a → Lowers P slots pn n3 n4 o2 o3 no b → Chosen n4 n5 test yes no r
     → Lowers P slots path n0 n5 o0 o3 r (If c a b)
 unfolding answer wanted
@@ -202,7 +202,7 @@ pub record Both (n m : Netlist) (q r s : Readiness) : Type 0 where
   pub never : (s ≡ Never) ↔ ((q ≡ Never) ⊎ (r ≡ Never))
   pub settles : Settles n m
 
-pub lowers_let : {P : Ports} {slots : List Sig} {path inner : Sig} {n0 n1 n2 n3 n4 : Netlist} {o0 o1 o2 : Out} {bound : LoweredAll} {body : Lowered} {ready : Readiness} {bs : Terms} {b : Term}
+pub lowers_let : {P : SiteTable} {slots : List Sig} {path inner : Sig} {n0 n1 n2 n3 n4 : Netlist} {o0 o1 o2 : Out} {bound : LoweredAll} {body : Lowered} {ready : Readiness} {bs : Terms} {b : Term}
     → LowersAll P slots path n0 n1 o0 o1 bound bs → Inner path n1 n2 b bound.ready inner → Lowers P (slots ++ bound.values.items) inner n2 n3 o1 o2 body b → Both n3 n4 bound.ready body.ready ready
     → Lowers P slots path n0 n4 o0 o2 (record { ready = ready; value = body.value }) (Let bs b)
 unfolding answer wanted
@@ -214,7 +214,7 @@ lowers_let {P} {slots} {path} {inner} {n0} {n1} {n2} {n3} {n4} {o0} {o1} {o2} {b
   within = λ F tail env w s t x.
       let a = hs.shape F env t.width.0 s (bound_typed t) in
       let k = setting_below bound.values.items t.width.0 (grows_on hs.grows hi.grows) s hi.bit (sources_grown hi.grows bound.values.items t.width.0 a.widths) in
-      hb.within F tail (env ++ t.width.0) w k (body_typed t) (between_same P.first_member (P.first_member + P.members) o0.loops.items o1.loops.items (hs.quiet F env t.width.0 (bound_typed t)) x);
+      hb.within F tail (env ++ t.width.0) w k (body_typed t) (mates_same F o0.loops.items o1.loops.items (hs.quiet F env t.width.0 (bound_typed t)) x);
   more = hs.more ++ hb.more;
   loops_more = more_twice o0.loops.items o1.loops.items o2.loops.items hs.more hb.more hs.loops_more hb.loops_more;
   told = λ F tail scope w t v w4.

@@ -14,7 +14,7 @@ use Rattle.safl_net.specs.Growth.{Val, words, Wired, Grows}
 use Rattle.safl_net.proofs.Growth.{grows_on, wired_before}
 use Rattle.safl_lower.specs.declared.parts.Readiness.{Readiness}
 use Rattle.safl_lower.specs.declared.parts.Readiness.TheVariants.{Never, When}
-use Rattle.safl_lower.specs.declared.parts.Ports.{Ports}
+use Rattle.safl_lower.specs.declared.parts.SiteTable.{SiteTable}
 use Rattle.safl_lower.specs.declared.parts.Lowered.{Lowered}
 use Rattle.safl_lower.specs.declared.parts.LoweredAll.{LoweredAll}
 use Rattle.safl_lower.specs.declared.parts.Out.{Out}
@@ -22,12 +22,12 @@ use Rattle.safl_lower.specs.declared.parts.TailCall.{TailCall}
 use Rattle.safl_net.specs.Bits.{on, gate}
 use Rattle.safl_lower.specs.Bits.{is_ready, ReadyAt}
 use Rattle.safl_lower.specs.Typing.{Owner, Typed, sites_in}
-use Rattle.safl_lower.specs.Entries.{asked, went, site_of, member_of, Between, WantsFit, LoopsFit, cost}
+use Rattle.safl_lower.specs.Entries.{asked, went, site_of, member_of, Mates, WantsFit, LoopsFit, cost}
 use Rattle.safl_lower.specs.Lowering.{returned_word, back_of, sent_of, open_at, shown, gathered, goes_of, Setting, Shaped, Lowers, LowersAll, Shows, goes_with, Enters, Leaves}
 use Rattle.safl_lower.proofs.Arms.{or_assoc, or_none, gate_or, gate_none}
 use Rattle.safl_lower.proofs.Kept.{shaped_all_kept}
 use Rattle.safl_lower.proofs.Typing.{args_typed, next_typed}
-use Rattle.safl_lower.proofs.Gathered.{stays_by, pick_none, no_more, more_twice, map_end, out_kept, wants_end, loops_end, told_by, told_more, never_is, taken_tells, cost_end, between_end, between_same}
+use Rattle.safl_lower.proofs.Gathered.{stays_by, pick_none, no_more, more_twice, map_end, out_kept, wants_end, loops_end, told_by, told_more, never_is, taken_tells, cost_end, mates_end, mates_same}
 use Rattle.safl_gates.specs.Sources.{AreSources}
 use Rattle.safl_net.specs.Settled.{Settles}
 use Rattle.safl_net.proofs.Settling.{settles_on}
@@ -92,7 +92,7 @@ at_site : {A : Type 0} (t : Bool) (k j : ℕ) (p : Bool) (sent : ℕ → Bool) (
 at_site true k j p sent o e = ap (λ (i : ℕ). gate (p && not (sent i)) o) (eqb_yes (subst T (sym e) tt))
 at_site false k j p sent o e = sym (gate_none (p && not (sent j)))
 
-pub record Asked (P : Ports) (path : Sig) (n m : Netlist) (o p : Out) (k : ℕ) (all : LoweredAll) (r : Lowered) : Type 0 where
+pub record Asked (P : SiteTable) (path : Sig) (n m : Netlist) (o p : Out) (k : ℕ) (all : LoweredAll) (r : Lowered) : Type 0 where
   pub grows : Grows n m
   pub count : length m.signals ≤ length n.signals + 3
   pub given : Shows P k r
@@ -101,7 +101,7 @@ pub record Asked (P : Ports) (path : Sig) (n m : Netlist) (o p : Out) (k : ℕ) 
   pub wants : (v : Val) → Wired m v → (j : ℕ) → asked v p.wants.items j ≡ or_else (asked v o.wants.items j) (gate (k == j) (gate (open_at v P path k) (gathered v all)))
   pub settles : Settles n m
 
-pub lowers_call : {P : Ports} {slots : List Sig} {path : Sig} {n0 n1 n2 : Netlist} {o0 o1 o2 : Out} {all : LoweredAll} {f k : ℕ} {ts : Terms} {r : Lowered}
+pub lowers_call : {P : SiteTable} {slots : List Sig} {path : Sig} {n0 n1 n2 : Netlist} {o0 o1 o2 : Out} {all : LoweredAll} {f k : ℕ} {ts : Terms} {r : Lowered}
     → LowersAll P slots path n0 n1 o0 o1 all ts → Asked P path n1 n2 o1 o2 k all r
     → ((F : Owner) (tail : Bool) (env : List ℕ) (w : ℕ) → Setting n0 F P slots env path → Typed F tail env (Call f k ts) w → Shaped n2 r w)
     → Lowers P slots path n0 n2 o0 o2 r (Call f k ts)
@@ -111,7 +111,7 @@ lowers_call {P} {slots} {path} {n0} {n1} {n2} {o0} {o1} {o2} {all} {f} {k} {ts} 
   settles = settles_on hs.settles ha.settles;
   quiet = λ F env w t. ha.loops ∙ hs.quiet F env (F.program.params f) (args_typed t);
   cheap = λ F tail env w t. let i = ap cost (ha.loops ∙ hs.quiet F env (F.program.params f) (args_typed t)) in omega (arith, i);
-  within = λ F tail env w s t x. between_same P.first_member (P.first_member + P.members) o0.loops.items o2.loops.items (ha.loops ∙ hs.quiet F env (F.program.params f) (args_typed t)) x;
+  within = λ F tail env w s t x. mates_same F o0.loops.items o2.loops.items (ha.loops ∙ hs.quiet F env (F.program.params f) (args_typed t)) x;
   more = hs.more;
   loops_more = ha.loops ∙ hs.loops_more;
   told = λ F tail env w t v h. told_by v hs.more None _ (λ z q. never_is z None refl q) (hs.told F env (F.program.params f) (args_typed t) v (wired_before ha.grows h));
@@ -169,7 +169,7 @@ pub record Gone (path : Sig) (n m : Netlist) (o p : Out) (h : ℕ) (all : Lowere
   pub loops : (v : Val) → Wired m v → went v p.loops.items ≡ or_else (went v o.loops.items) (gate (on v path) (goes_with h (gathered v all)))
   pub settles : Settles n m
 
-pub lowers_loop : {P : Ports} {slots : List Sig} {path : Sig} {n0 n1 n2 : Netlist} {o0 o1 o2 : Out} {all : LoweredAll} {h : ℕ} {ts : Terms} {r : Lowered}
+pub lowers_loop : {P : SiteTable} {slots : List Sig} {path : Sig} {n0 n1 n2 : Netlist} {o0 o1 o2 : Out} {all : LoweredAll} {h : ℕ} {ts : Terms} {r : Lowered}
     → LowersAll P slots path n0 n1 o0 o1 all ts → Gone path n1 n2 o1 o2 h all r
     → Lowers P slots path n0 n2 o0 o2 r (Loop h ts)
 unfolding answer wanted
@@ -179,8 +179,7 @@ lowers_loop {P} {slots} {path} {n0} {n1} {n2} {o0} {o1} {o2} {all} {h} {ts} {r} 
   quiet = λ F env w t. false_true t.spans.0;
   cheap = λ F tail env w t. let i = ap cost (hs.quiet F env (F.program.params h) (next_typed t)) in let j = ap cost hg.entry.is ∙ cost_end o1.loops.items (record { member = h; taken = hg.entry.taken; args = all.values }) in let k = hs.long in omega (arith, i, j, k);
   within = λ F tail env w s t x.
-      let m = s.members h t.width.2 t.spans.1 in
-      subst (Between P.first_member (P.first_member + P.members)) (sym (ap (map member_of) hg.entry.is ∙ map_end member_of o1.loops.items _)) (between_end P.first_member (P.first_member + P.members) (map member_of o1.loops.items) h (between_same P.first_member (P.first_member + P.members) o0.loops.items o1.loops.items (hs.quiet F env (F.program.params h) (next_typed t)) x) m.0 m.1);
+      subst (Mates F) (sym (ap (map member_of) hg.entry.is ∙ map_end member_of o1.loops.items _)) (mates_end F (map member_of o1.loops.items) h (mates_same F o0.loops.items o1.loops.items (hs.quiet F env (F.program.params h) (next_typed t)) x) t.width.2 t.spans.1);
   more = hs.more ++ record { member = h; taken = hg.entry.taken; args = all.values } ∷ [];
   loops_more = more_twice o0.loops.items o1.loops.items o2.loops.items hs.more _ hs.loops_more hg.entry.is;
   told = λ F tail env w t v q.
@@ -199,7 +198,7 @@ lowers_loop {P} {slots} {path} {n0} {n1} {n2} {o0} {o1} {o2} {all} {h} {ts} {r} 
   count = let i = hs.count in let j = hg.count in omega arith;
   shape = λ F tail env w s t. record { ready = subst (ReadyAt n2) (sym hg.never) tt; width = λ ever. absurd (ever hg.never) };
   ever = λ F env w t. false_true t.spans.0;
-  wide = λ F tail env w s t no. sym t.width.1 ∙ (s.members h t.width.2 t.spans.1).2;
+  wide = λ F tail env w s t no. sym t.width.1 ∙ s.one_width h t.width.2 t.spans.1;
   value = λ v q. ap (λ (y : Readiness). gate (is_ready v y) (Some (v r.value.0))) hg.never ∙ never_shown h (answers (back_of v P) (words v slots) ts);
   wants = λ F tail env w t v q k. ap (λ l. asked v l k) hg.wants ∙ hs.wants F env (F.program.params h) (next_typed t) v (wired_before hg.grows q) k;
   loops = λ F tail env w t v q.

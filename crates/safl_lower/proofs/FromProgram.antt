@@ -1,19 +1,68 @@
--- The bodies of a well-formed program are bodies that can be lowered.
-use Rattle.std.proofs.Common.{◌≡◌, ℕ, ◌<◌, refl, sym, ap, ◌∙◌, arith}
+-- The body of a checked program's function, and the setting in which it is lowered.
+use Rattle.std.proofs.Common.{◌≡◌, ℕ, zero, suc, ◌+◌, ◌*◌, ◌<◌, ◌≤◌, ◌⊎◌, inl, inr, ⊎_elim, List, true, refl, sym, ap, ◌∙◌, arith}
 use Rattle.safl_term.specs.Program.{Program}
+use Rattle.safl_term.specs.Terms.{Term}
+use Rattle.safl_term.specs.Sizes.{nodes}
 use Rattle.safl_term.specs.WellFormed.{IsWellFormed}
-use Rattle.safl_lower.specs.Typing.{Owner}
-use Rattle.safl_lower.specs.Bodies.{IsBody}
+use Rattle.safl_term.specs.Checked.{CheckedProgram, IsChecked, program_of, first_site_of}
+use Rattle.safl_net.specs.declared.cell.Sig.{Sig}
+use Rattle.safl_net.specs.Netlist.{Netlist}
+use Rattle.safl_gates.specs.Sources.{HasRoom}
+use Rattle.safl_lower.specs.declared.parts.Ports.{Ports}
+use Rattle.safl_lower.specs.declared.parts.SiteTable.{SiteTable}
+use Rattle.safl_lower.specs.Typing.{Owner, Typed}
+use Rattle.safl_lower.specs.Lowering.{Setting}
+use Rattle.safl_lower.specs.Bodies.{CanLower}
 
-pub owner_of : (C : Program) → IsWellFormed C → ℕ → Owner
-owner_of C w f = let b = w.numbered.bodies f in record { program = C; function = f; first = b.0; last = b.1 }
+-- the term is the whole body of its owner, at the tail position, with the sites of the owner's interval
+pub record IsBody (F : Owner) (env : List ℕ) (t : Term) (w : ℕ) : Type 0 where
+  pub typed : Typed F true env t w
+  pub from : typed.low ≡ F.first
+  pub upto : typed.high ≡ F.last
 
-pub is_body : (C : Program) (w : IsWellFormed C) (f : ℕ) → f < C.functions → IsBody (owner_of C w f) (C.params f) (C.body f) (C.result f)
-unfolding owner_of
-is_body C w f l =
-    let b = w.numbered.bodies f in
-    record { typed = record { low = b.0; high = b.1; from = omega arith; upto = omega arith; spans = b.3; width = w.widths f l }; from = refl; upto = refl }
+-- a body whose ports are in the net, with room for its circuit
+pub record Given (n : Netlist) (P : SiteTable) (slots : List Sig) (path : Sig) (t : Term) : Type 0 where
+  pub owner : Owner
+  pub env : List ℕ
+  pub width : ℕ
+  pub setting : Setting n owner P slots env path
+  pub body : IsBody owner env t width
+  pub room : HasRoom n (32 * nodes t + 32)
+
+pub side : (k m : ℕ) → (k < m) ⊎ (m ≤ k)
+side k zero = inr (omega arith)
+side zero (suc m) = inl (omega arith)
+side (suc k) (suc m) = ⊎_elim (λ l. inl (omega (arith, l))) (λ l. inr (omega (arith, l))) (side k m)
 
 -- the members of a group have one width
 pub one_width : (C : Program) → IsWellFormed C → (f h : ℕ) → f < C.functions → h < C.functions → C.unit h ≡ C.unit f → C.result h ≡ C.result f
 one_width C w f h l m e = sym (w.first h m).2 ∙ ap C.result e ∙ (w.first f l).2
+
+-- a function of a checked program, as the owner of its body
+abbrev pub owner_of : CheckedProgram → ℕ → Owner
+owner_of c f = record { program = program_of c; function = f; first = first_site_of c f; last = first_site_of c (suc f) }
+
+-- the ports of its sites
+abbrev pub table_of : CheckedProgram → ℕ → Ports → SiteTable
+table_of c f P = record { first = first_site_of c f; ports = P.sites }
+
+module _ (c : CheckedProgram) (h : IsChecked c) (f : ℕ) (l : f < (program_of c).functions) where
+  pub own_body : IsBody (owner_of c f) ((program_of c).params f) ((program_of c).body f) ((program_of c).result f)
+  own_body = record {
+    typed = record { low = first_site_of c f; high = first_site_of c (suc f); from = omega arith; upto = omega arith; spans = h.own_sites f l; width = h.formed.widths f l };
+    from = refl;
+    upto = refl;
+  }
+
+  pub own_setting : (n : Netlist) (P : Ports) → CanLower c f n P → Setting n (owner_of c f) (table_of c f P) P.args.items ((program_of c).params f) P.run
+  own_setting n P able = record {
+    path_bit = able.run;
+    slots_sized = able.args;
+    first = refl;
+    last = able.count;
+    sites_sized = able.sites;
+    one_width = λ g m e. one_width (program_of c) h.formed f g l m e;
+  }
+
+  pub own_given : (n : Netlist) (P : Ports) → CanLower c f n P → Given n (table_of c f P) P.args.items P.run ((program_of c).body f)
+  own_given n P able = record { owner = owner_of c f; env = (program_of c).params f; width = (program_of c).result f; setting = own_setting n P able; body = own_body; room = able.room }

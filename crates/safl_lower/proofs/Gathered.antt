@@ -13,8 +13,8 @@ use Rattle.safl_lower.specs.declared.parts.Want.{Want}
 use Rattle.safl_lower.specs.declared.parts.TailCall.{TailCall}
 use Rattle.safl_term.specs.Sizes.{nodes}
 use Rattle.safl_lower.specs.Typing.{Owner, Typed}
-use Rattle.safl_net.specs.Bits.{gate, on}
-use Rattle.safl_lower.specs.Entries.{Told, WantFits, LoopFits, WantsFit, LoopsFit, OutFits, member_of, Between, cost}
+use Rattle.safl_net.specs.Bits.{gate}
+use Rattle.safl_lower.specs.Entries.{Told, WantFits, LoopFits, WantsFit, LoopsFit, OutFits, member_of, Mates, cost}
 use Rattle.safl_lower.specs.Lowering.{goes_of}
 use Rattle.safl_lower.proofs.Arms.{or_none, gate_none, if_wants, let_wants}
 use Rattle.safl_gates.proofs.Building.{source_grown, sources_grown}
@@ -159,12 +159,12 @@ pub cost_end : (es : List TailCall) (e : TailCall) → cost (es ++ e ∷ []) ≡
 cost_end [] e = omega arith
 cost_end (d ∷ es) e = let h = cost_end es e in omega (arith, h)
 
-pub between_end : (a b : ℕ) (ks : List ℕ) (k : ℕ) → Between a b ks → a ≤ k → k < b → Between a b (ks ++ k ∷ [])
-between_end a b [] k h l m = (l, m, tt)
-between_end a b (j ∷ ks) k h l m = (h.0, h.1, between_end a b ks k h.2 l m)
+pub mates_end : (F : Owner) (ks : List ℕ) (k : ℕ) → Mates F ks → k < F.program.functions → F.program.unit k ≡ F.program.unit F.function → Mates F (ks ++ k ∷ [])
+mates_end F [] k h l m = (l, m, tt)
+mates_end F (j ∷ ks) k h l m = (h.0, h.1, mates_end F ks k h.2 l m)
 
-pub between_same : (a b : ℕ) (es fs : List TailCall) → fs ≡ es → Between a b (map member_of es) → Between a b (map member_of fs)
-between_same a b es fs e h = subst (λ (l : List TailCall). Between a b (map member_of l)) (sym e) h
+pub mates_same : (F : Owner) (es fs : List TailCall) → fs ≡ es → Mates F (map member_of es) → Mates F (map member_of fs)
+mates_same F es fs e h = subst (λ (l : List TailCall). Mates F (map member_of l)) (sym e) h
 
 pub some_nodes : (t : Term) → 1 ≤ nodes t
 some_nodes (Const w) = omega arith

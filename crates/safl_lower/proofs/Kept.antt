@@ -8,14 +8,14 @@ use Rattle.safl_net.specs.Growth.{Val, Grows}
 use Rattle.safl_lower.specs.declared.parts.Readiness.{Readiness}
 use Rattle.safl_lower.specs.declared.parts.Readiness.TheVariants.{Always, Never, When}
 use Rattle.safl_lower.specs.declared.parts.SitePorts.{SitePorts}
-use Rattle.safl_lower.specs.declared.parts.Ports.{Ports}
+use Rattle.safl_lower.specs.declared.parts.SiteTable.{SiteTable}
 use Rattle.safl_lower.specs.declared.parts.Want.{Want}
 use Rattle.safl_lower.specs.declared.parts.TailCall.{TailCall}
 use Rattle.safl_lower.specs.declared.parts.Lowered.{Lowered}
 use Rattle.safl_lower.specs.declared.parts.LoweredAll.{LoweredAll}
 use Rattle.safl_lower.specs.Bits.{ReadyAt}
 use Rattle.safl_lower.specs.Typing.{Owner}
-use Rattle.safl_net.specs.Bits.{gate, on}
+use Rattle.safl_net.specs.Bits.{gate}
 use Rattle.safl_lower.specs.Entries.{asks, asked, goes, went}
 use Rattle.safl_lower.specs.Lowering.{Sited, Setting, Shaped, ShapedAll, goes_with}
 use Rattle.safl_lower.proofs.Arms.{or_none, or_assoc}
@@ -47,26 +47,24 @@ weaker (Err e) P Q f h = tt
 pub sited_kept : {a b : Netlist} → Grows a b → (p : SitePorts) (w : ℕ) → Sited a p w → Sited b p w
 sited_kept g p w h = record { sent = source_grown g p.sent 1 h.sent; returned = source_grown g p.returned 1 h.returned; value = source_grown g p.value w h.value }
 
-pub setting_on : {a b : Netlist} {F : Owner} {P : Ports} {slots : List Sig} {env : List ℕ} {path q : Sig} → Grows a b → Setting a F P slots env path → IsSource b q 1 → Setting b F P slots env q
+pub setting_on : {a b : Netlist} {F : Owner} {P : SiteTable} {slots : List Sig} {env : List ℕ} {path q : Sig} → Grows a b → Setting a F P slots env path → IsSource b q 1 → Setting b F P slots env q
 setting_on {F = F} {P = P} {slots = slots} {env = env} g s h = record {
   path_bit = h;
   slots_sized = sources_grown g slots env s.slots_sized;
   first = s.first;
   last = s.last;
-  sites_sized = λ i p e. sited_kept g p (F.program.result (F.program.callee (P.first_site + i))) (s.sites_sized i p e);
-  members = s.members;
-  some = s.some;
-  most = s.most;
+  sites_sized = λ i p e. sited_kept g p (F.program.result (F.program.callee (P.first + i))) (s.sites_sized i p e);
+  one_width = s.one_width;
 }
 
-pub setting_kept : {a b : Netlist} {F : Owner} {P : Ports} {slots : List Sig} {env : List ℕ} {path : Sig} → Grows a b → Setting a F P slots env path → Setting b F P slots env path
+pub setting_kept : {a b : Netlist} {F : Owner} {P : SiteTable} {slots : List Sig} {env : List ℕ} {path : Sig} → Grows a b → Setting a F P slots env path → Setting b F P slots env path
 setting_kept {path = path} g s = setting_on g s (source_grown g path 1 s.path_bit)
 
 -- below a let, on the path of its body
-pub setting_below : {a b : Netlist} {F : Owner} {P : Ports} {slots : List Sig} {env : List ℕ} {path q : Sig} (xs : List Sig) (ws : List ℕ) → Grows a b → Setting a F P slots env path → IsSource b q 1 → AreSources b xs ws → Setting b F P (slots ++ xs) (env ++ ws) q
+pub setting_below : {a b : Netlist} {F : Owner} {P : SiteTable} {slots : List Sig} {env : List ℕ} {path q : Sig} (xs : List Sig) (ws : List ℕ) → Grows a b → Setting a F P slots env path → IsSource b q 1 → AreSources b xs ws → Setting b F P (slots ++ xs) (env ++ ws) q
 setting_below {b = b} {slots = slots} {env = env} xs ws g s h z =
     let k = setting_on g s h in
-    record { path_bit = h; slots_sized = sources_joined b slots xs env ws k.slots_sized z; first = k.first; last = k.last; sites_sized = k.sites_sized; members = k.members; some = k.some; most = k.most }
+    record { path_bit = h; slots_sized = sources_joined b slots xs env ws k.slots_sized z; first = k.first; last = k.last; sites_sized = k.sites_sized; one_width = k.one_width }
 
 -- ---- one more want, one more tail call
 

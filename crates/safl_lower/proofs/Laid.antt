@@ -7,7 +7,7 @@ use Rattle.safl_net.specs.Netlist.{Netlist}
 use Rattle.safl_net.specs.Growth.{Val, words}
 use Rattle.safl_net.specs.Bits.{on, gate}
 use Rattle.safl_gates.specs.declared.loads.Load.{Load}
-use Rattle.safl_gates.specs.Tables.{taken, taken_in, taken_at, taken_from, load_in, FitsIn, LoadFits, LoadsFit, SomeFit}
+use Rattle.safl_gates.specs.Tables.{taken_in, taken_from, load_in, FitsIn, LoadFits, SomeFit}
 use Rattle.safl_gates.proofs.BitWords.{same}
 use Rattle.safl_lower.specs.declared.parts.Want.{Want}
 use Rattle.safl_lower.specs.Typing.{Owner}

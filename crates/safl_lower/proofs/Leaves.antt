@@ -1,5 +1,5 @@
 -- The circuits of a constant, of a slot and of an operator.
-use Rattle.std.proofs.Common.{◌≡◌, ℕ, zero, suc, ◌+◌, ◌<◌, List, [], ◌∷◌, map, length, Option, Some, None, Bool, true, false, slice_get, refl, ap, subst, ◌∙◌, arith}
+use Rattle.std.proofs.Common.{◌≡◌, ℕ, zero, suc, ◌<◌, List, [], ◌∷◌, map, length, Option, Some, None, Bool, true, false, slice_get, refl, ap, subst, ◌∙◌, arith}
 use Rattle.safl_word.specs.Words.{Word, slot}
 use Rattle.safl_word.specs.declared.primitive.Primitive.{Primitive}
 use Rattle.safl_word.specs.Primitives.{apply_prim, result_width}
@@ -10,7 +10,7 @@ use Rattle.safl_net.specs.Netlist.{Netlist}
 use Rattle.safl_net.specs.Growth.{Val, words, Wired}
 use Rattle.safl_net.proofs.Growth.{grows_on, grows_none, wired_before}
 use Rattle.safl_lower.specs.declared.parts.Readiness.TheVariants.{Always}
-use Rattle.safl_lower.specs.declared.parts.Ports.{Ports}
+use Rattle.safl_lower.specs.declared.parts.SiteTable.{SiteTable}
 use Rattle.safl_lower.specs.declared.parts.LoweredAll.{LoweredAll}
 use Rattle.safl_lower.specs.declared.parts.Out.{Out}
 use Rattle.safl_net.specs.Bits.{on, gate}
@@ -19,14 +19,14 @@ use Rattle.safl_lower.specs.Entries.{asked, went, site_of, member_of, cost}
 use Rattle.safl_lower.specs.Lowering.{back_of, goes_of, Lowers, LowersAll}
 use Rattle.safl_lower.proofs.Kept.{ready_kept, apart}
 use Rattle.safl_lower.proofs.Typing.{parts_typed}
-use Rattle.safl_lower.proofs.Gathered.{stays, stays_by, no_more, out_kept, told_by, never_is, between_same}
+use Rattle.safl_lower.proofs.Gathered.{stays, stays_by, no_more, out_kept, told_by, never_is, mates_same}
 use Rattle.safl_gates.specs.Sources.{IsSource, AreSources, Builds}
 use Rattle.safl_net.proofs.Settling.{settles_on, settles_same}
 use Rattle.safl_gates.proofs.Cells.{source_at, sources_length}
 
 -- ---- leaves
 
-pub lowers_const : {P : Ports} {slots : List Sig} {path s : Sig} {n0 n1 : Netlist} {o : Out} {w : Word}
+pub lowers_const : {P : SiteTable} {slots : List Sig} {path s : Sig} {n0 n1 : Netlist} {o : Out} {w : Word}
     → Builds n0 n1 1 → IsSource n1 s w.width → ((v : Val) → Wired n1 v → v s.0 ≡ w)
     → Lowers P slots path n0 n1 o o (record { ready = Always; value = s }) (Const w)
 unfolding answer wanted
@@ -67,7 +67,7 @@ slot_word v [] i s e = absurd (cc)
 slot_word v (a ∷ slots) zero s e = let g : s ≡ a = cc in ap (λ (y : Sig). v y.0) g
 slot_word v (a ∷ slots) (suc i) s e = slot_word v slots i s e
 
-pub lowers_var : {P : Ports} {slots : List Sig} {path s : Sig} {n : Netlist} {o : Out} {i : ℕ} → slice_get slots i ≡ Some s
+pub lowers_var : {P : SiteTable} {slots : List Sig} {path s : Sig} {n : Netlist} {o : Out} {i : ℕ} → slice_get slots i ≡ Some s
     → Lowers P slots path n n o o (record { ready = Always; value = s }) (Var i)
 unfolding answer wanted
 lowers_var {P} {slots} {path} {s} {n} {o} {i} e = record {
@@ -103,7 +103,7 @@ applied p true ws (Some vs) e = let g : ws ≡ vs = cc in ap (λ (l : List Word)
 applied p false ws None e = refl
 applied p false ws (Some vs) e = absurd (cc)
 
-pub lowers_op : {P : Ports} {slots : List Sig} {path s : Sig} {n0 n1 n2 : Netlist} {o0 o1 : Out} {all : LoweredAll} {p : Primitive} {ts : Terms}
+pub lowers_op : {P : SiteTable} {slots : List Sig} {path s : Sig} {n0 n1 n2 : Netlist} {o0 o1 : Out} {all : LoweredAll} {p : Primitive} {ts : Terms}
     → LowersAll P slots path n0 n1 o0 o1 all ts → Builds n1 n2 2
     → ((ws : List ℕ) (w : ℕ) → AreSources n1 all.values.items ws → result_width p ws ≡ Some w → IsSource n2 s w)
     → ((v : Val) → Wired n2 v → v s.0 ≡ apply_prim p (words v all.values.items))
@@ -114,7 +114,7 @@ lowers_op {P} {slots} {path} {s} {n0} {n1} {n2} {o0} {o1} {all} {p} {ts} hs d x 
   settles = settles_on hs.settles d.settles;
   quiet = λ F env w t. hs.quiet F env t.width.0 (parts_typed t);
   cheap = λ F tail env w t. let i = ap cost (hs.quiet F env t.width.0 (parts_typed t)) in omega (arith, i);
-  within = λ F tail env w s t x. between_same P.first_member (P.first_member + P.members) o0.loops.items o1.loops.items (hs.quiet F env t.width.0 (parts_typed t)) x;
+  within = λ F tail env w s t x. mates_same F o0.loops.items o1.loops.items (hs.quiet F env t.width.0 (parts_typed t)) x;
   more = hs.more;
   loops_more = hs.loops_more;
   told = λ F tail env w t v h. told_by v hs.more None _ (λ z q. never_is z None refl q) (hs.told F env t.width.0 (parts_typed t) v (wired_before d.grows h));

@@ -15,6 +15,6 @@ pub mod Members
 pub mod Costs
 pub mod Gathering
 pub mod Ending
-pub mod Whole
 pub mod Extending
 pub mod FromProgram
+pub mod Whole

@@ -13,7 +13,7 @@ use Rattle.safl_net.specs.Growth.{words}
 use Rattle.safl_net.proofs.Growth.{grows_on, grows_none, wired_before}
 use Rattle.safl_lower.specs.declared.parts.Readiness.{Readiness}
 use Rattle.safl_lower.specs.declared.parts.Readiness.TheVariants.{Always}
-use Rattle.safl_lower.specs.declared.parts.Ports.{Ports}
+use Rattle.safl_lower.specs.declared.parts.SiteTable.{SiteTable}
 use Rattle.safl_lower.specs.declared.parts.Lowered.{Lowered}
 use Rattle.safl_lower.specs.declared.parts.LoweredAll.{LoweredAll}
 use Rattle.safl_lower.specs.declared.parts.Out.{Out}
@@ -109,7 +109,7 @@ none_shape : (F : Owner) (env ws : List ℕ) (n : Netlist) (r : LoweredAll) → 
 none_shape F env [] n r e f t = record { ready = subst (ReadyAt n) (sym e) tt; widths = subst (λ (l : List Sig). AreSources n l []) (sym f) (no_sources n) }
 none_shape F env (w ∷ ws) n r e f t = absurd t
 
-pub lowers_none : {P : Ports} {slots : List Sig} {path : Sig} {n : Netlist} {o : Out} {r : LoweredAll} → r.ready ≡ Always → r.values.items ≡ [] → LowersAll P slots path n n o o r Nil
+pub lowers_none : {P : SiteTable} {slots : List Sig} {path : Sig} {n : Netlist} {o : Out} {r : LoweredAll} → r.ready ≡ Always → r.values.items ≡ [] → LowersAll P slots path n n o o r Nil
 unfolding answer wanted
 lowers_none {P} {slots} {path} {n} {o} {r} e f = record {
   settles = settles_same n n refl;
@@ -129,7 +129,7 @@ lowers_none {P} {slots} {path} {n} {o} {r} e f = record {
   loops = λ F env ws t v h. refl;
 }
 
-pub lowers_more : {P : Ports} {slots : List Sig} {path : Sig} {n0 n1 n2 n3 : Netlist} {o0 o1 o2 : Out} {r s : LoweredAll} {one : Lowered} {ts : Terms} {t : Term}
+pub lowers_more : {P : SiteTable} {slots : List Sig} {path : Sig} {n0 n1 n2 n3 : Netlist} {o0 o1 o2 : Out} {r s : LoweredAll} {one : Lowered} {ts : Terms} {t : Term}
     → LowersAll P slots path n0 n1 o0 o1 r ts → Lowers P slots path n1 n2 o1 o2 one t → Both n2 n3 r.ready one.ready s.ready → s.values.items ≡ r.values.items ++ one.value ∷ []
     → LowersAll P slots path n0 n3 o0 o2 s (end ts t)
 lowers_more {P} {slots} {path} {n0} {n1} {n2} {n3} {o0} {o1} {o2} {r} {s} {one} {ts} {t} hs ht hb e = record {

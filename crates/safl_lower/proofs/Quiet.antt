@@ -8,7 +8,6 @@ use Rattle.safl_lower.specs.Lowering.{goes_of}
 use Rattle.safl_lower.proofs.Calls.{select_none, with_none, both_none}
 use Rattle.safl_lower.proofs.Gathered.{pick_ap, pick_none}
 use Rattle.safl_lower.proofs.Leaves.{goes_op}
-use Rattle.safl_net.specs.Bits.{on}
 
 pub or_off : (a b : Bool) → (a || b) ≡ false → (a ≡ false) × (b ≡ false)
 or_off true b e = absurd (cc)

@@ -9,7 +9,7 @@ use Rattle.safl_net.specs.Netlist.{Netlist}
 use Rattle.safl_net.specs.Growth.{Val, Wired}
 use Rattle.safl_net.proofs.Growth.{grows_on}
 use Rattle.safl_lower.specs.declared.parts.Readiness.TheVariants.{Never}
-use Rattle.safl_lower.specs.declared.parts.Ports.{Ports}
+use Rattle.safl_lower.specs.declared.parts.SiteTable.{SiteTable}
 use Rattle.safl_lower.specs.declared.parts.Lowered.{Lowered}
 use Rattle.safl_lower.specs.declared.parts.LoweredAll.{LoweredAll}
 use Rattle.safl_lower.specs.declared.parts.Out.{Out}
@@ -22,7 +22,7 @@ use Rattle.safl_lower.proofs.Calls.{lowers_call, lowers_loop}
 use Rattle.safl_lower.proofs.Able.{call_shape}
 use Rattle.safl_gates.specs.Sources.{Builds}
 
-module _ {P : Ports} {path : Sig} {n m : Netlist} {o p : Out} where
+module _ {P : SiteTable} {path : Sig} {n m : Netlist} {o p : Out} where
   -- the same of another name of the slots and of the term
   pub renamed : {s slots : List Sig} {r : Lowered} {x y : declared.Term} → s ≡ slots → x ≡ y → Lowers P s path n m o p r (shown_term x) → Lowers P slots path n m o p r (shown_term y)
   renamed {s} {slots} {r} {x} {y} e f h = subst (λ (l : List Sig). Lowers P l path n m o p r (shown_term y)) e (subst (λ (z : declared.Term). Lowers P s path n m o p r (shown_term z)) f h)
@@ -30,7 +30,7 @@ module _ {P : Ports} {path : Sig} {n m : Netlist} {o p : Out} where
   pub renamed_all : {s slots : List Sig} {r : LoweredAll} {xs ys : List declared.Term} → s ≡ slots → xs ≡ ys → LowersAll P s path n m o p r (shown_terms xs) → LowersAll P slots path n m o p r (shown_terms ys)
   renamed_all {s} {slots} {r} {xs} {ys} e f h = subst (λ (l : List Sig). LowersAll P l path n m o p r (shown_terms ys)) e (subst (λ (z : List declared.Term). LowersAll P s path n m o p r (shown_terms z)) f h)
 
-pub done_if : {E : Type 0} {P : Ports} {slots : List Sig} {path py pn : Sig} {n0 n1 n2 n3 n4 n5 : Netlist} {o0 o1 o2 o3 : Out} {test yes no : Lowered} {c a b t : Term} (res : Result Lowered E)
+pub done_if : {E : Type 0} {P : SiteTable} {slots : List Sig} {path py pn : Sig} {n0 n1 n2 n3 n4 n5 : Netlist} {o0 o1 o2 o3 : Out} {test yes no : Lowered} {c a b t : Term} (res : Result Lowered E)
     → t ≡ If c a b
     → Lowers P slots path n0 n1 o0 o1 test c → Branches path n1 n2 test a b py pn → Lowers P slots py n2 n3 o1 o2 yes a → Lowers P slots pn n3 n4 o2 o3 no b
     → Builds n4 n5 5
@@ -42,7 +42,7 @@ done_if {P = P} {slots = slots} {path = path} {n0 = n0} {n5 = n5} {o0 = o0} {o3 
     subst (λ (x : Term). Lowers P slots path n0 n5 o0 o3 r x) (sym e) (lowers_if hc hp ha hb (record { grows = b.grows; count = b.count; settles = b.settles; shape = s; value = v; never = q }))
 done_if (Err x) e hc hp ha hb b s v q = tt
 
-pub done_call : {E : Type 0} {P : Ports} {slots : List Sig} {path : Sig} {n0 n1 n2 : Netlist} {o0 o1 : Out} (o2 : Out) {all : LoweredAll} (f k : ℕ) {ts : Terms} {t : Term} (res : Result Lowered E)
+pub done_call : {E : Type 0} {P : SiteTable} {slots : List Sig} {path : Sig} {n0 n1 n2 : Netlist} {o0 o1 : Out} (o2 : Out) {all : LoweredAll} (f k : ℕ) {ts : Terms} {t : Term} (res : Result Lowered E)
     → t ≡ Call f k ts
     → LowersAll P slots path n0 n1 o0 o1 all ts
     → Builds n1 n2 3
@@ -56,7 +56,7 @@ done_call {P = P} {slots = slots} {path = path} {n0 = n0} {n2 = n2} {o0 = o0} o2
     (lowers_call hs (record { grows = b.grows; count = b.count; settles = b.settles; given = sh; entry = en; loops = lo; wants = wa }) (λ F tail env w s q. call_shape F tail env w (grows_on hs.grows b.grows) sh s q))
 done_call o2 f k (Err x) e hs b sh en lo wa = tt
 
-pub done_loop : {E : Type 0} {P : Ports} {slots : List Sig} {path : Sig} {n0 n1 n2 : Netlist} {o0 o1 : Out} (o2 : Out) {all : LoweredAll} {h : ℕ} {ts : Terms} {t : Term} (res : Result Lowered E)
+pub done_loop : {E : Type 0} {P : SiteTable} {slots : List Sig} {path : Sig} {n0 n1 n2 : Netlist} {o0 o1 : Out} (o2 : Out) {all : LoweredAll} {h : ℕ} {ts : Terms} {t : Term} (res : Result Lowered E)
     → t ≡ Loop h ts
     → LowersAll P slots path n0 n1 o0 o1 all ts
     → Builds n1 n2 1

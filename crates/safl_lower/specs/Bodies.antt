@@ -1,53 +1,71 @@
--- What the circuit of a body gives, under each valuation that the net allows.
-use Rattle.std.specs.Prelude.{◌≡◌, ℕ, ◌+◌, ◌*◌, ◌≤◌, List, [], ◌∷◌, length, None, true, not, ◌&&◌, slice_get}
-use Rattle.safl_term.specs.Terms.{Term}
+-- The circuit of a function's body, under each valuation that the net allows.
+use Rattle.std.specs.Prelude.{◌≡◌, ℕ, suc, ◌+◌, ◌-◌, ◌*◌, ◌<◌, ◌≤◌, List, [], ◌∷◌, length, Option, Some, None, Bool, not, ◌&&◌, slice_get}
+use Rattle.safl_word.specs.Words.{Word}
+use Rattle.safl_term.specs.Program.{Program}
+use Rattle.safl_term.specs.Checked.{CheckedProgram, program_of, first_site_of}
 use Rattle.safl_term.specs.Sizes.{nodes}
-use Rattle.safl_term.specs.Readiness.{word_of, answer, wanted}
+use Rattle.safl_term.specs.Readiness.{Answer, word_of, answer, wanted}
 use Rattle.safl_net.specs.Netlist.{Netlist}
 use Rattle.safl_net.specs.Growth.{Val, words, Wired}
 use Rattle.safl_net.specs.Bits.{on, gate}
-use Rattle.safl_gates.specs.Sources.{Builds, HasRoom}
+use Rattle.safl_gates.specs.Sources.{IsSource, AreSources, Builds, HasRoom}
 use Rattle.safl_gates.specs.Tables.{load_in, taken, taken_at, taken_from, one_word, LoadFits, LoadsFit, SomeFit}
+use Rattle.safl_lower.specs.declared.parts.SitePorts.{SitePorts}
 use Rattle.safl_lower.specs.declared.parts.Ports.{Ports}
 use Rattle.safl_lower.specs.declared.parts.Body.{Body}
-use Rattle.safl_lower.specs.Typing.{Owner, Typed, tails_of}
-use Rattle.safl_lower.specs.Lowering.{back_of, sent_of, goes_of, Setting}
-use Rattle.safl_lower.specs.Loads.{Listed, site_widths, member_widths, to_member, loads_cost}
+use Rattle.safl_lower.specs.Typing.{tails_of}
+use Rattle.safl_lower.specs.Lowering.{Sited, returned_word, was_sent, goes_of}
+use Rattle.safl_lower.specs.Loads.{Listed, to_member, loads_cost}
 
--- the term is the whole body of its owner, at the tail position, with the sites of the owner's interval
-pub record IsBody (F : Owner) (env : List ℕ) (t : Term) (w : ℕ) : Type 0 where
-  pub typed : Typed F true env t w
-  pub from : typed.low ≡ F.first
-  pub upto : typed.high ≡ F.last
+-- f's body may be lowered between these ports: they have the widths of its parameters and of the words of its sites, and
+-- the net has room for the circuit
+pub record CanLower (c : CheckedProgram) (f : ℕ) (n : Netlist) (P : Ports) : Type 0 where
+  pub run : IsSource n P.run 1
+  pub args : AreSources n P.args.items ((program_of c).params f)
+  pub count : first_site_of c f + length P.sites.items ≡ first_site_of c (suc f)
+  pub sites : (i : ℕ) (p : SitePorts) → slice_get P.sites.items i ≡ Some p → Sited n p ((program_of c).result ((program_of c).callee (first_site_of c f + i)))
+  pub room : HasRoom n (32 * nodes ((program_of c).body f) + 32)
 
--- a body whose ports are in the net, with room for its circuit
-pub record CanLower (n : Netlist) (P : Ports) (t : Term) : Type 0 where
-  pub owner : Owner
-  pub env : List ℕ
-  pub width : ℕ
-  pub setting : Setting n owner P P.args.items env P.run
-  pub body : IsBody owner env t width
-  pub room : HasRoom n (32 * nodes t + 32)
+-- f's group has so many members, numbered from its unit on
+pub record IsGroup (C : Program) (f count : ℕ) : Type 0 where
+  pub within : C.unit f + count ≤ C.functions
+  pub inside : (h : ℕ) → C.unit f ≤ h → h < C.unit f + count → C.unit h ≡ C.unit f
+  pub members : (h : ℕ) → h < C.functions → C.unit h ≡ C.unit f → (C.unit f ≤ h) × (h < C.unit f + count)
 
 -- the end has the body's width, a site's arguments those of its callee, and a member's arguments those of the member
-pub record BodyFits (P : Ports) (n : Netlist) (b : Body) (F : Owner) (w : ℕ) : Type 0 where
-  pub end : LoadFits n b.end (w ∷ [])
-  pub wants : LoadsFit n b.wants.items (site_widths F P.first_site)
-  pub loops : SomeFit n b.loops.items (member_widths F P.first_member)
+pub record BodyFits (c : CheckedProgram) (f : ℕ) (n : Netlist) (b : Body) : Type 0 where
+  pub end : LoadFits n b.end ((program_of c).result f ∷ [])
+  pub wants : LoadsFit n b.wants.items (λ i. (program_of c).params ((program_of c).callee (first_site_of c f + i)))
+  pub loops : SomeFit n b.loops.items (λ i. (program_of c).params ((program_of c).unit f + i))
 
-pub record Bodies (P : Ports) (old new : Netlist) (b : Body) (t : Term) : Type 0 where
-  pub built : Builds old new (32 * nodes t + 32)
-  -- a load for each own site, and a place for each member
-  pub wants_size : length b.wants.items ≡ length P.sites.items
-  pub loops_size : length b.loops.items ≡ P.members
-  pub fits : (F : Owner) (env : List ℕ) (w : ℕ) → Setting old F P P.args.items env P.run → IsBody F env t w → BodyFits P new b F w
+-- what the ports show of site k, where the first site is `first`: its word, where it has returned, and that it was sent
+abbrev pub back_at : Val → ℕ → List SitePorts → ℕ → Option Word
+back_at v first sites k = returned_word v (slice_get sites (k - first))
+
+abbrev pub sent_at : Val → ℕ → List SitePorts → ℕ → Bool
+sent_at v first sites k = was_sent v (slice_get sites (k - first))
+
+-- f's answer, and the arguments with which it wants site k, by what the ports show
+abbrev pub answer_at : CheckedProgram → ℕ → Val → Ports → Answer
+answer_at c f v P = answer (back_at v (first_site_of c f) P.sites.items) (words v P.args.items) ((program_of c).body f)
+
+abbrev pub wanted_at : CheckedProgram → ℕ → Val → Ports → ℕ → Option (List Word)
+wanted_at c f v P k = wanted (back_at v (first_site_of c f) P.sites.items) (words v P.args.items) ((program_of c).body f) k
+
+-- the circuit of f's body between these ports
+pub record IsLowered (c : CheckedProgram) (f : ℕ) (P : Ports) (old new : Netlist) (b : Body) : Type 0 where
+  pub built : Builds old new (32 * nodes ((program_of c).body f) + 32)
+  -- a load for each own site, and a place for each member of the group
+  pub count : first_site_of c f + length b.wants.items ≡ first_site_of c (suc f)
+  pub group : IsGroup (program_of c) f (length b.loops.items)
+  pub fits : BodyFits c f new b
   -- a member to which no tail call of the body goes has none
-  pub idle : (F : Owner) (env : List ℕ) (w : ℕ) → IsBody F env t w → (i : ℕ) → ¬ Listed (P.first_member + i) (tails_of t) → load_in (slice_get b.loops.items i) ≡ None
+  pub idle : (i : ℕ) → ¬ Listed ((program_of c).unit f + i) (tails_of ((program_of c).body f)) → load_in (slice_get b.loops.items i) ≡ None
   -- the tail calls have no more bits and arguments than the body has terms
-  pub tails : (F : Owner) (env : List ℕ) (w : ℕ) → IsBody F env t w → loads_cost b.loops.items ≤ nodes t
+  pub tails : loads_cost b.loops.items ≤ nodes ((program_of c).body f)
   -- the body ends where it runs and is ready, with its word
-  pub end : (v : Val) → Wired new v → taken v b.end ≡ one_word (gate (on v P.run) (word_of (answer (back_of v P) (words v P.args.items) t)))
+  pub end : (v : Val) → Wired new v → taken v b.end ≡ one_word (gate (on v P.run) (word_of (answer_at c f v P)))
   -- an own site is wanted where the body runs, the site wasn't sent and the body wants it, with the same words
-  pub wants : (F : Owner) (env : List ℕ) (w : ℕ) → IsBody F env t w → (v : Val) → Wired new v → (i : ℕ) → taken_at v b.wants.items i ≡ gate (on v P.run && not (sent_of v P (P.first_site + i))) (wanted (back_of v P) (words v P.args.items) t (P.first_site + i))
+  pub wants : (v : Val) → Wired new v → (i : ℕ) → taken_at v b.wants.items i ≡ gate (on v P.run && not (sent_at v (first_site_of c f) P.sites.items (first_site_of c f + i))) (wanted_at c f v P (first_site_of c f + i))
   -- a member is gone on to where the body runs and goes on to it, with the same words
-  pub loops : (F : Owner) (env : List ℕ) (w : ℕ) → IsBody F env t w → (v : Val) → Wired new v → (i : ℕ) → taken_from v b.loops.items i ≡ gate (on v P.run) (to_member (P.first_member + i) (goes_of (answer (back_of v P) (words v P.args.items) t)))
+  pub loops : (v : Val) → Wired new v → (i : ℕ) → taken_from v b.loops.items i ≡ gate (on v P.run) (to_member ((program_of c).unit f + i) (goes_of (answer_at c f v P)))

@@ -44,6 +44,11 @@ abbrev pub Between : ℕ → ℕ → List ℕ → Type 0
 Between low high [] = Unit {0}
 Between low high (k ∷ ks) = (low ≤ k) × (k < high) × Between low high ks
 
+-- each number is that of a function in the owner's group
+abbrev pub Mates : Owner → List ℕ → Type 0
+Mates F [] = Unit {0}
+Mates F (h ∷ hs) = (h < F.program.functions) × (F.program.unit h ≡ F.program.unit F.function) × Mates F hs
+
 -- a call has a bit, and arguments of its callee's widths
 pub record WantFits (F : Owner) (n : Netlist) (e : Want) : Type 0 where
   pub bit : IsSource n e.want 1

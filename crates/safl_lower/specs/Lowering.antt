@@ -1,13 +1,13 @@
 -- What the circuit of a term gives, under each valuation that the net allows.
 use Rattle.std.specs.Prelude.{◌≡◌, ◌≢◌, ℕ, ◌+◌, ◌-◌, ◌*◌, ◌<◌, ◌≤◌, List, [], ◌∷◌, ◌++◌, map, length, Option, Some, None, Bool, false, not, ◌&&◌, slice_get}
-use Rattle.safl_word.specs.Words.{Word, max_width}
+use Rattle.safl_word.specs.Words.{Word}
 use Rattle.safl_term.specs.Terms.{Term, Terms}
 use Rattle.safl_term.specs.Readiness.{Answer, Ready, LoopTo, NotYet, word_of, or_else, answer, answers, wanted, wanted_in}
 use Rattle.safl_net.specs.declared.cell.Sig.{Sig}
 use Rattle.safl_net.specs.Netlist.{Netlist}
 use Rattle.safl_net.specs.Growth.{Val, words, Wired, Grows}
 use Rattle.safl_lower.specs.declared.parts.SitePorts.{SitePorts}
-use Rattle.safl_lower.specs.declared.parts.Ports.{Ports}
+use Rattle.safl_lower.specs.declared.parts.SiteTable.{SiteTable}
 use Rattle.safl_lower.specs.declared.parts.Readiness.TheVariants.{Never, When}
 use Rattle.safl_lower.specs.declared.parts.Lowered.{Lowered}
 use Rattle.safl_lower.specs.declared.parts.LoweredAll.{LoweredAll}
@@ -18,20 +18,20 @@ use Rattle.safl_net.specs.Bits.{on, gate}
 use Rattle.safl_lower.specs.Bits.{is_ready, ReadyAt}
 use Rattle.safl_term.specs.Sizes.{nodes, nodes_in}
 use Rattle.safl_lower.specs.Typing.{Owner, Typed, TypedAll, sites_of, sites_in, tails_of}
-use Rattle.safl_lower.specs.Entries.{asked, went, Told, site_of, member_of, Between, OutFits, cost}
+use Rattle.safl_lower.specs.Entries.{asked, went, Told, site_of, member_of, Mates, OutFits, cost}
 use Rattle.safl_gates.specs.Sources.{IsSource, AreSources, HasRoom}
 use Rattle.safl_net.specs.Settled.{Settles}
 
 -- the ports of a site
-abbrev pub port_of : Ports → ℕ → Option SitePorts
-port_of P k = slice_get P.sites.items (k - P.first_site)
+abbrev pub port_of : SiteTable → ℕ → Option SitePorts
+port_of P k = slice_get P.ports.items (k - P.first)
 
 -- the word of a site, where it has returned
 abbrev pub returned_word : Val → Option SitePorts → Option Word
 returned_word v None = None
 returned_word v (Some p) = gate (on v p.returned) (Some (v p.value.0))
 
-abbrev pub back_of : Val → Ports → ℕ → Option Word
+abbrev pub back_of : Val → SiteTable → ℕ → Option Word
 back_of v P k = returned_word v (port_of P k)
 
 -- the site's call was sent
@@ -39,11 +39,11 @@ abbrev pub was_sent : Val → Option SitePorts → Bool
 was_sent v None = false
 was_sent v (Some p) = on v p.sent
 
-abbrev pub sent_of : Val → Ports → ℕ → Bool
+abbrev pub sent_of : Val → SiteTable → ℕ → Bool
 sent_of v P k = was_sent v (port_of P k)
 
 -- the path is there, and the site's call wasn't sent
-abbrev pub open_at : Val → Ports → Sig → ℕ → Bool
+abbrev pub open_at : Val → SiteTable → Sig → ℕ → Bool
 open_at v P path k = on v path && not (sent_of v P k)
 
 -- a term's word and a list's words, where they are ready
@@ -68,26 +68,24 @@ pub record Sited (n : Netlist) (p : SitePorts) (w : ℕ) : Type 0 where
   pub value : IsSource n p.value w
 
 -- site k has ports
-pub record HasPorts (n : Netlist) (P : Ports) (k : ℕ) : Type 0 where
-  pub from : P.first_site ≤ k
+pub record HasPorts (n : Netlist) (P : SiteTable) (k : ℕ) : Type 0 where
+  pub from : P.first ≤ k
   pub port : SitePorts
   pub at : port_of P k ≡ Some port
   pub sent : IsSource n port.sent 1
 
 -- the path is a bit, the slots have their widths, the ports are those of the owner's sites, each of its callee's
--- width, and the group's members are the functions of the owner's unit, which have one width
-pub record Setting (n : Netlist) (F : Owner) (P : Ports) (slots : List Sig) (env : List ℕ) (path : Sig) : Type 0 where
+-- width, and the functions of the owner's unit have one width
+pub record Setting (n : Netlist) (F : Owner) (P : SiteTable) (slots : List Sig) (env : List ℕ) (path : Sig) : Type 0 where
   pub path_bit : IsSource n path 1
   pub slots_sized : AreSources n slots env
-  pub first : P.first_site ≡ F.first
-  pub last : P.first_site + length P.sites.items ≡ F.last
-  pub sites_sized : (i : ℕ) (p : SitePorts) → slice_get P.sites.items i ≡ Some p → Sited n p (F.program.result (F.program.callee (P.first_site + i)))
-  pub members : (h : ℕ) → h < F.program.functions → F.program.unit h ≡ F.program.unit F.function → (P.first_member ≤ h) × (h < P.first_member + P.members) × (F.program.result h ≡ P.width)
-  pub some : 1 ≤ P.width
-  pub most : P.width ≤ max_width
+  pub first : P.first ≡ F.first
+  pub last : P.first + length P.ports.items ≡ F.last
+  pub sites_sized : (i : ℕ) (p : SitePorts) → slice_get P.ports.items i ≡ Some p → Sited n p (F.program.result (F.program.callee (P.first + i)))
+  pub one_width : (h : ℕ) → h < F.program.functions → F.program.unit h ≡ F.program.unit F.function → F.program.result h ≡ F.program.result F.function
 
 -- a term that stands in an owner's body, in a net with room for its circuit
-pub record Lowerable (n : Netlist) (P : Ports) (slots : List Sig) (path : Sig) (t : Term) : Type 0 where
+pub record Lowerable (n : Netlist) (P : SiteTable) (slots : List Sig) (path : Sig) (t : Term) : Type 0 where
   pub owner : Owner
   pub tail : Bool
   pub env : List ℕ
@@ -96,7 +94,7 @@ pub record Lowerable (n : Netlist) (P : Ports) (slots : List Sig) (path : Sig) (
   pub typed : Typed owner tail env t width
   pub room : HasRoom n (31 * nodes t)
 
-pub record LowerableAll (n : Netlist) (P : Ports) (slots : List Sig) (path : Sig) (ts : Terms) : Type 0 where
+pub record LowerableAll (n : Netlist) (P : SiteTable) (slots : List Sig) (path : Sig) (ts : Terms) : Type 0 where
   pub owner : Owner
   pub env : List ℕ
   pub widths : List ℕ
@@ -116,14 +114,14 @@ pub record ShapedAll (n : Netlist) (r : LoweredAll) (ws : List ℕ) : Type 0 whe
   pub widths : AreSources n r.values.items ws
 
 -- the circuit of a term, with the calls and tail calls before and after it
-pub record Lowers (P : Ports) (slots : List Sig) (path : Sig) (old new : Netlist) (o p : Out) (r : Lowered) (t : Term) : Type 0 where
+pub record Lowers (P : SiteTable) (slots : List Sig) (path : Sig) (old new : Netlist) (o p : Out) (r : Lowered) (t : Term) : Type 0 where
   pub grows : Grows old new
   pub settles : Settles old new
   pub count : length new.signals + 4 ≤ length old.signals + 31 * nodes t
   pub shape : (F : Owner) (tail : Bool) (env : List ℕ) (w : ℕ) → Setting old F P slots env path → Typed F tail env t w → Shaped new r w
   -- outside tail position it may be ready, and a term that never is has the width of its group's results
   pub ever : (F : Owner) (env : List ℕ) (w : ℕ) → Typed F false env t w → r.ready ≢ Never
-  pub wide : (F : Owner) (tail : Bool) (env : List ℕ) (w : ℕ) → Setting old F P slots env path → Typed F tail env t w → r.ready ≡ Never → w ≡ P.width
+  pub wide : (F : Owner) (tail : Bool) (env : List ℕ) (w : ℕ) → Setting old F P slots env path → Typed F tail env t w → r.ready ≡ Never → w ≡ F.program.result F.function
   -- it is ready where the term is, with the term's word
   pub value : (v : Val) → Wired new v → shown v r ≡ word_of (answer (back_of v P) (words v slots) t)
   -- each site that wasn't sent is wanted where the term has its path and wants it, with the same words
@@ -136,14 +134,15 @@ pub record Lowers (P : Ports) (slots : List Sig) (path : Sig) (old new : Netlist
   -- outside tail position no tail call stands
   pub quiet : (F : Owner) (env : List ℕ) (w : ℕ) → Typed F false env t w → p.loops.items ≡ o.loops.items
   pub cheap : (F : Owner) (tail : Bool) (env : List ℕ) (w : ℕ) → Typed F tail env t w → cost p.loops.items ≤ cost o.loops.items + nodes t
-  pub within : (F : Owner) (tail : Bool) (env : List ℕ) (w : ℕ) → Setting old F P slots env path → Typed F tail env t w → Between P.first_member (P.first_member + P.members) (map member_of o.loops.items) → Between P.first_member (P.first_member + P.members) (map member_of p.loops.items)
+  -- each tail call goes to a member of the owner's group
+  pub within : (F : Owner) (tail : Bool) (env : List ℕ) (w : ℕ) → Setting old F P slots env path → Typed F tail env t w → Mates F (map member_of o.loops.items) → Mates F (map member_of p.loops.items)
   pub more : List TailCall
   pub loops_more : p.loops.items ≡ o.loops.items ++ more
   -- every tail call that is made is the term's
   pub told : (F : Owner) (tail : Bool) (env : List ℕ) (w : ℕ) → Typed F tail env t w → (v : Val) → Wired new v → Told v more (gate (on v path) (goes_of (answer (back_of v P) (words v slots) t)))
 
 -- the circuits of a list of terms, all with the same path
-pub record LowersAll (P : Ports) (slots : List Sig) (path : Sig) (old new : Netlist) (o p : Out) (r : LoweredAll) (ts : Terms) : Type 0 where
+pub record LowersAll (P : SiteTable) (slots : List Sig) (path : Sig) (old new : Netlist) (o p : Out) (r : LoweredAll) (ts : Terms) : Type 0 where
   pub grows : Grows old new
   pub settles : Settles old new
   pub count : length new.signals ≤ length old.signals + 31 * nodes_in ts
@@ -163,7 +162,7 @@ pub record LowersAll (P : Ports) (slots : List Sig) (path : Sig) (old new : Netl
 -- ---- a call and a tail call
 
 -- what the ports of a call show
-pub record Shows (P : Ports) (k : ℕ) (r : Lowered) : Type 0 where
+pub record Shows (P : SiteTable) (k : ℕ) (r : Lowered) : Type 0 where
   pub port : SitePorts
   pub at : port_of P k ≡ Some port
   pub is : r ≡ record { ready = When port.returned; value = port.value }

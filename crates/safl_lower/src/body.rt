@@ -2,7 +2,6 @@
 
 ghost use Rattle.std.specs.Prelude.{◌≡◌, ℕ, ◌<◌, ◌≤◌, [], ◌∷◌, IfOk};
 ghost use Rattle.safl_term.specs.Checked.{program_of};
-ghost use Rattle.safl_term.specs.Tree.{shown_term};
 ghost use Rattle.safl_word.specs.Words.{max_width};
 ghost use Rattle.safl_net.specs.Names.{IsTidy};
 ghost use Rattle.safl_net.specs.Growth.{Val, Wired, Grows};
@@ -10,18 +9,19 @@ ghost use Rattle.safl_net.specs.Bits.{on, gate};
 ghost use Rattle.safl_gates.specs.Sources.{IsSource, Builds, HasRoom};
 ghost use Rattle.safl_gates.specs.Tables.{taken, one_word, LoadFits};
 ghost use Rattle.safl_lower.specs.Bits.{ReadyAt};
-ghost use Rattle.safl_lower.specs.Bodies.{CanLower, Bodies};
+ghost use Rattle.safl_lower.specs.Bodies.{CanLower, IsLowered};
 ghost use Rattle.safl_lower.specs.Lowering.{shown, Shaped};
 
+use crate::group::group_end;
 use crate::merge::merge;
-use crate::parts::{Body, Lowered, Out, Ports, Readiness};
+use crate::parts::{Body, Lowered, Out, Ports, Readiness, SiteTable};
 use crate::ready::and_ready;
 use crate::spread::spread;
 use crate::terms::lower_term;
 use safl_gates::gates::{constant, zero};
 use safl_gates::loads::Load;
 use safl_net::{Net, Sig};
-use safl_term::{Checked, Term};
+use safl_term::Checked;
 use safl_word::{NoMemory, Word};
 use std::alloc::{AllocError, Global};
 
@@ -33,44 +33,35 @@ pub fn lower(
     c: &Checked,
     f: u32,
     net: &mut Net,
-    ports: &Ports,
+    ports: Ports,
 ) -> Result<Body, NoMemory>
     requires function { f < (program_of c.now).functions }
     requires tidy { IsTidy net.old }
-    requires able { CanLower net.old ports.now ((program_of c.now).body f) }
+    requires able { CanLower c.now f net.old ports }
     ensures tidy { IsTidy net.new }
     ensures kept { Grows net.old net.new }
-    ensures done { IfOk result (λ b. Bodies ports.now net.old net.new b ((program_of c.now).body f)) }
+    ensures done { IfOk result (λ b. IsLowered c.now f ports net.old net.new b) }
 {
-    lower_body(alloc, net, ports, c.body(f))
-}
-
-/// The circuit of a term that is a whole body.
-pub fn lower_body(
-    alloc: Global,
-    net: &mut Net,
-    ports: &Ports,
-    body: &Term,
-) -> Result<Body, NoMemory>
-    requires tidy { IsTidy net.old }
-    requires able { CanLower net.old ports.now (shown_term body.now) }
-    ensures tidy { IsTidy net.new }
-    ensures kept { Grows net.old net.new }
-    ensures done { IfOk result (λ b. Bodies ports.now net.old net.new b (shown_term body.now)) }
-{
-    let mut slots = Vec::from_slice(alloc, &ports.args)?;
+    let Ports { run, args, sites } = ports;
+    let table = SiteTable {
+        first: c.first_site(f),
+        ports: sites,
+    };
+    let mut slots = args;
     let mut out = Out {
         wants: Vec::new(alloc),
         loops: Vec::new(alloc),
     };
-    let lowered = lower_term(alloc, net, &mut out, &mut slots, ports, ports.run, body)?;
-    let ending = end(alloc, net, ports.run, ports.width, lowered)?;
+    let lowered = lower_term(alloc, net, &mut out, &mut slots, &table, run, c.body(f))?;
+    let ending = end(alloc, net, run, c.width(f), lowered)?;
     let Out { wants, loops } = out;
-    let sites = spread(alloc, ports.first_site, ports.sites.len(), wants)?;
-    let tails = merge(alloc, net, ports.first_member, ports.members, &loops)?;
+    let calls = spread(alloc, table.first, table.ports.len(), wants)?;
+    let first_member = c.unit(f);
+    let members = group_end(c, f) - first_member;
+    let tails = merge(alloc, net, first_member, members, &loops)?;
     Ok(Body {
         end: ending,
-        wants: sites,
+        wants: calls,
         loops: tails,
     })
 }

@@ -13,7 +13,7 @@ ghost use Rattle.safl_lower.specs.Lowering.{open_at, shown, gathered, goes_with,
 ghost use Rattle.safl_gates.specs.Sources.{IsSource, Builds, HasRoom};
 
 use crate::holding::holds_calls;
-use crate::parts::{Lowered, LoweredAll, Out, Ports, Readiness, TailCall, Want};
+use crate::parts::{Lowered, LoweredAll, Out, Readiness, SiteTable, TailCall, Want};
 use crate::ready::{and_ready, both_ready, either_ready};
 use safl_gates::gates::{and_not, both, inverse, mux};
 use safl_net::{Net, Sig};
@@ -132,7 +132,7 @@ fn choose_value(net: &mut Net, c: Sig, yes: Lowered, no: Lowered) -> Result<Sig,
 pub fn ask(
     net: &mut Net,
     out: &mut Out,
-    ports: &Ports,
+    sites: &SiteTable,
     path: Sig,
     site: u32,
     all: LoweredAll,
@@ -140,16 +140,16 @@ pub fn ask(
     requires tidy { IsTidy net.old }
     requires path { IsSource net.old path 1 }
     requires all { ReadyAt net.old all.ready }
-    requires site { HasPorts net.old ports.now site }
+    requires site { HasPorts net.old sites.now site }
     requires room { HasRoom net.old 3 }
     ensures tidy { IsTidy net.new }
     ensures built { Builds net.old net.new 3 }
-    ensures given { IfOk result (λ r. Shows ports.now site r) }
+    ensures given { IfOk result (λ r. Shows sites.now site r) }
     ensures entry { IfOk result (λ _. Enters net.new out.old.wants.items out.new.wants.items site all) }
     ensures loops { OnOk result (out.new.loops.items ≡ out.old.loops.items) }
-    ensures wants { IfOk result (λ r. (v : Val) → Wired net.new v → (j : ℕ) → asked v out.new.wants.items j ≡ or_else (asked v out.old.wants.items j) (gate (site == j) (gate (open_at v ports.now path site) (gathered v all)))) }
+    ensures wants { IfOk result (λ r. (v : Val) → Wired net.new v → (j : ℕ) → asked v out.new.wants.items j ≡ or_else (asked v out.old.wants.items j) (gate (site == j) (gate (open_at v sites.now path site) (gathered v all)))) }
 {
-    let port = ports.sites[(site - ports.first_site) as usize];
+    let port = sites.ports[(site - sites.first) as usize];
     let unsent = inverse(net, port.sent)?;
     let free = both(net, path, unsent)?;
     let want = and_ready(net, free, all.ready)?;

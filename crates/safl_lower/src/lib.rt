@@ -2,6 +2,7 @@
 #![tactic(auto)]
 
 mod body;
+mod group;
 mod holding;
 mod joins;
 mod merge;

@@ -12,18 +12,20 @@ pub struct SitePorts {
     pub value: Sig,
 }
 
-/// The ports of a body, which runs where `run` is 1, with its parameters on `args`. Its sites are as many as `sites`,
-/// numbered from `first_site`; its function's group has `members` members, numbered from `first_member`, whose results
-/// have `width` bits.
+/// The ports of a body: it runs where `run` is 1, has its parameters on `args`, and finds what its own sites show on
+/// `sites`, by rising number.
 #[derive(Drop)]
 pub struct Ports {
     pub run: Sig,
     pub args: Vec<Sig>,
     pub sites: Vec<SitePorts>,
-    pub first_site: u32,
-    pub members: u32,
-    pub first_member: u32,
-    pub width: u8,
+}
+
+/// The ports of a body's sites, which are numbered from `first` on.
+#[derive(Drop)]
+pub struct SiteTable {
+    pub first: u32,
+    pub ports: Vec<SitePorts>,
 }
 
 /// The circuit of a body, as loads: words that are taken where a bit is 1.

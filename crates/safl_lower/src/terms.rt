@@ -7,7 +7,7 @@ ghost use Rattle.safl_net.specs.Growth.{Grows};
 ghost use Rattle.safl_lower.specs.Lowering.{Lowerable, LowerableAll, Lowers, LowersAll};
 
 use crate::joins::{ask, body_path, branch_paths, choose, go_on};
-use crate::parts::{Lowered, LoweredAll, Out, Ports, Readiness};
+use crate::parts::{Lowered, LoweredAll, Out, Readiness, SiteTable};
 use crate::primitives::apply;
 use crate::ready::both_ready;
 use safl_gates::gates::constant;
@@ -23,16 +23,16 @@ pub fn lower_term(
     net: &mut Net,
     out: &mut Out,
     slots: &mut Vec<Sig>,
-    ports: &Ports,
+    sites: &SiteTable,
     path: Sig,
     t: &Term,
 ) -> Result<Lowered, NoMemory>
     requires tidy { IsTidy net.old }
-    requires able { Lowerable net.old ports.now slots.old.items path (shown_term t.now) }
+    requires able { Lowerable net.old sites.now slots.old.items path (shown_term t.now) }
     ensures tidy { IsTidy net.new }
     ensures kept { Grows net.old net.new }
     ensures slots { OnOk result (slots.new.items ≡ slots.old.items) }
-    ensures done { IfOk result (λ r. Lowers ports.now slots.old.items path net.old net.new out.old out.new r (shown_term t.now)) }
+    ensures done { IfOk result (λ r. Lowers sites.now slots.old.items path net.old net.new out.old out.new r (shown_term t.now)) }
 {
     match t {
         Term::Const(w) => {
@@ -47,18 +47,18 @@ pub fn lower_term(
             value: slots[*i as usize],
         }),
         Term::If(c, a, b) => {
-            let test = lower_term(alloc, net, out, slots, ports, path, c)?;
+            let test = lower_term(alloc, net, out, slots, sites, path, c)?;
             let paths = branch_paths(net, path, test, a, b)?;
-            let yes = lower_term(alloc, net, out, slots, ports, paths.yes, a)?;
-            let no = lower_term(alloc, net, out, slots, ports, paths.no, b)?;
+            let yes = lower_term(alloc, net, out, slots, sites, paths.yes, a)?;
+            let no = lower_term(alloc, net, out, slots, sites, paths.no, b)?;
             choose(net, test, yes, no)
         }
         Term::Let(_, ts, b) => {
-            let bound = lower_all(alloc, net, out, slots, ports, path, ts)?;
+            let bound = lower_all(alloc, net, out, slots, sites, path, ts)?;
             let inner = body_path(net, path, bound.ready, b)?;
             let depth = slots.len();
             slots.extend_from_slice(&bound.values)?;
-            let body = lower_term(alloc, net, out, slots, ports, inner, b)?;
+            let body = lower_term(alloc, net, out, slots, sites, inner, b)?;
             slots.truncate(depth);
             let ready = both_ready(net, bound.ready, body.ready)?;
             Ok(Lowered {
@@ -67,7 +67,7 @@ pub fn lower_term(
             })
         }
         Term::Op(p, ts) => {
-            let all = lower_all(alloc, net, out, slots, ports, path, ts)?;
+            let all = lower_all(alloc, net, out, slots, sites, path, ts)?;
             let value = apply(net, *p, &all.values)?;
             Ok(Lowered {
                 ready: all.ready,
@@ -75,11 +75,11 @@ pub fn lower_term(
             })
         }
         Term::Call(_, k, ts) => {
-            let all = lower_all(alloc, net, out, slots, ports, path, ts)?;
-            ask(net, out, ports, path, *k, all)
+            let all = lower_all(alloc, net, out, slots, sites, path, ts)?;
+            ask(net, out, sites, path, *k, all)
         }
         Term::Loop(h, ts) => {
-            let all = lower_all(alloc, net, out, slots, ports, path, ts)?;
+            let all = lower_all(alloc, net, out, slots, sites, path, ts)?;
             go_on(net, out, path, *h, all)
         }
     }
@@ -92,21 +92,21 @@ fn lower_all(
     net: &mut Net,
     out: &mut Out,
     slots: &mut Vec<Sig>,
-    ports: &Ports,
+    sites: &SiteTable,
     path: Sig,
     ts: &[Term],
 ) -> Result<LoweredAll, NoMemory>
     requires tidy { IsTidy net.old }
-    requires able { LowerableAll net.old ports.now slots.old.items path (shown_terms ts.now) }
+    requires able { LowerableAll net.old sites.now slots.old.items path (shown_terms ts.now) }
     ensures tidy { IsTidy net.new }
     ensures kept { Grows net.old net.new }
     ensures slots { OnOk result (slots.new.items ≡ slots.old.items) }
-    ensures done { IfOk result (λ r. LowersAll ports.now slots.old.items path net.old net.new out.old out.new r (shown_terms ts.now)) }
+    ensures done { IfOk result (λ r. LowersAll sites.now slots.old.items path net.old net.new out.old out.new r (shown_terms ts.now)) }
 {
     let mut values = Vec::new(alloc);
     let mut ready = Readiness::Always;
     for t in ts {
-        let one = lower_term(alloc, net, out, slots, ports, path, t)?;
+        let one = lower_term(alloc, net, out, slots, sites, path, t)?;
         ready = both_ready(net, ready, one.ready)?;
         values.push(one.value)?;
     }

@@ -14,7 +14,7 @@ use Rattle.safl_lower.specs.Loads.{load_cost, loads_cost}
 use Rattle.safl_unit.specs.Stages.{body_nodes}
 use Rattle.safl_unit.specs.Outcomes.{PushesLoads, maybe_load}
 use Rattle.safl_unit.proofs.Options.{first_is}
-use Rattle.safl_unit.proofs.Lowered.{side}
+use Rattle.safl_lower.proofs.FromProgram.{side}
 
 -- ---- counts
 

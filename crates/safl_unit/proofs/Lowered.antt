@@ -1,5 +1,5 @@
 -- The circuit of a body shows what the equations say.
-use Rattle.std.proofs.Common.{◌≡◌, ℕ, zero, suc, ◌+◌, ◌-◌, ◌*◌, ◌<◌, ◌≤◌, List, Option, Some, None, Result, Ok, Err, IfOk, OnOk, Bool, true, false, not, cond, ◌&&◌, nat_le, ◌⊎◌, inl, inr, ⊎_elim, slice_get, refl, sym, ap, subst, ◌∙◌, arith}
+use Rattle.std.proofs.Common.{◌≡◌, ℕ, zero, suc, ◌+◌, ◌-◌, ◌*◌, ◌<◌, ◌≤◌, List, Option, Some, None, Result, Ok, Err, IfOk, OnOk, Bool, true, false, not, cond, ◌&&◌, nat_le, ⊎_elim, slice_get, refl, sym, ap, subst, ◌∙◌, arith}
 use Rattle.std.proofs.lemmas.Bool.{eq-eqb, le-leb}
 use Rattle.std.proofs.lemmas.Option.{slice_get_within}
 use Rattle.safl_word.specs.Words.{Word}
@@ -14,34 +14,27 @@ use Rattle.safl_term.proofs.Order.{stands_within}
 use Rattle.safl_calls.proofs.Locality.{answer_local, wanted_local}
 use Rattle.safl_net.specs.Netlist.{Netlist}
 use Rattle.safl_net.specs.Growth.{Val, words, Wired}
-use Rattle.safl_lower.specs.declared.parts.SitePorts.{SitePorts}
 use Rattle.safl_lower.specs.declared.parts.Ports.{Ports}
 use Rattle.safl_lower.specs.declared.parts.Body.{Body}
 use Rattle.safl_net.specs.Bits.{on, gate}
 use Rattle.safl_lower.specs.Loads.{to_member}
 use Rattle.safl_term.specs.Sizes.{nodes}
-use Rattle.safl_lower.specs.Typing.{Owner}
-use Rattle.safl_lower.specs.Lowering.{back_of, sent_of, port_of, returned_word, was_sent, goes_of, Setting}
-use Rattle.safl_lower.specs.Bodies.{IsBody, CanLower, Bodies}
-use Rattle.safl_lower.proofs.FromProgram.{one_width}
-use Rattle.safl_circuit.specs.Equations.{Registers, Choice, on_wires, path, body_says, body_wants, end_word, goes_to, loop_from}
+use Rattle.safl_lower.specs.Lowering.{returned_word, was_sent, goes_of}
+use Rattle.safl_lower.specs.Bodies.{CanLower, IsLowered, back_at, sent_at, answer_at, wanted_at}
+use Rattle.safl_lower.proofs.FromProgram.{side}
+use Rattle.safl_circuit.specs.Equations.{Registers, Choice, on_wires, path, body_says, body_wants, end_word, goes_to}
 use Rattle.safl_gates.specs.Sources.{IsSource, AreSources, Builds, HasRoom}
-use Rattle.safl_gates.specs.Tables.{load_in, one_word, FitsIn, LoadFits}
+use Rattle.safl_gates.specs.Tables.{one_word}
 use Rattle.safl_gates.proofs.Building.{builds_on, builds_within, sources_kept}
 use Rattle.safl_unit.specs.declared.parts.Returns.{Returns}
 use Rattle.safl_unit.specs.declared.parts.MemberPins.{MemberPins}
 use Rattle.safl_unit.specs.declared.parts.Pins.{Pins}
 use Rattle.safl_unit.specs.Cycles.{PinsFit, InEachCycle}
-use Rattle.safl_unit.specs.Stages.{PortFits, ReturnsFit, ReturnsShow, HasReturns}
-use Rattle.safl_unit.specs.Outcomes.{ArePorts, BodyHasWidths, BodyShows, HasBody}
+use Rattle.safl_unit.specs.Stages.{ReturnsFit, ReturnsShow, HasReturns}
+use Rattle.safl_unit.specs.Outcomes.{AreOwnPorts, BodyShows, HasBody}
 use Rattle.safl_unit.proofs.Keeping.{returns_kept, cycle_before}
 
 -- ---- the sites of a body
-
-pub side : (k m : ℕ) → (k < m) ⊎ (m ≤ k)
-side k zero = inr (omega arith)
-side zero (suc m) = inl (omega arith)
-side (suc k) (suc m) = ⊎_elim (λ l. inl (omega (arith, l))) (λ l. inr (omega (arith, l))) (side k m)
 
 mutual
   -- each site of a body's interval stands in it
@@ -100,18 +93,7 @@ gate_wants true false t o e = ap (λ b. cond b o None) (sym e)
 gate_wants false true t o e = refl
 gate_wants false false t o e = ap (λ (b : Bool). cond b None None) (sym e)
 
--- a function of a checked program, as the owner of its body
-abbrev pub owner : CheckedProgram → ℕ → Owner
-owner c f = record { program = program_of c; function = f; first = first_site_of c f; last = first_site_of c (suc f) }
-
 module _ (c : CheckedProgram) (h : IsChecked c) (f : ℕ) (l : f < (program_of c).functions) where
-  pub own_body : IsBody (owner c f) ((program_of c).params f) ((program_of c).body f) ((program_of c).result f)
-  own_body = record {
-    typed = record { low = first_site_of c f; high = first_site_of c (suc f); from = omega arith; upto = omega arith; spans = h.own_sites f l; width = h.formed.widths f l };
-    from = refl;
-    upto = refl;
-  }
-
   -- the numbers of its sites
   own_least : (k : ℕ) → first_site_of c f ≤ k → 0 < k
   own_least k a = let b = first_site_least c h f (omega (arith, l)) in omega (arith, a, b)
@@ -119,162 +101,120 @@ module _ (c : CheckedProgram) (h : IsChecked c) (f : ℕ) (l : f < (program_of c
   own_most : (k : ℕ) → k < first_site_of c (suc f) → k ≤ (program_of c).sites
   own_most k a = let b = first_site_most c h (suc f) (omega (arith, l)) in omega (arith, a, b)
 
-  module _ (s : Returns) (q : Ports) (ports : ArePorts c s.ports.items f q) where
-    port_fits : (n : Netlist) → ReturnsFit (program_of c) n s → (i : ℕ) (x : SitePorts) → slice_get q.sites.items i ≡ Some x → PortFits n x ((program_of c).result ((program_of c).callee (q.first_site + i)))
-    port_fits n fits i x e =
-        let m = slice_get_within q.sites.items i x e in
-        let a = ports.first in
-        let b = ports.last in
-        fits.port (q.first_site + i) x (own_least (q.first_site + i) (omega (arith, a))) (own_most (q.first_site + i) (omega (arith, b, m))) (sym (ports.sites i m) ∙ e)
-
-    pub body_setting : (n : Netlist) → ReturnsFit (program_of c) n s → IsSource n q.run 1 → AreSources n q.args.items ((program_of c).params f) → Setting n (owner c f) q q.args.items ((program_of c).params f) q.run
-    body_setting n fits bit sources = record {
-      path_bit = bit;
-      slots_sized = sources;
-      first = ports.first;
-      last = ports.last;
-      sites_sized = λ i x e. let k = port_fits n fits i x e in record { sent = k.sent; returned = k.returned; value = k.value };
-      members = λ g m e. let k = ports.members g m e in (k.0, k.1, one_width (program_of c) h.formed f g l m e ∙ sym ports.width);
-      some = let a = h.widths.results f l in let e = ports.width in omega (arith, a.0, e);
-      most = let a = h.widths.results f l in let e = ports.width in omega (arith, a.1, e);
+  module _ (s : Returns) (q : Ports) (ports : AreOwnPorts c s.ports.items f q.sites.items) where
+    pub can_lower : (n : Netlist) → ReturnsFit (program_of c) n s → IsSource n q.run 1 → AreSources n q.args.items ((program_of c).params f) → HasRoom n (32 * nodes ((program_of c).body f) + 32) → CanLower c f n q
+    can_lower n fits bit sources room = record {
+      run = bit;
+      args = sources;
+      count = ports.count;
+      sites = λ i x e.
+          let m = slice_get_within q.sites.items i x e in
+          let a = ports.count in
+          let k = fits.port (first_site_of c f + i) x (own_least (first_site_of c f + i) (omega arith)) (own_most (first_site_of c f + i) (omega (arith, a, m))) (sym (ports.same i m) ∙ e) in
+          record { sent = k.sent; returned = k.returned; value = k.value };
+      room = room;
     }
-
-    -- what the body gives has the right widths
-    pub body_widths : (n m : Netlist) (b : Body) → ReturnsFit (program_of c) n s → IsSource n q.run 1 → AreSources n q.args.items ((program_of c).params f) → Bodies q n m b ((program_of c).body f) → BodyHasWidths c m f b
-    body_widths n m b fits bit sources done =
-        let k = done.fits (owner c f) ((program_of c).params f) ((program_of c).result f) (body_setting n fits bit sources) own_body in
-        record {
-          end = k.end;
-          wants = λ i x e. subst (λ j. LoadFits m x ((program_of c).params ((program_of c).callee (j + i)))) ports.first (k.wants i x e);
-          loops = λ i. subst (λ j. FitsIn m (load_in (slice_get b.loops.items i)) ((program_of c).params (j + i))) ports.unit (k.loops i);
-        }
 
     -- what the ports show
     module _ (P : Choice) (v : Val) (r : Registers) (shows : ReturnsShow (program_of c) P s v r) where
-      port_is : (k : ℕ) → first_site_of c f ≤ k → k < first_site_of c (suc f) → port_of q k ≡ slice_get s.ports.items k
+      port_is : (k : ℕ) → first_site_of c f ≤ k → k < first_site_of c (suc f) → slice_get q.sites.items (k - first_site_of c f) ≡ slice_get s.ports.items k
       port_is k a b =
-          let x = ports.first in
-          let y = ports.last in
-          ports.sites (k - q.first_site) (omega (arith, a, b, x, y)) ∙ ap (λ j. slice_get s.ports.items j) (omega (arith, a, x))
+          let n = ports.count in
+          ports.same (k - first_site_of c f) (omega (arith, a, b, n)) ∙ ap (λ j. slice_get s.ports.items j) (omega (arith, a))
 
-      back_is : (k : ℕ) → first_site_of c f ≤ k → k < first_site_of c (suc f) → back_of v q k ≡ on_wires (program_of c) P r k
+      back_is : (k : ℕ) → first_site_of c f ≤ k → k < first_site_of c (suc f) → back_at v (first_site_of c f) q.sites.items k ≡ on_wires (program_of c) P r k
       back_is k a b = ap (returned_word v) (port_is k a b) ∙ shows.back k (own_least k a) (own_most k b)
 
-      sent_is : (k : ℕ) → first_site_of c f ≤ k → k < first_site_of c (suc f) → sent_of v q k ≡ r.sent k
+      sent_is : (k : ℕ) → first_site_of c f ≤ k → k < first_site_of c (suc f) → sent_at v (first_site_of c f) q.sites.items k ≡ r.sent k
       sent_is k a b = ap (was_sent v) (port_is k a b) ∙ shows.sent k (own_least k a) (own_most k b)
 
-      stands_is : (k : ℕ) → Stands k ((program_of c).body f) → back_of v q k ≡ on_wires (program_of c) P r k
+      stands_is : (k : ℕ) → Stands k ((program_of c).body f) → back_at v (first_site_of c f) q.sites.items k ≡ on_wires (program_of c) P r k
       stands_is k st = let w = stands_within (program_of c) f true (first_site_of c f) (first_site_of c (suc f)) ((program_of c).body f) k (h.own_sites f l) st in back_is k w.above w.below
 
       module _ (own : words v q.args.items ≡ r.arg f) where
-        answer_is : answer (back_of v q) (words v q.args.items) ((program_of c).body f) ≡ answer (on_wires (program_of c) P r) (r.arg f) ((program_of c).body f)
-        answer_is = ap (λ (e : List Word). answer (back_of v q) e ((program_of c).body f)) own ∙ answer_local (back_of v q) (on_wires (program_of c) P r) (r.arg f) ((program_of c).body f) stands_is
+        answer_is : answer_at c f v q ≡ answer (on_wires (program_of c) P r) (r.arg f) ((program_of c).body f)
+        answer_is = ap (λ (e : List Word). answer (back_at v (first_site_of c f) q.sites.items) e ((program_of c).body f)) own ∙ answer_local (back_at v (first_site_of c f) q.sites.items) (on_wires (program_of c) P r) (r.arg f) ((program_of c).body f) stands_is
 
-        wanted_is : (k : ℕ) → wanted (back_of v q) (words v q.args.items) ((program_of c).body f) k ≡ wanted (on_wires (program_of c) P r) (r.arg f) ((program_of c).body f) k
-        wanted_is k = ap (λ (e : List Word). wanted (back_of v q) e ((program_of c).body f) k) own ∙ wanted_local (back_of v q) (on_wires (program_of c) P r) (r.arg f) ((program_of c).body f) k stands_is
+        wanted_is : (k : ℕ) → wanted_at c f v q k ≡ wanted (on_wires (program_of c) P r) (r.arg f) ((program_of c).body f) k
+        wanted_is k = ap (λ (e : List Word). wanted (back_at v (first_site_of c f) q.sites.items) e ((program_of c).body f) k) own ∙ wanted_local (back_at v (first_site_of c f) q.sites.items) (on_wires (program_of c) P r) (r.arg f) ((program_of c).body f) k stands_is
 
         module _ (runs : on v q.run ≡ path (program_of c) r f) where
-          says_is : (g : Bool → Answer → Option (List Word)) → g (on v q.run) (answer (back_of v q) (words v q.args.items) ((program_of c).body f)) ≡ g (path (program_of c) r f) (answer (on_wires (program_of c) P r) (r.arg f) ((program_of c).body f))
-          says_is g = ap (λ b. g b (answer (back_of v q) (words v q.args.items) ((program_of c).body f))) runs ∙ ap (g (path (program_of c) r f)) answer_is
+          says_is : (g : Bool → Answer → Option (List Word)) → g (on v q.run) (answer_at c f v q) ≡ g (path (program_of c) r f) (answer (on_wires (program_of c) P r) (r.arg f) ((program_of c).body f))
+          says_is g = ap (λ b. g b (answer_at c f v q)) runs ∙ ap (g (path (program_of c) r f)) answer_is
 
-          ends_are : gate (on v q.run) (word_of (answer (back_of v q) (words v q.args.items) ((program_of c).body f))) ≡ end_word (program_of c) P r f
+          ends_are : gate (on v q.run) (word_of (answer_at c f v q)) ≡ end_word (program_of c) P r f
           unfolding body_says
           ends_are =
-              ap (λ b. gate b (word_of (answer (back_of v q) (words v q.args.items) ((program_of c).body f)))) runs
+              ap (λ b. gate b (word_of (answer_at c f v q))) runs
               ∙ ap (λ a. gate (path (program_of c) r f) (word_of a)) answer_is
               ∙ gate_says (path (program_of c) r f) (answer (on_wires (program_of c) P r) (r.arg f) ((program_of c).body f))
 
-          goes_are : (g : ℕ) → gate (on v q.run) (to_member g (goes_of (answer (back_of v q) (words v q.args.items) ((program_of c).body f)))) ≡ goes_to g (body_says (program_of c) P r f)
+          goes_are : (g : ℕ) → gate (on v q.run) (to_member g (goes_of (answer_at c f v q))) ≡ goes_to g (body_says (program_of c) P r f)
           unfolding body_says
           goes_are g =
               says_is (λ b a. gate b (to_member g (goes_of a)))
               ∙ gate_goes (path (program_of c) r f) g (answer (on_wires (program_of c) P r) (r.arg f) ((program_of c).body f))
 
           wants_are : (k : ℕ) → first_site_of c f ≤ k → k < first_site_of c (suc f)
-              → gate (on v q.run && not (sent_of v q k)) (wanted (back_of v q) (words v q.args.items) ((program_of c).body f) k) ≡ body_wants (program_of c) P r k
+              → gate (on v q.run && not (sent_at v (first_site_of c f) q.sites.items k)) (wanted_at c f v q k) ≡ body_wants (program_of c) P r k
           unfolding body_wants
           wants_are k a b =
               let own = spans_caller (program_of c) f true (first_site_of c f) (first_site_of c (suc f)) ((program_of c).body f) k (h.own_sites f l) a b in
               let m = own_most k b in
-              ap (λ x. gate (x && not (sent_of v q k)) (wanted (back_of v q) (words v q.args.items) ((program_of c).body f) k)) runs
-              ∙ ap (λ x. gate (path (program_of c) r f && not x) (wanted (back_of v q) (words v q.args.items) ((program_of c).body f) k)) (sent_is k a b)
+              ap (λ x. gate (x && not (sent_at v (first_site_of c f) q.sites.items k)) (wanted_at c f v q k)) runs
+              ∙ ap (λ x. gate (path (program_of c) r f && not x) (wanted_at c f v q k)) (sent_is k a b)
               ∙ ap (λ x. gate (path (program_of c) r f && not (r.sent k)) x) (wanted_is k)
               ∙ gate_wants (path (program_of c) r f) (r.sent k) (nat_le k (program_of c).sites) (wanted (on_wires (program_of c) P r) (r.arg f) ((program_of c).body f) k) (le-leb k (program_of c).sites m)
               ∙ ap (λ j. cond (not (r.sent k) && nat_le k (program_of c).sites) (cond (path (program_of c) r j) (wanted (on_wires (program_of c) P r) (r.arg j) ((program_of c).body j) k) None) None) (sym own)
 
           -- the body shows what the equations say
-          pub body_shows : (n m : Netlist) (b : Body) → Wired m v → Bodies q n m b ((program_of c).body f) → BodyShows c P f b v r
+          pub body_shows : (n m : Netlist) (b : Body) → Wired m v → IsLowered c f q n m b → BodyShows c P f b v r
           body_shows n m b w done = record {
             end = done.end v w ∙ ap one_word ends_are;
-            wants = λ i below.
-                let x = ports.first in
-                let y = ports.last in
-                let z = done.wants_size in
-                done.wants (owner c f) ((program_of c).params f) ((program_of c).result f) own_body v w i
-                ∙ wants_are (q.first_site + i) (omega (arith, x)) (omega (arith, y, z, below))
-                ∙ ap (λ j. body_wants (program_of c) P r (j + i)) x;
+            wants = λ i below. let z = done.count in done.wants v w i ∙ wants_are (first_site_of c f + i) (omega arith) (omega (arith, z, below));
             loops = λ i below.
-                let x = ports.unit in
-                let z = done.loops_size in
-                let same = ports.inside (q.first_member + i) (omega arith) (omega (arith, z, below)) in
-                done.loops (owner c f) ((program_of c).params f) ((program_of c).result f) own_body v w i
-                ∙ goes_are (q.first_member + i)
-                ∙ ap (λ t. cond t (goes_to (q.first_member + i) (body_says (program_of c) P r f)) None) (sym (eq-eqb ((program_of c).unit f) ((program_of c).unit (q.first_member + i)) (sym same)))
-                ∙ ap (λ j. loop_from (program_of c) P r (j + i) f) x;
+                let same = done.group.inside ((program_of c).unit f + i) (omega arith) (omega (arith, below)) in
+                done.loops v w i
+                ∙ goes_are ((program_of c).unit f + i)
+                ∙ ap (λ t. cond t (goes_to ((program_of c).unit f + i) (body_says (program_of c) P r f)) None) (sym (eq-eqb ((program_of c).unit f) ((program_of c).unit ((program_of c).unit f + i)) (sym same)));
           }
 
 -- ---- all that a body is
 
 module _ (c : CheckedProgram) (h : IsChecked c) (P : Choice) (f : ℕ) (l : f < (program_of c).functions) (n0 n1 : Netlist) (p : Pins) (s : Returns) (q : Ports) (m : MemberPins)
     (built : Builds n0 n1 1) (fits : PinsFit (program_of c) n0 p) (returns : HasReturns (program_of c) P n0 p s) (bit : IsSource n1 q.run 1) (runs : InEachCycle (program_of c) P n1 p (λ v r i. on v q.run ≡ path (program_of c) r f))
-    (ports : ArePorts c s.ports.items f q) (member : slice_get p.bank.members.items f ≡ Some m) (own : q.args.items ≡ m.args.items) where
+    (ports : AreOwnPorts c s.ports.items f q.sites.items) (member : slice_get p.bank.members.items f ≡ Some m) (own : q.args.items ≡ m.args.items) where
   returns_fit : ReturnsFit (program_of c) n1 s
   returns_fit = (returns_kept built returns).fits
 
   args_fit : AreSources n1 q.args.items ((program_of c).params f)
   args_fit = subst (λ xs. AreSources n1 xs ((program_of c).params f)) (sym own) (sources_kept built (fits.bank.members f m member).args)
 
-  pub body_able : HasRoom n0 (32 * nodes ((program_of c).body f) + 33) → CanLower n1 q ((program_of c).body f)
-  body_able room = record {
-    owner = owner c f;
-    env = (program_of c).params f;
-    width = (program_of c).result f;
-    setting = body_setting c h f l s q ports n1 returns_fit bit args_fit;
-    body = own_body c h f l;
-    room = let a = built.count in omega (arith, a, room);
-  }
+  pub body_able : HasRoom n0 (32 * nodes ((program_of c).body f) + 33) → CanLower c f n1 q
+  body_able room = can_lower c h f l s q ports n1 returns_fit bit args_fit (let a = built.count in omega (arith, a, room))
 
   module _ (n2 : Netlist) where
-    body_built : (b : Body) → Bodies q n1 n2 b ((program_of c).body f) → Builds n0 n2 (32 * nodes ((program_of c).body f) + 33)
+    body_built : (b : Body) → IsLowered c f q n1 n2 b → Builds n0 n2 (32 * nodes ((program_of c).body f) + 33)
     body_built b done =
         builds_within (32 * nodes ((program_of c).body f) + 33) (builds_on built done.built) (omega arith)
 
-    has_body : (b : Body) → Bodies q n1 n2 b ((program_of c).body f) → HasBody c P n2 p f b
-    has_body b done =
-        let k = done in
-        let w = k.wants_size in
-        let x = k.loops_size in
-        let first = ports.first in
-        let last = ports.last in
-        let unit = ports.unit in
-        let most = ports.within in
-        record {
-          wants_length = omega (arith, w, first, last);
-          within = omega (arith, x, unit, most);
-          members = λ g o e. let z = ports.members g o e in let z0 = z.0 in let z1 = z.1 in (omega (arith, z0, unit), omega (arith, z1, unit, x));
-          tails = k.tails (owner c f) ((program_of c).params f) ((program_of c).result f) (own_body c h f l);
-          fits = body_widths c h f l s q ports n1 n2 b returns_fit bit args_fit k;
-          shows = λ v r i y.
-              let y1 = cycle_before k.built y in
-              let y0 = cycle_before built y1 in
-              body_shows c h f l s q ports P v r (returns.shows v r i y0) (ap (words v) own ∙ (y0.bank.members f m member).arg) (runs v r i y1) n1 n2 b y.wired k;
-        }
+    has_body : (b : Body) → IsLowered c f q n1 n2 b → HasBody c P n2 p f b
+    has_body b done = record {
+      count = done.count;
+      group = done.group;
+      tails = done.tails;
+      fits = done.fits;
+      shows = λ v r i y.
+          let y1 = cycle_before done.built y in
+          let y0 = cycle_before built y1 in
+          body_shows c h f l s q ports P v r (returns.shows v r i y0) (ap (words v) own ∙ (y0.bank.members f m member).arg) (runs v r i y1) n1 n2 b y.wired done;
+    }
 
     -- the same of a result
-    pub all_built : {E : Type 0} (r : Result Body E) → IfOk r (λ b. Bodies q n1 n2 b ((program_of c).body f)) → OnOk r (Builds n0 n2 (32 * nodes ((program_of c).body f) + 33))
+    pub all_built : {E : Type 0} (r : Result Body E) → IfOk r (λ b. IsLowered c f q n1 n2 b) → OnOk r (Builds n0 n2 (32 * nodes ((program_of c).body f) + 33))
     all_built (Ok b) done = body_built b done
     all_built (Err e) done = tt
 
-    pub all_has : {E : Type 0} (r : Result Body E) → IfOk r (λ b. Bodies q n1 n2 b ((program_of c).body f)) → IfOk r (λ b. HasBody c P n2 p f b)
+    pub all_has : {E : Type 0} (r : Result Body E) → IfOk r (λ b. IsLowered c f q n1 n2 b) → IfOk r (λ b. HasBody c P n2 p f b)
     all_has (Ok b) done = has_body b done
     all_has (Err e) done = tt

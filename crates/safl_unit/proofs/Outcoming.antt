@@ -30,7 +30,8 @@ use Rattle.safl_unit.specs.Outcomes.{BodyShows, HasBody, PushesLoads}
 use Rattle.safl_unit.proofs.Keeping.{cycle_before}
 use Rattle.safl_unit.proofs.Tables.{each_none, each_push}
 use Rattle.safl_unit.proofs.Joins.{or_nothing, each_append, taken_maybe, rows_more}
-use Rattle.safl_unit.proofs.Lowered.{side, first_site_least}
+use Rattle.safl_lower.proofs.FromProgram.{side}
+use Rattle.safl_unit.proofs.Lowered.{first_site_least}
 
 -- what the bodies of the functions below f show
 pub record ShownUpTo (c : CheckedProgram) (P : Choice) (f : ℕ) (o : Gathered) (v : Val) (r : Registers) (i : Inputs) : Type 0 where
@@ -99,8 +100,8 @@ loops_more c P n p f b v r old new body shown joined h l e = at (side h ((progra
 
     at : (h < (program_of c).unit f) ⊎ ((program_of c).unit f ≤ h) → (h < (program_of c).unit f + length b.loops.items) ⊎ ((program_of c).unit f + length b.loops.items ≤ h)
         → first_at v new h ≡ or_else (first_at v old h) (loop_from (program_of c) P r h f)
-    at (inl x) o = outside (λ s. let k = body.members h l (sym s) in let y = k.0 in absurd (omega (arith, x, y))) (inl x)
-    at (inr x) (inr y) = outside (λ s. let k = body.members h l (sym s) in let z = k.1 in absurd (omega (arith, y, z))) (inr y)
+    at (inl x) o = outside (λ s. let k = body.group.members h l (sym s) in let y = k.0 in absurd (omega (arith, x, y))) (inl x)
+    at (inr x) (inr y) = outside (λ s. let k = body.group.members h l (sym s) in let z = k.1 in absurd (omega (arith, y, z))) (inr y)
     at (inr x) (inl y) =
         let j : (program_of c).unit f + (h - (program_of c).unit f) ≡ h = omega (arith, x) in
         let m : h - (program_of c).unit f < length b.loops.items = omega (arith, x, y) in
@@ -154,7 +155,7 @@ module _ (c : CheckedProgram) (h : IsChecked c) (P : Choice) (p : Pins) (f : ℕ
   more_outcomes = record {
     ends_length = ap length ended ∙ (let a = length-append o.ends.items (b.end ∷ []) in let d = old.ends_length in omega (arith, a, d));
     loops_length = counted ∙ old.loops_length;
-    wants_length = ap length wanted ∙ length-append o.wants.items b.wants.items ∙ ap (λ x. x + length b.wants.items) old.wants_length ∙ body.wants_length;
+    wants_length = ap length wanted ∙ length-append o.wants.items b.wants.items ∙ ap (λ x. x + length b.wants.items) old.wants_length ∙ body.count;
     ends = ends_fit;
     loops = rows_more n1 ((program_of c).unit f) b.loops.items o.rows.items q.rows.items (program_of c).params joined body.fits.loops
         (λ g. fit_kept built (row_at o.rows.items g) ((program_of c).params g) (old.loops g));

@@ -6,32 +6,20 @@ use Rattle.safl_term.specs.Sizes.{nodes}
 use Rattle.safl_net.specs.Netlist.{Netlist}
 use Rattle.safl_net.specs.Growth.{Val}
 use Rattle.safl_gates.specs.declared.loads.Load.{Load}
-use Rattle.safl_gates.specs.Tables.{load_in, taken, taken_at, taken_from, one_word, LoadFits, LoadsFit, SomeFit}
+use Rattle.safl_gates.specs.Tables.{load_in, taken, taken_at, taken_from, one_word}
 use Rattle.safl_gates.specs.Rows.{row_at}
 use Rattle.safl_lower.specs.declared.parts.SitePorts.{SitePorts}
-use Rattle.safl_lower.specs.declared.parts.Ports.{Ports}
 use Rattle.safl_lower.specs.declared.parts.Body.{Body}
 use Rattle.safl_lower.specs.Loads.{loads_cost}
+use Rattle.safl_lower.specs.Bodies.{IsGroup, BodyFits}
 use Rattle.safl_circuit.specs.Equations.{Registers, Choice, end_word, body_wants, loop_from}
 use Rattle.safl_unit.specs.declared.parts.Pins.{Pins}
 use Rattle.safl_unit.specs.Cycles.{InEachCycle}
 
--- the ports of f's body: those of its own sites, and the group of its function
-pub record ArePorts (c : CheckedProgram) (all : List SitePorts) (f : ℕ) (q : Ports) : Type 0 where
-  pub first : q.first_site ≡ first_site_of c f
-  pub last : q.first_site + length q.sites.items ≡ first_site_of c (suc f)
-  pub sites : (i : ℕ) → i < length q.sites.items → slice_get q.sites.items i ≡ slice_get all (q.first_site + i)
-  pub unit : q.first_member ≡ (program_of c).unit f
-  pub within : q.first_member + q.members ≤ (program_of c).functions
-  pub inside : (h : ℕ) → q.first_member ≤ h → h < q.first_member + q.members → (program_of c).unit h ≡ (program_of c).unit f
-  pub members : (h : ℕ) → h < (program_of c).functions → (program_of c).unit h ≡ (program_of c).unit f → (q.first_member ≤ h) × (h < q.first_member + q.members)
-  pub width : q.width ≡ (program_of c).result f
-
--- the end has the function's width, a site's arguments those of its callee, and a member's arguments those of the member
-pub record BodyHasWidths (c : CheckedProgram) (n : Netlist) (f : ℕ) (b : Body) : Type 0 where
-  pub end : LoadFits n b.end ((program_of c).result f ∷ [])
-  pub wants : LoadsFit n b.wants.items (λ i. (program_of c).params ((program_of c).callee (first_site_of c f + i)))
-  pub loops : SomeFit n b.loops.items (λ i. (program_of c).params ((program_of c).unit f + i))
+-- the ports of f's own sites
+pub record AreOwnPorts (c : CheckedProgram) (all : List SitePorts) (f : ℕ) (own : List SitePorts) : Type 0 where
+  pub count : first_site_of c f + length own ≡ first_site_of c (suc f)
+  pub same : (i : ℕ) → i < length own → slice_get own i ≡ slice_get all (first_site_of c f + i)
 
 -- the body ends, its own sites are wanted and it goes on as the equations say
 pub record BodyShows (c : CheckedProgram) (P : Choice) (f : ℕ) (b : Body) (v : Val) (r : Registers) : Type 0 where
@@ -41,11 +29,10 @@ pub record BodyShows (c : CheckedProgram) (P : Choice) (f : ℕ) (b : Body) (v :
 
 -- the circuit of f's body, with a load for each own site, and a place for each member of its group
 pub record HasBody (c : CheckedProgram) (P : Choice) (n : Netlist) (p : Pins) (f : ℕ) (b : Body) : Type 0 where
-  pub wants_length : first_site_of c f + length b.wants.items ≡ first_site_of c (suc f)
-  pub within : (program_of c).unit f + length b.loops.items ≤ (program_of c).functions
-  pub members : (h : ℕ) → h < (program_of c).functions → (program_of c).unit h ≡ (program_of c).unit f → ((program_of c).unit f ≤ h) × (h < (program_of c).unit f + length b.loops.items)
+  pub count : first_site_of c f + length b.wants.items ≡ first_site_of c (suc f)
+  pub group : IsGroup (program_of c) f (length b.loops.items)
   pub tails : loads_cost b.loops.items ≤ nodes ((program_of c).body f)
-  pub fits : BodyHasWidths c n f b
+  pub fits : BodyFits c f n b
   pub shows : InEachCycle (program_of c) P n p (λ v r i. BodyShows c P f b v r)
 
 -- a load alone, where it is there

@@ -12,7 +12,7 @@ ghost use Rattle.safl_lower.specs.Loads.{load_cost, loads_cost};
 ghost use Rattle.safl_circuit.specs.Equations.{Choice, path};
 ghost use Rattle.safl_unit.specs.Cycles.{choice_of, PinsFit, InEachCycle};
 ghost use Rattle.safl_unit.specs.Stages.{body_nodes, HasReturns, HasOutcomes};
-ghost use Rattle.safl_unit.specs.Outcomes.{ArePorts, HasBody, PushesLoads, maybe_load};
+ghost use Rattle.safl_unit.specs.Outcomes.{AreOwnPorts, HasBody, PushesLoads, maybe_load};
 
 use crate::arrivals::program;
 use crate::names::has_peers;
@@ -120,8 +120,8 @@ fn body_of(
     let c = program(p);
     let run = body_path(net, c, f, pins)?;
     let args = Vec::from_slice(alloc, &pins.bank.members[f as usize].args)?;
-    let ports = body_ports(alloc, c, f, run, args, &returns.ports)?;
-    lower(alloc, c, f, net, &ports)
+    let sites = own_ports(alloc, c, f, &returns.ports)?;
+    lower(alloc, c, f, net, Ports { run, args, sites })
 }
 
 // The bit that a function's body runs.
@@ -142,55 +142,22 @@ fn body_path(net: &mut Net, c: &Checked, f: u32, pins: &Pins) -> Result<Sig, NoM
     both(net, run, pins.bank.members[f as usize].at)
 }
 
-// The ports of a function's body.
-fn body_ports(
+// The ports of the sites in a function's body.
+fn own_ports(
     alloc: Global,
     c: &Checked,
     f: u32,
-    run: Sig,
-    args: Vec<Sig>,
     ports: &[SitePorts],
-) -> Result<Ports, AllocError>
+) -> Result<Vec<SitePorts>, AllocError>
+    requires checked { IsChecked c.now }
     requires function { f < (program_of c.now).functions }
     requires ports { length ports.now ≡ suc (program_of c.now).sites }
-    ensures run { IfOk result (λ q. q.run ≡ run) }
-    ensures operands { IfOk result (λ q. q.args.items ≡ args.items) }
-    ensures sites { IfOk result (λ q. ArePorts c.now ports.now f q) }
+    ensures { IfOk result (λ own. AreOwnPorts c.now ports.now f own.items) }
 {
-    let first_member = c.unit(f);
-    let members = group_end(c, f) - first_member;
-    let first_site = c.first_site(f);
-    let first = first_site as usize;
+    let first = c.first_site(f) as usize;
     let end = first + c.own_sites(f) as usize;
-    let sites = Vec::from_slice(alloc, &ports[first..end])?;
-    Ok(Ports {
-        run,
-        args,
-        sites,
-        first_site,
-        members,
-        first_member,
-        width: c.width(f),
-    })
-}
-
-// The number of the function after a function's group.
-fn group_end(c: &Checked, f: u32) -> u32
-    requires { f < (program_of c.now).functions }
-    ensures checked { IsChecked c.now }
-    ensures above { f < result }
-    ensures within { result ≤ (program_of c.now).functions }
-    ensures inside { (h : ℕ) → (program_of c.now).unit f ≤ h → h < result → (program_of c.now).unit h ≡ (program_of c.now).unit f }
-    ensures members { (h : ℕ) → h < (program_of c.now).functions → (program_of c.now).unit h ≡ (program_of c.now).unit f → ((program_of c.now).unit f ≤ h) × (h < result) }
-{
-    let functions = c.functions();
-    let unit = c.unit(f);
-    for g in f + 1..functions {
-        if c.unit(g) != unit {
-            return g;
-        }
-    }
-    functions
+    let own = Vec::from_slice(alloc, &ports[first..end])?;
+    Ok(own)
 }
 
 // Puts the tail calls of a body behind those of the bodies before it, for the members of its group.

@@ -18,14 +18,14 @@ use Rattle.safl_gates.proofs.Building.{source_grown, builds_on, builds_within}
 pub index-port-requires : goal.index-port-requires
 index-port-requires c =
     let s = c.requires.site in
-    let h = in_range c.args.ports.now.sites.items (c.args.site - c.args.ports.now.first_site) s.port s.at in
-    omega (arith, h, c.args.ports.now.sites.ok.0)
+    let h = in_range c.args.sites.now.ports.items (c.args.site - c.args.sites.now.first) s.port s.at in
+    omega (arith, h, c.args.sites.now.ports.ok.0)
 
 pub inverse-requires-clause-bit : goal.inverse-requires-clause-bit
 inverse-requires-clause-bit c =
     let s = c.requires.site in
-    let h = in_range c.args.ports.now.sites.items (c.args.site - c.args.ports.now.first_site) s.port s.at in
-    let at = slice_get_read c.args.ports.now.sites.items (length c.args.ports.now.sites.items) (c.args.site - c.args.ports.now.first_site) c.index-port.result.now refl h c.index-port.ensures in
+    let h = in_range c.args.sites.now.ports.items (c.args.site - c.args.sites.now.first) s.port s.at in
+    let at = slice_get_read c.args.sites.now.ports.items (length c.args.sites.now.ports.items) (c.args.site - c.args.sites.now.first) c.index-port.result.now refl h c.index-port.ensures in
     let same : s.port ≡ c.index-port.result.now = cc in
     subst (λ (p : SitePorts). IsSource c.args.net.now p.sent 1) same s.sent
 
@@ -38,20 +38,20 @@ and_ready-requires-clause-second c = ready_kept (grows_on c.inverse.ensures.buil
 pub returns-clause-given : goal.returns-clause-given
 returns-clause-given c =
     let s = c.requires.site in
-    let h = in_range c.args.ports.now.sites.items (c.args.site - c.args.ports.now.first_site) s.port s.at in
-    record { port = c.index-port.result.now; at = slice_get_read c.args.ports.now.sites.items (length c.args.ports.now.sites.items) (c.args.site - c.args.ports.now.first_site) c.index-port.result.now refl h c.index-port.ensures; is = refl }
+    let h = in_range c.args.sites.now.ports.items (c.args.site - c.args.sites.now.first) s.port s.at in
+    record { port = c.index-port.result.now; at = slice_get_read c.args.sites.now.ports.items (length c.args.sites.now.ports.items) (c.args.site - c.args.sites.now.first) c.index-port.result.now refl h c.index-port.ensures; is = refl }
 
 pub returns-clause-wants : goal.returns-clause-wants
 returns-clause-wants c = λ v w j.
     let s = c.requires.site in
-    let h = in_range c.args.ports.now.sites.items (c.args.site - c.args.ports.now.first_site) s.port s.at in
-    let at = slice_get_read c.args.ports.now.sites.items (length c.args.ports.now.sites.items) (c.args.site - c.args.ports.now.first_site) c.index-port.result.now refl h c.index-port.ensures in
+    let h = in_range c.args.sites.now.ports.items (c.args.site - c.args.sites.now.first) s.port s.at in
+    let at = slice_get_read c.args.sites.now.ports.items (length c.args.sites.now.ports.items) (c.args.site - c.args.sites.now.first) c.index-port.result.now refl h c.index-port.ensures in
     let e : Want = record { site = c.args.site; want = c.in_ok-want.want; args = c.args.all.values } in
     let u = wired_before c.and_ready.ensures.built.grows w in
     let t = wired_before c.both.ensures.built.grows u in
     ap (λ l. asked v l j) c.in_ok-push.ensures.items
     ∙ asked_end v c.args.out.now.wants.items e j
-    ∙ ap (or_else (asked v c.args.out.now.wants.items j)) (three_gates (c.args.site == j) (on v c.in_ok-want.want) (open_at v c.args.ports.now c.args.path c.args.site) (is_ready v c.args.all.ready) (Some (words v c.args.all.values.items))
+    ∙ ap (or_else (asked v c.args.out.now.wants.items j)) (three_gates (c.args.site == j) (on v c.in_ok-want.want) (open_at v c.args.sites.now c.args.path c.args.site) (is_ready v c.args.all.ready) (Some (words v c.args.all.values.items))
     (c.in_ok-want.ensures.value v w
     ∙ ap (λ (b : Bool). b && is_ready v c.args.all.ready) (c.in_ok-free.ensures.value v u
     ∙ ap (λ (b : Bool). on v c.args.path && b) (c.in_ok-unsent.ensures.value v t ∙ sym (ap (λ (o : Option SitePorts). not (was_sent v o)) at)))))

@@ -1,4 +1,4 @@
-use Rattle.std.proofs.Common.{◌≡◌, ◌+◌, ◌&&◌, ◌==◌, ◌-◌, List, length, Some, slice_get, refl, sym, ap, subst, ◌∙◌, arith}
+use Rattle.std.proofs.Common.{◌+◌, ◌&&◌, ◌==◌, ◌-◌, List, length, Some, refl, sym, ap, subst, ◌∙◌, arith}
 use Rattle.std.specs.Option.{option_or}
 use Rattle.std.proofs.lemmas.Option.{slice_get_read}
 use Rattle.safl_net.specs.declared.cell.Sig.{Sig}
@@ -7,7 +7,6 @@ use Rattle.safl_net.specs.Bits.{on, gate}
 use Rattle.safl_net.proofs.Growth.{grows_on}
 use Rattle.safl_gates.specs.Sources.{AreSources, Builds}
 use Rattle.safl_gates.specs.Tables.{taken_from}
-use Rattle.safl_lower.specs.declared.parts.TailCall.{TailCall}
 use Rattle.safl_lower.specs.Loads.{member_widths}
 use Rattle.safl_lower.proofs.Gathering.{merging_start, merging_step, merging_end, member_in, in_table, call_room, call_bit, call_sized}
 use Rattle.safl_lower.proofs.merge.merge.Goals as goal

@@ -1,4 +1,4 @@
-use Rattle.std.proofs.Common.{rules, ◌≡◌, ◌+◌, [], arith}
+use Rattle.std.proofs.Common.{rules, ◌≡◌, [], arith}
 use Rattle.safl_lower.proofs.Laid.{so_far_start, so_far_step, so_far_end, last_within}
 use Rattle.safl_lower.proofs.spread.placed.Goals as goal
 

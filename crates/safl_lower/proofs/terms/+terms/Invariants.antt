@@ -8,7 +8,7 @@ use Rattle.safl_lower.proofs.terms.+terms.Given as goal
 abbrev pub invariant-lower_all-loop-t : goal.invariant-lower_all-loop-t
 invariant-lower_all-loop-t l = record {
   tidy : IsTidy l.net;
-  lowered : LowersAll l.ports l.initial.slots.items l.path l.initial.net l.net l.initial.out l.out (record { ready = l.ready; values = l.values }) (shown_terms (take l.t-index l.ts));
+  lowered : LowersAll l.sites l.initial.slots.items l.path l.initial.net l.net l.initial.out l.out (record { ready = l.ready; values = l.values }) (shown_terms (take l.t-index l.ts));
   same : l.slots.items ≡ l.initial.slots.items;
 }
 

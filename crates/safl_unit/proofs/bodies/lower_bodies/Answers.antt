@@ -48,7 +48,7 @@ pub push_loops-requires : goal.push_loops-requires
 push_loops-requires c =
     let same = c.checked-c.ensures.same in
     let unit = c.unit.ensures.number ∙ ap (λ (x : CheckedProgram). (program_of x).unit c.loop-f.f) same in
-    let within = c.in_ok-body.ensures.done.within in
+    let within = c.in_ok-body.ensures.done.group.within in
     let long = c.loop-f.invariant.done.loops_length in
     record { within = omega (arith, unit, within, long) }
 

@@ -1,4 +1,4 @@
-use Rattle.std.proofs.Common.{◌≡◌, ◌==◌, [], ◌++◌, ◌+◌, cond, Bool, true, false, List, Option, sym, ap, ◌∙◌}
+use Rattle.std.proofs.Common.{◌≡◌, ◌==◌, [], ◌++◌, cond, Bool, true, false, List, Option, sym, ap, ◌∙◌}
 use Rattle.safl_gates.specs.declared.loads.Load.{Load}
 use Rattle.safl_gates.specs.Rows.{row_at}
 use Rattle.safl_gates.proofs.Rows.{append_none}

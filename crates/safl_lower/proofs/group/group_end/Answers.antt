@@ -1,7 +1,7 @@
 use Rattle.std.proofs.Common.{◌≡◌, subst, sym, ◌∙◌, ⊎_elim, arith}
 use Rattle.safl_term.specs.Checked.{program_of}
-use Rattle.safl_unit.proofs.Lowered.{side}
-use Rattle.safl_unit.proofs.bodies.group_end.Goals as goal
+use Rattle.safl_lower.proofs.FromProgram.{side}
+use Rattle.safl_lower.proofs.group.group_end.Goals as goal
 
 pub returns-then-unit-clause-inside : goal.returns-then-unit-clause-inside
 returns-then-unit-clause-inside c = λ h a b.
