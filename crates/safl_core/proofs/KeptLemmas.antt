@@ -4,8 +4,7 @@ use Rattle.std.proofs.lemmas.Bool.{cases_eq, ne_eqb}
 use Rattle.safl_word.specs.Words.{Word}
 use Rattle.safl_term.specs.Checked.{program_of}
 use Rattle.safl_term.specs.Program.{Program, unit_for}
-use Rattle.safl_term.specs.Readiness.{Stage, Unsent, Sent, Returned, Ready, LoopTo, NotYet, answer, wanted, back_word, word_of}
-use Rattle.safl_term.specs.Readiness as plain
+use Rattle.safl_term.specs.Readiness.{Unsent, Sent, Returned, Answer, Ready, LoopTo, NotYet, answer, wanted, back_word, word_of}
 use Rattle.safl_calls.specs.Machine.{State, Mode, Idle, Runs, Delivers, Event, Finish, Return, LoopInto, opening, put, back, says, says_as, asked, asked_as, Enabled, Legal, after, fire, accept, finish, give_back, loop_into, ended}
 use Rattle.safl_calls.proofs.Basics.{serves, cond_some, put_at, put_off, after_append, after_one, legal_append, legal_one}
 use Rattle.safl_calls.proofs.Invariant.{Inv, inv_fire, inv_after, found}
@@ -13,12 +12,10 @@ use Rattle.safl_calls.proofs.Bodies.{goes_stands}
 use Rattle.safl_calls.proofs.Locality.{answer_local, wanted_local}
 use Rattle.safl_calls.proofs.Numbered.{Numbered}
 use Rattle.safl_calls.proofs.FromWellFormed.{numbered}
-use Rattle.safl_core.specs.declared.mode.Answer.{Answer}
-use Rattle.safl_core.specs.declared.mode.Answer as declared_answers
 use Rattle.safl_core.specs.declared.mode.Mode as modes_declared
 use Rattle.safl_core.specs.declared.stage.Stage as stages_declared
 use Rattle.safl_core.specs.Knowing.{IsKnown, BackFits, RunsMember}
-use Rattle.safl_core.specs.Modes.{state_of, answer_of}
+use Rattle.safl_core.specs.Modes.{state_of}
 use Rattle.safl_core.specs.Shown.{Shown, state, IsReached, CanFire, IsKept, serves_of, word_given, args_given}
 use Rattle.safl_core.proofs.StateLemmas.{core_state}
 use Rattle.safl_core.proofs.FitsLemmas.{Fits, fits_after, fits_fire}
@@ -144,16 +141,6 @@ some_same x y e = cc
 not_loop : {A : Type 0} (h : ℕ) (vs : List Word) → NotYet ≡ LoopTo h vs → A
 not_loop h vs e = absurd (grind arith)
 
-abbrev args_of_loop : plain.Answer → Option (List Word)
-args_of_loop (Ready v) = None
-args_of_loop (LoopTo h vs) = Some vs
-args_of_loop NotYet = None
-
-given_is : (a : Answer) → args_given a ≡ args_of_loop (answer_of a)
-given_is (declared_answers.TheVariants.Ready v) = refl
-given_is (declared_answers.TheVariants.Loop h ws) = refl
-given_is declared_answers.TheVariants.NotYet = refl
-
 -- a unit that comes to a tail call runs a body
 pub record Looping (C : Program) (s : State) (h : ℕ) : Type 0 where
   pub member : ℕ
@@ -174,7 +161,7 @@ module _ {m : Shown} {answers : List Answer} {wants : List (Option (List Word))}
   finish_in f k ws e = ((inv h).member ((program_of m.program).unit f) f k ws e).1
 
   pub finish_is : (f k : ℕ) (ws : List Word) (v : Word) → (state m).unit ((program_of m.program).unit f) ≡ Runs f k ws → says (program_of m.program) (state m) ((program_of m.program).unit f) ≡ Ready v
-      → (u site : ℕ) (word : Word) → u ≡ (program_of m.program).unit f → site ≡ serves_of ((state m).unit u) → Some word ≡ word_of (answer_of (get_or answers u declared_answers.TheVariants.NotYet))
+      → (u site : ℕ) (word : Word) → u ≡ (program_of m.program).unit f → site ≡ serves_of ((state m).unit u) → Some word ≡ word_of (get_or answers u NotYet)
       → core_state (put (state m).unit u (Delivers site word)) (ended (program_of m.program) u (state m).site) ≡ fire (program_of m.program) m.args (state m) (Finish f)
   finish_is f k ws v runs is u site word at serving ready =
       let C = program_of m.program in
@@ -208,14 +195,14 @@ module _ {m : Shown} {answers : List Answer} {wants : List (Option (List Word))}
           record { member = f; site = j; args = ws; runs = q; within = ((good h).loops f n a.1 (goes_stands (back (state m)) ws (C.body f) n vs body)).0 }
 
   pub loop_is : (n : ℕ) (vs : List Word) → says (program_of m.program) (state m) ((program_of m.program).unit n) ≡ LoopTo n vs
-      → (u site : ℕ) (words : List Word) → u ≡ (program_of m.program).unit n → site ≡ serves_of ((state m).unit u) → Some words ≡ args_given (get_or answers u declared_answers.TheVariants.NotYet)
+      → (u site : ℕ) (words : List Word) → u ≡ (program_of m.program).unit n → site ≡ serves_of ((state m).unit u) → Some words ≡ args_given (get_or answers u NotYet)
       → core_state (put (state m).unit u (Runs n site words)) (ended (program_of m.program) u (state m).site) ≡ fire (program_of m.program) m.args (state m) (LoopInto n)
   loop_is n vs is u site words at serving given =
       let C = program_of m.program in
       let s = state m in
       let l = looping n vs is in
       let same_site : site ≡ l.site = serving ∙ (ap (λ n. serves_of (s.unit n)) at ∙ ap serves_of l.runs) in
-      let same_words : words ≡ vs = some_same words vs (given ∙ (given_is (get_or answers u declared_answers.TheVariants.NotYet) ∙ ap args_of_loop ((h.known u).outcome ∙ ap (says C s) at ∙ is))) in
+      let same_words : words ≡ vs = some_same words vs (given ∙ ap args_given ((h.known u).outcome ∙ ap (says C s) at ∙ is)) in
       ap (λ i. core_state (put s.unit i (Runs n site words)) (ended C i s.site)) at
       ∙ (ap (λ i. core_state (put s.unit (C.unit n) (Runs n i words)) (ended C (C.unit n) s.site)) same_site
       ∙ (ap (λ w. core_state (put s.unit (C.unit n) (Runs n l.site w)) (ended C (C.unit n) s.site)) same_words

@@ -13,7 +13,7 @@ use Rattle.safl_core.specs.Picking.{Precedes, IsListing}
 use Rattle.safl_core.specs.Testing.{can}
 use Rattle.safl_core.specs.Shown.{Shown, state, CanFire, IsKept}
 use Rattle.safl_core.specs.Outcomes.{IsOver}
-use Rattle.safl_core.specs.declared.mode.Answer.{Answer as Kept}
+use Rattle.safl_term.specs.Readiness.{Answer as Kept}
 use Rattle.safl_term.specs.Checked.{program_of}
 use Rattle.safl_sites.proofs.TermLemmas.{empty_list}
 use Rattle.safl_core.proofs.KeptLemmas.{finish_in, return_in, looping}

@@ -10,7 +10,7 @@ use Rattle.safl_calls.specs.Machine.{State, Mode, Idle, Runs, Delivers, Event, A
 use Rattle.safl_calls.proofs.Basics.{put_at, put_off}
 use Rattle.safl_calls.proofs.Invariant.{Inv, found}
 use Rattle.safl_calls.proofs.Numbered.{Numbered}
-use Rattle.safl_core.specs.declared.mode.Answer.{Answer}
+use Rattle.safl_term.specs.Readiness.{Answer}
 use Rattle.safl_core.specs.declared.enabled.Enabled as sets
 use Rattle.safl_core.specs.declared.check.Service.{Service}
 use Rattle.safl_core.specs.Marking.{AreMarked, RelistsAfter, IsOwn, Concerns, IsThere}

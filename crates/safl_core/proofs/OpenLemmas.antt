@@ -15,13 +15,11 @@ use Rattle.safl_term.specs.Sizes.{nodes}
 use Rattle.safl_term.specs.Terms.{Const}
 use Rattle.safl_term.specs.Tree.{shown_term}
 use Rattle.safl_calls.specs.Machine as core
-use Rattle.safl_core.specs.declared.mode.Answer.{Answer}
-use Rattle.safl_core.specs.declared.mode.Answer.TheVariants.{NotYet}
 use Rattle.safl_core.specs.declared.mode.Mode.{Mode}
 use Rattle.safl_core.specs.declared.stage.Stage.{Stage}
 use Rattle.safl_core.specs.Evaluating.{widths}
 use Rattle.safl_core.specs.Knowing.{IsKnown, HasRoom}
-use Rattle.safl_core.specs.Modes.{answer_of, unit_at, state_of}
+use Rattle.safl_core.specs.Modes.{unit_at, state_of}
 use Rattle.safl_core.specs.Shown.{shown_of, IsKept, IsReached}
 use Rattle.safl_core.specs.Stages.{stage_at}
 use Rattle.safl_core.proofs.StateLemmas.{state_is}
@@ -42,7 +40,7 @@ pub enough_room : (c : CheckedProgram) (room : ℕ) → IsChecked c → 50016 �
 unfolding program_of
 enough_room c room h le = λ f lt. omega (arith, h.limits.params f, h.limits.nodes, body_size c.functions f lt, le)
 
-module _ (c : CheckedProgram) (args : List Word) (units : List Mode) (sites : List Stage) (answers : List Answer) (wants : List (Option (List Word))) (room : ℕ) where
+module _ (c : CheckedProgram) (args : List Word) (units : List Mode) (sites : List Stage) (answers : List plain.Answer) (wants : List (Option (List Word))) (room : ℕ) where
   pub opens : ((u : ℕ) → unit_at units u ≡ core.Idle) → ((k : ℕ) → stage_at sites k ≡ plain.Unsent) → state_of units sites ≡ core.opening
   opens idle unsent = state_is (unit_at units) (λ u. core.Idle) (stage_at sites) (λ k. plain.Unsent) (fun_ext idle) (fun_ext unsent)
 
@@ -50,14 +48,14 @@ module _ (c : CheckedProgram) (args : List Word) (units : List Mode) (sites : Li
   unfolding core.Legal core.after
   first_reached e = record { list = []; count = refl; legal = tt; ends = sym e }
 
-  first_known : ((u : ℕ) → unit_at units u ≡ core.Idle) → ((u : ℕ) → answer_of (get_or answers u NotYet) ≡ plain.NotYet) → ((k : ℕ) → get_or wants k None ≡ None) → (u : ℕ) → IsKnown (program_of c) (state_of units sites) answers wants u
+  first_known : ((u : ℕ) → unit_at units u ≡ core.Idle) → ((u : ℕ) → get_or answers u plain.NotYet ≡ plain.NotYet) → ((k : ℕ) → get_or wants k None ≡ None) → (u : ℕ) → IsKnown (program_of c) (state_of units sites) answers wants u
   first_known idle none unwanted u = record {
     outcome = none u ∙ ap (core.says_as (program_of c) (core.back (state_of units sites))) (sym (idle u));
     wants = λ k pos le on. unwanted k ∙ ap (λ m. core.asked_as (program_of c) (core.back (state_of units sites)) m ((program_of c).caller k) k) (sym (idle u));
   }
 
   pub kept_open : IsChecked c → widths args ≡ (program_of c).params (program_of c).main
-      → ((u : ℕ) → unit_at units u ≡ core.Idle) → ((k : ℕ) → stage_at sites k ≡ plain.Unsent) → ((u : ℕ) → answer_of (get_or answers u NotYet) ≡ plain.NotYet) → ((k : ℕ) → get_or wants k None ≡ None)
+      → ((u : ℕ) → unit_at units u ≡ core.Idle) → ((k : ℕ) → stage_at sites k ≡ plain.Unsent) → ((u : ℕ) → get_or answers u plain.NotYet ≡ plain.NotYet) → ((k : ℕ) → get_or wants k None ≡ None)
       → length units ≡ (program_of c).functions → length sites ≡ suc (program_of c).sites → length answers ≡ (program_of c).functions → length wants ≡ suc (program_of c).sites → 50016 ≤ room
       → IsKept (shown_of c args units sites 0) answers wants room
   kept_open checked given idle unsent none unwanted l1 l2 l3 l4 le = record {

@@ -5,8 +5,6 @@ use Rattle.std.specs.Prelude.{IsTrue}
 use Rattle.std.proofs.lemmas.List.{get_or_read}
 use Rattle.safl_calls.proofs.Basics.{serves, some_of}
 use Rattle.safl_calls.proofs.Invariant.{found}
-use Rattle.safl_core.specs.declared.mode.Answer.TheVariants as kept_declared
-use Rattle.safl_core.specs.Modes.{answer_of}
 use Rattle.safl_core.specs.declared.stage.Stage as declared
 use Rattle.safl_core.specs.Stages.{stage_of, stage_at}
 use Rattle.safl_word.specs.Words.{Word}
@@ -17,7 +15,6 @@ use Rattle.safl_term.specs.Readiness.{Stage, Unsent, Sent, Returned, Answer, Rea
 use Rattle.safl_calls.specs.Machine.{State, Mode, Idle, Runs, Delivers, Event, Accept, Finish, Return, LoopInto, opening, after, asked, asked_as, back, says, Enabled, is_unsent}
 use Rattle.safl_calls.proofs.FromWellFormed.{numbered}
 use Rattle.safl_calls.proofs.MachineLaws as law
-use Rattle.safl_core.specs.declared.mode.Answer.{Answer as Kept}
 use Rattle.safl_core.specs.Outcomes.{IsValue, IsBounded, GoesOn, IsOver}
 use Rattle.safl_core.specs.Shown.{Shown, state, CanFire, IsKept}
 use Rattle.safl_core.specs.Testing.{is_idle, runs, is_sent, delivers_to, is_ready, loops_to, can, wanted_at}
@@ -36,7 +33,7 @@ returned_is Sent v e = absurd (none v e) where
   none v e = cc
 returned_is (Returned w) v e = ap Returned (some_is w v e)
 
-module _ {m : Shown} {answers : List Kept} {wants : List (Option (List Word))} {room : ℕ} (h : IsKept m answers wants room) where
+module _ {m : Shown} {answers : List Answer} {wants : List (Option (List Word))} {room : ℕ} (h : IsKept m answers wants room) where
   ends : (v : Word) → back_word ((state m).site 0) ≡ Some v → (after (program_of m.program) m.args opening h.reached.list).site 0 ≡ Returned v
   ends v e = ap (λ s. s.site 0) h.reached.ends ∙ returned_is ((state m).site 0) v e
 
@@ -142,7 +139,7 @@ module _ (C : Program) (args : List Word) (s : State) where
 
 -- ---- the tests of the code
 
-module _ {m : Shown} {answers : List Kept} {wants : List (Option (List Word))} {room : ℕ} (h : IsKept m answers wants room) where
+module _ {m : Shown} {answers : List Answer} {wants : List (Option (List Word))} {room : ℕ} (h : IsKept m answers wants room) where
   pub accept_test : (k : ℕ) (u : ℕ) (b : Bool) → k ≤ (program_of m.program).sites
       → b ≡ ((is_unsent ((state m).site k) && wanted_at wants k) && is_idle ((state m).unit (unit_for (program_of m.program) k)))
       → b ≡ can (program_of m.program) m.args (state m) (Accept k)
@@ -163,7 +160,7 @@ module _ {m : Shown} {answers : List Kept} {wants : List (Option (List Word))} {
       rest true y o p q r = ap is_some r ∙ ap (λ z. is_some (cond z p None)) (sym q)
       rest false y o p q r = refl
 
-  pub finish_test : (f u : ℕ) (b : Bool) → u ≡ (program_of m.program).unit f → b ≡ (runs ((state m).unit u) f && is_ready (answer_of (get_or answers u kept_declared.NotYet))) → b ≡ can (program_of m.program) m.args (state m) (Finish f)
+  pub finish_test : (f u : ℕ) (b : Bool) → u ≡ (program_of m.program).unit f → b ≡ (runs ((state m).unit u) f && is_ready (get_or answers u NotYet)) → b ≡ can (program_of m.program) m.args (state m) (Finish f)
   finish_test f u b at e =
       let C = program_of m.program in
       e ∙ (ap (λ a. runs ((state m).unit u) f && is_ready a) (h.known u).outcome ∙ ap (λ n. runs ((state m).unit n) f && is_ready (says C (state m) n)) at)
@@ -186,7 +183,7 @@ module _ {m : Shown} {answers : List Kept} {wants : List (Option (List Word))} {
       by (Delivers j v) q = sent (is_sent ((state m).site k)) (eqb j k)
           (λ t. ap is_sent ((inv h).serving (unit_for (program_of m.program) k) k (ap serves q ∙ ap Some (eqb-true j k t))).0)
 
-  pub loop_test : (n u : ℕ) (b : Bool) → u ≡ (program_of m.program).unit n → b ≡ loops_to (answer_of (get_or answers u kept_declared.NotYet)) n → b ≡ can (program_of m.program) m.args (state m) (LoopInto n)
+  pub loop_test : (n u : ℕ) (b : Bool) → u ≡ (program_of m.program).unit n → b ≡ loops_to (get_or answers u NotYet) n → b ≡ can (program_of m.program) m.args (state m) (LoopInto n)
   loop_test n u b at e =
       let C = program_of m.program in
       e ∙ (ap (λ a. loops_to a n) (h.known u).outcome ∙ ap (λ i. loops_to (says C (state m) i) n) at)

@@ -7,16 +7,13 @@ use Rattle.std.specs.Vec.{with_items}
 use Rattle.safl_word.specs.Words.{Word}
 use Rattle.safl_term.specs.Checked.{CheckedProgram, IsChecked, program_of}
 use Rattle.safl_term.specs.Program.{Program}
-use Rattle.safl_term.specs.Readiness.{wanted, or_else}
+use Rattle.safl_term.specs.Readiness.{Answer, NotYet, wanted, or_else}
 use Rattle.safl_term.specs.WellFormed.{HasWidth}
 use Rattle.safl_calls.specs.Machine.{State, Mode, Idle, Runs, Delivers, back, says, asked_as}
 use Rattle.safl_calls.proofs.Numbered.{Numbered}
-use Rattle.safl_core.specs.declared.mode.Answer.{Answer}
-use Rattle.safl_core.specs.declared.mode.Answer.TheVariants.{NotYet}
 use Rattle.safl_core.specs.declared.stage.Stage.{Stage}
 use Rattle.safl_core.specs.Evaluating.{CanRun, Notes, Unasked, widths}
 use Rattle.safl_core.specs.Knowing.{IsKnown, BackFits}
-use Rattle.safl_core.specs.Modes.{answer_of}
 use Rattle.safl_core.proofs.RunLemmas.{not_wanted}
 
 -- a function's body may be evaluated with arguments of the widths of its parameters
@@ -45,7 +42,7 @@ module _ (C : Program) (s : State) (u : ℕ) (answers : List Answer) (asks asks1
       → Notes asks1 asks2 w
       → ((k : ℕ) → 0 < k → k ≤ C.sites → C.unit (C.caller k) ≡ u → w k ≡ asked_as C (back s) (s.unit u) (C.caller k) k)
       → ((k : ℕ) → (C.unit (C.caller k) ≡ u → ⊥) → w k ≡ None)
-      → answer_of r ≡ says C s u → u < length answers
+      → r ≡ says C s u → u < length answers
       → (v : ℕ) → (v ≢ u → IsKnown C s answers asks v) → IsKnown C s (slice_set answers u r) asks2 v
   refreshed cleared notes here off is lt v before = ⊎_elim same other (cases_eq v u)
     where
@@ -55,7 +52,7 @@ module _ (C : Program) (s : State) (u : ℕ) (answers : List Answer) (asks asks1
 
       same : v ≡ u → IsKnown C s (slice_set answers u r) asks2 v
       same e = subst (λ n. IsKnown C s (slice_set answers u r) asks2 n) (sym e) (record {
-        outcome = ap answer_of (get_or-set_same answers u r NotYet lt) ∙ is;
+        outcome = get_or-set_same answers u r NotYet lt ∙ is;
         wants = λ k pos le on. notes.each k ∙ (ap (λ o. or_else o (w k)) (cleared k pos le ∙ ap (λ b. cond b None (get_or asks k None)) (eq-eqb (C.unit (C.caller k)) u on)) ∙ here k pos le on);
       })
 
@@ -63,7 +60,7 @@ module _ (C : Program) (s : State) (u : ℕ) (answers : List Answer) (asks asks1
       other ne =
           let h = before ne in
           record {
-            outcome = ap answer_of (get_or-set_other answers u v r NotYet ne) ∙ h.outcome;
+            outcome = get_or-set_other answers u v r NotYet ne ∙ h.outcome;
             wants = λ k pos le on.
                 let apart : C.unit (C.caller k) ≡ u → ⊥ = λ q. ne (sym on ∙ q) in
                 notes.each k ∙ (or_none (get_or asks1 k None) (w k) (off k apart) ∙ (cleared k pos le ∙ (ap (λ b. cond b None (get_or asks k None)) (ne_eqb (C.unit (C.caller k)) u apart) ∙ h.wants k pos le on)));

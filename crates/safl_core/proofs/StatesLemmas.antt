@@ -4,7 +4,7 @@ use Rattle.safl_word.specs.Words.{Word}
 use Rattle.safl_term.specs.Checked.{CheckedProgram, program_of}
 use Rattle.safl_term.specs.Program.{Program}
 use Rattle.safl_calls.specs.Machine as core
-use Rattle.safl_core.specs.declared.mode.Answer.{Answer}
+use Rattle.safl_term.specs.Readiness.{Answer}
 use Rattle.safl_core.specs.declared.mode.Mode.{Mode}
 use Rattle.safl_core.specs.declared.stage.Stage.{Stage}
 use Rattle.safl_core.specs.declared.state.State.{State}
@@ -33,12 +33,12 @@ known_after C s t later v step h =
     (subst (λ (x : List (Option (List Word))). IsKnown C later s.answers.items x v) (sym step.wants) h))
 
 -- what is kept after a unit was looked at anew
-pub known_as : (C : Program) (s r : State) (u : ℕ) (a : Answer) (v : ℕ) → r.modes.items ≡ s.modes.items → r.stages.items ≡ s.stages.items → r.answers.items ≡ s.answers.items
-    → IsKnown C (calls_of s) (slice_set s.answers.items u a) r.wants.items v → IsKnown C (calls_of r) (slice_set r.answers.items u a) r.wants.items v
+pub known_as : (C : Program) (s r : State) (u : ℕ) (a : Answer) (v : ℕ) → r.modes.items ≡ s.modes.items → r.stages.items ≡ s.stages.items → r.answers.items ≡ slice_set s.answers.items u a
+    → IsKnown C (calls_of s) (slice_set s.answers.items u a) r.wants.items v → IsKnown C (calls_of r) r.answers.items r.wants.items v
 known_as C s r u a v modes stages answers h =
-    subst (λ (x : List Mode). IsKnown C (state_of x r.stages.items) (slice_set r.answers.items u a) r.wants.items v) (sym modes)
-    (subst (λ (x : List Stage). IsKnown C (state_of s.modes.items x) (slice_set r.answers.items u a) r.wants.items v) (sym stages)
-    (subst (λ (x : List Answer). IsKnown C (calls_of s) (slice_set x u a) r.wants.items v) (sym answers) h))
+    subst (λ (x : List Mode). IsKnown C (state_of x r.stages.items) r.answers.items r.wants.items v) (sym modes)
+    (subst (λ (x : List Stage). IsKnown C (state_of s.modes.items x) r.answers.items r.wants.items v) (sym stages)
+    (subst (λ (x : List Answer). IsKnown C (calls_of s) x r.wants.items v) (sym answers) h))
 
 -- a step, and the unit that sees it looked at anew
 pub leads : (c : CheckedProgram) (args : List Word) (e : core.Event) (s t r : State) (later : core.State) (u : ℕ)

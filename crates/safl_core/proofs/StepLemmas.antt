@@ -159,6 +159,9 @@ module _ (B : ℕ → Option Word) (E : List Word) where
         off : (k : ℕ) → (j ≡ k → ⊥) → get_or (slice_set A1 j (Some vs)) k None ≡ or_else (get_or A k None) (cond (eqb j k) (answers B E ts) (wanted_in B E ts k))
         off k other = get_or-set_other A1 j k (Some vs) None (λ q. other (sym q)) ∙ (notes.each k ∙ ap (λ b. or_else (get_or A k None) (cond b (answers B E ts) (wanted_in B E ts k))) (sym (ne_eqb j k other)))
 
+    pub notes_asked : {A A1 : List (Option (List Word))} (f j : ℕ) (vs : List Word) (o : Option (List Word)) → o ≡ Some vs → get_or A j None ≡ None → j < length A1 → answers B E ts ≡ Some vs → Notes A A1 (wanted_in B E ts) → Notes A (slice_set A1 j o) (wanted B E (Call f j ts))
+    notes_asked {A} {A1} f j vs o is none lt e notes = subst (λ (x : Option (List Word)). Notes A (slice_set A1 j x) (wanted B E (Call f j ts))) (sym is) (notes_call f j vs none lt e notes)
+
     pub notes_call_not : {A A1 : List (Option (List Word))} (f j : ℕ) → wanted_in B E ts j ≡ None → answers B E ts ≡ None → Notes A A1 (wanted_in B E ts) → Notes A A1 (wanted B E (Call f j ts))
     unfolding wanted
     notes_call_not f j none e notes = notes_same notes (λ k. ⊎_elim

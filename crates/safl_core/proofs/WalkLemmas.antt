@@ -12,7 +12,7 @@ use Rattle.safl_calls.specs.Machine.{Event, opening, after, fire, Enabled}
 use Rattle.safl_calls.proofs.Basics.{legal_append, legal_one}
 use Rattle.safl_calls.proofs.FromWellFormed.{numbered}
 use Rattle.safl_calls.proofs.MachineLaws as law
-use Rattle.safl_core.specs.declared.mode.Answer.{Answer as Kept}
+use Rattle.safl_term.specs.Readiness.{Answer as Kept}
 use Rattle.safl_core.specs.Listing.{busy}
 use Rattle.safl_core.specs.Picking.{IsPicked}
 use Rattle.safl_core.specs.Outcomes.{GoesOn, IsOver}

@@ -2,20 +2,19 @@
 use Rattle.std.specs.Prelude.{◌≡◌, ℕ, ◌+◌, ◌<◌, ◌≤◌, List, Option, Some, None, get_or}
 use Rattle.safl_word.specs.Words.{Word}
 use Rattle.safl_term.specs.Program.{Program, arity}
+use Rattle.safl_term.specs.Readiness.{Answer, NotYet}
 use Rattle.safl_term.specs.Sizes.{nodes}
 use Rattle.safl_calls.specs.Machine as machine
 use Rattle.safl_calls.specs.Machine.{State, back, says, asked_as}
-use Rattle.safl_core.specs.declared.mode.Answer.{Answer}
-use Rattle.safl_core.specs.declared.mode.Answer.TheVariants.{NotYet}
 use Rattle.safl_core.specs.declared.mode.Mode.{Mode}
 use Rattle.safl_core.specs.declared.stage.Stage.{Stage}
 use Rattle.safl_core.specs.Evaluating.{widths}
-use Rattle.safl_core.specs.Modes.{answer_of, unit_at}
+use Rattle.safl_core.specs.Modes.{unit_at}
 use Rattle.safl_core.specs.Stages.{back_at}
 
 -- what unit u's body comes to is kept, and so are the words with which it wants its sites
 pub record IsKnown (C : Program) (s : State) (answers : List Answer) (asks : List (Option (List Word))) (u : ℕ) : Type 0 where
-  pub outcome : answer_of (get_or answers u NotYet) ≡ says C s u
+  pub outcome : get_or answers u NotYet ≡ says C s u
   pub wants : (k : ℕ) → 0 < k → k ≤ C.sites → C.unit (C.caller k) ≡ u → get_or asks k None ≡ asked_as C (back s) (s.unit u) (C.caller k) k
 
 -- each word that has come back has its callee's width

@@ -2,11 +2,10 @@
 use Rattle.std.specs.Prelude.{◌≡◌, ℕ, suc, ◌+◌, List, length, Option, Some, None}
 use Rattle.safl_word.specs.Words.{Word}
 use Rattle.safl_term.specs.Checked.{CheckedProgram, IsChecked, program_of}
+use Rattle.safl_term.specs.Readiness.{Answer, Ready, LoopTo, NotYet}
 use Rattle.safl_calls.specs.Machine as core
 use Rattle.safl_core.specs.declared.event.Event.{Event}
 use Rattle.safl_core.specs.declared.event.Event.TheVariants.{Accept, Finish, Return, Loop}
-use Rattle.safl_core.specs.declared.mode.Answer.{Answer}
-use Rattle.safl_core.specs.declared.mode.Answer.TheVariants.{Ready, Loop as LoopInto, NotYet}
 use Rattle.safl_core.specs.declared.mode.Mode.{Mode}
 use Rattle.safl_core.specs.declared.stage.Stage.{Stage}
 use Rattle.safl_core.specs.Evaluating.{widths}
@@ -60,7 +59,7 @@ word_given (core.Delivers k v) = Some v
 -- the arguments of a tail call
 abbrev pub args_given : Answer → Option (List Word)
 args_given (Ready v) = None
-args_given (LoopInto h vs) = Some vs
+args_given (LoopTo h vs) = Some vs
 args_given NotYet = None
 
 -- the machine afterwards: the event was fired, and the program and the arguments are the same

@@ -1,14 +1,13 @@
 -- The state that the code keeps, and what an event does to it.
-use Rattle.std.specs.Prelude.{◌≡◌, ℕ, suc, ◌<◌, List, length}
+use Rattle.std.specs.Prelude.{◌≡◌, ℕ, suc, ◌<◌, List, length, slice_set}
 use Rattle.safl_word.specs.Words.{Word}
 use Rattle.safl_term.specs.Checked.{CheckedProgram, IsChecked, program_of}
 use Rattle.safl_term.specs.Program.{Program}
 use Rattle.safl_calls.specs.Machine as core
-use Rattle.safl_core.specs.declared.mode.Answer.{Answer}
 use Rattle.safl_core.specs.declared.state.State.{State}
 use Rattle.safl_core.specs.Evaluating.{Notes}
 use Rattle.safl_core.specs.Knowing.{IsKnown, BackFits, RunsMember, HasRoom}
-use Rattle.safl_core.specs.Modes.{answer_of, unit_at, state_of}
+use Rattle.safl_core.specs.Modes.{unit_at, state_of}
 use Rattle.safl_core.specs.Shown.{shown_of, IsKept}
 use Rattle.safl_core.specs.Stages.{stage_at}
 
@@ -52,13 +51,12 @@ pub record Steps (C : Program) (s t : State) (later : core.State) : Type 0 where
   pub wants : t.wants.items ≡ s.wants.items
   pub sized : IsSized C t
 
--- the state before and after a unit's body was evaluated, which comes to this answer: the words with which it wants
--- its sites are noted, and the rest is the same
-pub record Evaluates (C : Program) (u : ℕ) (s t : State) (answer : Answer) : Type 0 where
+-- the state before and after a unit's body was evaluated: what it comes to and the words with which it wants its sites
+-- are noted, and the rest is the same
+pub record Evaluates (C : Program) (u : ℕ) (s t : State) : Type 0 where
   pub modes : t.modes.items ≡ s.modes.items
   pub stages : t.stages.items ≡ s.stages.items
-  pub answers : t.answers.items ≡ s.answers.items
-  pub outcome : answer_of answer ≡ core.says C (calls_of s) u
+  pub answers : t.answers.items ≡ slice_set s.answers.items u (core.says C (calls_of s) u)
   pub notes : Notes s.wants.items t.wants.items (λ k. core.asked_as C (core.back (calls_of s)) ((calls_of s).unit u) (C.caller k) k)
   pub sized : IsSized C t
 

@@ -46,6 +46,16 @@ impl Args {
         &self.words[..self.count]
     }
 
+    /// Holds these words from now on.
+    pub fn set(&mut self, words: &[Word])
+        requires { length words.now ≤ 16 }
+        ensures { self.new ≡ words.now }
+    {
+        let count = words.len();
+        self.words[..count].copy_from_slice(words);
+        self.count = count;
+    }
+
     /// The same words once more.
     pub fn again(&self) -> Args
         ensures { result ≡ self.now }

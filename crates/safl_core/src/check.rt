@@ -3,24 +3,20 @@
 ghost use Rattle.std.specs.Prelude.{◌≡◌, ◌<◌, ◌≤◌, ◌&&◌, suc, length, get_or, not, None};
 ghost use Rattle.safl_term.specs.Checked.{program_of};
 ghost use Rattle.safl_term.specs.Program as program;
+ghost use Rattle.safl_term.specs.Readiness as plain;
 ghost use Rattle.safl_calls.specs.Machine as core;
-ghost use Rattle.safl_core.specs.Modes.{answer_of, unit_at};
+ghost use Rattle.safl_core.specs.Modes.{unit_at};
 ghost use Rattle.safl_core.specs.Stages.{stage_at};
 ghost use Rattle.safl_core.specs.Testing as test;
 
-use crate::args::Args;
-use crate::mode::{Answer, Mode};
+use crate::answer::Answer;
+use crate::mode::Mode;
 use crate::stage::Stage;
+use crate::want::Want;
 use safl_term::Checked;
 
 /// Whether a site is unsent and wanted, and its unit idle. Most units are busy, so that most sites stay unread.
-pub fn accepts(
-    c: &Checked,
-    modes: &[Mode],
-    stages: &[Stage],
-    wants: &[Option<Args>],
-    k: u32,
-) -> bool
+pub fn accepts(c: &Checked, modes: &[Mode], stages: &[Stage], wants: &[Want], k: u32) -> bool
     requires site { k ≤ (program_of c.now).sites }
     requires units { length modes.now ≡ (program_of c.now).functions }
     requires stages { length stages.now ≡ suc (program_of c.now).sites }
@@ -31,7 +27,7 @@ pub fn accepts(
 }
 
 /// Whether a site is unsent and wanted, and its unit idle, as it is said to be or not.
-pub fn waits_for(idle: bool, stages: &[Stage], wants: &[Option<Args>], k: u32) -> bool
+pub fn waits_for(idle: bool, stages: &[Stage], wants: &[Want], k: u32) -> bool
     requires stages { k < length stages.now }
     requires wants { k < length wants.now }
     ensures { result ≡ ((core.is_unsent (stage_at stages.now k) && test.wanted_at wants.now k) && idle) }
@@ -43,7 +39,7 @@ pub fn waits_for(idle: bool, stages: &[Stage], wants: &[Option<Args>], k: u32) -
 pub fn finishes(modes: &[Mode], answers: &[Answer], u: u32, f: u32) -> bool
     requires units { u < length modes.now }
     requires answers { u < length answers.now }
-    ensures { result ≡ (test.runs (unit_at modes.now u) f && test.is_ready (answer_of (get_or answers.now u Answer.NotYet))) }
+    ensures { result ≡ (test.runs (unit_at modes.now u) f && test.is_ready (get_or answers.now u plain.NotYet)) }
 {
     runs(modes, u, f) && is_ready(answers, u)
 }
@@ -73,13 +69,9 @@ fn delivers(modes: &[Mode], u: u32, k: u32) -> bool
 /// Whether a unit's body comes to a tail call of a member.
 pub fn loops(answers: &[Answer], u: u32, h: u32) -> bool
     requires { u < length answers.now }
-    ensures { result ≡ test.loops_to (answer_of (get_or answers.now u Answer.NotYet)) h }
+    ensures { result ≡ test.loops_to (get_or answers.now u plain.NotYet) h }
 {
-    match &answers[u as usize] {
-        Answer::Ready(_) => false,
-        Answer::Loop(member, _) => *member == h,
-        Answer::NotYet => false,
-    }
+    answers[u as usize].loops_to(h)
 }
 
 /// Whether a unit is idle, and the site to which it delivers a word.
@@ -156,13 +148,9 @@ fn runs(modes: &[Mode], u: u32, f: u32) -> bool
 
 fn is_ready(answers: &[Answer], u: u32) -> bool
     requires { u < length answers.now }
-    ensures { result ≡ test.is_ready (answer_of (get_or answers.now u Answer.NotYet)) }
+    ensures { result ≡ test.is_ready (get_or answers.now u plain.NotYet) }
 {
-    match &answers[u as usize] {
-        Answer::Ready(_) => true,
-        Answer::Loop(_, _) => false,
-        Answer::NotYet => false,
-    }
+    answers[u as usize].is_ready()
 }
 
 fn is_unsent(stages: &[Stage], k: u32) -> bool
@@ -188,15 +176,12 @@ fn is_sent(stages: &[Stage], k: u32) -> bool
 }
 
 // Main's site is wanted from outside.
-fn is_wanted(wants: &[Option<Args>], k: u32) -> bool
+fn is_wanted(wants: &[Want], k: u32) -> bool
     requires { k < length wants.now }
     ensures { result ≡ test.wanted_at wants.now k }
 {
     if k == 0 {
         return true;
     }
-    match &wants[k as usize] {
-        Some(_) => true,
-        None => false,
-    }
+    wants[k as usize].is_wanted()
 }

@@ -9,8 +9,8 @@ ghost use Rattle.safl_word.specs.Words.{Word as a_word};
 ghost use Rattle.safl_core.specs.Stages.{back_at};
 ghost use Rattle.safl_core.specs.Evaluating.{shown, on_two, IsPlaced, CanRun, CanRunAll, Unasked, UnaskedIn, Notes};
 
-use crate::args::Args;
 use crate::stage::Stage;
+use crate::want::Want;
 use safl_term::Term;
 use safl_word::{Primitive, Word, apply};
 
@@ -28,7 +28,7 @@ pub enum Outcome {
 #[cycle(evaluate)]
 pub fn evaluate(
     stages: &[Stage],
-    asks: &mut [Option<Args>],
+    asks: &mut [Want],
     env: &mut [Word],
     slots: usize,
     t: &Term,
@@ -79,7 +79,7 @@ pub fn evaluate(
         Term::Call(_, k, ts) => {
             let args = ts.as_slice();
             if evaluate_all(stages, asks, env, slots, slots, args) {
-                asks[*k as usize] = Some(Args::new(part(env, slots, args.len())));
+                asks[*k as usize].ask(part(env, slots, args.len()));
             }
             returned(stages, *k)
         }
@@ -98,7 +98,7 @@ pub fn evaluate(
 #[cycle(evaluate)]
 fn evaluate_two(
     stages: &[Stage],
-    asks: &mut [Option<Args>],
+    asks: &mut [Want],
     env: &mut [Word],
     slots: usize,
     p: Primitive,
@@ -120,13 +120,7 @@ fn evaluate_two(
 
 // The same as `evaluate`, which constants and slots need not.
 #[cycle(evaluate)]
-fn operand(
-    stages: &[Stage],
-    asks: &mut [Option<Args>],
-    env: &mut [Word],
-    slots: usize,
-    t: &Term,
-) -> Outcome
+fn operand(stages: &[Stage], asks: &mut [Want], env: &mut [Word], slots: usize, t: &Term) -> Outcome
     requires can { CanRun stages.now (length asks.old) (take slots env.old) (shown_term t.now) }
     requires room { slots + nodes (shown_term t.now) ≤ length env.old }
     requires unasked { Unasked asks.old (shown_term t.now) }
@@ -174,7 +168,7 @@ fn operated(p: Primitive, first: Outcome, second: Outcome) -> Outcome
 #[cycle(evaluate)]
 fn evaluate_all(
     stages: &[Stage],
-    asks: &mut [Option<Args>],
+    asks: &mut [Want],
     env: &mut [Word],
     slots: usize,
     at: usize,

@@ -4,13 +4,13 @@ ghost use Rattle.std.specs.Prelude.{◌≡◌, ℕ, ◌<◌, ◌≤◌, length, 
 ghost use Rattle.safl_term.specs.Checked.{program_of};
 ghost use Rattle.safl_term.specs.Readiness as plain;
 ghost use Rattle.safl_calls.specs.Machine as core;
-ghost use Rattle.safl_core.specs.Modes.{answer_of, unit_at};
+ghost use Rattle.safl_core.specs.Modes.{unit_at};
 ghost use Rattle.safl_core.specs.Shown.{serves_of, word_given, args_given, event_of};
 ghost use Rattle.safl_core.specs.States.{Keeps, Leads, calls_of};
 
 use crate::args::Args;
 use crate::event::Event;
-use crate::mode::{Answer, Mode};
+use crate::mode::Mode;
 use crate::refresh::refresh;
 use crate::state::State;
 use crate::step;
@@ -85,11 +85,7 @@ fn loop_into(c: &Checked, opening: &Args, state: &mut State, h: u32)
     ensures { Leads c.now opening.now (core.LoopInto h) state.old state.new }
 {
     let unit = c.unit(h);
-    let serves = served(state, unit);
-    let Some(args) = passed(state, unit) else {
-        unreachable!()
-    };
-    step::end(c, state, unit, Mode::Runs(h, serves, args));
+    step::restart(c, state, unit, h);
     refresh(c, state, unit);
 }
 
@@ -99,7 +95,7 @@ fn asked(state: &State, k: u32) -> Args
     requires some { IsSome (get_or state.now.wants.items k None) }
     ensures { get_or state.now.wants.items k None ≡ Some result }
 {
-    match &state.wants[k as usize] {
+    match state.wants[k as usize].args() {
         Some(words) => words.again(),
         None => unreachable!(),
     }
@@ -120,25 +116,9 @@ fn served(state: &State, u: u32) -> u32
 // The word that a unit's body comes to.
 fn ready(state: &State, u: u32) -> Option<Word>
     requires { u < length state.now.answers.items }
-    ensures { result ≡ plain.word_of (answer_of (get_or state.now.answers.items u Answer.NotYet)) }
+    ensures { result ≡ plain.word_of (get_or state.now.answers.items u plain.NotYet) }
 {
-    match &state.answers[u as usize] {
-        Answer::Ready(word) => Some(*word),
-        Answer::Loop(_, _) => None,
-        Answer::NotYet => None,
-    }
-}
-
-// The arguments of the tail call that a unit's body comes to.
-fn passed(state: &State, u: u32) -> Option<Args>
-    requires { u < length state.now.answers.items }
-    ensures { result ≡ args_given (get_or state.now.answers.items u Answer.NotYet) }
-{
-    match &state.answers[u as usize] {
-        Answer::Ready(_) => None,
-        Answer::Loop(_, args) => Some(args.again()),
-        Answer::NotYet => None,
-    }
+    state.answers[u as usize].word()
 }
 
 // The word that a unit delivers.

@@ -1,6 +1,7 @@
 //! The call machine, as code.
 #![tactic(auto)]
 
+mod answer;
 mod args;
 mod check;
 mod concern;
@@ -19,6 +20,7 @@ mod stage;
 mod state;
 mod step;
 pub mod walking;
+mod want;
 
 pub use crate::event::Event;
 pub use crate::machine::{Machine, MachineErr};

@@ -5,12 +5,13 @@ ghost use Rattle.safl_term.specs.Checked.{program_of};
 ghost use Rattle.safl_term.specs.Readiness as plain;
 ghost use Rattle.safl_calls.specs.Machine as core;
 ghost use Rattle.safl_core.specs.Evaluating.{widths};
-ghost use Rattle.safl_core.specs.Modes.{answer_of, unit_at};
+ghost use Rattle.safl_core.specs.Modes.{unit_at};
 ghost use Rattle.safl_core.specs.Stages.{stage_at};
 
-use crate::args::Args;
-use crate::mode::{Answer, Mode};
+use crate::answer::Answer;
+use crate::mode::Mode;
 use crate::stage::Stage;
+use crate::want::Want;
 use safl_term::Checked;
 use safl_word::Word;
 use std::alloc::{AllocError, Global};
@@ -47,23 +48,23 @@ pub fn idle(alloc: Global, count: usize) -> Result<Vec<Mode>, AllocError>
 /// So many bodies that come to nothing yet.
 pub fn unanswered(alloc: Global, count: usize) -> Result<Vec<Answer>, AllocError>
     ensures count { IfOk result (λ v. length v.items ≡ count) }
-    ensures none { IfOk result (λ v. (u : ℕ) → answer_of (get_or v.items u Answer.NotYet) ≡ plain.NotYet) }
+    ensures none { IfOk result (λ v. (u : ℕ) → get_or v.items u plain.NotYet ≡ plain.NotYet) }
 {
     let mut answers = Vec::new(alloc);
     for _made in 0..count {
-        answers.push(Answer::NotYet)?;
+        answers.push(Answer::new())?;
     }
     Ok(answers)
 }
 
 /// So many sites that are not wanted.
-pub fn unwanted(alloc: Global, count: usize) -> Result<Vec<Option<Args>>, AllocError>
+pub fn unwanted(alloc: Global, count: usize) -> Result<Vec<Want>, AllocError>
     ensures count { IfOk result (λ v. length v.items ≡ count) }
     ensures none { IfOk result (λ v. (k : ℕ) → get_or v.items k None ≡ None) }
 {
     let mut wants = Vec::new(alloc);
     for _made in 0..count {
-        wants.push(None)?;
+        wants.push(Want::new())?;
     }
     Ok(wants)
 }

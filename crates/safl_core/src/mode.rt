@@ -1,4 +1,4 @@
-//! The modes of units, and what their bodies come to.
+//! The modes of units.
 
 use crate::args::Args;
 use safl_word::Word;
@@ -14,10 +14,26 @@ pub enum Mode {
     Delivers(u32, Word),
 }
 
-/// What the body comes to that a unit runs: a word, a tail call of a member with these arguments, or nothing yet.
-#[derive(Drop)]
-pub enum Answer {
-    Ready(Word),
-    Loop(u32, Args),
-    NotYet,
+impl Mode {
+    ghost use Rattle.std.specs.Prelude.{◌≡◌, ◌≤◌, ℕ, List, length};
+    ghost use Rattle.safl_word.specs.Words.{Word as a_word};
+    ghost use Rattle.safl_calls.specs.Machine as core;
+    ghost use Rattle.safl_core.specs.Modes.{mode_of};
+    ghost use Rattle.safl_core.specs.Shown.{serves_of};
+
+    /// The unit, which runs a member, runs this one from now on, with these arguments and for the same site.
+    pub fn enter(&mut self, member: u32, words: &[Word])
+        requires few { length words.now ≤ 16 }
+        requires runs { (f : ℕ) × (k : ℕ) × (ws : List a_word) × (mode_of self.old ≡ core.Runs f k ws) }
+        ensures { mode_of self.new ≡ core.Runs member (serves_of (mode_of self.old)) words.now }
+    {
+        match self {
+            Mode::Idle => unreachable!(),
+            Mode::Runs(runs, _, args) => {
+                *runs = member;
+                args.set(words);
+            }
+            Mode::Delivers(_, _) => unreachable!(),
+        }
+    }
 }

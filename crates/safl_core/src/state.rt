@@ -1,8 +1,9 @@
 //! What an event changes.
 
-use crate::args::Args;
-use crate::mode::{Answer, Mode};
+use crate::answer::Answer;
+use crate::mode::Mode;
 use crate::stage::Stage;
+use crate::want::Want;
 use safl_word::Word;
 
 /// The modes of the units and the stages of the sites. Beside them is what is kept of partial evaluation: what each
@@ -12,6 +13,6 @@ pub struct State {
     pub modes: Vec<Mode>,
     pub stages: Vec<Stage>,
     pub answers: Vec<Answer>,
-    pub wants: Vec<Option<Args>>,
+    pub wants: Vec<Want>,
     pub env: Vec<Word>,
 }

@@ -1,9 +1,12 @@
 //! The steps of units and sites.
 
-ghost use Rattle.std.specs.Prelude.{◌≡◌, ℕ, suc, ◌<◌, ◌≤◌, Some, length};
+ghost use Rattle.std.specs.Prelude.{◌≡◌, ℕ, suc, ◌<◌, ◌≤◌, List, Some, IsSome, get_or, length};
 ghost use Rattle.safl_term.specs.Checked.{program_of};
+ghost use Rattle.safl_term.specs.Readiness as plain;
+ghost use Rattle.safl_word.specs.Words.{Word as a_word};
 ghost use Rattle.safl_calls.specs.Machine as core;
-ghost use Rattle.safl_core.specs.Modes.{mode_of};
+ghost use Rattle.safl_core.specs.Modes.{mode_of, unit_at};
+ghost use Rattle.safl_core.specs.Shown.{args_given, serves_of};
 ghost use Rattle.safl_core.specs.Stages.{stage_at};
 ghost use Rattle.safl_core.specs.States.{IsSized, Steps, calls_of, ended_with};
 
@@ -32,6 +35,22 @@ pub fn end(c: &Checked, state: &mut State, u: u32, mode: Mode)
     ensures { Steps (program_of c.now) state.old state.new (ended_with (program_of c.now) state.old u (mode_of mode)) }
 {
     state.modes[u as usize] = mode;
+    end_sites(c, &mut state.stages, u);
+}
+
+/// A unit that runs a member loops: it runs this one with the arguments that its body comes to, for the same site, and
+/// the sites of its members are unsent again.
+pub fn restart(c: &Checked, state: &mut State, u: u32, h: u32)
+    requires unit { u < (program_of c.now).functions }
+    requires sized { IsSized (program_of c.now) state.old }
+    requires runs { (f : ℕ) × (k : ℕ) × (ws : List a_word) × (unit_at state.old.modes.items u ≡ core.Runs f k ws) }
+    requires passes { IsSome (args_given (get_or state.old.answers.items u plain.NotYet)) }
+    ensures { (vs : List a_word) × (Some vs ≡ args_given (get_or state.old.answers.items u plain.NotYet)) × Steps (program_of c.now) state.old state.new (ended_with (program_of c.now) state.old u (core.Runs h (serves_of (unit_at state.old.modes.items u)) vs)) }
+{
+    let Some(args) = state.answers[u as usize].passed() else {
+        unreachable!()
+    };
+    state.modes[u as usize].enter(h, args.words());
     end_sites(c, &mut state.stages, u);
 }
 

@@ -2,10 +2,9 @@ use Rattle.std.proofs.Common.{◌&&◌, List, get_or, ap, ◌∙◌}
 use Rattle.std.specs.Prelude.{not}
 use Rattle.safl_term.specs.Checked.{program_of}
 use Rattle.safl_calls.specs.Machine.{Accept, Finish, Return, LoopInto}
-use Rattle.safl_core.specs.declared.mode.Answer.{Answer}
-use Rattle.safl_core.specs.declared.mode.Answer.TheVariants.{NotYet}
+use Rattle.safl_term.specs.Readiness.{Answer, NotYet}
 use Rattle.safl_core.specs.declared.mode.Mode.{Mode}
-use Rattle.safl_core.specs.Modes.{answer_of, unit_at}
+use Rattle.safl_core.specs.Modes.{unit_at}
 use Rattle.safl_core.specs.States.{calls_of}
 use Rattle.safl_core.specs.Testing.{can, is_idle, runs, is_ready, loops_to}
 use Rattle.safl_core.proofs.MarkingLemmas.{rights_same, rights_put}
@@ -22,9 +21,9 @@ returns c =
     let u = c.unit-unit.result in
     let h = c.requires.kept.1 in
     let finishes = c.finishes.ensures
-    ∙ (ap (λ (x : List Mode). runs (unit_at x u) f && is_ready (answer_of (get_or c.deref-2.result.now u NotYet))) c.deref.ensures.value
-    ∙ ap (λ (x : List Answer). runs (unit_at s.modes.items u) f && is_ready (answer_of (get_or x u NotYet))) c.deref-2.ensures.value) in
-    let loops = c.loops.ensures ∙ ap (λ (x : List Answer). loops_to (answer_of (get_or x u NotYet)) f) c.deref-3.ensures.value in
+    ∙ (ap (λ (x : List Mode). runs (unit_at x u) f && is_ready (get_or c.deref-2.result.now u NotYet)) c.deref.ensures.value
+    ∙ ap (λ (x : List Answer). runs (unit_at s.modes.items u) f && is_ready (get_or x u NotYet)) c.deref-2.ensures.value) in
+    let loops = c.loops.ensures ∙ ap (λ (x : List Answer). loops_to (get_or x u NotYet) f) c.deref-3.ensures.value in
     record {
       accepts = rights_same (λ j. can C args (calls_of s) (Accept j)) e.accepts;
       finishes = rights_put (λ g. can C args (calls_of s) (Finish g)) e.finishes c.put.new.self f c.finishes.result c.put.ensures (finish_test h f u c.finishes.result c.unit-unit.ensures.number finishes);

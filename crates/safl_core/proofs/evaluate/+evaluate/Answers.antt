@@ -231,8 +231,8 @@ evaluate-part-requires-then-evaluate_all-3 t c =
     let shape = call_by c.in-Call.field-0 c.in-Call.k (ap shown_term c.in-Call.is ∙ shown_term-Call c.in-Call.field-0 c.in-Call.k c.in-Call.ts) (ap shown_terms c.as_slice-args.ensures.value) in
     omega (arith, ap nodes shape, forest_nodes c.as_slice-args.result.now, c.requires.room, c.evaluate_all-in-Call.auto.env)
 
-pub evaluate-new-requires : goal.evaluate-new-requires
-evaluate-new-requires t c =
+pub evaluate-ask-requires : goal.evaluate-ask-requires
+evaluate-ask-requires t c =
     let shape = call_by c.in-Call.field-0 c.in-Call.k (ap shown_term c.in-Call.is ∙ shown_term-Call c.in-Call.field-0 c.in-Call.k c.in-Call.ts) (ap shown_terms c.as_slice-args.ensures.value) in
     let few = may.call_few _ _ _ (can_is refl refl shape c.requires.can) in
     omega (arith, few, step.count_forest c.as_slice-args.result.now, ap (λ (l : List Word). length l) c.part-then-evaluate_all-3.ensures, step.part_few (length c.as_slice-args.result.now) (drop c.args.slots c.evaluate_all-in-Call.new.env))
@@ -264,7 +264,7 @@ evaluate-returns-after-evaluate_all-3-clause-notes t c =
     let apart = may.call_apart _ _ _ can (unasked_is shape c.requires.unasked) in
     notes_as B E shape (elim c.if-evaluate_all-3.branch [
       | evaluate-then-evaluate_all-3 w ↦ subst (λ (l : List (Option (List Word))). Notes c.args.asks.now l (wanted B E (plain.Call c.in-Call.field-0 c.in-Call.k (shown_terms c.as_slice-args.result.now)))) (sym w.asks-is)
-          (step.notes_call B E _ c.in-Call.field-0 c.in-Call.k _ apart.0 (omega (arith, may.call_place _ _ _ can, c.evaluate_all-in-Call.auto.asks)) (w.if-evaluate_all-3.ensures.words ∙ ap Some (sym (w.new.ensures ∙ w.part-then-evaluate_all-3.ensures))) w.if-evaluate_all-3.ensures.notes)
+          (step.notes_asked B E _ c.in-Call.field-0 c.in-Call.k w.part-then-evaluate_all-3.result.now _ w.ask.ensures apart.0 (omega (arith, may.call_place _ _ _ can, c.evaluate_all-in-Call.auto.asks)) (w.if-evaluate_all-3.ensures.words ∙ ap Some (sym w.part-then-evaluate_all-3.ensures)) w.if-evaluate_all-3.ensures.notes)
       | evaluate-else-evaluate_all-3 w ↦ subst (λ (l : List (Option (List Word))). Notes c.args.asks.now l (wanted B E (plain.Call c.in-Call.field-0 c.in-Call.k (shown_terms c.as_slice-args.result.now)))) (sym w.asks-is)
           (step.notes_call_not B E _ c.in-Call.field-0 c.in-Call.k apart.1 w.if-evaluate_all-3.ensures.words w.if-evaluate_all-3.ensures.notes)
     ])

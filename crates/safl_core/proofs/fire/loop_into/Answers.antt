@@ -1,4 +1,4 @@
-use Rattle.std.proofs.Common.{rules}
+use Rattle.std.proofs.Common.{refl, ap, ◌∙◌, rules}
 use Rattle.safl_term.specs.Checked.{program_of}
 use Rattle.safl_calls.specs.Machine.{LoopInto}
 use Rattle.safl_core.specs.States.{calls_of}
@@ -9,14 +9,20 @@ use Rattle.safl_core.proofs.fire.loop_into.Goals as goal
 pub unit-unit-requires : goal.unit-unit-requires
 unit-unit-requires c = (looping c.requires.kept.1 c.args.h c.requires.can.0 c.requires.can.1).within
 
+pub restart-requires-clause-runs : goal.restart-requires-clause-runs
+restart-requires-clause-runs c =
+    let s = calls_of c.args.state.now in
+    let l = looping c.requires.kept.1 c.args.h c.requires.can.0 c.requires.can.1 in
+    (l.member, l.site, l.args, ap s.unit c.unit-unit.ensures.number ∙ l.runs)
+
 pub refresh-requires : goal.refresh-requires
 refresh-requires c =
     let C = program_of c.args.c.now in
     let s = calls_of c.args.state.now in
     let h = c.requires.kept.1 in
     let can = c.requires.can in
-    let is = loop_is h c.args.h can.0 can.1 c.unit-unit.result c.served-serves.result _ c.unit-unit.ensures.number c.served-serves.ensures c.in-Some.ensures in
-    can_refresh c.args.c.now c.args.opening.now c.requires.kept.0 c.args.state.now _ h (LoopInto c.args.h) can _ c.end.ensures is c.unit-unit.result (search rules)
+    let is = loop_is h c.args.h can.0 can.1 c.unit-unit.result _ c.restart.ensures.0 c.unit-unit.ensures.number refl c.restart.ensures.1 in
+    can_refresh c.args.c.now c.args.opening.now c.requires.kept.0 c.args.state.now _ h (LoopInto c.args.h) can _ c.restart.ensures.2 is c.unit-unit.result (search rules)
 
 pub returns : goal.returns
 returns c =
@@ -24,6 +30,6 @@ returns c =
     let s = calls_of c.args.state.now in
     let h = c.requires.kept.1 in
     let can = c.requires.can in
-    let is = loop_is h c.args.h can.0 can.1 c.unit-unit.result c.served-serves.result _ c.unit-unit.ensures.number c.served-serves.ensures c.in-Some.ensures in
-    leads c.args.c.now c.args.opening.now (LoopInto c.args.h) c.args.state.now _ _ _ _ c.end.ensures c.refresh.ensures is (λ v ne.
+    let is = loop_is h c.args.h can.0 can.1 c.unit-unit.result _ c.restart.ensures.0 c.unit-unit.ensures.number refl c.restart.ensures.1 in
+    leads c.args.c.now c.args.opening.now (LoopInto c.args.h) c.args.state.now _ _ _ _ c.restart.ensures.2 c.refresh.ensures is (λ v ne.
     after_end C c.args.opening.now (good h) s (inv h) c.args.state.now.answers.items c.args.state.now.wants.items h.known c.unit-unit.result _ v ne)

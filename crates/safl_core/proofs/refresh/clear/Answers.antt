@@ -17,7 +17,7 @@ loop-k-preserved c =
     let from : c.own_sites-own.result.first ≤ k = omega arith in
     let upto : k < c.own_sites-own.result.end = omega (arith, c.loop-k-test.true) in
     let within : k < length c.loop-k.asks = omega (arith, c.requires.sized, c.loop-k.auto.asks, s.most, upto) in
-    let both = clear_site C c.args.u k c.args.asks.now c.loop-k.asks c.loop-k.invariant.below c.loop-k.invariant.above within (s.own k from upto) in
+    let both = clear_site C c.args.u k c.args.asks.now c.loop-k.asks _ c.forget.ensures c.loop-k.invariant.below c.loop-k.invariant.above within (s.own k from upto) in
     record { below = both.0; above = both.1 }
 
 pub returns : goal.returns

@@ -3,11 +3,10 @@ use Rattle.safl_word.specs.Words.{Word}
 use Rattle.safl_term.specs.Checked.{program_of}
 use Rattle.safl_term.specs.Program.{unit_for}
 use Rattle.safl_calls.specs.Machine.{Accept, Finish, Return, LoopInto, is_unsent}
-use Rattle.safl_core.specs.declared.mode.Answer.{Answer}
-use Rattle.safl_core.specs.declared.mode.Answer.TheVariants.{NotYet}
+use Rattle.safl_term.specs.Readiness.{Answer, NotYet}
 use Rattle.safl_core.specs.declared.mode.Mode.{Mode}
 use Rattle.safl_core.specs.declared.stage.Stage.{Stage}
-use Rattle.safl_core.specs.Modes.{answer_of, unit_at}
+use Rattle.safl_core.specs.Modes.{unit_at}
 use Rattle.safl_core.specs.Shown.{event_of}
 use Rattle.safl_core.specs.Stages.{stage_at}
 use Rattle.safl_core.specs.Testing.{wanted_at, is_idle, runs, is_ready, is_sent, delivers_to, loops_to}
@@ -58,8 +57,8 @@ returns-else-f-functions c =
     let m = c.self.inside in
     let f = c.in-Finish.f in
     let is = c.finishes.ensures
-    ∙ (ap (λ (x : List Mode). runs (unit_at x c.unit.result) f && is_ready (answer_of (get_or c.deref-in-Finish-2.result.now c.unit.result NotYet))) c.deref-in-Finish.ensures.value
-    ∙ ap (λ (x : List Answer). runs (unit_at m.state.modes.items c.unit.result) f && is_ready (answer_of (get_or x c.unit.result NotYet))) c.deref-in-Finish-2.ensures.value) in
+    ∙ (ap (λ (x : List Mode). runs (unit_at x c.unit.result) f && is_ready (get_or c.deref-in-Finish-2.result.now c.unit.result NotYet)) c.deref-in-Finish.ensures.value
+    ∙ ap (λ (x : List Answer). runs (unit_at m.state.modes.items c.unit.result) f && is_ready (get_or x c.unit.result NotYet)) c.deref-in-Finish-2.ensures.value) in
     tested_as h c.args.self.now (Finish f) (event_of c.args.e) c.finishes.result c.self.view_is (ap event_of c.in-Finish.is)
     (finish_test h f c.unit.result c.finishes.result c.unit.ensures.number is)
 
@@ -79,6 +78,6 @@ pub returns-else-h-functions : goal.returns-else-h-functions
 returns-else-h-functions c =
     let h = c.self.invariant.kept in
     let n = c.in-Loop.h in
-    let is = c.loops.ensures ∙ ap (λ (x : List Answer). loops_to (answer_of (get_or x c.unit-in-Loop.result NotYet)) n) c.deref-in-Loop.ensures.value in
+    let is = c.loops.ensures ∙ ap (λ (x : List Answer). loops_to (get_or x c.unit-in-Loop.result NotYet) n) c.deref-in-Loop.ensures.value in
     tested_as h c.args.self.now (LoopInto n) (event_of c.args.e) c.loops.result c.self.view_is (ap event_of c.in-Loop.is)
     (loop_test h n c.unit-in-Loop.result c.loops.result c.unit-in-Loop.ensures.number is)

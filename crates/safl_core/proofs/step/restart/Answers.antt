@@ -1,0 +1,37 @@
+use Rattle.std.proofs.Common.{◌≡◌, ◌<◌, List, length, get_or, refl, ap, ◌∙◌, rules, arith}
+use Rattle.std.proofs.Math.Path.{fun_ext}
+use Rattle.std.proofs.lemmas.List.{get_or_read}
+use Rattle.safl_term.specs.Checked.{program_of}
+use Rattle.safl_calls.specs.Machine as core
+use Rattle.safl_term.specs.Readiness.{NotYet}
+use Rattle.safl_core.specs.declared.mode.Mode.{Mode}
+use Rattle.safl_core.specs.declared.mode.Mode.TheVariants.{Idle}
+use Rattle.safl_core.specs.declared.stage.Stage.{Stage}
+use Rattle.safl_core.specs.Modes.{mode_of, unit_at}
+use Rattle.safl_core.specs.Shown.{args_given, serves_of}
+use Rattle.safl_core.specs.Stages.{stage_at}
+use Rattle.safl_core.proofs.RefreshLemmas.{refilled}
+use Rattle.safl_core.proofs.StateLemmas.{unit_put, state_is}
+use Rattle.safl_core.proofs.step.restart.Goals as goal
+
+pub returns : goal.returns
+returns c =
+    let C = program_of c.args.c.now in
+    let s = c.args.state.now in
+    let u = c.args.u in
+    let unit : u < length s.modes.items = omega (arith, c.requires.unit, c.requires.sized.units) in
+    let entered : c.index_mut.result.now ≡ get_or s.modes.items u Idle = get_or_read s.modes.items u _ unit c.index_mut.ensures.value Idle in
+    let read : c.index.result.now ≡ get_or s.answers.items u NotYet = get_or_read s.answers.items u _ (omega (arith, c.requires.unit, c.requires.sized.answers)) c.index.ensures NotYet in
+    let mode = c.enter.ensures ∙ (ap (λ (m : Mode). core.Runs c.args.h (serves_of (mode_of m)) c.words.result.now) entered ∙ ap (core.Runs c.args.h (serves_of (unit_at s.modes.items u))) c.words.ensures.words) in
+    let units = unit_put s.modes.items u c.enter.new.self unit ∙ ap (core.put (unit_at s.modes.items) u) mode in
+    let written = refilled s.stages c.end_sites.new.stages c.deref_mut.result.now c.end_sites.auto.stages c.deref_mut.ensures.value in
+    let sites = ap (λ (x : List Stage). stage_at x) written ∙ fun_ext (λ k. c.end_sites.ensures k ∙ ap (λ (x : List Stage). core.ended C u (stage_at x) k) c.deref_mut.ensures.value) in (
+      c.in-Some.args.now,
+      c.in-Some.ensures.some ∙ ap args_given read,
+      record {
+        next = state_is _ _ _ _ units sites;
+        answers = refl;
+        wants = refl;
+        sized = search rules;
+      },
+    )
