@@ -1,10 +1,11 @@
 -- One mark more, or one less.
-use Rattle.std.proofs.Common.{◌≡◌, inl, inr, ℕ, ◌+◌, ◌*◌, ◌/◌, ◌%◌, ◌^◌, ◌<◌, ◌≤◌, List, length, set, Some, slice_get, slice_index, refl, sym, ap, ◌∙◌, arith}
+use Rattle.std.proofs.Common.{◌≡◌, inl, inr, ℕ, zero, suc, max, ◌+◌, ◌*◌, ◌/◌, ◌%◌, ◌^◌, ◌<◌, ◌≤◌, List, length, set, Some, slice_get, slice_index, refl, sym, ap, ◌∙◌, arith}
 use Rattle.std.specs.Int.{w64, bit_at, bit_not, trailing_zeros}
 use Rattle.std.specs.Int.RustNames.{bit_or}
 use lib.Bits.{bit_and}
-use Rattle.std.proofs.lemmas.Nat.Bits.{bit_at-zero, bit_at-trailing_zeros, bit_at_set_same, bit_at_set_other, bit_at_clear_same, bit_at_clear_other}
-use Rattle.safl_sim.specs.Marks.{marked, HasMark, HasNone, HasTaken, HasRange}
+use Rattle.std.proofs.Math.Nat.{zero-max}
+use Rattle.std.proofs.lemmas.Nat.Bits.{bit_at-zero, bit_at_or, bit_at-trailing_zeros, bit_at_set_same, bit_at_set_other, bit_at_clear_same, bit_at_clear_other}
+use Rattle.safl_sim.specs.Marks.{marked, HasMark, HasNone, NoneBetween, HasTaken, HasRange}
 use Rattle.safl_sim.proofs.Written.{same_or_not, lower_or_not, lower_or_same, index_here, index_other, set_length}
 use Rattle.safl_sim.specs.Readers.{HasMarked}
 
@@ -118,3 +119,47 @@ module _ (marks marks' : List ℕ) (first place word i : ℕ) (below : (k : ℕ)
 -- a word with no mark left
 pub none_upto : (marks : List ℕ) (first place word : ℕ) → ((k : ℕ) → first ≤ k → k < place → marked marks k ≡ 0) → word * 64 ≤ place → HasNone marks word → (k : ℕ) → first ≤ k → k < (word + 1) * 64 → marked marks k ≡ 0
 none_upto marks first place word below from none k f l = elim (lower_or_not k place) [ inl h ↦ below k f h | inr h ↦ none k (omega (arith, h, l, from)) ]
+
+-- words with no mark left
+pub none_past : (marks : List ℕ) (first from to : ℕ) → ((k : ℕ) → first ≤ k → k < from * 64 → marked marks k ≡ 0) → NoneBetween marks from to → (k : ℕ) → first ≤ k → k < to * 64 → marked marks k ≡ 0
+none_past marks first from to below none k f l = elim (lower_or_not k (from * 64)) [ inl h ↦ below k f h | inr h ↦ none (k / 64) (omega (arith, h)) (omega (arith, l)) k refl ]
+
+pub between_none : (marks : List ℕ) (from : ℕ) → NoneBetween marks from from
+between_none marks from w f l = absurd (omega (arith, f, l))
+
+pub between_one : (marks : List ℕ) (from w : ℕ) → NoneBetween marks from w → slice_index marks w ≡ 0 → NoneBetween marks from (w + 1)
+between_one marks from w none e v f l = elim (lower_or_same v w l) [ inl h ↦ none v f h | inr q ↦ none_in marks v (ap (slice_index marks) q ∙ e) ]
+
+pub between_more : (marks : List ℕ) (from mid to : ℕ) → NoneBetween marks from mid → NoneBetween marks mid to → NoneBetween marks from to
+between_more marks from mid to a b v f l = elim (lower_or_not v mid) [ inl h ↦ a v f h | inr h ↦ b v h l ]
+
+-- no bit of a sum of bits, none of either
+max_none : (m n : ℕ) → max m n ≡ 0 → (m ≡ 0) × (n ≡ 0)
+max_none zero n e = (refl, sym (zero-max n) ∙ e)
+max_none (suc m) zero e = absurd (omega (arith, e))
+max_none (suc m) (suc n) e = absurd (omega (arith, e))
+
+or_none : (a b : ℕ) → ((i : ℕ) → bit_at (bit_or a b) i ≡ 0) → ((i : ℕ) → bit_at a i ≡ 0) × ((i : ℕ) → bit_at b i ≡ 0)
+or_none a b h = (
+  λ i. (max_none (bit_at a i) (bit_at b i) (sym (bit_at_or a b i) ∙ h i)).0,
+  λ i. (max_none (bit_at a i) (bit_at b i) (sym (bit_at_or a b i) ∙ h i)).1,
+)
+
+-- four words
+pub four_none : (marks : List ℕ) (w a b c d : ℕ) → slice_index marks w ≡ a → slice_index marks (w + 1) ≡ b → slice_index marks (w + 2) ≡ c → slice_index marks (w + 3) ≡ d → bit_or (bit_or (bit_or a b) c) d ≡ 0 → NoneBetween marks w (w + 4)
+four_none marks w a b c d ea eb ec ed e v f l k q =
+    let x = or_none (bit_or (bit_or a b) c) d (λ i. ap (λ y. bit_at y i) e ∙ bit_at-zero i) in
+    let y = or_none (bit_or a b) c x.0 in
+    let z = or_none a b y.0 in
+    let at : (u n : ℕ) → v ≡ u → slice_index marks u ≡ n → ((i : ℕ) → bit_at n i ≡ 0) → marked marks k ≡ 0 = λ u n s t none.
+    ap (λ y. bit_at (slice_index marks y) (k % 64)) (q ∙ s) ∙ ap (λ y. bit_at y (k % 64)) t ∙ none (k % 64) in
+    elim (same_or_not v w) [
+      | inl s ↦ at w a s ea z.0
+      | inr n ↦ elim (same_or_not v (w + 1)) [
+        | inl s ↦ at (w + 1) b s eb z.1
+        | inr m ↦ elim (same_or_not v (w + 2)) [
+          | inl s ↦ at (w + 2) c s ec y.1
+          | inr o ↦ at (w + 3) d (omega (arith, f, l, n, m, o)) ed x.1
+        ]
+      ]
+    ]

@@ -8,14 +8,14 @@ use Rattle.safl_net.proofs.Naming.{within}
 use Rattle.safl_order.specs.Order.{Order, IsWire}
 use Rattle.safl_sim.specs.declared.step.Step.{Step}
 use Rattle.safl_sim.specs.declared.step.Register.{Register}
-use Rattle.safl_sim.specs.Marks.{marked, first_register, HasNone, HasTaken, HasRange}
+use Rattle.safl_sim.specs.Marks.{marked, first_register, HasNone, NoneBetween, HasTaken, HasRange}
 use Rattle.safl_sim.specs.Readers.{Lists, HasGiven, Agrees}
 use Rattle.safl_sim.specs.Steps.{action_number, Ready, LowStep, IsStep, Runs}
 use Rattle.safl_sim.specs.Writes.{after_steps, AllReady}
 use Rattle.safl_sim.proofs.Written.{same_or_not, lower_or_not, index_here, index_other, set_length, get_at}
 use Rattle.safl_sim.proofs.Scenes.{wire_at, cell_number_fits, apart, small, step_low, all_steps}
 use Rattle.safl_sim.proofs.Updates.{was_none, operands_same, given_stays, given_kept, given_inside, given_below}
-use Rattle.safl_sim.proofs.MarkLemmas.{taken_after, taken_upto, none_upto}
+use Rattle.safl_sim.proofs.MarkLemmas.{taken_after, taken_upto, none_upto, none_past}
 
 -- what the numbers are once a step has been taken and its wire is given its number
 pub record Takes (o : Order) (all : List Step) (regs : List Register) (now starts readers start : List ℕ) (word i : ℕ) (step : Step) (values marks marks' : List ℕ) : Type 0 where
@@ -169,3 +169,9 @@ all_ran o all regs now starts readers start values marks none marks' w long away
 
 pub all_ready : (o : Order) (all : List Step) (regs : List Register) (now starts readers start values marks : List ℕ) → Runs o all regs now starts readers start 0 values marks → AllReady all values
 all_ready o all regs now starts readers start values marks w = (all_steps o.net o.wires all values w.made w.order w.steps w.long w.fits).ready
+
+-- words with no mark left are done
+pub runs_skip : (o : Order) (all : List Step) (regs : List Register) (now starts readers start : List ℕ) (from to : ℕ) (values marks : List ℕ) → Runs o all regs now starts readers start (from * 64) values marks → NoneBetween marks from to
+    → Runs o all regs now starts readers start (to * 64) values marks
+runs_skip o all regs now starts readers start from to values marks w none = runs_to o all regs now starts readers start (from * 64) (to * 64) values marks w
+    (λ k l. none_past marks 0 from to (λ j f h. w.below j h) none k (omega arith) l)

@@ -2,11 +2,11 @@
 use Rattle.std.proofs.Common.{◌≡◌, inl, inr, ℕ, ◌+◌, ◌*◌, ◌<◌, ◌≤◌, List, length, set, Some, slice_get, slice_index, refl, sym, ap, subst, ◌∙◌, arith}
 use Rattle.safl_net.proofs.Naming.{within}
 use Rattle.safl_sim.specs.declared.step.Register.{Register}
-use Rattle.safl_sim.specs.Marks.{marked, HasMark, HasNone, HasTaken}
+use Rattle.safl_sim.specs.Marks.{marked, HasMark, HasNone, NoneBetween, HasTaken}
 use Rattle.safl_sim.specs.Steps.{Waits}
 use Rattle.safl_sim.specs.Writes.{HasShown, HasKept, Shows, KeepsOn}
 use Rattle.safl_sim.proofs.Written.{same_or_not, index_here, index_other, set_length}
-use Rattle.safl_sim.proofs.MarkLemmas.{taken_upto, none_upto}
+use Rattle.safl_sim.proofs.MarkLemmas.{taken_upto, none_upto, none_past}
 use Rattle.safl_sim.proofs.Updates.{mark_or_none}
 
 -- two registers at one index are one
@@ -30,6 +30,10 @@ shows_to regs now place place' start values waiting w below = record { long = w.
 -- a word in which none waits
 pub shows_none : (regs : List Register) (now : List ℕ) (place word : ℕ) (start values waiting : List ℕ) → Shows regs now place start values waiting → word * 64 ≤ place → HasNone waiting word → Shows regs now ((word + 1) * 64) start values waiting
 shows_none regs now place word start values waiting w from none = shows_to regs now place ((word + 1) * 64) start values waiting w (λ k l. none_upto waiting 0 place word (λ j f h. w.below j h) from none k (omega arith) l)
+
+-- words in which none waits
+pub shows_skip : (regs : List Register) (now : List ℕ) (from to : ℕ) (start values waiting : List ℕ) → Shows regs now (from * 64) start values waiting → NoneBetween waiting from to → Shows regs now (to * 64) start values waiting
+shows_skip regs now from to start values waiting w none = shows_to regs now (from * 64) (to * 64) start values waiting w (λ k l. none_past waiting 0 from to (λ j f h. w.below j h) none k (omega arith) l)
 
 -- one more is shown
 pub shows_step : (regs : List Register) (now : List ℕ) (place word i : ℕ) (r : Register) (start values values' waiting waiting' : List ℕ) → Shows regs now place start values waiting → word * 64 ≤ place → HasTaken waiting waiting' word i
@@ -88,6 +92,10 @@ pub keeps_none : (first : ℕ) (regs : List Register) (values : List ℕ) (place
     → KeepsOn first regs values ((word + 1) * 64) start was now marks waiting
 keeps_none first regs values place word start was now marks waiting w from none =
     keeps_to first regs values place ((word + 1) * 64) start was now marks waiting w (none_upto marks first place word w.below from none)
+
+pub keeps_skip : (first : ℕ) (regs : List Register) (values : List ℕ) (from to : ℕ) (start was now marks waiting : List ℕ) → KeepsOn first regs values (from * 64) start was now marks waiting → NoneBetween marks from to
+    → KeepsOn first regs values (to * 64) start was now marks waiting
+keeps_skip first regs values from to start was now marks waiting w none = keeps_to first regs values (from * 64) (to * 64) start was now marks waiting w (none_past marks first from to w.below none)
 
 -- one more is kept, and waits
 pub keeps_step : (first : ℕ) (regs : List Register) (values : List ℕ) (place word k : ℕ) (r : Register) (start was now now' marks marks' waiting waiting' : List ℕ) → KeepsOn first regs values place start was now marks waiting

@@ -15,6 +15,10 @@ pub record HasMark (old new : List ℕ) (i : ℕ) : Type 0 where
 abbrev pub HasNone : List ℕ → ℕ → Type 0
 HasNone words w = (k : ℕ) → k / 64 ≡ w → marked words k ≡ 0
 
+-- nor of the words from one up to another
+abbrev pub NoneBetween : List ℕ → ℕ → ℕ → Type 0
+NoneBetween words from to = (w : ℕ) → from ≤ w → w < to → HasNone words w
+
 -- the first marked step of a word is not marked any longer
 pub record HasTaken (old new : List ℕ) (w i : ℕ) : Type 0 where
   pub long : length new ≡ length old

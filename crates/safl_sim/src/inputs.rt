@@ -10,7 +10,7 @@ use safl_net::{Net, Sig, SigKind};
 use safl_word::Word;
 use std::alloc::{AllocError, Global};
 
-/// A bit.
+/// The word of one bit with this number.
 pub fn bit(number: u8) -> Word
     requires { number < 2 }
     ensures { result ≡ bit_word number }
@@ -18,7 +18,7 @@ pub fn bit(number: u8) -> Word
     Word::from_parts(1, u128::from(number))
 }
 
-/// The word 0 in place of each word.
+/// The word 0 of the same width in place of each word.
 pub fn zeros(alloc: Global, words: &[Word]) -> Result<Vec<Word>, AllocError>
     ensures { IfOk result (λ v. v.items ≡ map zero_of words.now) }
 {
@@ -29,7 +29,7 @@ pub fn zeros(alloc: Global, words: &[Word]) -> Result<Vec<Word>, AllocError>
     Ok(zeros)
 }
 
-/// The words of the inputs in order: one for `start`, and the arguments for the others.
+/// The words of the inputs of a net in order: one for `start`, and the arguments, each in turn, for the others.
 pub fn input_words(
     alloc: Global,
     net: &Net,

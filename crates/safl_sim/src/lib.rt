@@ -3,7 +3,7 @@
 
 pub mod arguments;
 pub mod done;
-mod inputs;
+pub mod inputs;
 pub mod laws;
 mod marks;
 mod narrow;

@@ -10,7 +10,7 @@ ghost use Rattle.safl_sim.specs.Steps.{AreSteps};
 use crate::step::{Near, Step};
 
 /// Notes in each step which readers of its wire are near.
-pub fn note_near(steps: &mut [Step], starts: &[usize], readers: &[usize])
+pub fn note_near(steps: &mut [Step], starts: &[u32], readers: &[u32])
     requires lists { (places : ℕ) × (words : ℕ) × Lists starts.now readers.now places words
         × ((i : ℕ) (s : Step) → slice_get steps.old i ≡ Some s → s.wire.0 < places) }
     ensures long { length steps.new ≡ length steps.old }
@@ -24,17 +24,18 @@ pub fn note_near(steps: &mut [Step], starts: &[usize], readers: &[usize])
 }
 
 // Of a part of the readers, those that stand in a word.
-fn near_of(readers: &[usize], from: usize, to: usize, word: usize) -> Near
+fn near_of(readers: &[u32], from: u32, to: u32, word: usize) -> Near
     requires ordered { from ≤ to }
     requires within { to ≤ length readers.now }
     ensures { IsNear readers.now from to word result }
 {
     let mut mask = 0;
     'readers: for j in from..to {
-        if readers[j] / 64 != word {
+        let reader = readers[j as usize] as usize;
+        if reader / 64 != word {
             return Near { mask, first: j };
         }
-        mask |= 1u64 << (readers[j] % 64);
+        mask |= 1u64 << (reader % 64);
     }
     Near { mask, first: to }
 }

@@ -117,8 +117,8 @@ fn mark_all(marks: &mut [u64], steps: usize, registers: usize)
 // What reads each place, place by place.
 #[derive(Drop)]
 struct Table {
-    starts: Vec<usize>,
-    readers: Vec<usize>,
+    starts: Vec<u32>,
+    readers: Vec<u32>,
 }
 
 fn table_of(
@@ -143,7 +143,8 @@ fn table_of(
 }
 
 // The steps that have a place as an operand, for each place.
-fn lists_of(alloc: Global, net: &Net, wires: &[Sig]) -> Result<Vec<Vec<usize>>, AllocError>
+fn lists_of(alloc: Global, net: &Net, wires: &[Sig]) -> Result<Vec<Vec<u32>>, AllocError>
+    requires few { length wires.now < 2 ^ 32 }
     requires netlist { IsNetlist net.now }
     requires order { IsOrder net.now (numbers wires.now) }
     ensures long { IfOk result (λ v. length v.items ≡ length net.now.signals) }
@@ -155,12 +156,12 @@ fn lists_of(alloc: Global, net: &Net, wires: &[Sig]) -> Result<Vec<Vec<usize>>, 
         lists.push(Vec::new(alloc))?;
     }
     'wires: for k in 0..wires.len() {
-        push_step(&mut lists, net, wires[k], k)?;
+        push_step(&mut lists, net, wires[k], k as u32)?;
     }
     Ok(lists)
 }
 
-fn push_step(lists: &mut [Vec<usize>], net: &Net, wire: Sig, k: usize) -> Result<(), AllocError>
+fn push_step(lists: &mut [Vec<u32>], net: &Net, wire: Sig, k: u32) -> Result<(), AllocError>
     requires netlist { IsNetlist net.now }
     requires set { AllSet net.now }
     requires wire { IsWire net.now wire.0 }
@@ -174,7 +175,7 @@ fn push_step(lists: &mut [Vec<usize>], net: &Net, wire: Sig, k: usize) -> Result
     }
 }
 
-fn push_operands(lists: &mut [Vec<usize>], operands: &[Sig], k: usize) -> Result<(), AllocError>
+fn push_operands(lists: &mut [Vec<u32>], operands: &[Sig], k: u32) -> Result<(), AllocError>
     requires within { (i : ℕ) (t : Sig) → slice_get operands.now i ≡ Some t → t.0 < length lists.old }
     ensures long { length lists.new ≡ length lists.old }
     ensures more { (n : Netlist) (ws : List ℕ) (s : ℕ) → slice_get ws k ≡ Some s → operands_of n s ≡ numbers operands.now → AreLists n ws k 0 lists.old
@@ -188,7 +189,7 @@ fn push_operands(lists: &mut [Vec<usize>], operands: &[Sig], k: usize) -> Result
 
 // Puts the marks of the registers, which begin with `first`, on the lists of their next signals.
 fn push_nexts(
-    lists: &mut [Vec<usize>],
+    lists: &mut [Vec<u32>],
     registers: &[Register],
     first: usize,
 ) -> Result<(), AllocError>
@@ -199,13 +200,14 @@ fn push_nexts(
         → OnOk result (AreAllLists n ws registers.now (length registers.now) lists.new) }
 {
     'registers: for i in 0..registers.len() {
-        lists[registers[i].next.0 as usize].push(first + i)?;
+        let mark = narrowed(first + i)?;
+        lists[registers[i].next.0 as usize].push(mark)?;
     }
     Ok(())
 }
 
 // The lists laid out one after another.
-fn flatten(alloc: Global, lists: &[Vec<usize>]) -> Result<Table, AllocError>
+fn flatten(alloc: Global, lists: &[Vec<u32>]) -> Result<Table, AllocError>
     ensures { IfOk result (λ t. AreFlat lists.now t.starts.items t.readers.items (length lists.now)) }
 {
     let mut starts = Vec::with_capacity(alloc, lists.len() + 1)?;
@@ -213,9 +215,20 @@ fn flatten(alloc: Global, lists: &[Vec<usize>]) -> Result<Table, AllocError>
     starts.push(0)?;
     'places: for p in 0..lists.len() {
         readers.extend_from_slice(&lists[p])?;
-        starts.push(readers.len())?;
+        let count = narrowed(readers.len())?;
+        starts.push(count)?;
     }
     Ok(Table { starts, readers })
+}
+
+// A number in 32 bits. Tables that had more would not fit into memory.
+fn narrowed(number: usize) -> Result<u32, AllocError>
+    ensures { IfOk result (λ k. k ≡ number) }
+{
+    if number > 0xFFFF_FFFF {
+        return Err(AllocError);
+    }
+    Ok(number as u32)
 }
 
 // The steps of wires, in their order.

@@ -13,7 +13,7 @@ ghost use Rattle.safl_sim.specs.Steps.{Waits, Runs, Ready, LowStep, action_numbe
 ghost use Rattle.safl_sim.specs.Cycles.{KeepsPlan, Cycles};
 ghost use Rattle.safl_sim.specs.Writes.{HasPut, HasShown, Shows, KeepsOn, after_steps, AllReady};
 
-use crate::marks::{clear, mark, mark_range, mark_readers, take, take_held, word_count};
+use crate::marks::{clear, mark, mark_range, mark_readers, next_word, take, take_held, word_count};
 use crate::numbers::Numbers;
 use crate::plan::Plan;
 use crate::step::{Register, Step, act, act_low};
@@ -25,8 +25,8 @@ use safl_word::{Raw, Word};
 pub fn give(
     values: &mut Numbers,
     marks: &mut [u64],
-    starts: &[usize],
-    readers: &[usize],
+    starts: &[u32],
+    readers: &[u32],
     place: u32,
     number: Raw,
 )
@@ -73,8 +73,8 @@ fn renew_low(values: &mut Numbers, place: usize, number: u64) -> bool
 pub fn put_words(
     values: &mut Numbers,
     marks: &mut [u64],
-    starts: &[usize],
-    readers: &[usize],
+    starts: &[u32],
+    readers: &[u32],
     places: &[Sig],
     words: &[Word],
 )
@@ -98,8 +98,8 @@ pub fn put_words(
 pub fn show(
     values: &mut Numbers,
     marks: &mut [u64],
-    starts: &[usize],
-    readers: &[usize],
+    starts: &[u32],
+    readers: &[u32],
     register: Register,
     state: &[Raw],
 )
@@ -163,8 +163,14 @@ pub fn show_registers(
     ensures goes { (n : Netlist) (ws held : List ℕ) → RegistersAway plan.now.registers.items ws
         → Goes n ws plan.now.registers.items held plan.now.starts.items plan.now.readers.items values.old values.new marks.old marks.new }
 {
-    'words: for w in 0..waiting.len() {
+    let end = waiting.len();
+    let mut w = next_word(waiting, 0, end);
+    'words: for _n in 0..end {
+        if w == end {
+            return;
+        }
         show_word(values, marks, waiting, plan, state, w);
+        w = next_word(waiting, w + 1, end);
     }
 }
 
@@ -243,8 +249,14 @@ pub fn keep_registers(
     ensures { (start was : List ℕ) → KeepsOn (first * 64) registers.now values.now (first * 64) start was state.old marks.old waiting.old
         → KeepsOn (first * 64) registers.now values.now (length marks.new * 64) start was state.new marks.new waiting.new }
 {
-    'words: for w in first..marks.len() {
+    let end = marks.len();
+    let mut w = next_word(marks, first, end);
+    'words: for _n in first..end {
+        if w == end {
+            return;
+        }
         keep_word(state, marks, waiting, registers, values, first, w);
+        w = next_word(marks, w + 1, end);
     }
 }
 
@@ -273,8 +285,8 @@ fn act_anew(values: &mut Numbers, step: &Step) -> bool
 pub fn evaluate(
     values: &mut Numbers,
     marks: &mut [u64],
-    starts: &[usize],
-    readers: &[usize],
+    starts: &[u32],
+    readers: &[u32],
     step: &Step,
 ) -> u64
     requires lists { Lists starts.now readers.now (length values.old) (length marks.old) }
@@ -303,8 +315,8 @@ pub fn evaluate(
 pub fn run_word(
     values: &mut Numbers,
     marks: &mut [u64],
-    starts: &[usize],
-    readers: &[usize],
+    starts: &[u32],
+    readers: &[u32],
     steps: &[Step],
     word: usize,
 ) -> usize
@@ -337,8 +349,8 @@ pub fn run_word(
 pub fn run_marked(
     values: &mut Numbers,
     marks: &mut [u64],
-    starts: &[usize],
-    readers: &[usize],
+    starts: &[u32],
+    readers: &[u32],
     steps: &[Step],
 ) -> usize
     requires few { length marks.old ≤ 2 ^ 32 }
@@ -351,8 +363,13 @@ pub fn run_marked(
 {
     let mut count = 0;
     let end = word_count(steps.len());
-    'words: for w in 0..end {
+    let mut w = next_word(marks, 0, end);
+    'words: for _n in 0..end {
+        if w == end {
+            return count;
+        }
         count += run_word(values, marks, starts, readers, steps, w);
+        w = next_word(marks, w + 1, end);
     }
     count
 }
@@ -389,8 +406,8 @@ fn write(values: &mut Numbers, step: &Step)
 pub fn run_steps(
     values: &mut Numbers,
     marks: &mut [u64],
-    starts: &[usize],
-    readers: &[usize],
+    starts: &[u32],
+    readers: &[u32],
     steps: &[Step],
     registers: usize,
     all: bool,

@@ -13,7 +13,7 @@ pub struct Plan {
     pub steps: Vec<Step>,
     pub inputs: Vec<Sig>,
     pub registers: Vec<Register>,
-    pub starts: Vec<usize>,
-    pub readers: Vec<usize>,
+    pub starts: Vec<u32>,
+    pub readers: Vec<u32>,
     pub ghost near: { AreNear starts.items readers.items steps.items },
 }

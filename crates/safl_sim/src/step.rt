@@ -34,7 +34,7 @@ pub enum Action {
 #[derive(Clone, Copy)]
 pub struct Near {
     pub mask: u64,
-    pub first: usize,
+    pub first: u32,
 }
 
 /// A wire, and what gives it its number. A narrow step has at most 64 bits in all that it works on and gives.

@@ -11,4 +11,4 @@ places-preserved c =
     let all = c.in_ok-extend_from_slice.ensures.items ∙ ap (λ (l : List ℕ). c.places.readers.items ++ l) c.deref.ensures.value in
     let count : c.len.result ≡ length (c.places.readers.items ++ c.index-lists-p.result.items) = (let a = c.len.ensures in let b = ap length all in let d = c.extend_from_slice.new.self.ok.0 in omega (arith, a, b, d)) in
     subst (λ (l : List ℕ). AreFlat c.args.lists.now c.push-in-places.new.self.items l (c.places.p + 1)) (sym all)
-    (subst (λ (l : List ℕ). AreFlat c.args.lists.now l (c.places.readers.items ++ c.index-lists-p.result.items) (c.places.p + 1)) (sym (c.in_ok-push-2.ensures.items ∙ ap (λ (x : ℕ). c.places.starts.items ++ x ∷ []) count)) w)
+    (subst (λ (l : List ℕ). AreFlat c.args.lists.now l (c.places.readers.items ++ c.index-lists-p.result.items) (c.places.p + 1)) (sym (c.in_ok-push-2.ensures.items ∙ ap (λ (x : ℕ). c.places.starts.items ++ x ∷ []) (c.in_ok-count.ensures ∙ count))) w)

@@ -18,7 +18,7 @@ registers-preserved c =
     record {
       long = set_long c.registers.lists r.next.0 c.push.new.self ∙ c.registers.invariant.long;
       lists = λ n ws e w. all_lists_step n ws regs c.registers.i r c.registers.lists (get_or c.registers.lists r.next.0 c.index-lists-registers.result) c.push.new.self (c.registers.invariant.lists n ws e w) at here
-          (c.in_ok-push.ensures.items ∙ ap (λ (x : ℕ). (get_or c.registers.lists r.next.0 c.index-lists-registers.result).items ++ (x + c.registers.i) ∷ []) e);
+          (c.in_ok-push.ensures.items ∙ ap (λ (x : ℕ). (get_or c.registers.lists r.next.0 c.index-lists-registers.result).items ++ x ∷ []) (c.in_ok-mark.ensures ∙ ap (λ (x : ℕ). x + c.registers.i) e));
     }
 
 pub returns-clause-all : goal.returns-clause-all

@@ -1,9 +1,11 @@
-use Rattle.std.proofs.Common.{◌≡◌, ℕ, ◌*◌, List, length}
+use Rattle.std.proofs.Common.{◌≡◌, ℕ, ◌*◌, ◌≤◌, List, length}
 use Rattle.safl_sim.specs.Writes.{KeepsOn}
 use Rattle.safl_sim.proofs.phases.keep_registers.Given as goal
 
 abbrev pub invariant-words : goal.invariant-words
 invariant-words l = record {
+  least : l._n ≤ l.w;
+  most : l.w ≤ l.end;
   state : length l.state ≡ length l.initial.state;
   marks : length l.marks ≡ length l.initial.marks;
   waiting : length l.waiting ≡ length l.initial.waiting;

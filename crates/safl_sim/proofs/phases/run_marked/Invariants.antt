@@ -6,6 +6,8 @@ use Rattle.safl_sim.proofs.phases.run_marked.Given as goal
 
 abbrev pub invariant-words : goal.invariant-words
 invariant-words l = record {
+  least : l._n ≤ l.w;
+  most : l.w ≤ l.end;
   count : l.count ≤ l.w * 64;
   long : length l.marks ≡ length l.initial.marks;
   runs : (o : Order) (regs : List Register) (now start : List ℕ) → Runs o l.steps regs now l.starts l.readers start 0 l.initial.values l.initial.marks → Runs o l.steps regs now l.starts l.readers start (l.w * 64) l.values l.marks;

@@ -1,4 +1,4 @@
-use Rattle.std.proofs.Common.{◌≡◌, ℕ, ◌*◌, List, length}
+use Rattle.std.proofs.Common.{◌≡◌, ℕ, ◌*◌, ◌≤◌, List, length}
 use Rattle.safl_net.specs.Netlist.{Netlist}
 use Rattle.safl_sim.specs.Readers.{Goes, RegistersAway}
 use Rattle.safl_sim.specs.Writes.{Shows}
@@ -6,6 +6,8 @@ use Rattle.safl_sim.proofs.phases.show_registers.Given as goal
 
 abbrev pub invariant-words : goal.invariant-words
 invariant-words l = record {
+  least : l._n ≤ l.w;
+  most : l.w ≤ l.end;
   wide : length l.values ≡ length l.initial.values;
   long : length l.marks ≡ length l.initial.marks;
   shows : Shows l.plan.registers.items l.state (l.w * 64) l.initial.values l.values l.waiting;

@@ -1,0 +1,12 @@
+use Rattle.std.proofs.Common.{◌+◌, arith}
+use Rattle.safl_sim.proofs.MarkLemmas.{between_none, between_more}
+use Rattle.safl_sim.proofs.marks.skip_blocks.Goals as goal
+
+pub fours-init : goal.fours-init
+fours-init c = record { place = omega arith; none = between_none c.args.marks.now c.args.from }
+
+pub fours-preserved : goal.fours-preserved
+fours-preserved c = record {
+  place = (let a = c.fours.invariant.place in omega (arith, a));
+  none = between_more c.args.marks.now c.args.from c.fours.w (c.fours.w + 4) c.fours.invariant.none (c.four_words-common.ensures c.if-common-ne0.false);
+}
