@@ -1,4 +1,5 @@
 pub mod PieceLemmas
+pub mod Digits
 pub mod LineLemmas
 pub mod ScriptLemmas
 pub mod RoomLemmas

@@ -1,13 +1,14 @@
 -- The words of a line, read one after the other.
-use Rattle.std.proofs.Common.{◌≡◌, ℕ, zero, suc, ◌+◌, ◌<◌, ◌≤◌, ◌⊎◌, List, [], ◌∷◌, ◌++◌, length, Some, slice_get, slice_index, refl, sym, ap, subst, ◌∙◌, arith, inl, inr, append_assoc}
+use Rattle.std.proofs.Common.{◌≡◌, ℕ, zero, suc, ◌+◌, ◌<◌, ◌≤◌, ◌⊎◌, List, [], ◌∷◌, ◌++◌, length, Option, Some, None, Bool, true, false, not, slice_get, slice_index, refl, sym, ap, subst, ◌∙◌, arith, inl, inr, append_assoc}
+use Rattle.std.specs.Prelude.{is_some}
+use Rattle.std.proofs.lemmas.Bool.{true≢false, false≢true}
 use Rattle.std.proofs.lemmas.List.{append-nil}
 use Rattle.safl_word.specs.Words.{Word}
-use Rattle.safl_net.proofs.Naming.{pushed}
 use Rattle.safl_session.specs.declared.script.ScriptErr.{ScriptErr}
 use Rattle.safl_session.specs.declared.script.ScriptErr.TheVariants as errors
 use Rattle.safl_session.specs.Pieces.{HasWords, Blank, StartsWith}
-use Rattle.safl_session.specs.Lines.{IsArgument, AreArguments, IsCall, IsLong, IsMisread, HasFault}
-use Rattle.safl_session.proofs.PieceLemmas.{words_of, words_once, blank_words, first_word, behind_long}
+use Rattle.safl_session.specs.Lines.{IsArgument, AreArguments, IsCall, AppendsCall, IsMiscounted, IsMisread, HasFault}
+use Rattle.safl_session.proofs.PieceLemmas.{words_once, blank_words, first_word, behind_long}
 
 pub list_long : {A : Type 0} (xs ys : List A) → length (xs ++ ys) ≡ length xs + length ys
 list_long [] ys = omega arith
@@ -18,128 +19,181 @@ in_front [] ys k h = absurd (omega arith)
 in_front (x ∷ xs) ys zero h = refl
 in_front (x ∷ xs) ys (suc k) h = in_front xs ys k (omega (arith, h))
 
-pub get_below : {A : Type 0} (xs : List A) (k : ℕ) → k < length xs → (x : A) × (slice_get xs k ≡ Some x)
-get_below [] k h = absurd (omega arith)
-get_below (x ∷ xs) zero h = (x, refl)
-get_below (x ∷ xs) (suc k) h = get_below xs k (omega (arith, h))
-
 pub at_seam : {A : Type 0} (xs : List A) (y : A) (ys : List A) (k : ℕ) → length xs ≡ k → slice_get (xs ++ y ∷ ys) k ≡ Some y
 at_seam [] y ys k e = ap (slice_get (y ∷ ys)) (sym e)
 at_seam (x ∷ xs) y ys zero e = absurd (omega (arith, e))
 at_seam (x ∷ xs) y ys (suc k) e = at_seam xs y ys k (omega (arith, e))
 
-none_left : {A : Type 0} (xs : List A) → length xs ≡ 0 → xs ≡ []
-none_left [] e = refl
-none_left (x ∷ xs) e = absurd (omega (arith, e))
+got_below : {A : Type 0} (xs : List A) (k : ℕ) (x : A) → slice_get xs k ≡ Some x → k < length xs
+got_below [] k x e = absurd (cc)
+got_below (y ∷ xs) zero x e = omega arith
+got_below (y ∷ xs) (suc k) x e = let h = got_below xs k x e in omega (arith, h)
 
--- the words that are counted so far
-pub record Counted (line : List ℕ) (count : ℕ) (rest : List ℕ) : Type 0 where
-  pub split : (ws : List (List ℕ)) → HasWords rest ws → (us : List (List ℕ)) × HasWords line us × (length us ≡ count + length ws)
+-- the texts that have a width are these arguments
+abbrev pub Begins : List ℕ → List (List ℕ) → List Word → Type 0
+Begins [] ts vs = vs ≡ []
+Begins (w ∷ ws) [] vs = vs ≡ []
+Begins (w ∷ ws) (t ∷ ts) [] = ⊥
+Begins (w ∷ ws) (t ∷ ts) (v ∷ vs) = IsArgument w t v × Begins ws ts vs
+
+begins_none : (ws : List ℕ) → Begins ws [] []
+begins_none [] = refl
+begins_none (w ∷ ws) = refl
+
+begins_more : (ws : List ℕ) (ts : List (List ℕ)) (vs : List Word) (w : ℕ) (t : List ℕ) (v : Word) → Begins ws ts vs → slice_get ws (length ts) ≡ Some w → IsArgument w t v → Begins ws (ts ++ t ∷ []) (vs ++ v ∷ [])
+begins_more [] ts vs w t v b e is = absurd (cc)
+begins_more (x ∷ ws) [] [] w t v b e is = let q : w ≡ x = cc in (subst (λ y. IsArgument y t v) q is, begins_none ws)
+begins_more (x ∷ ws) [] (u ∷ vs) w t v b e is = absurd (cc)
+begins_more (x ∷ ws) (s ∷ ts) [] w t v b e is = absurd b
+begins_more (x ∷ ws) (s ∷ ts) (u ∷ vs) w t v b e is = (b.0, begins_more ws ts vs w t v b.1 e is)
+
+begins_over : (ws : List ℕ) (ts : List (List ℕ)) (vs : List Word) (t : List ℕ) → Begins ws ts vs → length ws ≤ length ts → Begins ws (ts ++ t ∷ []) vs
+begins_over [] ts vs t b h = b
+begins_over (x ∷ ws) [] vs t b h = absurd (omega (arith, h))
+begins_over (x ∷ ws) (s ∷ ts) [] t b h = absurd b
+begins_over (x ∷ ws) (s ∷ ts) (u ∷ vs) t b h = (b.0, begins_over ws ts vs t b.1 (omega (arith, h)))
+
+begins_at : (ws : List ℕ) (ts : List (List ℕ)) (vs : List Word) → Begins ws ts vs → (k w : ℕ) (t : List ℕ) → slice_get ws k ≡ Some w → slice_get ts k ≡ Some t → (v : Word) × IsArgument w t v
+begins_at [] ts vs b k w t e f = absurd (cc)
+begins_at (x ∷ ws) [] vs b k w t e f = absurd (cc)
+begins_at (x ∷ ws) (s ∷ ts) [] b k w t e f = absurd b
+begins_at (x ∷ ws) (s ∷ ts) (v ∷ vs) b zero w t e f =
+    let p : x ≡ w = cc in
+    let q : s ≡ t = cc in
+    (v, subst (λ y. IsArgument y t v) p (subst (λ y. IsArgument x y v) q b.0))
+begins_at (x ∷ ws) (s ∷ ts) (v ∷ vs) b (suc k) w t e f = begins_at ws ts vs b.1 k w t e f
+
+begins_all : (ws : List ℕ) (ts : List (List ℕ)) (vs : List Word) → Begins ws ts vs → length ts ≡ length ws → AreArguments ws ts vs
+begins_all [] [] [] b e = tt
+begins_all [] [] (v ∷ vs) b e = absurd (cc)
+begins_all [] (t ∷ ts) vs b e = absurd (omega (arith, e))
+begins_all (w ∷ ws) [] vs b e = absurd (omega (arith, e))
+begins_all (w ∷ ws) (t ∷ ts) [] b e = absurd b
+begins_all (w ∷ ws) (t ∷ ts) (v ∷ vs) b e = (b.0, begins_all ws ts vs b.1 (omega (arith, e)))
+
+-- the text of this number, from 1, is the first that is no argument of its width
+pub record IsBad (widths : List ℕ) (texts : List (List ℕ)) (number : ℕ) : Type 0 where
+  pub index : ℕ
+  pub is : number ≡ index + 1
+  pub width : ℕ
+  pub text : List ℕ
+  pub at_width : slice_get widths index ≡ Some width
+  pub at_text : slice_get texts index ≡ Some text
+  pub bad : (v : Word) → IsArgument width text v → ⊥
+  pub before : (i w : ℕ) (t : List ℕ) → i < index → slice_get widths i ≡ Some w → slice_get texts i ≡ Some t → (v : Word) × IsArgument w t v
+
+bad_here : (ws : List ℕ) (ts : List (List ℕ)) (vs : List Word) (w : ℕ) (t : List ℕ) → Begins ws ts vs → slice_get ws (length ts) ≡ Some w → ((v : Word) → IsArgument w t v → ⊥) → IsBad ws (ts ++ t ∷ []) (length ts + 1)
+bad_here ws ts vs w t b e bad = record {
+  index = length ts;
+  is = refl;
+  width = w;
+  text = t;
+  at_width = e;
+  at_text = at_seam ts t [] (length ts) refl;
+  bad = bad;
+  before = λ k x s h f g. begins_at ws ts vs b k x s f (sym (in_front ts (t ∷ []) k h) ∙ g);
+}
+
+bad_more : (ws : List ℕ) (ts : List (List ℕ)) (t : List ℕ) (number : ℕ) → IsBad ws ts number → IsBad ws (ts ++ t ∷ []) number
+bad_more ws ts t number b =
+    let inside : b.index < length ts = got_below ts b.index b.text b.at_text in
+    record {
+      index = b.index;
+      is = b.is;
+      width = b.width;
+      text = b.text;
+      at_width = b.at_width;
+      at_text = in_front ts (t ∷ []) b.index inside ∙ b.at_text;
+      bad = b.bad;
+      before = λ k x s h f g. b.before k x s h f (sym (in_front ts (t ∷ []) k (omega (arith, h, inside))) ∙ g);
+    }
+
+-- the texts are arguments, which are appended, or one of them is the first that is none
+abbrev pub Reads : List ℕ → List (List ℕ) → Option ℕ → List Word → List Word → Type 0
+Reads widths texts None old new = (args : List Word) × Begins widths texts args × (new ≡ old ++ args)
+Reads widths texts (Some place) old new = IsBad widths texts place
+
+-- so many words of a line are seen
+pub record SeenTo (widths line : List ℕ) (count : ℕ) (misread : Option ℕ) (rest : List ℕ) (old new : List Word) : Type 0 where
+  pub texts : List (List ℕ)
+  pub long : length texts ≡ count
+  pub split : (ws : List (List ℕ)) → HasWords rest ws → HasWords line (texts ++ ws)
   pub small : count + length rest ≤ length line
+  pub reads : Reads widths texts misread old new
 
-pub count_none : (line : List ℕ) → Counted line 0 line
-count_none line = record { split = λ ws h. (ws, h, (let z : length ws ≡ 0 + length ws = omega arith in z)); small = omega arith }
+pub seen_none : (widths line : List ℕ) (old : List Word) → SeenTo widths line 0 None line old old
+seen_none widths line old = record { texts = []; long = refl; split = λ ws h. h; small = omega arith; reads = ([], begins_none widths, sym (append-nil old)) }
 
-pub count_more : (line : List ℕ) (count : ℕ) (rest word behind : List ℕ) → Counted line count rest → StartsWith rest word behind → Counted line (count + 1) behind
-count_more line count rest word behind c s = record {
-  split = λ ws h. let u = c.split (word ∷ ws) (first_word rest word behind s ws h) in (u.0, u.1, (let e = u.2 in omega (arith, e)));
-  small = (let a = c.small in let b = behind_long rest word behind s in omega (arith, a, b));
-}
+-- a word more is seen
+module _ (widths line : List ℕ) (count : ℕ) (rest word behind : List ℕ) (s : StartsWith rest word behind) where
+  seen_more : (before after : Option ℕ) (old mid new : List Word) (seen : SeenTo widths line count before rest old mid) → Reads widths (seen.texts ++ word ∷ []) after old new → SeenTo widths line (count + 1) after behind old new
+  seen_more before after old mid new seen reads = record {
+    texts = seen.texts ++ word ∷ [];
+    long = list_long seen.texts (word ∷ []) ∙ ap (λ k. k + 1) seen.long;
+    split = λ ws h. subst (HasWords line) (sym (append_assoc seen.texts (word ∷ []) ws)) (seen.split (word ∷ ws) (first_word rest word behind s ws h));
+    small = (let a = seen.small in let b = behind_long rest word behind s in omega (arith, a, b));
+    reads = reads;
+  }
 
-pub counted : (line : List ℕ) (count : ℕ) (rest : List ℕ) → Counted line count rest → Blank rest → IsLong line count
-counted line count rest c blank = let u = c.split [] (blank_words rest blank) in (u.0, u.1, (let e = u.2 in omega (arith, e)))
+  pub seen_read : (w : ℕ) (v : Word) (old mid new : List Word) → SeenTo widths line count None rest old mid → slice_get widths count ≡ Some w → IsArgument w word v → new ≡ mid ++ v ∷ [] → SeenTo widths line (count + 1) None behind old new
+  seen_read w v old mid new seen at is pushed =
+      let r = seen.reads in
+      seen_more None None old mid new seen (
+        r.0 ++ v ∷ [],
+        begins_more widths seen.texts r.0 w word v r.1 (ap (slice_get widths) seen.long ∙ at) is,
+        pushed ∙ ap (λ l. l ++ v ∷ []) r.2 ∙ append_assoc old r.0 (v ∷ []),
+      )
 
--- so many words are read
-pub record ReadTo (widths line : List ℕ) (count : ℕ) (args : List Word) (rest : List ℕ) : Type 0 where
-  pub words : List (List ℕ)
-  pub long : length words ≡ count
-  pub split : (ws : List (List ℕ)) → HasWords rest ws → HasWords line (words ++ ws)
-  pub args_long : length args ≡ count
-  pub each : (k w : ℕ) (t : List ℕ) (v : Word) → slice_get widths k ≡ Some w → slice_get words k ≡ Some t → slice_get args k ≡ Some v → IsArgument w t v
+  pub seen_bad : (w : ℕ) (old mid : List Word) → SeenTo widths line count None rest old mid → slice_get widths count ≡ Some w → ((v : Word) → IsArgument w word v → ⊥) → SeenTo widths line (count + 1) (Some (count + 1)) behind old mid
+  seen_bad w old mid seen at bad =
+      let r = seen.reads in
+      seen_more None (Some (count + 1)) old mid mid seen
+      (subst (λ k. IsBad widths (seen.texts ++ word ∷ []) (k + 1)) seen.long (bad_here widths seen.texts r.0 w word r.1 (ap (slice_get widths) seen.long ∙ at) bad))
 
-pub read_none : (widths line : List ℕ) → ReadTo widths line 0 [] line
-read_none widths line = record { words = []; long = refl; split = λ ws h. h; args_long = refl; each = λ k w t v d e f. absurd (cc) }
+  -- beyond the widths, or after a word that is no argument
+  pub seen_over : (misread : Option ℕ) (old mid : List Word) → SeenTo widths line count misread rest old mid → (misread ≡ None → length widths ≤ count) → SeenTo widths line (count + 1) misread behind old mid
+  seen_over None old mid seen h =
+      let r = seen.reads in
+      seen_more None None old mid mid seen (r.0, begins_over widths seen.texts r.0 word r.1 (let a = h refl in let b = seen.long in omega (arith, a, b)), r.2)
+  seen_over (Some place) old mid seen h = seen_more (Some place) (Some place) old mid mid seen (bad_more widths seen.texts word place seen.reads)
 
-pub read_more : (widths line : List ℕ) (i w : ℕ) (args : List Word) (rest word behind : List ℕ) (v : Word) → ReadTo widths line i args rest → StartsWith rest word behind → slice_get widths i ≡ Some w → IsArgument w word v
-    → ReadTo widths line (i + 1) (args ++ v ∷ []) behind
-read_more widths line i w args rest word behind v r s d is = record {
-  words = r.words ++ word ∷ [];
-  long = list_long r.words (word ∷ []) ∙ ap (λ k. k + 1) r.long;
-  split = λ ws h. subst (HasWords line) (sym (append_assoc r.words (word ∷ []) ws)) (r.split (word ∷ ws) (first_word rest word behind s ws h));
-  args_long = list_long args (v ∷ []) ∙ ap (λ k. k + 1) r.args_long;
-  each = λ k x t u f g h. elim (pushed args v u k h) [
-    | inl q ↦
-        elim (pushed r.words word t k g) [
-          | inl p ↦ r.each k x t u f p q
-          | inr p ↦ absurd (beyond args k u q (p.0 ∙ r.long ∙ sym r.args_long))
-        ]
-    | inr q ↦
-        let here : k ≡ i = q.0 ∙ r.args_long in
-        let a : Some w ≡ Some x = sym d ∙ ap (slice_get widths) (sym here) ∙ f in
-        let b : Some word ≡ Some t = sym (at_seam r.words word [] i r.long) ∙ ap (slice_get (r.words ++ word ∷ [])) (sym here) ∙ g in
-        let wx : w ≡ x = cc in
-        let ts : word ≡ t = cc in
-        subst (λ y. IsArgument y t u) wx (subst (λ y. IsArgument w y u) ts (subst (λ y. IsArgument w word y) (sym q.1) is))
-  ];
-}
-  where
-    beyond : (xs : List Word) (k : ℕ) (x : Word) → slice_get xs k ≡ Some x → k ≡ length xs → ⊥
-    beyond [] k x e h = cc
-    beyond (y ∷ xs) zero x e h = omega (arith, h)
-    beyond (y ∷ xs) (suc k) x e h = beyond xs k x e (omega (arith, h))
+-- all words are seen
+module _ (widths line : List ℕ) (count : ℕ) (rest : List ℕ) (blank : Blank rest) (old new : List Word) where
+  all_words : (misread : Option ℕ) (seen : SeenTo widths line count misread rest old new) → HasWords line seen.texts
+  all_words misread seen = subst (HasWords line) (append-nil seen.texts) (seen.split [] (blank_words rest blank))
 
-module _ (widths line : List ℕ) (given : ℕ) (is_long : IsLong line given) (args : List Word) (rest : List ℕ) where
-  -- all words of the line have that number
-  total : (us : List (List ℕ)) → HasWords line us → length us ≡ given
-  total us h = ap length (words_once line us is_long.0 h is_long.1) ∙ is_long.2
+  pub seen_count : (misread : Option ℕ) → SeenTo widths line count misread rest old new → (count ≡ length widths → ⊥) → IsMiscounted widths line count
+  seen_count misread seen other = ((seen.texts, all_words misread seen, seen.long), other)
 
-  pub no_more : (i : ℕ) → ReadTo widths line i args rest → Blank rest → i < given → ⊥
-  no_more i r blank h =
-      let a = total (r.words ++ []) (r.split [] (blank_words rest blank)) in
-      let b = list_long {A = List ℕ} r.words [] in
-      let c = r.long in
-      omega (arith, h, a, b, c)
+  pub seen_call : SeenTo widths line count None rest old new → count ≡ length widths → AppendsCall widths line old new
+  seen_call seen same =
+      let r = seen.reads in
+      (r.0, (seen.texts, all_words None seen, begins_all widths seen.texts r.0 r.1 (seen.long ∙ same)), r.2)
 
-  pub misread : (i w : ℕ) (word behind : List ℕ) → ReadTo widths line i args rest → StartsWith rest word behind → given ≡ length widths → slice_get widths i ≡ Some w → ((v : Word) → IsArgument w word v → ⊥) → IsMisread widths line (i + 1)
-  misread i w word behind r s same d bad =
-      let tail = words_of behind in
-      let has = r.split (word ∷ tail.0) (first_word rest word behind s tail.0 tail.1) in
+  pub seen_fault : (place : ℕ) → SeenTo widths line count (Some place) rest old new → count ≡ length widths → IsMisread widths line place
+  seen_fault place seen same =
+      let b : IsBad widths seen.texts place = seen.reads in
       record {
-        words = r.words ++ word ∷ tail.0;
-        has = has;
-        same = total (r.words ++ word ∷ tail.0) has ∙ same;
-        index = i;
-        is = refl;
-        width = w;
-        text = word;
-        at_width = d;
-        at_text = at_seam r.words word tail.0 i r.long;
-        bad = bad;
-        before = λ k x t h f g.
-            let l = r.long in
-            let m = r.args_long in
-            let v = get_below args k (omega (arith, h, m)) in
-            (v.0, r.each k x t v.0 f (sym (in_front r.words (word ∷ tail.0) k (omega (arith, h, l))) ∙ g) v.1);
+        words = seen.texts;
+        has = all_words (Some place) seen;
+        same = seen.long ∙ same;
+        index = b.index;
+        is = b.is;
+        width = b.width;
+        text = b.text;
+        at_width = b.at_width;
+        at_text = b.at_text;
+        bad = b.bad;
+        before = b.before;
       }
 
-  are_read : (ws : List ℕ) (ts : List (List ℕ)) (vs : List Word) → length ts ≡ length ws → length vs ≡ length ts
-      → ((k w : ℕ) (t : List ℕ) (v : Word) → slice_get ws k ≡ Some w → slice_get ts k ≡ Some t → slice_get vs k ≡ Some v → IsArgument w t v) → AreArguments ws ts vs
-  are_read [] [] [] l m r = tt
-  are_read [] [] (v ∷ vs) l m r = absurd (omega (arith, m))
-  are_read [] (t ∷ ts) vs l m r = absurd (omega (arith, l))
-  are_read (w ∷ ws) [] vs l m r = absurd (omega (arith, l))
-  are_read (w ∷ ws) (t ∷ ts) [] l m r = absurd (omega (arith, m))
-  are_read (w ∷ ws) (t ∷ ts) (v ∷ vs) l m r = (r 0 w t v refl refl refl, are_read ws ts vs (omega (arith, l)) (omega (arith, m)) (λ k x s u f g h. r (suc k) x s u f g h))
+pub is_absent : (misread : Option ℕ) (absent : Bool) → is_some misread ≡ not absent → absent ≡ true → misread ≡ None
+is_absent None absent e h = refl
+is_absent (Some place) absent e h = absurd (true≢false (e ∙ ap not h))
 
-  pub read_all : ReadTo widths line given args rest → given ≡ length widths → IsCall widths line args
-  read_all r same =
-      let tail = words_of rest in
-      let a = total (r.words ++ tail.0) (r.split tail.0 tail.1) in
-      let b = list_long r.words tail.0 in
-      let c = r.long in
-      let none : tail.0 ≡ [] = none_left tail.0 (omega (arith, a, b, c)) in
-      let has : HasWords line r.words = subst (HasWords line) (ap (λ l. r.words ++ l) none ∙ append-nil r.words) (r.split tail.0 tail.1) in
-      (r.words, has, are_read widths r.words args (r.long ∙ same) (r.args_long ∙ sym r.long) r.each)
+pub is_present : (misread : Option ℕ) (absent : Bool) → is_some misread ≡ not absent → absent ≡ false → misread ≡ None → ⊥
+is_present None absent e h none = false≢true (e ∙ ap not h)
+is_present (Some place) absent e h none = cc
 
 -- what an index shows
 pub shown_at : (xs : List ℕ) (i : ℕ) → i < length xs → (x : ℕ) → x ≡ slice_index xs i → slice_get xs i ≡ Some x
@@ -168,6 +222,14 @@ args_long [] (t ∷ ts) vs a = absurd a
 args_long (w ∷ ws) [] vs a = absurd a
 args_long (w ∷ ws) (t ∷ ts) [] a = absurd a
 args_long (w ∷ ws) (t ∷ ts) (v ∷ vs) a = ap suc (args_long ws ts vs a.1)
+
+pub words_long : (ws : List ℕ) (ts : List (List ℕ)) (vs : List Word) → AreArguments ws ts vs → length vs ≡ length ws
+words_long [] [] [] a = refl
+words_long [] [] (v ∷ vs) a = absurd a
+words_long [] (t ∷ ts) vs a = absurd a
+words_long (w ∷ ws) [] vs a = absurd a
+words_long (w ∷ ws) (t ∷ ts) [] a = absurd a
+words_long (w ∷ ws) (t ∷ ts) (v ∷ vs) a = ap suc (words_long ws ts vs a.1)
 
 arg_at : (ws : List ℕ) (ts : List (List ℕ)) (vs : List Word) → AreArguments ws ts vs → (k w : ℕ) (t : List ℕ) → slice_get ws k ≡ Some w → slice_get ts k ≡ Some t → (v : Word) × IsArgument w t v
 arg_at [] ts vs a k w t e f = absurd (cc)

@@ -49,7 +49,7 @@ cut_short c text n run h = record {
 pub cut_all : (c : ℕ) (text : List ℕ) (n : ℕ) → IsRun (λ x. not (x == c)) text n → length text ≤ n → IsCut c text text []
 cut_all c text n run h = record { lacks = ap (list_all (λ x. not (x == c))) (sym (take_full text n h)) ∙ run.passes; is = inr (refl, refl) }
 
--- what stands behind a cut is shorter
+-- what follows a cut is shorter
 append_long : (xs ys : List ℕ) → length (xs ++ ys) ≡ length xs + length ys
 append_long [] ys = omega arith
 append_long (x ∷ xs) ys = let e = append_long xs ys in omega (arith, e)
@@ -170,7 +170,7 @@ cut_words rest word behind ws cut some h = by cut.is
 pub first_word : (text word behind : List ℕ) → StartsWith text word behind → (ws : List (List ℕ)) → HasWords behind ws → HasWords text (word ∷ ws)
 first_word text word behind s ws h = subst (λ l. HasWords l (word ∷ ws)) (sym s.is) (spaced s.spaces s.rest (word ∷ ws) s.blank (cut_words s.rest word behind ws s.cut s.some h))
 
--- what stands behind a word is shorter
+-- what follows a word is shorter
 pub behind_long : (text word behind : List ℕ) → StartsWith text word behind → length behind < length text
 behind_long text word behind s =
     let a = ap length s.is ∙ append_long s.spaces s.rest in
@@ -179,7 +179,7 @@ behind_long text word behind s =
     let d = b.1 (let e = b.2 in omega (arith, c, e)) in
     omega (arith, a, d)
 
--- the first word of what stands behind the spaces
+-- the first word of what follows the spaces
 pub starts_with : (text rest word behind : List ℕ) (k : ℕ) → IsRun (λ c. c == 32) text k → rest ≡ drop k text → 0 < length rest → IsCut 32 rest word behind → StartsWith text word behind
 starts_with text rest word behind k run r some cut = record {
   spaces = take k text;

@@ -1,26 +1,71 @@
 -- The lines of a script, read one after the other.
-use Rattle.std.proofs.Common.{◌≡◌, ℕ, zero, suc, ◌+◌, ◌<◌, ◌≤◌, ◌⊎◌, List, [], ◌∷◌, ◌++◌, length, Some, slice_get, Bool, true, false, ◌==◌, refl, sym, ap, subst, ◌∙◌, arith, inl, inr, append_assoc, Vec, Global}
+use Rattle.std.proofs.Common.{◌≡◌, ℕ, zero, suc, ◌+◌, ◌-◌, ◌*◌, ◌<◌, ◌≤◌, ◌⊎◌, List, [], ◌∷◌, ◌++◌, length, take, drop, Some, slice_get, Bool, true, false, ◌==◌, refl, sym, ap, subst, ◌∙◌, arith, inl, inr, append_assoc, add-one}
 use Rattle.std.proofs.lemmas.Bool.{eqb-true, true≢false}
-use Rattle.std.proofs.lemmas.List.{append-nil}
+use Rattle.std.proofs.lemmas.List.{append-nil, length-drop, drop-drop, take_all, take-append-le, drop-append-le}
+use Rattle.std.proofs.Math.Nat.{mul-le-mul_right, suc-mul, zero-mul}
 use Rattle.safl_word.specs.Words.{Word}
 use Rattle.safl_session.specs.declared.script.ScriptErr.{ScriptErr}
 use Rattle.safl_session.specs.Pieces.{HasLines, IsCut}
-use Rattle.safl_session.specs.Lines.{IsCall, HasFault, RefusesLine}
-use Rattle.safl_session.specs.Scripts.{AreCalls, IsScript, IsScriptFault, RefusesScript, lists_of}
+use Rattle.safl_session.specs.Lines.{IsCall, AppendsCall, HasFault, RefusesLine}
+use Rattle.safl_session.specs.Scripts.{AreCalls, IsScript, IsScriptFault, RefusesScript, calls_of}
 use Rattle.safl_session.specs.Laws.{OneScript, OneFault, NotBoth}
 use Rattle.safl_session.proofs.PieceLemmas.{lines_of, lines_once, no_lines, first_line, cut_long}
-use Rattle.safl_session.proofs.LineLemmas.{list_long, in_front, at_seam, call_once, no_fault, fault_once}
+use Rattle.safl_session.proofs.LineLemmas.{list_long, in_front, at_seam, words_long, call_once, no_fault, fault_once}
 
--- the lines up to the rest are these calls
-pub record ScriptTo (widths text : List ℕ) (calls : List (List Word)) (rest : List ℕ) : Type 0 where
+-- the calls of a list of words, one after the other
+one_more : (arity count : ℕ) → suc count * arity ≡ arity + count * arity
+one_more arity count = let e = suc-mul count arity in omega (arith, e)
+
+pub calls_long : (count arity : ℕ) (words : List Word) → length (calls_of count arity words) ≡ count
+calls_long zero arity words = refl
+calls_long (suc count) arity words = ap suc (calls_long count arity (drop arity words))
+
+pub call_below : (count arity : ℕ) (words : List Word) (calls : List (List Word)) (k : ℕ) → calls_of count arity words ≡ calls → k < length calls → k < count
+call_below count arity words calls k is h = let a = ap length is in let b = calls_long count arity words in omega (arith, h, a, b)
+
+-- the call of a number
+pub call_of : (count arity : ℕ) (words : List Word) (k : ℕ) → k < count → slice_get (calls_of count arity words) k ≡ Some (take arity (drop (k * arity) words))
+call_of zero arity words k h = absurd (omega (arith, h))
+call_of (suc count) arity words zero h = ap (λ n. Some (take arity (drop n words))) (sym (zero-mul arity))
+call_of (suc count) arity words (suc k) h =
+    call_of count arity (drop arity words) k (omega (arith, h))
+    ∙ ap (λ l. Some (take arity l)) (drop-drop (k * arity) arity words ∙ ap (λ n. drop n words) (sym (one_more arity k)))
+
+-- its words stand in the list
+pub call_within : (count arity k : ℕ) → k < count → k * arity + arity ≤ count * arity
+call_within count arity k h =
+    let a : suc k * arity ≤ count * arity = mul-le-mul_right arity h in
+    let b = one_more arity k in
+    omega (arith, a, b)
+
+-- where they end, less where they begin
+pub call_wide : (start arity : ℕ) → arity ≡ start + arity - start
+call_wide start arity = omega arith
+
+-- the words of a further call
+words_more : (count arity : ℕ) (words args : List Word) → length words ≡ count * arity → length args ≡ arity → calls_of (suc count) arity (words ++ args) ≡ calls_of count arity words ++ args ∷ []
+words_more zero arity [] args long e = ap (λ l. l ∷ []) (take_all arity args (omega (arith, e)))
+words_more zero arity (w ∷ words) args long e = absurd (omega (arith, long))
+words_more (suc count) arity words args long e =
+    let m = one_more arity count in
+    let within : arity ≤ length words = omega (arith, long, m) in
+    let dropped = length-drop arity words in
+    let rest : length (drop arity words) ≡ count * arity = omega (arith, dropped, long, m) in
+    ap (λ l. l ∷ calls_of (suc count) arity (drop arity (words ++ args))) (take-append-le arity words args within)
+    ∙ ap (λ l. take arity words ∷ calls_of (suc count) arity l) (drop-append-le arity words args within)
+    ∙ ap (λ l. take arity words ∷ l) (words_more count arity (drop arity words) args rest e)
+
+-- the lines up to the rest are the calls of these words
+pub record ScriptTo (widths text : List ℕ) (count : ℕ) (words : List Word) (rest : List ℕ) : Type 0 where
   pub lines : List (List ℕ)
-  pub long : length lines ≡ length calls
+  pub long : length lines ≡ count
   pub split : (ls : List (List ℕ)) → HasLines rest ls → HasLines text (lines ++ ls)
-  pub are : AreCalls widths lines calls
-  pub small : length calls + length rest ≤ length text
+  pub are : AreCalls widths lines (calls_of count (length widths) words)
+  pub room : length words ≡ count * length widths
+  pub small : count + length rest ≤ length text
 
-pub script_none : (widths text : List ℕ) → ScriptTo widths text [] text
-script_none widths text = record { lines = []; long = refl; split = λ ls h. h; are = tt; small = omega arith }
+pub script_none : (widths text : List ℕ) → ScriptTo widths text 0 [] text
+script_none widths text = record { lines = []; long = refl; split = λ ls h. h; are = tt; room = omega arith; small = omega arith }
 
 calls_more : (widths : List ℕ) (lines : List (List ℕ)) (calls : List (List Word)) (line : List ℕ) (args : List Word) → AreCalls widths lines calls → IsCall widths line args → AreCalls widths (lines ++ line ∷ []) (calls ++ args ∷ [])
 calls_more widths [] [] line args a is = (is, tt)
@@ -28,46 +73,48 @@ calls_more widths [] (c ∷ calls) line args a is = absurd a
 calls_more widths (l ∷ lines) [] line args a is = absurd a
 calls_more widths (l ∷ lines) (c ∷ calls) line args a is = (a.0, calls_more widths lines calls line args a.1 is)
 
-pub script_more : (widths text : List ℕ) (calls : List (List Word)) (rest line behind : List ℕ) (args : List Word) → ScriptTo widths text calls rest → 0 < length rest → IsCut 10 rest line behind → IsCall widths line args
-    → ScriptTo widths text (calls ++ args ∷ []) behind
-script_more widths text calls rest line behind args s some cut is = record {
-  lines = s.lines ++ line ∷ [];
-  long = list_long s.lines (line ∷ []) ∙ ap (λ k. k + 1) s.long ∙ sym (list_long calls (args ∷ []));
-  split = λ ls h. subst (HasLines text) (sym (append_assoc s.lines (line ∷ []) ls)) (s.split (line ∷ ls) (first_line rest line behind some cut ls h));
-  are = calls_more widths s.lines calls line args s.are is;
-  small = (let a = s.small in let b = (cut_long 10 rest line behind cut).1 some in let c = list_long calls (args ∷ []) in omega (arith, a, b, c));
-}
+module _ (widths text : List ℕ) (count : ℕ) (words : List Word) (rest line behind : List ℕ) (s : ScriptTo widths text count words rest) (some : 0 < length rest) (cut : IsCut 10 rest line behind) where
+  pub script_more : (new : List Word) → AppendsCall widths line words new → ScriptTo widths text (count + 1) new behind
+  script_more new (args, is, e) =
+      let arity = length widths in
+      let same : length args ≡ arity = words_long widths is.0 args is.2 in
+      let more : calls_of (count + 1) arity new ≡ calls_of count arity words ++ args ∷ [] =
+      ap (λ k. calls_of k arity new) (add-one count) ∙ ap (calls_of (suc count) arity) e ∙ words_more count arity words args s.room same in
+      record {
+        lines = s.lines ++ line ∷ [];
+        long = list_long s.lines (line ∷ []) ∙ ap (λ k. k + 1) s.long;
+        split = λ ls h. subst (HasLines text) (sym (append_assoc s.lines (line ∷ []) ls)) (s.split (line ∷ ls) (first_line rest line behind some cut ls h));
+        are = subst (AreCalls widths (s.lines ++ line ∷ [])) (sym more) (calls_more widths s.lines (calls_of count arity words) line args s.are is);
+        room =
+            (let a = ap length e ∙ list_long words args in
+            let b = s.room in
+            let d = one_more arity count in
+            let f = ap (λ k. k * arity) (add-one count) in
+            omega (arith, a, b, d, f, same));
+        small = (let a = s.small in let b = (cut_long 10 rest line behind cut).1 some in omega (arith, a, b));
+      }
 
-pub script_fault : (widths text : List ℕ) (calls : List (List Word)) (rest line behind : List ℕ) (number : ℕ) (e : ScriptErr) → ScriptTo widths text calls rest → 0 < length rest → IsCut 10 rest line behind → number ≡ length calls + 1
-    → RefusesLine widths line number e → RefusesScript widths text e
-script_fault widths text calls rest line behind number e s some cut n (inl none) = inl none
-script_fault widths text calls rest line behind number e s some cut n (inr f) =
-    let tail = lines_of behind in
-    inr (record {
-      before = s.lines;
-      line = line;
-      after = tail.0;
-      lines = s.split (line ∷ tail.0) (first_line rest line behind some cut tail.0 tail.1);
-      calls = calls;
-      good = s.are;
-      fault = subst (λ k. HasFault widths line k e) (n ∙ ap (λ k. k + 1) (sym s.long)) f;
-    })
+  pub script_fault : (number : ℕ) (e : ScriptErr) → number ≡ count + 1 → RefusesLine widths line number e → RefusesScript widths text e
+  script_fault number e n (inl none) = inl none
+  script_fault number e n (inr f) =
+      let tail = lines_of behind in
+      inr (record {
+        before = s.lines;
+        line = line;
+        after = tail.0;
+        lines = s.split (line ∷ tail.0) (first_line rest line behind some cut tail.0 tail.1);
+        calls = calls_of count (length widths) words;
+        good = s.are;
+        fault = subst (λ k. HasFault widths line k e) (n ∙ ap (λ k. k + 1) (sym s.long)) f;
+      })
 
 none_left : (xs : List ℕ) → length xs ≡ 0 → [] ≡ xs
 none_left [] e = refl
 none_left (x ∷ xs) e = absurd (omega (arith, e))
 
-pub script_done : (widths text : List ℕ) (calls : List (List Word)) (rest : List ℕ) → ScriptTo widths text calls rest → length rest ≡ 0 → IsScript widths text calls
-script_done widths text calls rest s none =
+pub script_done : (widths text : List ℕ) (count : ℕ) (words : List Word) (rest : List ℕ) → ScriptTo widths text count words rest → length rest ≡ 0 → IsScript widths text (calls_of count (length widths) words)
+script_done widths text count words rest s none =
     (s.lines, subst (HasLines text) (append-nil s.lines) (s.split [] (subst (λ l. HasLines l []) (none_left rest none) no_lines)), s.are)
-
-pub lists_more : (vs : List (Vec Word Global)) (v : Vec Word Global) → lists_of (vs ++ v ∷ []) ≡ lists_of vs ++ v.items ∷ []
-lists_more [] v = refl
-lists_more (u ∷ vs) v = ap (λ l. u.items ∷ l) (lists_more vs v)
-
-pub lists_long : (vs : List (Vec Word Global)) → length (lists_of vs) ≡ length vs
-lists_long [] = refl
-lists_long (u ∷ vs) = ap suc (lists_long vs)
 
 -- a text is one script, or has one fault
 calls_once : (widths : List ℕ) (lines : List (List ℕ)) (xs ys : List (List Word)) → AreCalls widths lines xs → AreCalls widths lines ys → xs ≡ ys

@@ -1,5 +1,5 @@
 -- Lines of a script: each has the arguments of a call.
-use Rattle.std.specs.Prelude.{◌≡◌, ◌≢◌, ℕ, ◌+◌, ◌<◌, ◌^◌, ◌⊎◌, List, [], ◌∷◌, length, Some, slice_get}
+use Rattle.std.specs.Prelude.{◌≡◌, ◌≢◌, ℕ, ◌+◌, ◌<◌, ◌^◌, ◌⊎◌, List, [], ◌∷◌, ◌++◌, length, Some, slice_get}
 use Rattle.safl_word.specs.Words.{Word, IsWord}
 use Rattle.safl_word.specs.Numerals.{IsBounded, value}
 use Rattle.safl_session.specs.declared.script.ScriptErr.{ScriptErr}
@@ -21,6 +21,10 @@ AreArguments _ _ _ = ⊥
 -- the words of the line are these arguments
 abbrev pub IsCall : List ℕ → List ℕ → List Word → Type 0
 IsCall widths line args = (words : List (List ℕ)) × HasWords line words × AreArguments widths words args
+
+-- the arguments of a call are appended, and these are the words of the line
+abbrev pub AppendsCall : List ℕ → List ℕ → List Word → List Word → Type 0
+AppendsCall widths line old new = (args : List Word) × IsCall widths line args × (new ≡ old ++ args)
 
 -- the line has so many words
 abbrev pub IsLong : List ℕ → ℕ → Type 0

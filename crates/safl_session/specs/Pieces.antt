@@ -33,16 +33,16 @@ HasWords line words = (pieces : List (List ℕ)) × AreBetween 32 line pieces ×
 abbrev pub HasLines : List ℕ → List (List ℕ) → Type 0
 HasLines text lines = (pieces : List (List ℕ)) × AreBetween 10 text pieces × (lines ≡ ended_of pieces)
 
--- the piece before the first byte of this kind and what stands behind it, or all of the text and nothing
+-- the piece before the first byte of this kind and what follows that byte, or all of the text and nothing
 pub record IsCut (c : ℕ) (text piece behind : List ℕ) : Type 0 where
   pub lacks : Lacks c piece
   pub is : (text ≡ piece ++ c ∷ behind) ⊎ ((text ≡ piece) × (behind ≡ []))
 
--- spaces alone
+-- only spaces
 abbrev pub Blank : List ℕ → Type 0
 Blank text = list_all (λ c. c == 32) text ≡ true
 
--- spaces, a first word, and what stands behind it
+-- spaces, a first word, and what follows the space after it
 pub record StartsWith (text word behind : List ℕ) : Type 0 where
   pub spaces : List ℕ
   pub rest : List ℕ

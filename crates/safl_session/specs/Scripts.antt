@@ -1,6 +1,5 @@
 -- Scripts: a call on each line.
-use Rattle.std.specs.Prelude.{◌≡◌, ℕ, ◌+◌, ◌⊎◌, List, [], ◌∷◌, ◌++◌, length, Vec, map}
-use Rattle.std.specs.Global.{Global}
+use Rattle.std.specs.Prelude.{◌≡◌, ℕ, zero, suc, ◌+◌, ◌⊎◌, List, [], ◌∷◌, ◌++◌, length, take, drop}
 use Rattle.safl_word.specs.Words.{Word}
 use Rattle.safl_session.specs.declared.script.ScriptErr.{ScriptErr}
 use Rattle.safl_session.specs.declared.script.ScriptErr.TheVariants as errors
@@ -31,6 +30,7 @@ pub record IsScriptFault (widths text : List ℕ) (e : ScriptErr) : Type 0 where
 abbrev pub RefusesScript : List ℕ → List ℕ → ScriptErr → Type 0
 RefusesScript widths text e = (e ≡ errors.NoMemory) ⊎ IsScriptFault widths text e
 
--- the lists that vectors hold
-abbrev pub lists_of : List (Vec Word Global) → List (List Word)
-lists_of calls = map (λ (v : Vec Word Global). v.items) calls
+-- so many calls of so many words each, which stand one after the other
+abbrev pub calls_of : ℕ → ℕ → List Word → List (List Word)
+calls_of zero arity words = []
+calls_of (suc count) arity words = take arity words ∷ calls_of count arity (drop arity words)

@@ -8,5 +8,5 @@ mod room;
 pub mod script;
 pub mod session;
 
-pub use crate::script::{ScriptErr, read_script};
+pub use crate::script::{Script, ScriptErr, read_script};
 pub use crate::session::{Reply, Session};

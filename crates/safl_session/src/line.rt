@@ -1,67 +1,79 @@
 //! A line of a script.
 
-ghost use Rattle.std.specs.Prelude.{◌<◌, ◌^◌, IfOk, IfErr, IfSome, IfNone, length};
-ghost use Rattle.safl_session.specs.Lines.{IsArgument, IsCall, RefusesLine, IsLong};
+ghost use Rattle.std.specs.Prelude.{◌≡◌, ◌<◌, ◌≤◌, ◌^◌, ◌↔◌, ◌++◌, OnOk, IfErr, IfSome, IfNone, IsSome, length};
+ghost use Rattle.safl_word.specs.Numerals.{IsNumeral, value};
+ghost use Rattle.safl_session.specs.Lines.{IsArgument, AppendsCall, RefusesLine};
 
 use crate::pieces::next_word;
 use crate::script::ScriptErr;
-use safl_word::{Word, argument};
-use std::alloc::Global;
+use safl_word::{Raw, Word, argument};
 
-/// The words of a line for inputs of these widths. The line has this number.
+// Each number of so many digits is below 2 to the 64th.
+const SHORT_MAX: usize = 19;
+
+/// Appends the words of a line for inputs of these widths. The line has this number.
 pub fn read_line(
-    alloc: Global,
+    words: &mut Vec<Word>,
     number: u32,
     line: &[u8],
     widths: &[u8],
-) -> Result<Vec<Word>, ScriptErr>
+) -> Result<(), ScriptErr>
     requires { length line.now < 2 ^ 32 }
-    ensures read { IfOk result (λ args. IsCall widths.now line.now args.items) }
+    ensures read { OnOk result (AppendsCall widths.now line.now words.old.items words.new.items) }
     ensures refused { IfErr result (RefusesLine widths.now line.now number) }
 {
-    let given = count_words(line);
+    let mut given = 0;
+    let mut misread = None;
+    let mut rest = line;
+    'words: while let Some((word, behind)) = next_word(rest) {
+        if misread.is_none() && (given as usize) < widths.len() {
+            match read_argument(widths[given as usize], word) {
+                None => misread = Some(given + 1),
+                Some(argument) => {
+                    let Ok(()) = words.push(argument) else {
+                        return Err(ScriptErr::NoMemory);
+                    };
+                }
+            }
+        }
+        given += 1;
+        rest = behind;
+    }
     if given as usize != widths.len() {
         return Err(ScriptErr::Count(number, given));
     }
-    let Ok(mut args) = Vec::with_capacity(alloc, widths.len()) else {
-        return Err(ScriptErr::NoMemory);
-    };
-    let mut rest = line;
-    'words: for i in 0..given {
-        let Some((word, behind)) = next_word(rest) else {
-            unreachable!();
-        };
-        rest = behind;
-        let Some(arg) = read_argument(widths[i as usize], word) else {
-            return Err(ScriptErr::Argument(number, i + 1));
-        };
-        let Ok(()) = args.push(arg) else {
-            return Err(ScriptErr::NoMemory);
-        };
+    match misread {
+        Some(place) => Err(ScriptErr::Argument(number, place)),
+        None => Ok(()),
     }
-    Ok(args)
-}
-
-// How many words the line has.
-fn count_words(line: &[u8]) -> u32
-    requires { length line.now < 2 ^ 32 }
-    ensures { IsLong line.now result }
-{
-    let mut count = 0;
-    let mut rest = line;
-    'words: while let Some((_, behind)) = next_word(rest) {
-        count += 1;
-        rest = behind;
-    }
-    count
 }
 
 fn read_argument(width: u8, text: &[u8]) -> Option<Word>
+    requires { 0 < length text.now }
     ensures read { IfSome result (IsArgument width text.now) }
     ensures none { IfNone result ((v : Word) → IsArgument width text.now v → ⊥) }
 {
-    match argument(text) {
-        Some(number) => Word::new(width, number),
-        None => None,
+    let number = if text.len() <= SHORT_MAX {
+        Raw::from(short_number(text)?)
+    } else {
+        argument(text)?
+    };
+    Word::new(width, number)
+}
+
+// The number of a text of few bytes, where these are digits.
+fn short_number(text: &[u8]) -> Option<u64>
+    requires some { 0 < length text.now }
+    requires short { length text.now ≤ 19 }
+    ensures some { IsSome result ↔ IsNumeral 10 text.now }
+    ensures value { IfSome result (λ n. n ≡ value 10 text.now) }
+{
+    let mut number = 0;
+    for c in text {
+        if !c.is_ascii_digit() {
+            return None;
+        }
+        number = 10 * number + u64::from(*c - b'0');
     }
+    Some(number)
 }

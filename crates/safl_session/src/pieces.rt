@@ -4,7 +4,7 @@ ghost use Rattle.std.specs.Prelude.{◌==◌, not, IfNone, IfSome};
 ghost use Rattle.safl_word.specs.Runs.{IsRun};
 ghost use Rattle.safl_session.specs.Pieces.{IsCut, Blank, StartsWith};
 
-/// The piece before the first byte of this kind, and what stands behind it; or all of the text, and nothing.
+/// The piece before the first byte of this kind, and what follows that byte; or all of the text, and nothing.
 pub fn cut(text: &[u8], end: u8) -> (&[u8], &[u8])
     ensures { IsCut end text.now result.0.now result.1.now }
 {
@@ -28,7 +28,7 @@ fn piece_length(text: &[u8], end: u8) -> usize
     text.len()
 }
 
-/// The first word of a text, and what stands behind it; none where the text is spaces alone.
+/// The first word of a text, and what follows the space after it; none if the text is only spaces.
 pub fn next_word(text: &[u8]) -> Option<(&[u8], &[u8])>
     ensures none { IfNone result (Blank text.now) }
     ensures some { IfSome result (λ r. StartsWith text.now r.0.now r.1.now) }

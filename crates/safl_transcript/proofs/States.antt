@@ -1,5 +1,5 @@
 -- The calls of a session that have their replies, and the lines of these.
-use Rattle.std.proofs.Common.{◌≡◌, ℕ, zero, suc, ◌+◌, ◌<◌, ◌≤◌, ◌^◌, List, [], ◌∷◌, ◌++◌, map, length, take, drop, Some, Vec, Global, slice_get, refl, sym, ap, subst, ◌∙◌, arith, append_assoc}
+use Rattle.std.proofs.Common.{◌≡◌, ℕ, zero, suc, ◌+◌, ◌<◌, ◌≤◌, ◌^◌, List, [], ◌∷◌, ◌++◌, map, length, take, drop, Some, slice_get, refl, sym, ap, subst, ◌∙◌, arith, append_assoc}
 use Rattle.std.specs.Prelude.{All}
 use Rattle.std.proofs.lemmas.List.{append-nil}
 use Rattle.std.proofs.lemmas.List.Elements.{All-head, All-tail}
@@ -11,7 +11,6 @@ use Rattle.safl_net.specs.Runs.{RunFrom, GoesOn}
 use Rattle.safl_net.specs.Valuations.{Valuation, Fits, next_state}
 use Rattle.safl_session.specs.declared.session.Reply.{Reply}
 use Rattle.safl_session.specs.Replies.{Replies, AreReplies, AllReply}
-use Rattle.safl_session.specs.Scripts.{lists_of}
 use Rattle.safl_session.proofs.ReplyLemmas.{next_fits}
 use Rattle.safl_transcript.specs.Texts.{reply_line, reply_lines}
 
@@ -51,16 +50,6 @@ pub all_at : {A : Type 0} (P : A → Type 0) (xs : List A) (i : ℕ) (x : A) →
 all_at P [] i x all e = absurd (cc)
 all_at P (y ∷ xs) zero x all e = let s : y ≡ x = cc in subst P s (All-head P y xs all)
 all_at P (y ∷ xs) (suc i) x all e = all_at P xs i x (All-tail P y xs all) e
-
--- the list that a vector of that place holds
-pub list_at : (calls : List (Vec Word Global)) (i : ℕ) (v : Vec Word Global) (args : List Word) → slice_get calls i ≡ Some v → args ≡ v.items → slice_get (lists_of calls) i ≡ Some args
-list_at [] i v args e s = absurd (cc)
-list_at (u ∷ calls) zero v args e s = let q : u ≡ v = cc in ap (λ (x : Vec Word Global). Some x.items) q ∙ ap Some (sym s)
-list_at (u ∷ calls) (suc i) v args e s = list_at calls i v args e s
-
-pub lists_long : (calls : List (Vec Word Global)) → length (lists_of calls) ≡ length calls
-lists_long [] = refl
-lists_long (u ∷ calls) = ap suc (lists_long calls)
 
 -- ---- lines
 

@@ -13,11 +13,11 @@ abbrev pub reply_lines : List Reply → List ℕ
 reply_lines [] = []
 reply_lines (r ∷ rs) = reply_line r ++ reply_lines rs
 
--- so many calls were made
+-- this many calls were made
 abbrev pub calls_line : ℕ → List ℕ
 calls_line count = codes "calls " ++ decimal count ++ codes "\n"
 
--- none came in so many cycles
+-- no result came within this many cycles
 abbrev pub late_line : ℕ → List ℕ
 late_line limit = codes "no result in " ++ decimal limit ++ codes " cycles\n"
 
@@ -26,7 +26,7 @@ line_text (line.Replied reply) = reply_line reply
 line_text (line.Counted count) = calls_line count
 line_text (line.Late limit) = late_line limit
 
--- each of so many calls has its reply
+-- each of this many calls has its reply
 abbrev pub are_all : ℕ → List Reply → Bool
 are_all count rs = length rs == count
 

@@ -15,9 +15,9 @@ use safl_word::{NoMemory, Raw, push_decimal};
 pub enum Line {
     /// A call had this reply.
     Replied(Reply),
-    /// So many calls were made, and each had a reply.
+    /// This many calls were made, and each had a reply.
     Counted(usize),
-    /// A call had no reply in so many cycles.
+    /// A call had no reply within this many cycles.
     Late(u64),
 }
 
@@ -64,7 +64,7 @@ fn push_count(text: &mut Vec<u8>, count: usize) -> Result<(), NoMemory>
     Ok(())
 }
 
-/// Appends the line that no result came in so many cycles.
+/// Appends the line that says that no result came within this many cycles.
 pub fn push_late(text: &mut Vec<u8>, limit: u64) -> Result<(), NoMemory>
     ensures { OnOk result (text.new.items ≡ text.old.items ++ late_line limit) }
 {

@@ -1,10 +1,9 @@
 use Rattle.std.proofs.Common.{length}
-use Rattle.safl_session.specs.Scripts.{lists_of}
 use Rattle.safl_session.proofs.ScriptLemmas.{ScriptTo}
 use Rattle.safl_session.proofs.script.read_script.Given as goal
 
 abbrev pub invariant-lines : goal.invariant-lines
-invariant-lines l = ScriptTo l.widths l.bytes (lists_of l.calls.items) l.rest
+invariant-lines l = ScriptTo l.widths l.bytes l.calls l.words.items l.rest
 
 abbrev pub decreases-lines : goal.decreases-lines
 decreases-lines l = length l.rest

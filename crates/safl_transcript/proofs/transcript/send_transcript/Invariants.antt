@@ -1,6 +1,5 @@
-use Rattle.safl_session.specs.Scripts.{lists_of}
 use Rattle.safl_transcript.proofs.Holds.{HeldTo}
 use Rattle.safl_transcript.proofs.transcript.send_transcript.Given as goal
 
 abbrev pub invariant-calls : goal.invariant-calls
-invariant-calls g l = HeldTo l.fn.session (lists_of l.calls) l.limit l.words-index l.session (g.O.Sink.told l.fn.out) (g.O.Sink.told l.out)
+invariant-calls g l = HeldTo l.fn.session l.script l.limit l.call l.session (g.O.Sink.told l.fn.out) (g.O.Sink.told l.out)
