@@ -3,7 +3,6 @@
 
 pub mod drive_err;
 pub mod driving;
-mod inputs;
 pub mod laws;
 mod moment;
 mod piece;

@@ -8,8 +8,8 @@ ghost use Rattle.safl_sim.specs.Arguments.{AreArguments};
 ghost use Rattle.safl_sim.specs.Ticks.{words_of};
 ghost use Rattle.safl_drive.specs.Schedules.{IsSchedule};
 
-use crate::inputs::{bit, input_words, zeros};
 use safl_net::{Net, Sig};
+use safl_sim::inputs::{bit, input_words, zeros};
 use safl_word::Word;
 use std::alloc::{AllocError, Global};
 

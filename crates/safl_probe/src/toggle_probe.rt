@@ -1,4 +1,4 @@
-//! The probes of the kinds of traces.
+//! A probe that gives toggles, and does not fail.
 
 use crate::probe::{Probe, ProbeErr};
 use crate::tracer::Tracer;
@@ -7,22 +7,13 @@ use safl_word::Word;
 use std::alloc::Global;
 use std::marker::Model;
 
-/// The probe of a kind. It fails only if out of memory: its faults stay 0.
+/// The probe of the bits of registers that change. It fails only if out of memory: its faults stay 0.
 #[derive(Drop)]
-pub struct TraceProbe<const KIND: u8> {
+pub struct ToggleProbe {
     tracer: Tracer,
 }
 
-/// The probe of value change dumps.
-pub type VcdProbe = TraceProbe<1>;
-
-/// The probe of the cycles in which calls start.
-pub type StartsProbe = TraceProbe<2>;
-
-/// The probe of the bits of registers that change.
-pub type ToggleProbe = TraceProbe<3>;
-
-impl<const KIND: u8> Model for TraceProbe<KIND> {
+impl Model for ToggleProbe {
     ghost use Rattle.safl_probe.specs.Probing.{ProbeState};
 
     ghost Value = { ProbeState };
@@ -30,20 +21,20 @@ impl<const KIND: u8> Model for TraceProbe<KIND> {
     ghost view = { λ p. p.tracer };
 }
 
-impl<const KIND: u8> TraceProbe<KIND> {
+impl ToggleProbe {
     ghost use Rattle.std.specs.Prelude.{◌≡◌};
     ghost use Rattle.safl_probe.specs.Probing.{fresh};
 
     pub fn new(alloc: Global) -> Self
-        ensures { result ≡ fresh KIND }
+        ensures { result ≡ fresh 3 }
     {
-        TraceProbe {
-            tracer: Tracer::new(alloc, KIND),
+        ToggleProbe {
+            tracer: Tracer::new(alloc, 3),
         }
     }
 }
 
-impl<const KIND: u8> Probe for TraceProbe<KIND> {
+impl Probe for ToggleProbe {
     ghost state = { λ told. record told { faults = 0 } };
 
     fn kind(&self) -> u8 {

@@ -1,0 +1,58 @@
+//! A probe that gives starts, and does not fail.
+
+use crate::probe::{Probe, ProbeErr};
+use crate::tracer::Tracer;
+use safl_net::Net;
+use safl_word::Word;
+use std::alloc::Global;
+use std::marker::Model;
+
+/// The probe of the cycles in which calls start. It fails only if out of memory: its faults stay 0.
+#[derive(Drop)]
+pub struct StartsProbe {
+    tracer: Tracer,
+}
+
+impl Model for StartsProbe {
+    ghost use Rattle.safl_probe.specs.Probing.{ProbeState};
+
+    ghost Value = { ProbeState };
+
+    ghost view = { λ p. p.tracer };
+}
+
+impl StartsProbe {
+    ghost use Rattle.std.specs.Prelude.{◌≡◌};
+    ghost use Rattle.safl_probe.specs.Probing.{fresh};
+
+    pub fn new(alloc: Global) -> Self
+        ensures { result ≡ fresh 2 }
+    {
+        StartsProbe {
+            tracer: Tracer::new(alloc, 2),
+        }
+    }
+}
+
+impl Probe for StartsProbe {
+    ghost state = { λ told. record told { faults = 0 } };
+
+    fn kind(&self) -> u8 {
+        self.tracer.kind()
+    }
+
+    fn begin(&mut self, net: &Net, out: &mut Vec<u8>) -> Result<(), ProbeErr> {
+        self.tracer.begin(net, out)?;
+        Ok(())
+    }
+
+    fn cycle(&mut self, t: u64, frame: &[Word], out: &mut Vec<u8>) -> Result<(), ProbeErr> {
+        self.tracer.cycle(t, frame, out)?;
+        Ok(())
+    }
+
+    fn finish(&mut self, out: &mut Vec<u8>) -> Result<(), ProbeErr> {
+        self.tracer.finish(out)?;
+        Ok(())
+    }
+}
