@@ -1,9 +1,10 @@
 -- Which words are a command.
 use Rattle.std.specs.Prelude.{ℕ, List, [], ◌∷◌, map, Option, Some, None, Bool, option_map, option_and_then}
-use Rattle.std.specs.Prelude.{bytes_eq, if◌then◌else◌, codes, string_bytes}
+use Rattle.std.specs.Prelude.{bytes_eq, if◌then◌else◌, codes, string_bytes, not}
 use Rattle.clap.specs.Words.{Row, Kinds, fault_of, subcommand_of, first_of}
 use Rattle.safl_command.specs.Forms.{app}
 use Rattle.safl_command.specs.Values.{name_in, number_in, number_of, limit_in, count_in, has_flag, args_in}
+use Rattle.safl_command.specs.Traces.{Traces, shown as shown_traces, are_apart, is_any_given}
 use Rattle.safl_command.specs.declared.command.Command as code
 use Rattle.safl_command.specs.declared.command.Command.TheVariants as code_of
 
@@ -16,6 +17,8 @@ pub data Command : Type 0 where
   Optimise : (input output : List ℕ) → Command
   -- reads the source of the name, and runs its circuit for so many cycles with these arguments
   Sim : (input : List ℕ) (limit : ℕ) (args : List (List ℕ)) → Command
+  -- the same, and writes traces of the run
+  Trace : (input : List ℕ) (limit : ℕ) (traces : Traces) (args : List (List ℕ)) → Command
   -- reads the source of the name, and walks with these arguments for so many events at most, by the numbers that the seed begins
   Walk : (input : List ℕ) (seed steps : ℕ) (args : List (List ℕ)) → Command
   -- reads the Verilog file of the name, and runs its netlist for so many cycles with these arguments
@@ -52,8 +55,21 @@ build_or_optimise optimised input output = if optimised then Optimise input outp
 abbrev pub build_in : List Row → Option Command
 build_in rows = files_in (codes "IN") (codes "OUT") (λ input output. Some (build_or_optimise (has_flag (codes "opt") rows) input output)) rows
 
+-- the files for traces
+abbrev pub traces_in : List Row → Traces
+traces_in rows = record { vcd = first_of (codes "vcd") rows; starts = first_of (codes "starts") rows; toggles = first_of (codes "toggles") rows }
+
+-- traces are written where a file is given for them
+abbrev pub simulated : List ℕ → ℕ → List (List ℕ) → Traces → Option Command
+simulated input limit args traces =
+    if not (are_apart traces) then None
+    else if is_any_given traces then Some (Trace input limit traces args)
+    else Some (Sim input limit args)
+
 abbrev pub sim_in : List Row → Option Command
-sim_in rows = option_and_then (λ input. option_map (λ limit. Sim input limit (args_in rows)) (limit_in (codes "cycles") rows)) (name_in (codes "IN") rows)
+sim_in rows =
+    option_and_then (λ input. option_and_then (λ limit. simulated input limit (args_in rows) (traces_in rows)) (limit_in (codes "cycles") rows))
+    (name_in (codes "IN") rows)
 
 abbrev pub walk_in : List Row → Option Command
 walk_in rows =
@@ -144,6 +160,7 @@ shown (code_of.Check input) = Check (string_bytes input)
 shown (code_of.Build input output) = Build (string_bytes input) (string_bytes output)
 shown (code_of.Optimise input output) = Optimise (string_bytes input) (string_bytes output)
 shown (code_of.Sim input limit args) = Sim (string_bytes input) limit (map string_bytes args.items)
+shown (code_of.Trace t) = Trace (string_bytes t.input) t.limit (shown_traces t.traces) (map string_bytes t.args.items)
 shown (code_of.Walk input turns args) = Walk (string_bytes input) turns.seed turns.steps (map string_bytes args.items)
 shown (code_of.Run input limit args) = Run (string_bytes input) limit (map string_bytes args.items)
 shown (code_of.Report input) = Report (string_bytes input)

@@ -29,7 +29,10 @@ abbrev pub forms : List Form
 forms =
     (record { word = codes "check"; arguments = Name (codes "IN") ∷ [] })
     ∷ (record { word = codes "build"; arguments = Name (codes "IN") ∷ Name (codes "OUT") ∷ Flag (codes "opt") ∷ [] })
-    ∷ (record { word = codes "sim"; arguments = Name (codes "IN") ∷ Option (codes "cycles") ∷ Rest (codes "ARG") ∷ [] })
+    ∷ (record {
+      word = codes "sim";
+      arguments = Name (codes "IN") ∷ Option (codes "cycles") ∷ Choice (codes "vcd") ∷ Choice (codes "starts") ∷ Choice (codes "toggles") ∷ Rest (codes "ARG") ∷ [];
+    })
     ∷ (record { word = codes "walk"; arguments = Name (codes "IN") ∷ Option (codes "order") ∷ Option (codes "steps") ∷ Rest (codes "ARG") ∷ [] })
     ∷ (record { word = codes "run"; arguments = Name (codes "FILE") ∷ Option (codes "cycles") ∷ Rest (codes "ARG") ∷ [] })
     ∷ (record { word = codes "report"; arguments = Name (codes "IN") ∷ [] })

@@ -1,7 +1,7 @@
 //! What the values of the arguments say.
 
-ghost use Rattle.std.specs.Prelude.{◌≡◌, ◌≤◌, ◌↔◌, true, IfOk, IsSome, IfSome, map, option_map, string_bytes, codes, bytes_eq};
-ghost use Rattle.clap.specs.Words.{found_of, rows_of};
+ghost use Rattle.std.specs.Prelude.{◌≡◌, ◌≤◌, ◌↔◌, true, IfOk, IsSome, IfSome, Some, map, option_map, string_bytes, codes, bytes_eq};
+ghost use Rattle.clap.specs.Words.{found_of, rows_of, first_of};
 ghost use Rattle.safl_word.specs.Numerals.{value};
 ghost use Rattle.safl_command.specs.Values.{name_in, filled, number_in, within_in, limit_in, count_in, has_flag, args_in, is_number, is_within};
 
@@ -29,6 +29,23 @@ fn filled(alloc: Global, word: &str) -> Result<Option<String>, NoMemory>
     }
     let name = String::from_str(alloc, word)?;
     Ok(Some(name))
+}
+
+/// The word that an argument gives, which may be empty.
+pub fn word_in(alloc: Global, values: &ArgMatches<'_>, id: &str) -> Result<Option<String>, NoMemory>
+    ensures { IfOk result (λ word. option_map string_bytes word ≡ first_of id.now (rows_of (found_of values.now))) }
+{
+    match values.get_str(id) {
+        Some(word) => copied(alloc, word),
+        None => Ok(None),
+    }
+}
+
+fn copied(alloc: Global, word: &str) -> Result<Option<String>, NoMemory>
+    ensures { IfOk result (λ copy. option_map string_bytes copy ≡ Some word.now) }
+{
+    let copy = String::from_str(alloc, word)?;
+    Ok(Some(copy))
 }
 
 /// The number that an argument gives.

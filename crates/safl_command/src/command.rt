@@ -1,5 +1,7 @@
 //! What the words of a command line ask for.
 
+use crate::traces::Traces;
+
 /// The most cycles of a run, and events of a walk.
 pub const CYCLES_MAX: u64 = 1_000_000_000;
 
@@ -11,6 +13,16 @@ pub const FUNCTIONS_MAX: u64 = 900;
 pub struct Turns {
     pub seed: u64,
     pub steps: u32,
+}
+
+/// Reads a source from `input` and runs its circuit for at most `limit` cycles, 1 to `CYCLES_MAX`, with these arguments,
+/// and writes traces of the run.
+#[derive(Drop)]
+pub struct Tracing {
+    pub input: String,
+    pub limit: u64,
+    pub traces: Traces,
+    pub args: Vec<String>,
 }
 
 /// A command with its words.
@@ -36,6 +48,8 @@ pub enum Command {
         limit: u64,
         args: Vec<String>,
     },
+    /// The same with traces of the run.
+    Trace(Tracing),
     /// Reads a source from `input` and walks its call machine with these arguments.
     Walk {
         input: String,

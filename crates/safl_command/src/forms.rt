@@ -49,6 +49,9 @@ static FORMS: [Form<'static>; 12] = [
         arguments: &[
             Argument::Name("IN"),
             Argument::Option("cycles"),
+            Argument::Choice("vcd"),
+            Argument::Choice("starts"),
+            Argument::Choice("toggles"),
             Argument::Rest("ARG"),
         ],
     },
