@@ -21,22 +21,22 @@ use Rattle.safl_session.specs.Laws as sessions
 use Rattle.safl_session.specs.Laws.{AreCallsOf}
 use Rattle.safl_session.specs.Lines as lines
 use Rattle.safl_session.specs.Replies.{AreReplies}
-use Rattle.safl_session.specs.Scripts.{AreCalls, IsScript, IsScriptFault, RefusesScript, lists_of}
+use Rattle.safl_session.specs.Scripts.{AreCalls, IsScript, IsScriptFault, RefusesScript}
 use Rattle.safl_session.specs.Sessions.{Opened}
 use Rattle.safl_source.specs.Laws.{OneProgram}
 use Rattle.safl_transcript.specs.Holding.{IsReady, IsHeld, IsBegun}
 use Rattle.safl_tool.specs.Calling.{Converses, GivesReplies, IsMisscripted, EvaluatesEach, script_line, told}
 use Rattle.safl_tool.specs.CommandTasks.{RefusesSession, session_task}
-use Rattle.safl_tool.specs.Endings.{Outside, Began, Ended, may_give}
-use Rattle.safl_tool.specs.Inputs.{source_file, script_file}
-use Rattle.safl_tool.specs.Lines.{count_line, argument_line, numbered_line}
+use Rattle.safl_task.specs.Endings.{Outside, Began, Ended, may_give}
+use Rattle.safl_task.specs.Inputs.{source_file, script_file}
+use Rattle.safl_task.specs.Lines.{count_line, argument_line, numbered_line}
 use Rattle.safl_tool.specs.Opening.{IsOpening}
 use Rattle.safl_tool.specs.Sources.{IsCompiled}
-use Rattle.safl_tool.specs.Tasks.{Given, AreContents, status_if}
+use Rattle.safl_task.specs.Tasks.{Given, AreContents, status_if}
 use Rattle.safl_tool.specs.declared.session.Opening.{Opening}
-use Rattle.safl_tool.specs.declared.status.Status.{Status}
-use Rattle.safl_tool.specs.declared.status.Status.TheVariants as status
-use Rattle.safl_tool.proofs.Ending.{same_all, same_parts}
+use Rattle.safl_task.specs.declared.status.Status.{Status}
+use Rattle.safl_task.specs.declared.status.Status.TheVariants as status
+use Rattle.safl_task.proofs.Ending.{same_all, same_parts}
 
 -- nothing is given where the source or the script is refused
 pub session_quiet : (name source script : List ℕ) (s : Status) (line : List ℕ) → RefusesSession name source script s line → may_give s ≡ false
@@ -97,7 +97,7 @@ module _ (source script : List ℕ) (o : Opening) (is : IsOpening source script 
   net = is.net
 
   abbrev calls : List (List Word)
-  calls = lists_of o.calls.items
+  calls = o.calls
 
   pub ready : IsReady o.session
   ready = subst (λ (x : Opened). IsReady x) (sym is.fresh) (record {
@@ -108,8 +108,8 @@ module _ (source script : List ℕ) (o : Opening) (is : IsOpening source script 
     state = resets_fit is.net is.compiled.made;
   })
 
-  pub calls_fit : AreCallsOf o.session.net (lists_of o.calls.items)
-  calls_fit = subst (λ (x : Opened). AreCallsOf x.net (lists_of o.calls.items)) (sym is.fresh) (calls_fit_in (argument_widths is.net.signals) is.calls.0 (lists_of o.calls.items) is.calls.2)
+  pub calls_fit : AreCallsOf o.session.net o.calls
+  calls_fit = subst (λ (x : Opened). AreCallsOf x.net o.calls) (sym is.fresh) (calls_fit_in (argument_widths is.net.signals) is.calls.0 o.calls is.calls.2)
 
   module _ (serves : CircuitsServe) (reset : ResetIsQuiet) (limit : ℕ) where
     replied : (rs : List Reply) → AreReplies o.session.net limit (slice_index o.session.state) calls rs → AreReplies net limit (reset_state net) calls rs
@@ -138,7 +138,7 @@ module _ (source script : List ℕ) (o : Opening) (is : IsOpening source script 
 
     -- what it gives, and parts of it
     module _ (input file : List ℕ) (old new : Outside) (same : new.shelf.holds ≡ old.shelf.holds) (contents : AreContents old.shelf.holds (source_file input ∷ script_file file ∷ []) (source ∷ script ∷ [])) where
-      pub held_ended : (complete : Bool) → IsHeld o.session (lists_of o.calls.items) limit old.out.sent new.out.sent complete → (s : Status) → s ≡ status_if complete → Ended (session_task input file limit) old new s
+      pub held_ended : (complete : Bool) → IsHeld o.session o.calls limit old.out.sent new.out.sent complete → (s : Status) → s ≡ status_if complete → Ended (session_task input file limit) old new s
       held_ended complete h s e = (
         told limit calls h.replies,
         record {
@@ -149,7 +149,7 @@ module _ (source script : List ℕ) (o : Opening) (is : IsOpening source script 
         ap (λ (b : Bool). status_if b) (sym h.is) ∙ sym e,
       )
 
-      pub begun_began : IsBegun o.session (lists_of o.calls.items) limit old.out.sent new.out.sent → Began (session_task input file limit) old new
+      pub begun_began : IsBegun o.session o.calls limit old.out.sent new.out.sent → Began (session_task input file limit) old new
       begun_began h = record {
         whole = told limit calls h.replies;
         given = (source ∷ script ∷ [], contents, (calls, h.replies, conversed h.replies h.are, refl));

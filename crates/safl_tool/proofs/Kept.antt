@@ -2,6 +2,7 @@
 use Rattle.std.proofs.Common.{◌≡◌, ℕ, zero, suc, List, [], ◌∷◌, length, Option, Some, None, true, slice_get, refl, sym, ap, subst, ◌∙◌, arith, inl, inr, codes}
 use Rattle.safl_word.specs.Words.{Word}
 use Rattle.safl_io.specs.Sink.{SinkState}
+use Rattle.safl_probe.specs.Probing.{ProbeState}
 use Rattle.safl_term.specs.Program.{Program}
 use Rattle.safl_term.specs.Checked.{program_of}
 use Rattle.safl_circuit.specs.Names.{names_of}
@@ -16,15 +17,18 @@ use Rattle.safl_source.specs.Laws.{OneProgram, NotBoth}
 use Rattle.safl_verilog.specs.Laws as verilog
 use Rattle.safl_aig.specs.ReadLaws.{NoFault}
 use Rattle.safl_core.specs.declared.walking.Walked.{Walked}
-use Rattle.safl_command.specs.Commands.{Command, Check, Build, Sim, Walk, Run, Optimise, Report, Gen, Bench, CopySite, UnfoldSite, Session, Aig, Aigstat}
+use Rattle.safl_command.specs.Commands.{Command, Check, Build, Sim, Trace, Walk, Run, Optimise, Report, Gen, Bench, CopySite, UnfoldSite, Session, Aig, Aigstat}
+use Rattle.std.specs.Prelude.{is_some, false, Bool, ◌&&◌}
+use Rattle.safl_command.specs.Traces.{Traces, are_apart}
+use Rattle.safl_tool.specs.Tracing.{have_probes}
 use Rattle.safl_tool.specs.Sources.{IsAccepted}
 use Rattle.safl_tool.specs.Arguments.{IsRead, AreRead, HaveFault}
 use Rattle.safl_tool.specs.Simulating.{Simulates, IsMisgiven, Evaluates}
 use Rattle.safl_tool.specs.Walking.{MainGives, Walks}
 use Rattle.safl_tool.specs.Running.{RunsText, IsMisrun, IsUnrunnable, faulty, looped, Finishes}
-use Rattle.safl_tool.specs.Tasks.{Given, Only, Both}
-use Rattle.safl_tool.specs.CommandTasks.{usage_task, check_task, build_task, optimise_task, sim_task, walk_task, run_task, report_task, gen_task, bench_task, reshape_task, session_task, aig_task, aigstat_task, task_of}
-use Rattle.safl_tool.specs.CommandTasks.{RefusesSourceOf, RefusesGiven, RefusesText, GivesNumbers, GivesCircuit, GivesOptimised, GivesOutcome, GivesWalk, GivesRun, end_of_walk, IsCount, GivesMeasure, RefusesReshaping, RefusesSession}
+use Rattle.safl_task.specs.Tasks.{Given, Only, Both}
+use Rattle.safl_tool.specs.CommandTasks.{task_if, usage_task, check_task, build_task, optimise_task, sim_task, walk_task, run_task, report_task, gen_task, bench_task, reshape_task, session_task, aig_task, aigstat_task, trace_task, probed_task, plain_task_of, task_of}
+use Rattle.safl_tool.specs.CommandTasks.{RefusesSourceOf, RefusesGiven, RefusesText, GivesNumbers, GivesCircuit, GivesOptimised, GivesOutcome, GivesTraces, GivesWalk, GivesRun, end_of_walk, IsCount, GivesMeasure, RefusesReshaping, RefusesSession}
 use Rattle.safl_tool.specs.BitLevel.{GivesBits, GivesCounts, HasBits, IsAig, RefusesAig, RefusesBitsOf}
 use Rattle.safl_tool.specs.Calling.{GivesReplies, EvaluatesEach}
 use Rattle.safl_session.specs.Circuits.{CircuitsReply, ResetIsQuiet}
@@ -35,9 +39,9 @@ use Rattle.safl_source.specs.Sources.{names_in}
 use Rattle.safl_tool.specs.Reshaping.{Reshaping, copies, unfolds, IsReshapable, GivesReshaped}
 use Rattle.safl_tool.proofs.Reshaped.{IsOnce, copying_once, unfolding_once, reshapable_not_refused}
 use Rattle.safl_tool.specs.Reporting.{GivesReport, RefusesCount, Measures, made_source, made_args}
-use Rattle.safl_tool.specs.Endings.{Outside, Ends, Completes}
-use Rattle.safl_tool.specs.declared.status.Status.{Status}
-use Rattle.safl_tool.proofs.Following.{IsKept, end_completes}
+use Rattle.safl_task.specs.Endings.{Outside, Ends, Completes}
+use Rattle.safl_task.specs.declared.status.Status.{Status}
+use Rattle.safl_task.proofs.Following.{IsKept, end_completes}
 use Rattle.safl_tool.proofs.Simulated.{read_words}
 use Rattle.safl_tool.proofs.Ran.{done_not_done}
 use Rattle.safl_tool.proofs.Bits.{bits_not_refused, aig_not_refused}
@@ -181,6 +185,19 @@ sim_kept once apart input limit args = record {
   gives = λ contents g. only (λ source. Evaluates source args limit) (λ source. GivesOutcome args limit source g) (g.comes ≡ true) (outcome_comes once args limit g) contents;
 }
 
+traces_come : OneProgram → (traces : Traces) (args : List (List ℕ)) (limit : ℕ) (g : Given) (source : List ℕ) → Evaluates source args limit → GivesTraces traces args limit source g → g.comes ≡ true
+traces_come once traces args limit g source e h = by h.answer h.simulates (ap (λ (x : Given). x.comes) h.is)
+  where
+    by : (answer : Option Done) → Simulates source args limit answer → g.comes ≡ is_some answer → g.comes ≡ true
+    by None s is = absurd (comes_in_time once source args limit s e)
+    by (Some d) s is = is
+
+trace_kept : OneProgram → NotBoth → (input : List ℕ) (limit : ℕ) (traces : Traces) (args : List (List ℕ)) (kinds : List ℕ) → IsKept (trace_task input limit traces args kinds)
+trace_kept once apart input limit traces args kinds = record {
+  refuses = λ contents s line. only (λ source. Evaluates source args limit) (λ source. RefusesGiven input args source s line) ⊥ (given_not_refused once apart input args limit s line) contents;
+  gives = λ contents g. only (λ source. Evaluates source args limit) (λ source. GivesTraces traces args limit source g) (g.comes ≡ true) (traces_come once traces args limit g) contents;
+}
+
 walk_comes : OneProgram → ((C : Program) → OneAnswer C) → (args : List (List ℕ)) (seed steps : ℕ) (g : Given) (source : List ℕ) → Evaluates source args steps → GivesWalk args seed steps source g → g.comes ≡ true
 walk_comes once meaning args seed steps g source e (w, walks, is) = by w.result refl is
   where
@@ -305,22 +322,49 @@ pub record Laws : Type 1 where
   pub script : sessions.OneScript
   pub misread : sessions.NotBoth
 
-kept : Laws → (command : Option Command) → IsKept (task_of command)
-kept l None = usage_kept
-kept l (Some (Check input)) = check_kept l.apart input
-kept l (Some (Build input output)) = build_kept l.apart input output
-kept l (Some (Optimise input output)) = optimise_kept l.apart input output
-kept l (Some (Sim input limit args)) = sim_kept l.once l.apart input limit args
-kept l (Some (Walk input seed steps args)) = walk_kept l.once l.apart l.meaning input seed steps args
-kept l (Some (Run input limit args)) = run_kept l.one l.free input limit args
-kept l (Some (Report input)) = report_kept l.apart input
-kept l (Some (Gen seed count)) = gen_kept seed count
-kept l (Some (Bench seed count limit)) = bench_kept l.once l.apart seed count limit
-kept l (Some (CopySite input output site)) = reshape_kept l.apart l.trees (copies site) (copying_once site) input output site
-kept l (Some (UnfoldSite input output site)) = reshape_kept l.apart l.trees (unfolds site) (unfolding_once site) input output site
-kept l (Some (Session input script limit)) = session_kept l.once l.apart l.replies l.reset l.script l.misread input script limit
-kept l (Some (Aig input output)) = aig_kept l.one l.free input output
-kept l (Some (Aigstat input)) = aigstat_kept l.sound input
+plain_kept : Laws → (command : Option Command) → IsKept (plain_task_of command)
+plain_kept l None = usage_kept
+plain_kept l (Some (Check input)) = check_kept l.apart input
+plain_kept l (Some (Build input output)) = build_kept l.apart input output
+plain_kept l (Some (Optimise input output)) = optimise_kept l.apart input output
+plain_kept l (Some (Sim input limit args)) = sim_kept l.once l.apart input limit args
+plain_kept l (Some (Trace input limit traces args)) = usage_kept
+plain_kept l (Some (Walk input seed steps args)) = walk_kept l.once l.apart l.meaning input seed steps args
+plain_kept l (Some (Run input limit args)) = run_kept l.one l.free input limit args
+plain_kept l (Some (Report input)) = report_kept l.apart input
+plain_kept l (Some (Gen seed count)) = gen_kept seed count
+plain_kept l (Some (Bench seed count limit)) = bench_kept l.once l.apart seed count limit
+plain_kept l (Some (CopySite input output site)) = reshape_kept l.apart l.trees (copies site) (copying_once site) input output site
+plain_kept l (Some (UnfoldSite input output site)) = reshape_kept l.apart l.trees (unfolds site) (unfolding_once site) input output site
+plain_kept l (Some (Session input script limit)) = session_kept l.once l.apart l.replies l.reset l.script l.misread input script limit
+plain_kept l (Some (Aig input output)) = aig_kept l.one l.free input output
+plain_kept l (Some (Aigstat input)) = aigstat_kept l.sound input
 
-pub completes : Laws → (command : Option Command) (old new : Outside) (before after : SinkState) (s : Status) → Ends (task_of command) old new before after s → Completes (task_of command) old new s
-completes l command old new before after s ends = end_completes (task_of command) (kept l command) old new before after s ends
+probed_kept : Laws → (input : List ℕ) (limit : ℕ) (traces : Traces) (args : List (List ℕ)) (kinds : List ℕ) → IsKept (probed_task input limit traces args kinds)
+probed_kept l input limit traces args kinds = go (are_apart traces && have_probes traces kinds)
+  where
+    go : (b : Bool) → IsKept (task_if b (trace_task input limit traces args kinds) usage_task)
+    go true = trace_kept l.once l.apart input limit traces args kinds
+    go false = usage_kept
+
+kept : Laws → (kinds : List ℕ) (command : Option Command) → IsKept (task_of kinds command)
+kept l kinds None = plain_kept l None
+kept l kinds (Some (Check input)) = plain_kept l (Some (Check input))
+kept l kinds (Some (Build input output)) = plain_kept l (Some (Build input output))
+kept l kinds (Some (Optimise input output)) = plain_kept l (Some (Optimise input output))
+kept l kinds (Some (Sim input limit args)) = plain_kept l (Some (Sim input limit args))
+kept l kinds (Some (Trace input limit traces args)) = probed_kept l input limit traces args kinds
+kept l kinds (Some (Walk input seed steps args)) = plain_kept l (Some (Walk input seed steps args))
+kept l kinds (Some (Run input limit args)) = plain_kept l (Some (Run input limit args))
+kept l kinds (Some (Report input)) = plain_kept l (Some (Report input))
+kept l kinds (Some (Gen seed count)) = plain_kept l (Some (Gen seed count))
+kept l kinds (Some (Bench seed count limit)) = plain_kept l (Some (Bench seed count limit))
+kept l kinds (Some (CopySite input output site)) = plain_kept l (Some (CopySite input output site))
+kept l kinds (Some (UnfoldSite input output site)) = plain_kept l (Some (UnfoldSite input output site))
+kept l kinds (Some (Session input script limit)) = plain_kept l (Some (Session input script limit))
+kept l kinds (Some (Aig input output)) = plain_kept l (Some (Aig input output))
+kept l kinds (Some (Aigstat input)) = plain_kept l (Some (Aigstat input))
+
+pub completes : Laws → (kinds : List ℕ) (command : Option Command) (old new : Outside) (ps qs : List ProbeState) (before after : SinkState) (s : Status) → Ends (task_of kinds command) old new ps qs before after s
+    → Completes (task_of kinds command) old new ps qs s
+completes l kinds command old new ps qs before after s ends = end_completes (task_of kinds command) (kept l kinds command) old new ps qs before after s ends

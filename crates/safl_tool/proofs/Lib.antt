@@ -1,7 +1,5 @@
 pub mod Reading
-pub mod Ending
 pub mod Giving
-pub mod Following
 pub mod Simulated
 pub mod Walked
 pub mod Ran
@@ -11,3 +9,5 @@ pub mod Quiet
 pub mod Joining
 pub mod Reshaped
 pub mod Kept
+pub mod Asked
+pub mod Traced

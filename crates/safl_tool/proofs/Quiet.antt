@@ -1,21 +1,21 @@
 -- Nothing is given at a status with which a command refuses what it reads.
 use Rattle.std.proofs.Common.{◌≡◌, ℕ, List, [], ◌∷◌, Option, Some, None, false, ap, inl, inr}
 use Rattle.std.specs.Prelude.{codes}
-use Rattle.safl_command.specs.Commands.{Command, Check, Build, Sim, Walk, Run, Optimise, Report, Gen, Bench, CopySite, UnfoldSite, Session, Aig, Aigstat}
-use Rattle.safl_tool.specs.CommandTasks.{task_of, RefusesSourceOf, RefusesGiven, RefusesText, RefusesReshaping, RefusesSession}
+use Rattle.safl_command.specs.Commands.{Command, Check, Build, Sim, Trace, Walk, Run, Optimise, Report, Gen, Bench, CopySite, UnfoldSite, Session, Aig, Aigstat}
+use Rattle.safl_tool.specs.CommandTasks.{plain_task_of, RefusesSourceOf, RefusesGiven, RefusesText, RefusesReshaping, RefusesSession}
 use Rattle.safl_tool.specs.BitLevel.{RefusesAig, RefusesBitsOf}
 use Rattle.safl_tool.specs.Reshaping.{copies, unfolds}
 use Rattle.safl_tool.proofs.Reshaped.{reshaping_quiet}
-use Rattle.safl_tool.specs.Endings.{may_give}
+use Rattle.safl_task.specs.Endings.{may_give}
 use Rattle.safl_tool.specs.Reporting.{made_args, made_source}
-use Rattle.safl_tool.specs.Tasks.{Only, Both}
-use Rattle.safl_tool.specs.declared.status.Status.{Status}
+use Rattle.safl_task.specs.Tasks.{Only, Both}
+use Rattle.safl_task.specs.declared.status.Status.{Status}
 use Rattle.safl_tool.proofs.Simulated.{source_quiet, given_quiet}
 use Rattle.safl_tool.proofs.Ran.{text_quiet}
 use Rattle.safl_tool.proofs.Bits.{bits_quiet, aig_quiet}
 use Rattle.safl_tool.proofs.Conversed.{session_quiet}
 
-only : (R : List ℕ → Status → List ℕ → Type 0) → ((content : List ℕ) (s : Status) (line : List ℕ) → R content s line → may_give s ≡ false)
+pub only : (R : List ℕ → Status → List ℕ → Type 0) → ((content : List ℕ) (s : Status) (line : List ℕ) → R content s line → may_give s ≡ false)
     → (contents : List (List ℕ)) (s : Status) (line : List ℕ) → Only (λ content. R content s line) contents → may_give s ≡ false
 only R quiet [] s line h = absurd h
 only R quiet (c ∷ []) s line h = quiet c s line h
@@ -28,12 +28,13 @@ both R quiet (c ∷ []) s line h = absurd h
 both R quiet (c ∷ (d ∷ [])) s line h = quiet c d s line h
 both R quiet (c ∷ (d ∷ (e ∷ cs))) s line h = absurd h
 
-pub quiet : (command : Option Command) (contents : List (List ℕ)) (s : Status) (line : List ℕ) → (task_of command).Refuses contents s line → may_give s ≡ false
+pub quiet : (command : Option Command) (contents : List (List ℕ)) (s : Status) (line : List ℕ) → (plain_task_of command).Refuses contents s line → may_give s ≡ false
 quiet None contents s line h = ap may_give h.0
 quiet (Some (Check input)) contents s line h = only (RefusesSourceOf input) (source_quiet input) contents s line h
 quiet (Some (Build input output)) contents s line h = only (RefusesSourceOf input) (source_quiet input) contents s line h
 quiet (Some (Optimise input output)) contents s line h = only (RefusesSourceOf input) (source_quiet input) contents s line h
 quiet (Some (Sim input limit args)) contents s line h = only (RefusesGiven input args) (given_quiet input args) contents s line h
+quiet (Some (Trace input limit traces args)) contents s line h = ap may_give h.0
 quiet (Some (Walk input seed steps args)) contents s line h = only (RefusesGiven input args) (given_quiet input args) contents s line h
 quiet (Some (Run input limit args)) contents s line h = only (RefusesText input args) (text_quiet input args) contents s line h
 quiet (Some (Report input)) contents s line h = only (RefusesSourceOf input) (source_quiet input) contents s line h

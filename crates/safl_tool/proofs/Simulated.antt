@@ -17,14 +17,15 @@ use Rattle.safl_source.specs.Circuits.{IsCircuitOf}
 use Rattle.safl_tool.specs.Sources.{IsCompiled}
 use Rattle.safl_tool.specs.Arguments.{AreRead, HaveFault}
 use Rattle.safl_tool.specs.CommandTasks.{RefusesSourceOf, RefusesGiven}
-use Rattle.safl_tool.specs.Endings.{may_give}
+use Rattle.safl_task.specs.Endings.{may_give}
 use Rattle.safl_tool.specs.Reporting.{HasHead, Measures}
 use Rattle.safl_tool.specs.Running.{Gives}
 use Rattle.safl_tool.specs.Simulating.{IsValue, HasValue, Simulates}
-use Rattle.safl_tool.specs.Refusals.{RefusesBy, RefusesArguments}
-use Rattle.safl_tool.specs.declared.status.Status.{Status}
-use Rattle.safl_tool.specs.declared.refusal.Refusal.{Refusal}
-use Rattle.safl_tool.proofs.Ending.{refuses_more}
+use Rattle.safl_task.specs.Refusals.{RefusesBy}
+use Rattle.safl_tool.specs.Arguments.{RefusesArguments}
+use Rattle.safl_task.specs.declared.status.Status.{Status}
+use Rattle.safl_task.specs.declared.refusal.Refusal.{Refusal}
+use Rattle.safl_task.proofs.Ending.{refuses_more}
 
 -- nothing is given where a source, or its arguments, are refused
 pub source_quiet : (name source : List ℕ) (s : Status) (line : List ℕ) → RefusesSourceOf name source s line → may_give s ≡ false
@@ -75,7 +76,7 @@ is_value C D n correct words are limit d o =
       few = x.2;
     }
 
-has_value : (C : Program) (D : Names) (n : Netlist) → Correct C D n → (words : List Word) → AreWordsOf words (C.params C.main) → (limit : ℕ) (answer : Option Done) → IsOutcome n words limit answer → HasValue C words answer
+pub has_value : (C : Program) (D : Names) (n : Netlist) → Correct C D n → (words : List Word) → AreWordsOf words (C.params C.main) → (limit : ℕ) (answer : Option Done) → IsOutcome n words limit answer → HasValue C words answer
 has_value C D n correct words are limit None o = tt
 has_value C D n correct words are limit (Some d) o = is_value C D n correct words are limit d o
 

@@ -2,7 +2,9 @@
 use Rattle.std.specs.Prelude.{◌≡◌, ℕ, ◌+◌, ◌<◌, ◌^◌, ◌⊎◌, List, [], ◌∷◌, length, Some, slice_get}
 use Rattle.safl_word.specs.Words.{Word, IsWord}
 use Rattle.safl_word.specs.Numerals.{IsBounded, value}
-use Rattle.safl_tool.specs.Lines.{count_line, argument_line}
+use Rattle.safl_task.specs.Lines.{count_line, argument_line}
+use Rattle.safl_task.specs.declared.status.Status.{Status}
+use Rattle.safl_task.specs.declared.status.Status.TheVariants as status
 
 -- 1 to 39 digits, whose number fits the width
 pub record IsRead (width : ℕ) (text : List ℕ) (v : Word) : Type 0 where
@@ -35,3 +37,7 @@ pub record IsUnread (widths : List ℕ) (args : List (List ℕ)) (line : List �
 -- the fault of arguments for parameters of these widths
 abbrev pub HaveFault : List ℕ → List (List ℕ) → List ℕ → Type 0
 HaveFault widths args line = IsMiscounted widths args line ⊎ IsUnread widths args line
+
+-- arguments for parameters of these widths have a fault, which the line tells
+abbrev pub RefusesArguments : List ℕ → List (List ℕ) → Status → List ℕ → Type 0
+RefusesArguments widths args s line = (s ≡ status.BadArgs) × HaveFault widths args line

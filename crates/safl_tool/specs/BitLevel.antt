@@ -9,9 +9,9 @@ use Rattle.safl_blast.specs.Weights.{weight, most_weight, AllZero, IsLeastNonzer
 use Rattle.safl_bit_text.specs.BitLevel.{IsLight, IsTextOf}
 use Rattle.safl_bit_text.specs.Lines.{counts_lines, fault_line, register_line, weight_line}
 use Rattle.safl_tool.specs.Running.{IsRunnable, IsUnrunnable}
-use Rattle.safl_tool.specs.Tasks.{Given}
-use Rattle.safl_tool.specs.declared.status.Status.{Status}
-use Rattle.safl_tool.specs.declared.status.Status.TheVariants as status
+use Rattle.safl_task.specs.Tasks.{Given}
+use Rattle.safl_task.specs.declared.status.Status.{Status}
+use Rattle.safl_task.specs.declared.status.Status.TheVariants as status
 
 -- ---- from a Verilog file to an AIGER file
 

@@ -16,8 +16,8 @@ use Rattle.safl_session.specs.Circuits.{Serves, IsInTime}
 use Rattle.safl_source.specs.Sources.{IsSourceOf}
 use Rattle.safl_source.specs.Circuits.{IsCircuitOf}
 use Rattle.safl_transcript.specs.Texts.{are_all, transcript}
-use Rattle.safl_tool.specs.Lines.{count_line, argument_line, numbered_line}
-use Rattle.safl_tool.specs.Tasks.{Given}
+use Rattle.safl_task.specs.Lines.{count_line, argument_line, numbered_line}
+use Rattle.safl_task.specs.Tasks.{Given}
 
 -- The source is a program's, each line of the script has words for main's parameters, and these are the replies of a netlist that
 -- is the program's circuit, from reset, one call after the other: each reply is main's, and each call starts in a quiet state

@@ -1,7 +1,8 @@
 -- What each command reads, refuses and gives.
-use Rattle.std.specs.Prelude.{◌≡◌, ℕ, ◌≤◌, ◌⊎◌, List, [], ◌∷◌, ◌++◌, take, Option, Some, None, is_some, true, false, codes}
+use Rattle.std.specs.Prelude.{◌≡◌, ℕ, ◌≤◌, ◌⊎◌, List, [], ◌∷◌, ◌++◌, take, Option, Some, None, is_some, true, false, ◌&&◌, Bool, codes}
 use Rattle.safl_word.specs.Words.{Word}
 use Rattle.safl_net.specs.Netlist.{Netlist}
+use Rattle.safl_net.specs.Valuations.{Valuation}
 use Rattle.safl_net.specs.Written.{written}
 use Rattle.safl_net.specs.Rules.{IsNetlist}
 use Rattle.safl_net.specs.Whole.{IsWhole}
@@ -16,20 +17,24 @@ use Rattle.safl_circuit.specs.Names.{Names}
 use Rattle.safl_source.specs.Sources.{IsSourceOf}
 use Rattle.safl_source.specs.Circuits.{IsCircuitOf}
 use Rattle.safl_tool.specs.Sources.{IsFaultLine, IsAccepted}
-use Rattle.safl_command.specs.Commands.{Command, Check, Build, Sim, Walk, Run, Optimise, Report, Gen, Bench, CopySite, UnfoldSite, Session, Aig, Aigstat}
+use Rattle.safl_command.specs.Commands.{Command, Check, Build, Sim, Trace, Walk, Run, Optimise, Report, Gen, Bench, CopySite, UnfoldSite, Session, Aig, Aigstat}
+use Rattle.safl_drive.specs.Runs.{IsRunOf, until_done}
+use Rattle.safl_command.specs.Traces.{Traces, are_apart}
+use Rattle.safl_tool.specs.Tracing.{files_for, traces_of, asked_by, have_probes}
 use Rattle.safl_tool.specs.BitLevel.{GivesBits, GivesCounts, HasBits, IsAig, RefusesAig, RefusesBitsOf}
 use Rattle.safl_tool.specs.Calling.{GivesReplies, IsMisscripted, EvaluatesEach}
-use Rattle.safl_tool.specs.Inputs.{source_file, script_file, verilog_file, aig_file}
-use Rattle.safl_tool.specs.Lines.{usage_line, program_lines, outcome_lines, walk_lines, short_line}
+use Rattle.safl_task.specs.Inputs.{source_file, script_file, verilog_file, aig_file}
+use Rattle.safl_task.specs.Lines.{usage_line}
+use Rattle.safl_tool.specs.Printed.{program_lines, outcome_lines, walk_lines, short_line}
 use Rattle.safl_tool.specs.Running.{RunsText, IsMisrun, IsUnrunnable, Finishes}
 use Rattle.safl_tool.specs.Reporting.{GivesReport, RefusesCount, Measures, made_source, made_args}
-use Rattle.safl_tool.specs.Limits.{functions_max}
+use Rattle.safl_task.specs.Limits.{functions_max}
 use Rattle.safl_tool.specs.Reshaping.{Reshaping, copies, unfolds, IsUnshaped, IsReshapable, GivesReshaped}
 use Rattle.safl_tool.specs.Simulating.{Simulates, IsMisgiven, Evaluates}
 use Rattle.safl_tool.specs.Walking.{Walks}
-use Rattle.safl_tool.specs.Tasks.{Given, Task, Only, Both}
-use Rattle.safl_tool.specs.declared.status.Status.{Status}
-use Rattle.safl_tool.specs.declared.status.Status.TheVariants as status
+use Rattle.safl_task.specs.Tasks.{Given, Task, Only, Both}
+use Rattle.safl_task.specs.declared.status.Status.{Status}
+use Rattle.safl_task.specs.declared.status.Status.TheVariants as status
 
 -- a text that is printed with a result, and one that tells that none came
 abbrev pub result : List ℕ → Given
@@ -59,6 +64,7 @@ abbrev pub usage_task : Task
 usage_task = record {
   inputs = [];
   outputs = [];
+  asks = [];
   Refuses = λ files s line. (s ≡ status.Usage) × (line ≡ usage_line);
   Gives = λ files g. ⊥;
   Promises = λ files. ⊥;
@@ -72,6 +78,7 @@ abbrev pub check_task : List ℕ → Task
 check_task input = record {
   inputs = source_file input ∷ [];
   outputs = [];
+  asks = [];
   Refuses = λ files s line. Only (λ source. RefusesSourceOf input source s line) files;
   Gives = λ files g. Only (λ source. GivesNumbers source g) files;
   Promises = Only IsAccepted;
@@ -103,6 +110,7 @@ abbrev pub build_task : List ℕ → List ℕ → Task
 build_task input output = record {
   inputs = source_file input ∷ [];
   outputs = output ∷ [];
+  asks = [];
   Refuses = λ files s line. Only (λ source. RefusesSourceOf input source s line) files;
   Gives = λ files g. Only (λ source. GivesCircuit source g) files;
   Promises = Only IsAccepted;
@@ -112,6 +120,7 @@ abbrev pub optimise_task : List ℕ → List ℕ → Task
 optimise_task input output = record {
   inputs = source_file input ∷ [];
   outputs = output ∷ [];
+  asks = [];
   Refuses = λ files s line. Only (λ source. RefusesSourceOf input source s line) files;
   Gives = λ files g. Only (λ source. GivesOptimised source g) files;
   Promises = Only IsAccepted;
@@ -132,6 +141,7 @@ abbrev pub sim_task : List ℕ → ℕ → List (List ℕ) → Task
 sim_task input limit args = record {
   inputs = source_file input ∷ [];
   outputs = [];
+  asks = [];
   Refuses = λ files s line. Only (λ source. RefusesGiven input args source s line) files;
   Gives = λ files g. Only (λ source. GivesOutcome args limit source g) files;
   Promises = Only (λ source. Evaluates source args limit);
@@ -149,6 +159,7 @@ abbrev pub walk_task : List ℕ → ℕ → ℕ → List (List ℕ) → Task
 walk_task input seed steps args = record {
   inputs = source_file input ∷ [];
   outputs = [];
+  asks = [];
   Refuses = λ files s line. Only (λ source. RefusesGiven input args source s line) files;
   Gives = λ files g. Only (λ source. GivesWalk args seed steps source g) files;
   Promises = Only (λ source. Evaluates source args steps);
@@ -162,6 +173,7 @@ abbrev pub run_task : List ℕ → ℕ → List (List ℕ) → Task
 run_task input limit args = record {
   inputs = verilog_file input ∷ [];
   outputs = [];
+  asks = [];
   Refuses = λ files s line. Only (λ text. RefusesText input args text s line) files;
   Gives = λ files g. Only (λ text. GivesRun args limit text g) files;
   Promises = Only (λ text. Finishes text args limit);
@@ -171,6 +183,7 @@ abbrev pub report_task : List ℕ → Task
 report_task input = record {
   inputs = source_file input ∷ [];
   outputs = [];
+  asks = [];
   Refuses = λ files s line. Only (λ source. RefusesSourceOf input source s line) files;
   Gives = λ files g. Only (λ source. GivesReport source g) files;
   Promises = Only IsAccepted;
@@ -184,6 +197,7 @@ abbrev pub gen_task : ℕ → ℕ → Task
 gen_task seed count = record {
   inputs = [];
   outputs = [];
+  asks = [];
   Refuses = λ files s line. RefusesCount count s line;
   Gives = λ files g. g ≡ result (made_source seed count);
   Promises = λ files. IsCount count;
@@ -201,6 +215,7 @@ abbrev pub bench_task : ℕ → ℕ → ℕ → Task
 bench_task seed count limit = record {
   inputs = [];
   outputs = [];
+  asks = [];
   Refuses = λ files s line. RefusesBench seed count s line;
   Gives = λ files g. GivesMeasure (made_args seed count) limit (made_source seed count) g;
   Promises = λ files. IsCount count × Evaluates (made_source seed count) (made_args seed count) limit;
@@ -214,6 +229,7 @@ abbrev pub reshape_task : Reshaping → List ℕ → List ℕ → ℕ → Task
 reshape_task r input output site = record {
   inputs = source_file input ∷ [];
   outputs = output ∷ [];
+  asks = [];
   Refuses = λ files s line. Only (λ source. RefusesReshaping r input site source s line) files;
   Gives = λ files g. Only (λ source. GivesReshaped r source g) files;
   Promises = Only (IsReshapable r);
@@ -227,6 +243,7 @@ abbrev pub session_task : List ℕ → List ℕ → ℕ → Task
 session_task input script limit = record {
   inputs = source_file input ∷ script_file script ∷ [];
   outputs = [];
+  asks = [];
   Refuses = λ files s line. Both (λ source text. RefusesSession input source text s line) files;
   Gives = λ files g. Both (λ source text. GivesReplies limit source text g) files;
   Promises = Both (λ source text. EvaluatesEach source text limit);
@@ -236,6 +253,7 @@ abbrev pub aig_task : List ℕ → List ℕ → Task
 aig_task input output = record {
   inputs = verilog_file input ∷ [];
   outputs = output ∷ [];
+  asks = [];
   Refuses = λ files s line. Only (λ text. RefusesBitsOf input text s line) files;
   Gives = λ files g. Only (λ text. GivesBits text g) files;
   Promises = Only HasBits;
@@ -245,25 +263,60 @@ abbrev pub aigstat_task : List ℕ → Task
 aigstat_task input = record {
   inputs = aig_file input ∷ [];
   outputs = [];
+  asks = [];
   Refuses = λ files s line. Only (λ text. RefusesAig input text s line) files;
   Gives = λ files g. Only (λ text. GivesCounts text g) files;
   Promises = Only IsAig;
 }
 
--- the task of a command; words that are none are one too
-abbrev pub task_of : Option Command → Task
-task_of None = usage_task
-task_of (Some (Check input)) = check_task input
-task_of (Some (Build input output)) = build_task input output
-task_of (Some (Optimise input output)) = optimise_task input output
-task_of (Some (Sim input limit args)) = sim_task input limit args
-task_of (Some (Walk input seed steps args)) = walk_task input seed steps args
-task_of (Some (Run input limit args)) = run_task input limit args
-task_of (Some (Report input)) = report_task input
-task_of (Some (Gen seed count)) = gen_task seed count
-task_of (Some (Bench seed count limit)) = bench_task seed count limit
-task_of (Some (CopySite input output site)) = reshape_task (copies site) input output site
-task_of (Some (UnfoldSite input output site)) = reshape_task (unfolds site) input output site
-task_of (Some (Session input script limit)) = session_task input script limit
-task_of (Some (Aig input output)) = aig_task input output
-task_of (Some (Aigstat input)) = aigstat_task input
+-- the task of a command that asks no probe; words that are none are one too
+abbrev pub plain_task_of : Option Command → Task
+plain_task_of None = usage_task
+plain_task_of (Some (Check input)) = check_task input
+plain_task_of (Some (Build input output)) = build_task input output
+plain_task_of (Some (Optimise input output)) = optimise_task input output
+plain_task_of (Some (Sim input limit args)) = sim_task input limit args
+-- it is for those that ask probes
+plain_task_of (Some (Trace input limit traces args)) = usage_task
+plain_task_of (Some (Walk input seed steps args)) = walk_task input seed steps args
+plain_task_of (Some (Run input limit args)) = run_task input limit args
+plain_task_of (Some (Report input)) = report_task input
+plain_task_of (Some (Gen seed count)) = gen_task seed count
+plain_task_of (Some (Bench seed count limit)) = bench_task seed count limit
+plain_task_of (Some (CopySite input output site)) = reshape_task (copies site) input output site
+plain_task_of (Some (UnfoldSite input output site)) = reshape_task (unfolds site) input output site
+plain_task_of (Some (Session input script limit)) = session_task input script limit
+plain_task_of (Some (Aig input output)) = aig_task input output
+plain_task_of (Some (Aigstat input)) = aigstat_task input
+
+-- what a run of the circuit of a source gives with the traces of its cycles, up to the first with `done` at 1
+pub record GivesTraces (traces : Traces) (args : List (List ℕ)) (limit : ℕ) (source : List ℕ) (g : Given) : Type 0 where
+  pub answer : Option Done
+  pub simulates : Simulates source args limit answer
+  pub run : List Valuation
+  pub is_run : IsRunOf simulates.net simulates.words limit run
+  pub is : g ≡ record (outcome limit answer) { texts = traces_of traces simulates.net (until_done simulates.net run) }
+
+abbrev pub trace_task : List ℕ → ℕ → Traces → List (List ℕ) → List ℕ → Task
+trace_task input limit traces args kinds = record {
+  inputs = source_file input ∷ [];
+  outputs = files_for traces;
+  asks = asked_by traces kinds;
+  Refuses = λ files s line. Only (λ source. RefusesGiven input args source s line) files;
+  Gives = λ files g. Only (λ source. GivesTraces traces args limit source g) files;
+  Promises = Only (λ source. Evaluates source args limit);
+}
+
+-- one task or the other
+abbrev pub task_if : Bool → Task → Task → Task
+task_if true first second = first
+task_if false first second = second
+
+-- a run with traces is a command where the names of its files differ, and each has a probe of its kind among these
+abbrev pub probed_task : List ℕ → ℕ → Traces → List (List ℕ) → List ℕ → Task
+probed_task input limit traces args kinds = task_if (are_apart traces && have_probes traces kinds) (trace_task input limit traces args kinds) usage_task
+
+-- the task of a command, where there are probes of these kinds
+abbrev pub task_of : List ℕ → Option Command → Task
+task_of kinds (Some (Trace input limit traces args)) = probed_task input limit traces args kinds
+task_of kinds command = plain_task_of command

@@ -3,7 +3,7 @@ use Rattle.std.specs.Prelude.{◌≡◌, ℕ, List, true}
 use Rattle.safl_net.specs.Netlist.{Netlist}
 use Rattle.safl_sim.specs.Arguments.{argument_widths}
 use Rattle.safl_sim.specs.Places.{resets}
-use Rattle.safl_session.specs.Scripts.{IsScript, lists_of}
+use Rattle.safl_session.specs.Scripts.{IsScript}
 use Rattle.safl_tool.specs.Sources.{IsCompiled}
 use Rattle.safl_tool.specs.declared.session.Opening as code
 
@@ -12,4 +12,4 @@ pub record IsOpening (source script : List ℕ) (o : code.Opening) : Type 0 wher
   pub net : Netlist
   pub compiled : IsCompiled source net
   pub fresh : o.session ≡ record { net = net; state = resets net; is_open = true }
-  pub calls : IsScript (argument_widths net.signals) script (lists_of o.calls.items)
+  pub calls : IsScript (argument_widths net.signals) script o.calls

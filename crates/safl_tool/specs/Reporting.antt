@@ -12,12 +12,13 @@ use Rattle.safl_circuit.specs.Names.{names_of}
 use Rattle.safl_source.specs.Sources.{IsSourceOf}
 use Rattle.safl_source.specs.Circuits.{IsCircuitOf}
 use Rattle.safl_tool.specs.Arguments.{AreRead}
-use Rattle.safl_tool.specs.Limits.{functions_max}
-use Rattle.safl_tool.specs.Lines.{usage_line, program_lines}
+use Rattle.safl_task.specs.Limits.{functions_max}
+use Rattle.safl_task.specs.Lines.{usage_line}
+use Rattle.safl_tool.specs.Printed.{program_lines}
 use Rattle.safl_tool.specs.Simulating.{HasValue}
-use Rattle.safl_tool.specs.Tasks.{Given}
-use Rattle.safl_tool.specs.declared.status.Status.{Status}
-use Rattle.safl_tool.specs.declared.status.Status.TheVariants as status
+use Rattle.safl_task.specs.Tasks.{Given}
+use Rattle.safl_task.specs.declared.status.Status.{Status}
+use Rattle.safl_task.specs.declared.status.Status.TheVariants as status
 
 -- the text is the report of a program and of a netlist that is its circuit
 pub record Reports (c : CheckedProgram) (text : List ℕ) : Type 0 where

@@ -10,11 +10,11 @@ use Rattle.safl_reshape.specs.declared.error.ReshapeErr.TheVariants as errors
 use Rattle.safl_reshape.specs.Laws.{IsAlike, Spares}
 use Rattle.safl_reshape.specs.Refusals.{CopyRefused, IsCopied, UnfoldingRefused, IsUnfolded}
 use Rattle.safl_source.specs.Sources.{HasForm, IsSourceOf}
-use Rattle.safl_tool.specs.Limits.{source_max}
-use Rattle.safl_tool.specs.Lines.{site_line}
-use Rattle.safl_tool.specs.Tasks.{Given}
-use Rattle.safl_tool.specs.declared.status.Status.{Status}
-use Rattle.safl_tool.specs.declared.status.Status.TheVariants as status
+use Rattle.safl_task.specs.Limits.{source_max}
+use Rattle.safl_task.specs.Lines.{site_line}
+use Rattle.safl_task.specs.Tasks.{Given}
+use Rattle.safl_task.specs.declared.status.Status.{Status}
+use Rattle.safl_task.specs.declared.status.Status.TheVariants as status
 
 -- ---- refusals
 

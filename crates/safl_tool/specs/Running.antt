@@ -11,7 +11,7 @@ use Rattle.safl_sim.specs.declared.done.Done.{Done}
 use Rattle.safl_sim.specs.Arguments.{argument_widths}
 use Rattle.safl_sim.specs.Outcomes.{IsOutcome, IsDone}
 use Rattle.safl_tool.specs.Arguments.{AreRead, HaveFault}
-use Rattle.safl_tool.specs.VerilogLines.{verilog_line, loop_line}
+use Rattle.safl_task.specs.VerilogLines.{verilog_line, loop_line}
 
 -- the arguments are read as words for the inputs other than `start`, and the netlist has this outcome in its run with them
 pub record Gives (n : Netlist) (args : List (List ℕ)) (limit : ℕ) (answer : Option Done) : Type 0 where

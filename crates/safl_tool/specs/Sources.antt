@@ -10,7 +10,7 @@ use Rattle.safl_term.specs.Program.{Program}
 use Rattle.safl_circuit.specs.Names.{Names}
 use Rattle.safl_source.specs.Sources.{IsSourceOf, HasFirstFault}
 use Rattle.safl_source.specs.Circuits.{IsCircuitOf}
-use Rattle.safl_tool.specs.Lines.{source_line}
+use Rattle.safl_task.specs.Lines.{source_line}
 
 -- the source is accepted
 abbrev pub IsAccepted : List ℕ → Type 0

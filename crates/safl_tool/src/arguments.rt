@@ -3,9 +3,10 @@
 ghost use Rattle.std.specs.Prelude.{◌≡◌, ◌↔◌, ℕ, IsSome, IsNone, IfOk, IfErr, IfSome, map, length, string_bytes};
 ghost use Rattle.safl_word.specs.Words.{Word};
 ghost use Rattle.safl_tool.specs.Arguments.{IsRead, AreRead};
-ghost use Rattle.safl_tool.specs.Refusals.{RefusesBy, RefusesArguments};
+ghost use Rattle.safl_task.specs.Refusals.{RefusesBy};
+ghost use Rattle.safl_tool.specs.Arguments.{RefusesArguments};
 
-use crate::refusal::Refusal;
+use safl_task::Refusal;
 use safl_word::{Word, argument};
 use std::alloc::Global;
 

@@ -2,18 +2,17 @@
 
 ghost use Rattle.std.specs.Prelude.{◌≡◌, ◌≤◌, ◌∷◌, [], IfOk, IfErr, length};
 ghost use Rattle.safl_bit_text.specs.BitLevel.{IsRefused};
-ghost use Rattle.safl_tool.specs.Answers.{given_of, outputs_of};
+ghost use Rattle.safl_task.specs.Answers.{given_of, outputs_of};
 ghost use Rattle.safl_tool.specs.BitLevel.{GivesBits, GivesCounts, RefusesAig, RefusesBitsOf, RefusesNetlist};
-ghost use Rattle.safl_tool.specs.Limits.{aig_max, verilog_max};
-ghost use Rattle.safl_tool.specs.Refusals.{RefusesBy};
+ghost use Rattle.safl_task.specs.Limits.{aig_max, verilog_max};
+ghost use Rattle.safl_task.specs.Refusals.{RefusesBy};
 
-use crate::answer::Answer;
-use crate::refusal::Refusal;
 use crate::run_file::ordered_net;
 use safl_aig::{AigErr, read_aig};
 use safl_bit_text::{aiger_text, counts_lines, register_line};
 use safl_blast::BlastErr;
 use safl_net::Net;
+use safl_task::{Answer, Refusal};
 use safl_word::NoMemory;
 use std::alloc::Global;
 

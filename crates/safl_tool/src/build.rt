@@ -1,15 +1,14 @@
 //! What `build IN OUT [--opt]` writes: the Verilog text of a source's circuit.
 
 ghost use Rattle.std.specs.Prelude.{◌≡◌, ◌≤◌, ◌∷◌, [], IfOk, IfErr, length};
-ghost use Rattle.safl_tool.specs.Answers.{given_of, outputs_of};
+ghost use Rattle.safl_task.specs.Answers.{given_of, outputs_of};
 ghost use Rattle.safl_tool.specs.CommandTasks.{GivesCircuit, GivesOptimised, RefusesSourceOf};
-ghost use Rattle.safl_tool.specs.Limits.{source_max};
-ghost use Rattle.safl_tool.specs.Refusals.{RefusesBy};
+ghost use Rattle.safl_task.specs.Limits.{source_max};
+ghost use Rattle.safl_task.specs.Refusals.{RefusesBy};
 
-use crate::answer::Answer;
-use crate::refusal::Refusal;
 use crate::source::{check_source, compile};
 use safl_source::optimised_circuit_of;
+use safl_task::{Answer, Refusal};
 use safl_verilog::laws::{no_shorter_text_law, written_reads_law};
 use safl_vwrite::text_of;
 use safl_word::NoMemory;

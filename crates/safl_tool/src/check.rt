@@ -2,15 +2,14 @@
 
 ghost use Rattle.std.specs.Prelude.{◌≡◌, ◌≤◌, ◌++◌, [], OnOk, IfOk, IfErr, length};
 ghost use Rattle.safl_term.specs.Checked.{program_of};
-ghost use Rattle.safl_tool.specs.Answers.{given_of, outputs_of};
+ghost use Rattle.safl_task.specs.Answers.{given_of, outputs_of};
 ghost use Rattle.safl_tool.specs.CommandTasks.{GivesNumbers, RefusesSourceOf};
-ghost use Rattle.safl_tool.specs.Limits.{source_max};
-ghost use Rattle.safl_tool.specs.Lines.{program_lines};
-ghost use Rattle.safl_tool.specs.Refusals.{RefusesBy};
+ghost use Rattle.safl_task.specs.Limits.{source_max};
+ghost use Rattle.safl_tool.specs.Printed.{program_lines};
+ghost use Rattle.safl_task.specs.Refusals.{RefusesBy};
 
-use crate::answer::Answer;
-use crate::refusal::{Refusal, push};
 use crate::source::check_source;
+use safl_task::{Answer, Refusal, push};
 use safl_term::Checked;
 use safl_word::{NoMemory, Raw, push_decimal};
 use std::alloc::Global;

@@ -1,15 +1,13 @@
 //! What `gen SEED COUNT` and `bench SEED COUNT --cycles L` print: a source that is made from numbers, and what its circuit gives.
 
 ghost use Rattle.std.specs.Prelude.{◌≡◌, ◌≤◌, ◌<◌, ◌⊎◌, ◌++◌, [], IfOk, IfErr, OnOk, length, map, string_bytes, decimal};
-ghost use Rattle.safl_tool.specs.Answers.{given_of, outputs_of};
+ghost use Rattle.safl_task.specs.Answers.{given_of, outputs_of};
 ghost use Rattle.safl_tool.specs.CommandTasks.{GivesMeasure, RefusesGiven, RefusesBench, result as result_of};
-ghost use Rattle.safl_tool.specs.Limits.{source_max};
-ghost use Rattle.safl_tool.specs.Refusals.{RefusesBy};
+ghost use Rattle.safl_task.specs.Limits.{source_max};
+ghost use Rattle.safl_task.specs.Refusals.{RefusesBy};
 ghost use Rattle.safl_tool.specs.Reporting.{HasHead, RefusesCount, made_args, made_source};
 
-use crate::answer::Answer;
 use crate::check::push_program;
-use crate::refusal::{Refusal, push};
 use crate::simulate::{push_outcome, run_circuit};
 use crate::source::plan_source;
 use safl_gen::{GenErr, generate};
@@ -17,6 +15,7 @@ use safl_net::Net;
 use safl_report::summary;
 use safl_sites::Planned;
 use safl_source::planned_circuit;
+use safl_task::{Answer, Refusal, push};
 use safl_word::NoMemory;
 use std::alloc::{AllocError, Global};
 

@@ -1,18 +1,17 @@
 //! What `report IN` prints: the plan of a source's program and the registers of its circuit.
 
 ghost use Rattle.std.specs.Prelude.{◌≡◌, ◌≤◌, [], IfOk, IfErr, length};
-ghost use Rattle.safl_tool.specs.Answers.{given_of, outputs_of};
+ghost use Rattle.safl_task.specs.Answers.{given_of, outputs_of};
 ghost use Rattle.safl_tool.specs.CommandTasks.{RefusesSourceOf};
-ghost use Rattle.safl_tool.specs.Limits.{source_max};
-ghost use Rattle.safl_tool.specs.Refusals.{RefusesBy};
+ghost use Rattle.safl_task.specs.Limits.{source_max};
+ghost use Rattle.safl_task.specs.Refusals.{RefusesBy};
 ghost use Rattle.safl_tool.specs.Reporting.{GivesReport, Reports};
 
-use crate::answer::Answer;
-use crate::refusal::Refusal;
 use crate::source::plan_source;
 use safl_report::report;
 use safl_sites::Planned;
 use safl_source::planned_circuit;
+use safl_task::{Answer, Refusal};
 use safl_word::NoMemory;
 use std::alloc::Global;
 

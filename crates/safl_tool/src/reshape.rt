@@ -4,17 +4,16 @@ ghost use Rattle.std.specs.Prelude.{◌≡◌, ◌≤◌, ◌<◌, ◌∷◌, []
 ghost use Rattle.safl_tree.specs.Printable.{IsPrintable};
 ghost use Rattle.safl_tree.specs.Printed.{printed};
 ghost use Rattle.safl_tree.specs.Shown.{shown_program};
-ghost use Rattle.safl_tool.specs.Answers.{given_of, outputs_of};
+ghost use Rattle.safl_task.specs.Answers.{given_of, outputs_of};
 ghost use Rattle.safl_tool.specs.CommandTasks.{RefusesReshaping};
-ghost use Rattle.safl_tool.specs.Limits.{source_max};
-ghost use Rattle.safl_tool.specs.Refusals.{RefusesBy};
+ghost use Rattle.safl_task.specs.Limits.{source_max};
+ghost use Rattle.safl_task.specs.Refusals.{RefusesBy};
 ghost use Rattle.safl_tool.specs.Reshaping.{GivesReshaped, HasReason, limit_text, TellsReason, TellsLong, copies, unfolds, text_given};
 
-use crate::answer::Answer;
-use crate::refusal::Refusal;
 use crate::source::read_program;
 use safl_reshape::laws::printed_form_law;
 use safl_reshape::{ReshapeErr, copy_checked, unfold_checked};
+use safl_task::{Answer, Refusal};
 use safl_tree::{Program, print};
 use safl_word::SOURCE_MAX;
 use std::alloc::Global;

@@ -3,22 +3,20 @@
 ghost use Rattle.std.specs.Prelude.{◌≡◌, ◌≤◌, [], length, map, IfOk, IfErr, string_bytes};
 ghost use Rattle.safl_net.specs.Making.{name_at, numbers};
 ghost use Rattle.safl_net.specs.Whole.{IsWhole};
-ghost use Rattle.safl_tool.specs.Answers.{given_of, outputs_of};
+ghost use Rattle.safl_task.specs.Answers.{given_of, outputs_of};
 ghost use Rattle.safl_tool.specs.CommandTasks.{GivesRun, RefusesText, RefusesNet};
-ghost use Rattle.safl_tool.specs.Limits.{verilog_max};
-ghost use Rattle.safl_tool.specs.Refusals.{RefusesBy, HasLine};
+ghost use Rattle.safl_task.specs.Limits.{verilog_max};
+ghost use Rattle.safl_task.specs.Refusals.{RefusesBy, HasLine};
 ghost use Rattle.safl_tool.specs.Running.{RunsText, IsRunnable};
-ghost use Rattle.safl_tool.specs.VerilogLines.{AreKnown, verilog_line, loop_line};
-ghost use Rattle.safl_tool.specs.declared.status.Status.{Status};
+ghost use Rattle.safl_task.specs.VerilogLines.{AreKnown, verilog_line, loop_line};
+ghost use Rattle.safl_task.specs.declared.status.Status.{Status};
 
-use crate::answer::Answer;
-use crate::refusal::Refusal;
 use crate::simulate::{outcome, run_net};
-use crate::verilog_lines::{fault_line, loop_line};
 use safl_net::{Net, Sig};
 use safl_order::laws::loops_are_cyclic;
 use safl_order::{OrderErr, Ordered, order};
 use safl_sim::Done;
+use safl_task::{Answer, Refusal, fault_line, loop_line};
 use safl_verilog::VFault;
 use safl_vparse::VErr;
 use safl_vread::read_net;

@@ -1,27 +1,24 @@
 //! What `session IN SCRIPT --cycles L` does: it calls the circuit of a source once for each line of a script, and prints each
 //! reply as it comes.
 
-ghost use Rattle.std.specs.Prelude.{◌≡◌, ◌≤◌, [], ◌∷◌, length, IfOk, IfErr, OnSome};
+ghost use Rattle.std.specs.Prelude.{◌≡◌, ◌≤◌, List, [], ◌∷◌, length, IfOk, IfErr, OnSome};
+ghost use Rattle.safl_probe.specs.Probing.{ProbeState};
 ghost use Rattle.safl_tool.specs.CommandTasks.{RefusesSession, session_task};
-ghost use Rattle.safl_tool.specs.Endings.{Ended, SameStrays, outside};
-ghost use Rattle.safl_tool.specs.Inputs.{source_file, script_file};
-ghost use Rattle.safl_tool.specs.Limits.{source_max, script_max};
+ghost use Rattle.safl_task.specs.Endings.{Ended, SameStrays, outside};
+ghost use Rattle.safl_task.specs.Inputs.{source_file, script_file};
+ghost use Rattle.safl_task.specs.Limits.{source_max, script_max};
 ghost use Rattle.safl_tool.specs.Opening.{IsOpening};
-ghost use Rattle.safl_tool.specs.Refusals.{RefusesBy, RefusesPair, StopsBy};
-ghost use Rattle.safl_tool.specs.Tasks.{AreContents, HoldsInputs};
+ghost use Rattle.safl_task.specs.Refusals.{RefusesBy, RefusesPair, StopsBy};
+ghost use Rattle.safl_task.specs.Tasks.{AreContents, HoldsInputs};
 
-use crate::answer::status_if;
-use crate::input::{SCRIPT_MAX, SOURCE_MAX, read_input};
-use crate::refusal::Refusal;
 use crate::source::compile;
-use crate::status::Status;
 use safl_io::{OutErr, Shelf, Sink};
 use safl_session::laws::session_law;
-use safl_session::{ScriptErr, Session, read_script};
+use safl_session::{Script, ScriptErr, Session, read_script};
 use safl_sim::{Sim, argument_widths};
 use safl_source::ordered;
+use safl_task::{Refusal, SCRIPT_MAX, SOURCE_MAX, Status, read_input, status_if};
 use safl_transcript::send_transcript;
-use safl_word::Word;
 use std::alloc::Global;
 
 /// A session: the names of the source and of the script, and the most cycles of each call.
@@ -41,8 +38,8 @@ pub fn hold<'a, S: Shelf, O: Sink>(
 ) -> Result<Status, Refusal<'a>>
     ensures ended { IfOk result (Ended (session_task talk.entry.input.now talk.entry.script.now talk.entry.limit)
         (outside (S.told shelf.old) (O.told out.old)) (outside (S.told shelf.new) (O.told out.new))) }
-    ensures refused { IfErr result (StopsBy (session_task talk.entry.input.now talk.entry.script.now talk.entry.limit)
-        (outside (S.told shelf.old) (O.told out.old)) (outside (S.told shelf.new) (O.told out.new))) }
+    ensures refused { IfErr result (λ r. (ps : List ProbeState) → StopsBy (session_task talk.entry.input.now talk.entry.script.now talk.entry.limit)
+        (outside (S.told shelf.old) (O.told out.old)) (outside (S.told shelf.new) (O.told out.new)) ps ps r) }
     ensures no_stray { SameStrays (session_task talk.entry.input.now talk.entry.script.now talk.entry.limit) (S.told shelf.old) (S.told shelf.new) }
 {
     let texts = match read_texts(alloc, shelf, talk.input, talk.script) {
@@ -98,7 +95,7 @@ fn read_texts<'a, S: Shelf>(
 #[derive(Drop)]
 pub struct Opening {
     pub session: Session,
-    pub calls: Vec<Vec<Word>>,
+    pub calls: Script,
 }
 
 // A session of the circuit of a source, and the calls of a script, or why the source in the file of this name or the script is

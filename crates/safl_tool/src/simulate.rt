@@ -4,22 +4,22 @@ ghost use Rattle.std.specs.Prelude.{◌≡◌, ◌≤◌, ◌++◌, [], length, 
 ghost use Rattle.safl_net.specs.Valuations.{IsAcyclic};
 ghost use Rattle.safl_net.specs.Whole.{IsWhole};
 ghost use Rattle.safl_sim.specs.Arguments.{argument_widths};
-ghost use Rattle.safl_tool.specs.Answers.{given_of, outputs_of};
+ghost use Rattle.safl_task.specs.Answers.{given_of, outputs_of};
 ghost use Rattle.safl_tool.specs.CommandTasks.{outcome, GivesOutcome, RefusesGiven};
-ghost use Rattle.safl_tool.specs.Limits.{source_max};
-ghost use Rattle.safl_tool.specs.Lines.{done_lines, outcome_lines};
-ghost use Rattle.safl_tool.specs.Refusals.{RefusesBy, RefusesArguments};
+ghost use Rattle.safl_task.specs.Limits.{source_max};
+ghost use Rattle.safl_tool.specs.Printed.{done_lines, outcome_lines};
+ghost use Rattle.safl_task.specs.Refusals.{RefusesBy};
+ghost use Rattle.safl_tool.specs.Arguments.{RefusesArguments};
 ghost use Rattle.safl_tool.specs.Running.{Gives};
 ghost use Rattle.safl_tool.specs.Simulating.{Simulates};
 
-use crate::answer::Answer;
 use crate::arguments::read_arguments;
-use crate::refusal::{Refusal, push};
 use crate::source::compile;
 use safl_net::Net;
 use safl_order::Ordered;
 use safl_sim::{Done, Sim, argument_widths, run_until_done};
 use safl_source::ordered;
+use safl_task::{Answer, Refusal, push};
 use safl_transcript::push_late;
 use safl_word::{NoMemory, Raw, push_decimal};
 use std::alloc::Global;

@@ -2,19 +2,18 @@
 
 ghost use Rattle.std.specs.Prelude.{◌≡◌, ◌≤◌, ◌++◌, [], length, map, OnOk, IfOk, IfErr, string_bytes};
 ghost use Rattle.safl_term.specs.Checked.{program_of};
-ghost use Rattle.safl_tool.specs.Answers.{given_of, outputs_of};
+ghost use Rattle.safl_task.specs.Answers.{given_of, outputs_of};
 ghost use Rattle.safl_tool.specs.CommandTasks.{end_of_walk, GivesWalk, RefusesGiven};
-ghost use Rattle.safl_tool.specs.Limits.{source_max};
-ghost use Rattle.safl_tool.specs.Lines.{walk_lines, short_line};
-ghost use Rattle.safl_tool.specs.Refusals.{RefusesBy};
+ghost use Rattle.safl_task.specs.Limits.{source_max};
+ghost use Rattle.safl_tool.specs.Printed.{walk_lines, short_line};
+ghost use Rattle.safl_task.specs.Refusals.{RefusesBy};
 ghost use Rattle.safl_tool.specs.Walking.{Walks, WalksFrom};
 
-use crate::answer::Answer;
 use crate::arguments::read_arguments;
-use crate::refusal::{Refusal, push};
 use crate::source::check_source;
 use safl_command::Turns;
 use safl_core::{Machine, MachineErr, Walked, walk};
+use safl_task::{Answer, Refusal, push};
 use safl_term::Checked;
 use safl_word::{NoMemory, Raw, Word, push_decimal};
 use std::alloc::{AllocError, Global};

@@ -2,7 +2,7 @@ use Rattle.std.proofs.Common.{subst, sym, refl}
 use Rattle.safl_net.specs.Netlist.{Netlist}
 use Rattle.safl_bit_text.specs.BitLevel.{IsRefused}
 use Rattle.safl_tool.specs.BitLevel.{RefusesNetlist}
-use Rattle.safl_tool.specs.Refusals.{RefusesBy}
+use Rattle.safl_task.specs.Refusals.{RefusesBy}
 use Rattle.safl_tool.proofs.Bits.{net_refuses, netlist_refuses}
 use Rattle.safl_tool.proofs.bit_level.bit_level_circuit.Goals as goal
 

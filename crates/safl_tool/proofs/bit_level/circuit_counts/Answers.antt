@@ -2,7 +2,7 @@ use Rattle.std.proofs.Common.{ℕ, List, true, subst, refl, ap, inr}
 use Rattle.safl_aig.specs.Readings.{HasThatFault}
 use Rattle.safl_aig.specs.declared.read.AigErr.{AigErr}
 use Rattle.safl_tool.proofs.Bits.{same_line}
-use Rattle.safl_tool.proofs.Giving.{lines}
+use Rattle.safl_task.proofs.Giving.{lines}
 use Rattle.safl_tool.proofs.bit_level.circuit_counts.Goals as goal
 
 pub returns-in-Err-Refused-clause-refused : goal.returns-in-Err-Refused-clause-refused

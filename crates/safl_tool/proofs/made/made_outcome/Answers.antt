@@ -1,13 +1,13 @@
 use Rattle.std.proofs.Common.{◌≡◌, ◌≤◌, ◌∙◌, ℕ, List, length, map, string_bytes, codes, sym, ap, subst, inl, inr}
 use Rattle.std.specs.Prelude.{IfOk}
 use Rattle.std.proofs.lemmas.Result.{IfErr-weaker}
-use Rattle.safl_tool.specs.Answers.{given_of}
+use Rattle.safl_task.specs.Answers.{given_of}
 use Rattle.safl_tool.specs.CommandTasks.{GivesMeasure, RefusesGiven, RefusesBench}
-use Rattle.safl_tool.specs.Limits.{source_max}
-use Rattle.safl_tool.specs.Refusals.{RefusesBy}
+use Rattle.safl_task.specs.Limits.{source_max}
+use Rattle.safl_task.specs.Refusals.{RefusesBy}
 use Rattle.safl_tool.specs.Reporting.{RefusesCount, made_args, made_source}
-use Rattle.safl_tool.specs.declared.status.Status.{Status}
-use Rattle.safl_tool.proofs.Ending.{refuses_more}
+use Rattle.safl_task.specs.declared.status.Status.{Status}
+use Rattle.safl_task.proofs.Ending.{refuses_more}
 use Rattle.safl_tool.proofs.made.made_outcome.Goals as goal
 
 pub returns-in-Err-clause-refused : goal.returns-in-Err-clause-refused

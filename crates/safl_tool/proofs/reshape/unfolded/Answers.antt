@@ -5,12 +5,12 @@ use Rattle.safl_tree.specs.Shown.{shown_program}
 use Rattle.safl_typing.specs.Forms.{shown}
 use Rattle.safl_reshape.specs.Refusals.{UnfoldingRefused, IsUnfolded, GivesSparing}
 use Rattle.safl_reshape.specs.declared.error.ReshapeErr.TheVariants as errors
-use Rattle.safl_tool.specs.Answers.{given_of}
+use Rattle.safl_task.specs.Answers.{given_of}
 use Rattle.safl_tool.specs.CommandTasks.{RefusesReshaping}
-use Rattle.safl_tool.specs.Limits.{source_max}
-use Rattle.safl_tool.specs.Refusals.{RefusesBy}
+use Rattle.safl_task.specs.Limits.{source_max}
+use Rattle.safl_task.specs.Refusals.{RefusesBy}
 use Rattle.safl_tool.specs.Reshaping.{GivesReshaped, TellsLong, unfolds, text_given}
-use Rattle.safl_tool.proofs.Ending.{both_ok}
+use Rattle.safl_task.proofs.Ending.{both_ok}
 use Rattle.safl_tool.proofs.Reshaped.{source_unshaped, unshaped, too_long, reshaped_given, no_unfolding}
 use Rattle.safl_tool.proofs.reshape.unfolded.Goals as goal
 

@@ -6,9 +6,9 @@ use Rattle.safl_order.specs.Refusals.{Refuses}
 use Rattle.safl_order.specs.declared.ordered.OrderErr.{OrderErr}
 use Rattle.safl_vparse.specs.Parsed.{RefusesText}
 use Rattle.safl_vparse.specs.declared.error.VErr.{VErr}
-use Rattle.safl_tool.specs.VerilogLines.{AreKnown, loop_line}
-use Rattle.safl_tool.specs.Refusals.{RefusesBy, HasLine}
-use Rattle.safl_tool.specs.declared.status.Status.TheVariants as status
+use Rattle.safl_task.specs.VerilogLines.{AreKnown, loop_line}
+use Rattle.safl_task.specs.Refusals.{RefusesBy, HasLine}
+use Rattle.safl_task.specs.declared.status.Status.TheVariants as status
 use Rattle.safl_tool.proofs.Ran.{fault_refuses, loop_refuses, loop_known, set_at}
 use Rattle.safl_tool.proofs.run_file.ordered_net.Goals as goal
 

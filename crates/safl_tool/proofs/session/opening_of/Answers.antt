@@ -6,11 +6,11 @@ use Rattle.safl_sim.specs.Places.{resets}
 use Rattle.safl_sim.specs.Simulation.{Simulation}
 use Rattle.safl_session.specs.declared.script.ScriptErr.{ScriptErr}
 use Rattle.safl_session.specs.declared.script.ScriptErr.TheVariants as errors
-use Rattle.safl_session.specs.Scripts.{IsScript, RefusesScript, lists_of}
+use Rattle.safl_session.specs.Scripts.{IsScript, RefusesScript}
 use Rattle.safl_session.specs.Sessions.{Opened}
 use Rattle.safl_tool.specs.CommandTasks.{RefusesSourceOf, RefusesSession}
 use Rattle.safl_tool.proofs.Conversed.{misscripted, placed, count_not_memory, argument_not_memory, count_told, argument_told}
-use Rattle.safl_tool.proofs.Ending.{refuses_more}
+use Rattle.safl_task.proofs.Ending.{refuses_more}
 use Rattle.safl_tool.proofs.session.opening_of.Goals as goal
 
 pub returns-in-Err-clause-refused : goal.returns-in-Err-clause-refused
@@ -73,5 +73,5 @@ returns-in-Ok-new-2-clause-opened c =
       net = n;
       compiled = c.in-Ok.ensures.compiled;
       fresh = c.in-Ok-new-2.ensures.made ∙ ap of c.in-Ok-new.ensures.made ∙ ap at c.in-Ok-ordered.ensures;
-      calls = subst (λ (ws : List ℕ). IsScript ws c.args.script.now (lists_of c.in-Ok-read_script.calls.items)) widths c.in-Ok-read_script.ensures.read;
+      calls = subst (λ (ws : List ℕ). IsScript ws c.args.script.now c.in-Ok-read_script.calls) widths c.in-Ok-read_script.ensures.read;
     }

@@ -2,10 +2,10 @@ use Rattle.std.proofs.Common.{[], ◌∷◌, Option, refl, sym, subst, inl, inr}
 use Rattle.std.specs.Prelude.{IfSome}
 use Rattle.safl_io.specs.Reading.{HasFile}
 use Rattle.safl_io.specs.Shelf.{Files, ShelfState}
-use Rattle.safl_tool.specs.Inputs.{source_file, script_file}
-use Rattle.safl_tool.specs.Limits.{script_max}
-use Rattle.safl_tool.specs.Tasks.{OfFile}
-use Rattle.safl_tool.proofs.Ending.{refuses_later, strays_after}
+use Rattle.safl_task.specs.Inputs.{source_file, script_file}
+use Rattle.safl_task.specs.Limits.{script_max}
+use Rattle.safl_task.specs.Tasks.{OfFile}
+use Rattle.safl_task.proofs.Ending.{refuses_later, strays_after}
 use Rattle.safl_tool.proofs.session.read_texts.Goals as goal
 
 pub returns-in-Err-clause-refused : goal.returns-in-Err-clause-refused

@@ -1,5 +1,5 @@
 use Rattle.std.proofs.Common.{◌≡◌, [], ◌++◌, rules, ap, ◌∙◌}
-use Rattle.safl_tool.specs.Lines.{outcome_lines}
+use Rattle.safl_tool.specs.Printed.{outcome_lines}
 use Rattle.safl_tool.proofs.Giving.{outcome_given}
 use Rattle.safl_tool.proofs.simulate.outcome.Goals as goal
 

@@ -1,18 +1,19 @@
-use Rattle.std.proofs.Common.{ℕ, List, String, Global, [], ◌∷◌, ◌≡◌, map, string_bytes, subst, sym}
+use Rattle.std.proofs.Common.{ℕ, List, String, Global, [], ◌∷◌, ◌≡◌, map, string_bytes, subst, sym, refl, inr}
 use Rattle.std.specs.Prelude.{Some, IfOk, IfErr}
 use Rattle.safl_command.specs.Commands.{shown}
 use Rattle.safl_command.specs.declared.command.Command.{Command}
-use Rattle.safl_tool.specs.Answers.{Answers, Declines, IsForOutputs, given_of, outputs_of}
+use Rattle.safl_task.specs.Answers.{Answers, Declines, IsForOutputs, given_of, outputs_of}
 use Rattle.safl_tool.specs.BitLevel.{RefusesAig, RefusesBitsOf}
-use Rattle.safl_tool.specs.CommandTasks.{task_of, RefusesSourceOf, RefusesGiven, RefusesText, GivesOutcome, GivesWalk, GivesRun, RefusesReshaping}
-use Rattle.safl_tool.specs.Inputs.{AreWithin}
-use Rattle.safl_tool.specs.Refusals.{RefusesBy}
+use Rattle.safl_tool.specs.CommandTasks.{plain_task_of, RefusesSourceOf, RefusesGiven, RefusesText, GivesOutcome, GivesWalk, GivesRun, RefusesReshaping}
+use Rattle.safl_task.specs.Inputs.{AreWithin}
+use Rattle.safl_task.specs.Refusals.{RefusesBy}
 use Rattle.safl_tool.specs.Reshaping.{copies, unfolds}
-use Rattle.safl_tool.specs.Tasks.{Task}
+use Rattle.safl_task.specs.Tasks.{Task}
+use Rattle.safl_task.specs.declared.refusal.Refusal.TheVariants as refusal
 use Rattle.safl_tool.proofs.work.answer_of.Goals as goal
 
 abbrev task : Command → Task
-task m = task_of (Some (shown m))
+task m = plain_task_of (Some (shown m))
 
 pub numbers-requires : goal.numbers-requires
 numbers-requires c = subst (λ (m : Command). AreWithin (task m).inputs c.args.bytes.now) c.in-Check.is c.requires
@@ -247,3 +248,6 @@ pub returns-in-Aigstat-clause-refused : goal.returns-in-Aigstat-clause-refused
 returns-in-Aigstat-clause-refused c =
     subst (λ (m : Command). IfErr c.circuit_counts.result (Declines (task m) c.args.bytes.now)) (sym c.in-Aigstat.is)
     (subst (λ (n : List ℕ). IfErr c.circuit_counts.result (RefusesBy (RefusesAig n c.args.bytes.now))) c.deref-in-Aigstat.ensures c.circuit_counts.ensures.refused)
+
+pub returns-in-Trace-clause-refused : goal.returns-in-Trace-clause-refused
+returns-in-Trace-clause-refused c = subst (λ (m : Command). Declines (task m) c.args.bytes.now refusal.Usage) (sym c.in-Trace.is) (inr (refl, refl))

@@ -1,0 +1,4 @@
+pub mod Naming
+pub mod Ending
+pub mod Following
+pub mod Giving

@@ -1,0 +1,9 @@
+pub mod Limits
+pub mod Lines
+pub mod VerilogLines
+pub mod Statuses
+pub mod Tasks
+pub mod Endings
+pub mod Refusals
+pub mod Inputs
+pub mod Answers

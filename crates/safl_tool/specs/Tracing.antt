@@ -1,0 +1,61 @@
+-- The traces of a run, and the probes that are asked for them.
+use Rattle.std.specs.Prelude.{ℕ, List, [], ◌∷◌, ◌++◌, map, Option, Some, None, Bool, not}
+use Rattle.safl_net.specs.Netlist.{Netlist}
+use Rattle.safl_net.specs.Valuations.{Valuation}
+use Rattle.safl_probe.specs.Probing.{ProbeState}
+use Rattle.safl_probe.specs.Texts.{trace}
+use Rattle.safl_probe.specs.Watching.{kind_of}
+use Rattle.safl_probe.specs.declared.kind.TraceKind.{TraceKind}
+use Rattle.safl_probe.specs.declared.kind.TraceKind.TheVariants.{Vcd, Starts, Toggles, Silent}
+use Rattle.safl_drive.specs.Asked.{Asked}
+use Rattle.safl_command.specs.Traces.{Traces, is_any_given}
+
+-- ---- the files
+
+-- the files that are given, each with the number of its kind of traces
+abbrev pub one_given : Option (List ℕ) → ℕ → List (List ℕ × ℕ)
+one_given None kind = []
+one_given (Some name) kind = (name, kind) ∷ []
+
+abbrev pub given_files : Traces → List (List ℕ × ℕ)
+given_files t = one_given t.vcd 1 ++ one_given t.starts 2 ++ one_given t.toggles 3
+
+-- their names, and the traces of these cycles for them
+abbrev pub files_for : Traces → List (List ℕ)
+files_for t = map (λ f. f.0) (given_files t)
+
+abbrev pub traces_of : Traces → Netlist → List Valuation → List (List ℕ)
+traces_of t n frames = map (λ f. trace f.1 n frames) (given_files t)
+
+-- ---- the probes
+
+-- the file for the traces of a kind
+abbrev pub file_of_kind : Traces → TraceKind → Option (List ℕ)
+file_of_kind t Vcd = t.vcd
+file_of_kind t Starts = t.starts
+file_of_kind t Toggles = t.toggles
+file_of_kind t Silent = None
+
+-- the files for the others
+abbrev pub without : Traces → TraceKind → Traces
+without t Vcd = record t { vcd = None }
+without t Starts = record t { starts = None }
+without t Toggles = record t { toggles = None }
+without t Silent = t
+
+-- which probes are asked, by their kinds: the first of a kind is asked for the file for its traces
+abbrev pub asked_by : Traces → List ℕ → Asked
+asked_by t [] = []
+asked_by t (kind ∷ kinds) = file_of_kind t (kind_of kind) ∷ asked_by (without t (kind_of kind)) kinds
+
+-- the files for which there is no probe
+abbrev pub left_by : Traces → List ℕ → Traces
+left_by t [] = t
+left_by t (kind ∷ kinds) = left_by (without t (kind_of kind)) kinds
+
+-- there are none
+abbrev pub have_probes : Traces → List ℕ → Bool
+have_probes t kinds = not (is_any_given (left_by t kinds))
+
+abbrev pub kinds_of : List ProbeState → List ℕ
+kinds_of ps = map (λ (p : ProbeState). p.kind) ps
