@@ -2,7 +2,9 @@
 #![tactic(auto)]
 
 use safl_io::{DirShelf, StdSink};
-use safl_tool::run;
+use safl_probe::{Probe, StartsProbe, ToggleProbe, VcdProbe};
+use safl_tool::{Status, run};
+use std::alloc::AllocError;
 use std::process::ExitCode;
 use std::{env, io};
 
@@ -13,11 +15,24 @@ fn main(rt: HostRuntime) -> ExitCode {
     let Ok(words) = words_of(&rt) else {
         return ExitCode::from(NO_WORDS);
     };
-    let mut shelf = DirShelf::new(&rt);
+    let status = match run_with_probes(&rt, &words) {
+        Ok(status) => status,
+        Err(AllocError) => Status::NoMemory,
+    };
+    ExitCode::from(status.number())
+}
+
+// Does what the words ask for, with one probe of each kind.
+fn run_with_probes(rt: &HostRuntime, words: &[String]) -> Result<Status, AllocError> {
+    let alloc = rt.alloc();
+    let mut probes: Vec<Box<dyn Probe>> = Vec::new(alloc);
+    probes.push(Box::new(alloc, VcdProbe::new(alloc))?)?;
+    probes.push(Box::new(alloc, StartsProbe::new(alloc))?)?;
+    probes.push(Box::new(alloc, ToggleProbe::new(alloc))?)?;
+    let mut shelf = DirShelf::new(rt);
     let mut out = StdSink::new(rt.stdout());
     let mut err = StdSink::new(rt.stderr());
-    let status = run(rt.alloc(), &words, &mut shelf, &mut out, &mut err);
-    ExitCode::from(status.number())
+    Ok(run(alloc, words, &mut shelf, &mut out, &mut err, &mut probes))
 }
 
 // The words behind the program's name.
