@@ -115,7 +115,7 @@ class Blasted:
         return Blasted(circuit.inputs(), circuit.registers(), [("done", 1), ("result", circuit.program.main.width)])
 
     def fault(self):
-        """The first register that does not reset to 0, or the weight where it is too great."""
+        """The first register that does not reset to 0, or the weight if it is too great."""
         if self.net is None:
             return None
         for name, _ in self.signals["l"]:

@@ -276,7 +276,7 @@ class Cycle:
 
 
 def meaning(program, args, budget):
-    """Main's value, the number of calls and that of tail calls, or nothing where there are more calls than the budget."""
+    """Main's value, the number of calls and that of tail calls, or nothing if there are more calls than the budget."""
     counts = [0, 0]
 
     def value_of(e, scope):

@@ -6,6 +6,7 @@ import machine
 import report
 import reshape
 import session
+import vcd
 import verilog
 from circuit import Circuit, meaning
 from language import Fault
@@ -73,10 +74,14 @@ def check(words, files):
     return 0, [f"functions {len(program.functions)}", f"sites {len(program.sites) - 1}"]
 
 
-def sim(words, files):
+def sim(words, files, traces):
     limit = decimal(words[3], 1, 1_000_000_000)
     program = accept(files, words[1])
-    return timed(Circuit(program).run(arguments(words[4:], widths_of(program)), limit), limit, "cycles")
+    args = arguments(words[4:], widths_of(program))
+    circuit = Circuit(program)
+    for kind, name in traces.items():
+        files[name] = "".join(line + "\n" for line in vcd.TEXTS[kind](circuit, args, limit)).encode()
+    return timed(circuit.run(args, limit), limit, "cycles")
 
 
 def netlist(files, name):
@@ -181,7 +186,7 @@ def reshaped(words, files):
     return 0, []
 
 
-def answered(words, files):
+def answered(words, traces, files):
     """What the words in their order come to."""
     verb = words[0]
     if verb == "check":
@@ -190,7 +195,7 @@ def answered(words, files):
         files[words[2]] = built(words, files)
         return 0, []
     if verb == "sim":
-        return sim(words, files)
+        return sim(words, files, traces)
     if verb == "run":
         return run_file(words, files)
     if verb == "walk":
@@ -215,7 +220,7 @@ def answered(words, files):
 def call(words, files):
     """The status of a call, and the lines that are printed, or the line that is told."""
     try:
-        return answered(in_order(words), files)
+        return answered(*in_order(words), files)
     except NoCommand:
         return 2, [USAGE]
     except Refusal as refusal:
@@ -233,7 +238,7 @@ def plan_text(source):
 
 
 def meant(source, words):
-    """The line of main's value by the meaning, or nothing where it isn't there in a million calls."""
+    """The line of main's value by the meaning, or nothing if it isn't there in a million calls."""
     program = language.accept(source)
     found = meaning(program, [int(word) for word in words], 1_000_000)
     return f"result {found[0]}" if found else None

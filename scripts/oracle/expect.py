@@ -14,8 +14,10 @@ import aiger
 import commands
 from circuit import Circuit
 from verilog import written_lines
+from words import NoCommand, in_order
 
 PRINTING = (0, 6)
+KINDS = ("vcd", "starts", "toggles")
 
 
 class Open(Exception):
@@ -55,8 +57,16 @@ def row_text(status, lines):
     return " ".join([str(status)] + ([", ".join(lines)] if lines else []))
 
 
+def traces_of(words):
+    """The files for traces that the words name, by their kinds."""
+    try:
+        return in_order(words)[1]
+    except NoCommand:
+        return {}
+
+
 def kept_start(wanted, found):
-    """The wanted text where it ends with ` ..` and the found one begins as it does, else the found one."""
+    """The wanted text if it ends with ` ..` and the found one begins as it does, else the found one."""
     return wanted if wanted.endswith(" ..") and found.startswith(wanted[:-3]) else found
 
 
@@ -65,7 +75,7 @@ class CaseFile:
 
     def __init__(self, lines):
         self.lines, self.found = lines, []
-        self.files, self.failing = {}, {}
+        self.files, self.failing, self.probes = {}, {}, KINDS
         self.counts = {"worked out": 0, "left open": 0}
 
     def entries(self):
@@ -93,7 +103,9 @@ class CaseFile:
         if not head or head.startswith("//"):
             return head, body
         if word == "#":
-            self.files, self.failing = {}, {}
+            self.files, self.failing, self.probes = {}, {}, KINDS
+        elif word == "probes":
+            self.probes = rest.split()
         elif word == "file":
             name = rest.removesuffix(" open")
             self.files[name] = joined(body, name == rest)
@@ -109,6 +121,9 @@ class CaseFile:
             self.failing[what] = int(number)
         elif word == "safl":
             return self.call(rest, body)
+        elif word == "holds" and isinstance(self.files.get(rest), bytes):
+            lines = set(self.lines_of(rest))
+            return head, [line for line in body if line in lines]
         elif word in ("begins", "ends", "holds"):
             return head, self.stands(word, rest, body)
         elif word == "is":
@@ -144,10 +159,29 @@ class CaseFile:
         if self.failing:
             self.failing = {}
             raise Open
-        status, lines = self.called(words_of(words), self.files)
+        status, lines = self.probed(words_of(words)) or self.called(words_of(words), self.files)
         if len(body) == 1 and len(lines) == 1:
             lines = [kept_start(body[0], lines[0])]
         return f"safl {words} -> {status}", lines
+
+    def probed(self, words):
+        """The status and line of a call for which a probe is missing or fails. What is in its files is left open then."""
+        traces = traces_of(words)
+        asked = {kind: next((probe for probe in self.probes if probe.partition(":")[0] == kind), None) for kind in traces}
+        if None in asked.values():
+            return 2, [commands.USAGE]
+        status, lines = commands.call(words, dict(self.files)) if traces else (2, [])
+        if status not in PRINTING:
+            return None
+        cycles = int(lines[1].split()[1]) + 1 if status == 0 else int(lines[0].split()[3])
+        failing = [(int(probe.partition(":")[2] or 0), self.probes.index(probe), kind) for kind, probe in asked.items()]
+        failing = [each for each in failing if 1 <= each[0] <= cycles + 2]
+        if not failing:
+            return None
+        for name in traces.values():
+            self.files.pop(name, None)
+        self.counts["worked out"] += 1
+        return 9, [f"probe {KINDS.index(min(failing)[2]) + 1} failed"]
 
     def stands(self, word, name, body):
         circuit = self.files.get(name)
@@ -178,15 +212,16 @@ class CaseFile:
         names = words_of(words)
         whole = self.called(names, dict(self.files))
         inputs = names[1:3] if names[0] == "session" else names[1:2]
+        traces = [] if what == "out" else list(traces_of(names).values())
         written = "output" if what == "out" or len(names) < 3 else names[2]
-        told = {"3": f"cannot read {names[1]}", "4": f"cannot write {written}"}
+        told = {"3": f"cannot read {names[1]}", "4": f"cannot write {(traces or [written])[0]}"}
         found = []
         for row in body:
             which, _, wanted = row.partition(" -> ")
             wanted, semicolon, state = wanted.partition("; ")
             if which == "end" or what == "err":
                 text = row_text(*whole)
-            elif wanted in [f"3 cannot read {name}" for name in inputs]:
+            elif wanted in [f"3 cannot read {name}" for name in inputs] + [f"4 cannot write {name}" for name in traces]:
                 text = wanted
             else:
                 text = f"{wanted[0]} {told[wanted[0]]}"

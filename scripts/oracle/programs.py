@@ -53,7 +53,7 @@ class Bodies:
         self.sites = 0
 
     def expected(self, w, size, scope):
-        """An expression where its width is given."""
+        """An expression of a width that is given."""
         if size <= 0:
             return self.leaf(w, scope) if self.dice.happens(1, 2) else Expr("num", 0, value=self.dice.word(w))
         form = self.dice.below(9)

@@ -36,11 +36,11 @@ def wires(cycle):
     return found
 
 
-def frames(circuit, args):
-    """The signals' values in each cycle, by name."""
+def frames(circuit, args, cycles=CYCLES_MAX):
+    """The signals' values in each cycle up to the first with `done`, by name."""
     registers = {name: 0 for name, _ in circuit.registers()}
     u = circuit.unit_name(circuit.program.main.group)
-    for number in range(CYCLES_MAX):
+    for number in range(cycles):
         words = args if number == 0 else [0] * len(args)
         cycle = Cycle(circuit, registers, int(number == 0), words)
         inputs = dict(zip((name for name, _ in circuit.inputs()), [int(number == 0)] + words))
@@ -54,8 +54,8 @@ def change(width, value, name):
     return f"{value}{name}" if width == 1 else f"b{value:b} {name}"
 
 
-def trace(circuit, args):
-    """The lines of the trace."""
+def trace(circuit, args, cycles=CYCLES_MAX):
+    """The lines of the dump."""
     outputs = [("done", 1), ("result", circuit.program.main.width)]
     signals = circuit.inputs() + circuit.registers() + [(name, 1) for name in circuit.named_wires()] + outputs
     codes = [code(i) for i in range(len(signals))]
@@ -64,7 +64,7 @@ def trace(circuit, args):
         yield f"$var wire {width} {short} {name} $end"
     yield from ("$upscope $end", "$enddefinitions $end")
     last, number = None, -1
-    for number, values in enumerate(frames(circuit, args)):
+    for number, values in enumerate(frames(circuit, args, cycles)):
         changed = [
             change(width, values[name], short)
             for short, (name, width) in zip(codes, signals)
@@ -76,6 +76,25 @@ def trace(circuit, args):
             yield from [f"#{number}"] + changed
         last = values
     yield f"#{number + 1}"
+
+
+def starts(circuit, args, cycles):
+    """A line for each call that begins: the cycle, and the wire that is 1."""
+    names = [name for name in circuit.named_wires() if name.startswith("go$")]
+    for number, values in enumerate(frames(circuit, args, cycles)):
+        yield from (f"{number} {name}" for name in names if values[name])
+
+
+def toggles(circuit, args, cycles):
+    """A line for each cycle: how many bits of registers differ from the cycle before."""
+    last = {}
+    for number, values in enumerate(frames(circuit, args, cycles)):
+        bits = sum((values[name] ^ last.get(name, values[name])).bit_count() for name, _ in circuit.registers())
+        yield f"{number} {bits}"
+        last = values
+
+
+TEXTS = {"vcd": trace, "starts": starts, "toggles": toggles}
 
 
 def main():

@@ -306,7 +306,7 @@ class Netlist:
             self.shown[target.text] = cell.names[0].text
 
     def cell_width(self, cell):
-        """The width of a cell, or 0 where its operands' widths have no row."""
+        """The width of a cell, or 0 if its operands' widths have no row."""
         widths = [self.width(token.text) for token in cell.names]
         if cell.kind == "lit":
             return cell.numbers[0].width

@@ -17,7 +17,9 @@ FORMS = {
     "aig": (2, [], [], False),
     "aigstat": (1, [], [], False),
 }
-CHOICES = {"reshape": ["copy", "unfold"]}
+# options of which exactly one is given, and options that may be left out
+CHOICES = ("reshape",)
+TRACES = {"sim": ["vcd", "starts", "toggles"]}
 # the commands whose positional words are numbers, and not names
 NUMBERS = ("gen", "bench")
 
@@ -76,13 +78,18 @@ class Line:
 
 
 def in_order(words):
-    """The command's word, its names or numbers, its options in the table's order, each before its value, and what follows."""
+    """The command's word, its names or numbers, its options in the table's order, each before its value, and what follows; and
+    the files of its traces by their kinds."""
     if not words or words[0] not in FORMS:
         raise NoCommand
     verb = words[0]
     count, options, flags, follows = FORMS[verb]
-    line = Line(options, flags)
+    kinds = TRACES.get(verb, [])
+    line = Line(options + kinds, flags)
     line.read(words[1:])
+    traces = {kind: line.values.pop(kind) for kind in kinds if kind in line.values}
+    if "" in traces.values() or len(set(traces.values())) < len(traces):
+        raise NoCommand
     plain = line.plain
     if len(plain) < count or len(plain) > count and not follows:
         raise NoCommand
@@ -95,4 +102,4 @@ def in_order(words):
     for name in given:
         found += [f"--{name}", line.values[name]]
     found += [f"--{name}" for name in flags if name in line.values]
-    return found + plain[count:]
+    return found + plain[count:], traces

@@ -1,6 +1,6 @@
 //! The entries of a case file, done one after the other.
 
-use crate::calls::{call, plain_call};
+use crate::calls::{EACH_KIND, call, plain_call};
 use crate::entries::Entry;
 use crate::failing::{Failing, fail_in_turn};
 use crate::folder::{compare_with_folder, show_calls};
@@ -12,20 +12,22 @@ use safl_io::{MemShelf, MemSink};
 use safl_word::NoMemory;
 use std::alloc::Global;
 
-/// The files of a case as it places them, its shelf, and the calls of the next call's sinks that are to fail.
+/// The files of a case as it places them, its shelf, its probes, and the calls of the next call's sinks that are to fail.
 #[derive(Drop)]
-struct Case {
+struct Case<'a> {
     placed: Vec<Placed>,
     shelf: MemShelf,
+    probes: &'a str,
     out: MemSink,
     err: MemSink,
 }
 
-impl Case {
+impl Case<'_> {
     fn new(alloc: Global) -> Self {
         Case {
             placed: Vec::new(alloc),
             shelf: MemShelf::new(alloc),
+            probes: EACH_KIND,
             out: MemSink::new(alloc),
             err: MemSink::new(alloc),
         }
@@ -49,6 +51,7 @@ pub fn run_entries(
             "spread" | "cut" => make_file(alloc, &mut case, word == "spread", rest)?,
             "printed" => place_printed(alloc, &mut case, rest)?,
             "fail" => fail(&mut case, rest)?,
+            "probes" => case.probes = rest,
             "safl" => run_call(alloc, &mut case, rest, entry, tally)?,
             "folder" => compare_with_folder(rt, &case.placed, entry, tally)?,
             "shown" => show_calls(rt, &entry.body)?,
@@ -65,7 +68,7 @@ pub fn run_entries(
 
 fn place_file(
     alloc: Global,
-    case: &mut Case,
+    case: &mut Case<'_>,
     rest: &str,
     entry: &Entry<'_>,
 ) -> Result<(), NoMemory> {
@@ -75,7 +78,7 @@ fn place_file(
     }
 }
 
-fn place(alloc: Global, case: &mut Case, name: &str, bytes: &[u8]) -> Result<(), NoMemory> {
+fn place(alloc: Global, case: &mut Case<'_>, name: &str, bytes: &[u8]) -> Result<(), NoMemory> {
     case.shelf.add(name, bytes)?;
     case.placed.push(Placed {
         name: String::from_str(alloc, name)?,
@@ -85,14 +88,19 @@ fn place(alloc: Global, case: &mut Case, name: &str, bytes: &[u8]) -> Result<(),
 }
 
 // `A by WORDS`: A is what this call prints.
-fn place_printed(alloc: Global, case: &mut Case, rest: &str) -> Result<(), NoMemory> {
+fn place_printed(alloc: Global, case: &mut Case<'_>, rest: &str) -> Result<(), NoMemory> {
     let (name, words) = rest.split_once(" by ").unwrap_or((rest, ""));
     let ended = plain_call(alloc, words, &mut case.shelf)?;
     place(alloc, case, name, ended.out.bytes())
 }
 
 // `A as B`: B is A spread out; `A as B after PIECE`: B is A up to this piece, which it ends with.
-fn make_file(alloc: Global, case: &mut Case, spreads: bool, rest: &str) -> Result<(), NoMemory> {
+fn make_file(
+    alloc: Global,
+    case: &mut Case<'_>,
+    spreads: bool,
+    rest: &str,
+) -> Result<(), NoMemory> {
     let (from, rest) = rest.split_once(" as ").unwrap_or((rest, ""));
     let text = case.shelf.file(from).unwrap_or(b"");
     if spreads {
@@ -108,7 +116,7 @@ fn make_file(alloc: Global, case: &mut Case, spreads: bool, rest: &str) -> Resul
 }
 
 // `shelf N`, `out N` and `err N`.
-fn fail(case: &mut Case, rest: &str) -> Result<(), NoMemory> {
+fn fail(case: &mut Case<'_>, rest: &str) -> Result<(), NoMemory> {
     let (what, number) = rest.split_once(' ').unwrap_or((rest, ""));
     let number = number.parse::<u64>().unwrap_or(0);
     match what {
@@ -120,7 +128,7 @@ fn fail(case: &mut Case, rest: &str) -> Result<(), NoMemory> {
 
 fn run_call(
     alloc: Global,
-    case: &mut Case,
+    case: &mut Case<'_>,
     rest: &str,
     entry: &Entry<'_>,
     tally: &mut Tally,
@@ -129,7 +137,7 @@ fn run_call(
     let wanted = Wanted::of_lines(alloc, status, &entry.body)?;
     let out = std::mem::replace(&mut case.out, MemSink::new(alloc));
     let err = std::mem::replace(&mut case.err, MemSink::new(alloc));
-    let ended = call(alloc, words, &mut case.shelf, out, err)?;
+    let ended = call(alloc, words, case.probes, &mut case.shelf, out, err)?;
     tally.count_call(entry.number, ended.agrees(&wanted), &ended)
 }
 
@@ -178,7 +186,7 @@ fn is_part(shelf: &MemShelf, rest: &str) -> bool {
 
 fn run_failing(
     alloc: Global,
-    case: &Case,
+    case: &Case<'_>,
     rest: &str,
     entry: &Entry<'_>,
     tally: &mut Tally,
@@ -195,7 +203,7 @@ fn run_failing(
 // A table: `KIND NAME: WORDS` or `KIND: WORDS`.
 fn run_table(
     alloc: Global,
-    case: &mut Case,
+    case: &mut Case<'_>,
     word: &str,
     rest: &str,
     entry: &Entry<'_>,

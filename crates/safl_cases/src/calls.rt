@@ -2,6 +2,7 @@
 
 use crate::texts::{Wanted, prints};
 use safl_io::{MemSink, Shelf, Sink};
+use safl_probe::{Probe, StartsProbe, StubProbe, ToggleProbe, VcdProbe};
 use safl_tool::run;
 use safl_word::NoMemory;
 use std::alloc::Global;
@@ -33,10 +34,15 @@ impl Ended {
     }
 }
 
-/// Calls the program with these words, separated by spaces, and answers its status. The word `""` is the empty one.
+/// The probes that a call is given if nothing else is said: one of each kind.
+pub const EACH_KIND: &str = "vcd starts toggles";
+
+/// Calls the program with these words and probes, separated by spaces, and answers its status. The word `""` is the empty one. A
+/// probe is written as its kind; a kind with `:N` is a stub of that kind whose Nth call fails.
 pub fn run_words<S: Shelf, O: Sink, E: Sink>(
     alloc: Global,
     words: &str,
+    given: &str,
     shelf: &mut S,
     out: &mut O,
     err: &mut E,
@@ -46,23 +52,47 @@ pub fn run_words<S: Shelf, O: Sink, E: Sink>(
         let word = if word == "\"\"" { "" } else { word };
         owned.push(String::from_str(alloc, word)?)?;
     }
-    Ok(run(alloc, &owned, shelf, out, err) as u8)
+    let mut probes: Vec<Box<dyn Probe>> = Vec::new(alloc);
+    for probe in given.split_whitespace() {
+        match (probe, probe.split_once(':')) {
+            ("vcd", _) => probes.push(Box::new(alloc, VcdProbe::new(alloc))?)?,
+            ("starts", _) => probes.push(Box::new(alloc, StartsProbe::new(alloc))?)?,
+            ("toggles", _) => probes.push(Box::new(alloc, ToggleProbe::new(alloc))?)?,
+            (_, Some((kind, number))) => {
+                let fail_at = number.parse::<u64>().unwrap_or(0);
+                probes.push(Box::new(alloc, StubProbe::new(alloc, kind_of(kind), fail_at))?)?;
+            }
+            _ => {}
+        }
+    }
+    Ok(run(alloc, &owned, shelf, out, err, &mut probes) as u8)
 }
 
-/// Calls the program with these words over sinks in memory.
+// The number of a kind of traces, and 0 if it is none.
+fn kind_of(kind: &str) -> u8 {
+    match kind {
+        "vcd" => 1,
+        "starts" => 2,
+        "toggles" => 3,
+        _ => 0,
+    }
+}
+
+/// Calls the program with these words and probes over sinks in memory.
 pub fn call<S: Shelf>(
     alloc: Global,
     words: &str,
+    given: &str,
     shelf: &mut S,
     mut out: MemSink,
     mut err: MemSink,
 ) -> Result<Ended, NoMemory> {
-    let status = run_words(alloc, words, shelf, &mut out, &mut err)?;
+    let status = run_words(alloc, words, given, shelf, &mut out, &mut err)?;
     Ok(Ended { status, out, err })
 }
 
-/// The same with sinks that do not fail.
+/// The same with one probe of each kind and sinks that do not fail.
 pub fn plain_call<S: Shelf>(alloc: Global, words: &str, shelf: &mut S) -> Result<Ended, NoMemory> {
     let (out, err) = (MemSink::new(alloc), MemSink::new(alloc));
-    call(alloc, words, shelf, out, err)
+    call(alloc, words, EACH_KIND, shelf, out, err)
 }

@@ -1,6 +1,6 @@
 //! Calls of the program in which the calls of its shelf or of a sink fail in turn.
 
-use crate::calls::{Ended, call, plain_call};
+use crate::calls::{EACH_KIND, Ended, call, plain_call};
 use crate::entries::Entry;
 use crate::shelves::{Placed, shelf_of};
 use crate::tally::Tally;
@@ -81,7 +81,7 @@ fn disturb(alloc: Global, trial: &Trial<'_>, number: u64) -> Result<Disturbed, N
         Failing::Out => out.fail_call(number)?,
         Failing::Err => err.fail_call(number)?,
     }
-    let ended = call(alloc, trial.words, &mut shelf, out, err)?;
+    let ended = call(alloc, trial.words, EACH_KIND, &mut shelf, out, err)?;
     Ok(Disturbed { ended, shelf })
 }
 
@@ -154,14 +154,16 @@ fn has_state(trial: &Trial<'_>, disturbed: &Disturbed, state: &str) -> bool {
     }
 }
 
-// The file that a command writes, where it writes one: the word behind that of its input.
+// The file that a command writes, if it writes one: the word behind that of its input, or the word behind `--vcd`.
 fn output_of(words: &str) -> &str {
     let (verb, names) = words.split_once(' ').unwrap_or((words, ""));
-    let (_, rest) = names.split_once(' ').unwrap_or((names, ""));
-    match verb {
-        "build" | "reshape" | "aig" => rest.split_once(' ').map(|pair| pair.0).unwrap_or(rest),
-        _ => "",
-    }
+    let separator = match verb {
+        "build" | "reshape" | "aig" => " ",
+        "sim" => " --vcd ",
+        _ => return "",
+    };
+    let (_, rest) = names.split_once(separator).unwrap_or((names, ""));
+    rest.split_once(' ').map(|pair| pair.0).unwrap_or(rest)
 }
 
 fn has_same_file(trial: &Trial<'_>, shelf: &MemShelf) -> bool {

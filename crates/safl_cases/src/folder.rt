@@ -1,6 +1,6 @@
 //! Calls over the files of the system, compared with the same calls over files in memory.
 
-use crate::calls::{plain_call, run_words};
+use crate::calls::{EACH_KIND, plain_call, run_words};
 use crate::entries::Entry;
 use crate::shelves::{Placed, shelf_of};
 use crate::tally::Tally;
@@ -61,7 +61,7 @@ pub fn show_calls(rt: &HostRuntime, rows: &[&str]) -> Result<(), NoMemory> {
     let mut out = StdSink::new(rt.stdout());
     let mut err = StdSink::new(rt.stdout());
     for row in rows {
-        let _status = run_words(rt.alloc(), row, &mut shelf, &mut out, &mut err)?;
+        let _status = run_words(rt.alloc(), row, EACH_KIND, &mut shelf, &mut out, &mut err)?;
     }
     Ok(())
 }
