@@ -8,6 +8,8 @@
     examples.py --report X  prints the report of an example: its functions, sites and registers
     examples.py --random X [COUNT [SEED]]  compares the program X with the libraries on drawn arguments, and with the bound 3n
     examples.py --pictures  draws the units of each example with an arbiter, with Graphviz, to units.svg in its folder
+    examples.py --waves X [--check]  draws the waveforms of each page from the trace that the program X writes, to waves.svg in its
+                            folder, and those of shared.safl; with --check it says which pictures differ
 
 Results come from scripts/gallery.py, that is from Python's own libraries or from published vectors; cycles, numbers of calls,
 arbiters, kept sites and registers from scripts/oracle, which works by docs/ alone. A result of the oracle that isn't the
@@ -29,10 +31,13 @@ import aiger  # noqa: E402
 import language  # noqa: E402
 from circuit import Circuit, meaning  # noqa: E402
 from gallery import DRAWS, PAGES  # noqa: E402
+from waves import Trace, drawing  # noqa: E402
 
 CASES = f"{TOP}/crates/safl_cases/data/examples.case"
 CALLS_MAX = 1_000_000
 BY_HAND = "by_hand"  # Verilog that was written by hand, to compare with
+DRAWN = 24  # the most cycles of a picture of waveforms
+SHARED = "start in$a go$1 go$2 run$f arg$f$x res$f ret$1 ret$2 keep$1 run$main done result".split()  # the signals of shared.svg
 
 
 class Example:
@@ -114,6 +119,25 @@ class Example:
             f"and the longest of the runs below is done {after}.",
         ]
 
+    def shown_run(self):
+        """The row whose command stands on the page."""
+        return self.rows[1]
+
+    def waves(self):
+        """The signals of the picture of waveforms, unit by unit from main on, and how many cycles it has."""
+        program, plan = self.program, self.circuit.plan
+        names = ["start", "go$main"]
+        for u in reversed(range(1 + max(f.group for f in program.functions))):
+            names += [f"go${k}" for k in self.circuit.sites if plan.unit(k) == u] + [f"run${self.circuit.unit_name(u)}"]
+        cycles = self.shown_run()[4] + 1
+        return names + ["done"] + ["result"] * (cycles <= DRAWN), min(cycles, DRAWN)
+
+    def waves_lines(self):
+        _, count = self.waves()
+        cycles = self.shown_run()[4] + 1
+        which = "all cycles of that run" if count == cycles else f"the first {count} of the {cycles} cycles of that run"
+        return [f"The calls that are accepted and the units that run, in {which}:", "", "![Waveforms of that run](waves.svg)"]
+
     def case_lines(self):
         def answer(row):
             return f"    {' '.join(str(a) for a in row[1])} -> 0 result {row[2]}, cycle {row[4]}"
@@ -137,7 +161,7 @@ class Example:
         for title, args, result, calls, cycle in self.rows:
             words = " ".join(shown(a, w) for a, w in zip(args, widths))
             rows.append(f"| {title} | {words} | {shown(result, self.program.main.width)} | {calls} | {cycle} | {3 * calls} |")
-        title, args, result, _, cycle = self.rows[1]
+        title, args, result, _, cycle = self.shown_run()
         words = " ".join(str(a) for a in args)
         command = f"safl sim examples/{self.name}/{self.name}.safl --cycles {self.limit} {words}"
         found = {"apart": self.apart_lines()} if self.circuit.plan.arbiters else {}
@@ -145,6 +169,7 @@ class Example:
             "source": ["```"] + self.source.splitlines() + ["```"],
             "circuit": ["```"] + self.report() + ["```"],
             "cycles": rows + ["", f"    {command}", "", f"prints `result {result}` and `cycle {cycle}`."],
+            "waves": self.waves_lines(),
         }
 
 
@@ -247,6 +272,26 @@ def pictures(examples):
                 subprocess.run([f"{TOP}/scripts/units.py", report.name, f"{os.path.dirname(example.path)}/units.svg"], check=True)
 
 
+def drawn(program, source, limit, args, names, count=None):
+    """The picture of the trace that the program writes of a run: these signals, and so many cycles or all of them."""
+    with tempfile.TemporaryDirectory() as room:
+        words = [program, "sim", source, "--cycles", str(limit), "--vcd", f"{room}/trace.vcd"] + [str(a) for a in args]
+        subprocess.run(words, stdout=subprocess.DEVNULL, check=True)
+        trace = Trace(page_text(f"{room}/trace.vcd"))
+    numbers = range(trace.end if count is None else count)
+    return drawing(trace, names, numbers, list(numbers))
+
+
+def waveforms(examples, program, target):
+    for example in examples:
+        names, count = example.waves()
+        picture = drawn(program, example.path, example.limit, example.shown_run()[1], names, count)
+        target.put(f"{os.path.dirname(example.path)}/waves.svg", picture)
+    target.put(f"{TOP}/examples/shared.svg", drawn(program, f"{TOP}/examples/shared.safl", 100, [5], SHARED))
+    print(f"examples: {len(examples) + 1} pictures of waveforms, {target.differing} {'differ' if target.is_check else 'written'}")
+    return 1 if target.is_check and target.differing else 0
+
+
 def compare_drawn(examples, program, count, seed):
     """Whether the program's results are the libraries' for so many drawn arguments of each example, in less than 3n cycles."""
     drawing, tried, wrong = random.Random(seed), 0, 0
@@ -281,6 +326,8 @@ def main(words):
     if words[:1] == ["--pictures"]:
         pictures(examples)
         return 0
+    if words[:1] == ["--waves"]:
+        return waveforms(examples, os.path.abspath(words[1]), Target(words[2:] == ["--check"]))
     target = Target(words == ["--check"])
     missing = set(name for name in os.listdir(f"{TOP}/examples") if os.path.isdir(f"{TOP}/examples/{name}")) - set(PAGES) - {BY_HAND}
     if missing:

@@ -1,7 +1,7 @@
-"""What the circuits in examples/ are to answer, by Python's own libraries, or by published vectors where there is no library.
+"""What the circuits in examples/ are to answer, by Python's own libraries, or by published vectors if there is no library.
 
 For each example a function turns values into a title, main's arguments and the result; GALLERY has it with the values of the
-page, and with a function that draws further values, where there is a library.
+page, and with a function that picks further values at random, if there is a library.
 """
 import base64
 import hashlib
@@ -11,6 +11,8 @@ import time
 import zlib
 
 BEGIN = bytes.fromhex("6a09e667bb67ae853c6ef372a54ff53a510e527f9b05688c1f83d9ab5be0cd19")  # the hash that SHA-256 begins with
+FIPS = (b"abc", b"abcdbcdecdefdefgefghfghighijhijkijkljklmklmnlmnomnopnopq")  # the examples of FIPS 180, of one and of two blocks
+BETWEEN = {FIPS[1]: bytes.fromhex("85e655d6417a17953363376a624cde5c76e09589cac5f811cc4b32c1f20e533a")}  # the hash after the first block
 
 
 def number(data):
@@ -131,11 +133,16 @@ def chacha20(title, key, start, block, row):
     return f"{title}, row {row}", args, words(block[16 * row:16 * row + 16])
 
 
-def sha256(message, low):
-    block = message + b"\x80" + bytes(55 - len(message)) + struct.pack(">Q", 8 * len(message))
-    words = [number(x) for x in (BEGIN[:16], BEGIN[16:], *(block[i:i + 16] for i in range(0, 64, 16)))]
-    digest = hashlib.sha256(message).digest()
-    return f"{text_of(message)}, {'low' if low else 'high'} half", words + [low], number(digest[16 * low:16 * low + 16])
+def sha256(message, low, place=0):
+    """A half of the hash after one block of a message that was padded, the block at this place."""
+    length = len(message) + 9
+    padded = message + b"\x80" + bytes(-length % 64) + struct.pack(">Q", 8 * len(message))
+    block = padded[64 * place:64 * place + 64]
+    before = [BEGIN, BETWEEN.get(message)][place]
+    after = hashlib.sha256(message).digest() if len(padded) == 64 * place + 64 else BETWEEN[message]
+    words = [number(x) for x in (before[:16], before[16:], *(block[i:i + 16] for i in range(0, 64, 16)))]
+    title = f"{text_of(message)}, {f'block {place + 1}, ' if len(padded) > 64 else ''}{'low' if low else 'high'} half"
+    return title, words + [low], number(after[16 * low:16 * low + 16])
 
 
 def clock(seconds):
@@ -212,7 +219,7 @@ PAGES = {
     ),
     "sha256": (
         sha256,
-        [(text, low) for text in (b"", b"abc", b"The quick brown fox jumps over the lazy dog") for low in (0, 1)],
+        [(text, low, place) for text, place in ((FIPS[0], 0), (FIPS[1], 0), (FIPS[1], 1)) for low in (0, 1)],
     ),
     "clock": (clock, [(0,), (951782400,), (1704067199,), (1795824000,), (2**32 - 1,)]),
 }

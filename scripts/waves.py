@@ -2,8 +2,8 @@
 """Draws waveforms: waves.py TRACE.vcd [--signals NAME,NAME,..] [--cycles FIRST-LAST] [--period P] [--at O] >OUT.svg
 
 A trace is a value change dump. Signals of one bit are drawn as lines, others as boxes with their values, in decimal up to
-16 bits and else in hexadecimal. All signals are drawn where none are named, and all cycles where no range is given. Cycle c
-shows the values at time c * P + O; P is 1 and O is 0 where they aren't given, as in the traces of `safl`.
+16 bits and else in hexadecimal. All signals are drawn if none are named, and all cycles if no range is given. Cycle c
+shows the values at time c * P + O; P is 1 and O is 0 if they aren't given, as in the traces of `safl`.
 """
 import argparse
 import bisect
@@ -63,7 +63,7 @@ class Trace:
             values.append(value.lower())
 
     def value(self, name, time):
-        """The word at this time, or nothing where it isn't known."""
+        """The word at this time, or nothing if it isn't known."""
         times, values = self.changes[name]
         at = bisect.bisect_right(times, time) - 1
         if at < 0 or not re.fullmatch("[01]+", values[at]):
@@ -92,7 +92,7 @@ def line(points, colour=INK, width=1.2):
 
 
 def bit_row(values, left, step, y):
-    """A signal of one bit: a line that is high or low, and a patch where it isn't known."""
+    """A signal of one bit: a line that is high or low, and a patch if it isn't known."""
     points, patches = [], []
     for first, last, value in runs(values):
         level = y + (0 if value else HIGH)
@@ -103,7 +103,7 @@ def bit_row(values, left, step, y):
 
 
 def bus_row(values, width, left, step, y):
-    """A signal of several bits: a box for each value, with the value in it where it fits."""
+    """A signal of several bits: a box for each value, with the value in it if it fits."""
     found = []
     for first, last, value in runs(values):
         a, b, slope = left + first * step, left + last * step, min(3, step / 4)
