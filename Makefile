@@ -1,6 +1,6 @@
 # make                      builds the program, with all its proofs
 # make check                runs the gate: proofs, mutations, tests, programs, other tools
-# make examples             looks whether the numbers of the gallery are right, and compares its files with other tools
+# make examples             checks the numbers of the gallery, and compares its files with other tools
 # make install PREFIX=DIR   installs the program, its manual page, completions, Vim files, documents and examples
 
 PREFIX ?= /usr/local
@@ -12,7 +12,7 @@ to = $(DESTDIR)$(PREFIX)
 
 all: $(PROGRAM)
 
-# rt keeps what it has proved, so the program is made anew only where the target is missing; remove it after a change.
+# rt keeps what it has proved, so the program is made anew only if the target is missing; remove it after a change.
 crates/safl/out/safl:
 	cd crates/safl && rt run -- check ../../examples/seven.safl
 

@@ -16,7 +16,7 @@ def named(text):
 
 
 def bench(text, cycles, args, dump=None):
-    """The bench, which dumps the named signals of the circuit to a file where one is given."""
+    """The bench, which dumps the named signals of the circuit to a file if one is given."""
     ports = re.findall(r"^  (input|output) \[(\d+):0\] (\S+);", text, re.M)
     inputs = [(name, int(high) + 1) for kind, high, name in ports if kind == "input" and name != "start"]
     high = next(high for kind, high, name in ports if name == "result")

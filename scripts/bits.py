@@ -1,10 +1,18 @@
 #!/usr/bin/env python3
 """Compares the bit-level circuits that the program writes with the netlists of their Verilog files: bits.py PROGRAM FILE.v..
+Or has ABC look at the map of products that it hands to Yosys: bits.py --products
 
-The circuit's text is read, and the netlist is run, by the programs of scripts/oracle. In each of 1,000 cycles with inputs at
-random, every bit of every output and register has to be the same. Where Yosys is installed, its
-number of ANDs is printed as well, and where ABC is too, it has to find the circuit and what Yosys makes of the Verilog file to be the
-same for all inputs.
+The circuit's text is read, and the netlist is run, by the programs of scripts/oracle. In each of 1,000 cycles with random inputs,
+every bit of every output and register has to be the same.
+
+If Yosys is installed, the number of the ANDs that it makes is printed as well. If ABC is installed too, it has to find the
+program's circuit equal to the one that Yosys makes of the Verilog file. In both the registers are opened first: an input takes the
+place of each register, and an output shows its next word. So ABC compares the next word of every register, and every output, for
+all words of the registers and for all inputs. Reset is left out of both: `aig` takes only registers that reset to 0.
+
+No tool is good at comparing two multipliers that are built in different ways. So Yosys is told to build products as the program
+does, row by row (scripts/products.v); --products has ABC compare these with Yosys's own, for widths of 1 to 8 bits. Nor does Yosys
+share operators (-noshare), which would move shifters behind choices. All else is what Yosys makes of the text by itself.
 """
 import os
 import random
@@ -19,7 +27,11 @@ import aiger
 import verilog
 
 CYCLES = 1000
-PATIENCE = 60  # seconds for ABC
+PRODUCTS = os.path.join(os.path.dirname(os.path.abspath(__file__)), "products.v")
+WIDEST = 8  # the greatest width for which the map of products is checked
+PATIENCE = 300  # seconds for ABC
+CONFLICTS = 1_000_000
+SYNTHESIS = "synth -flatten -noabc -noshare; aigmap; write_aiger -symbols"
 
 
 def bits_of(width, number):
@@ -67,73 +79,68 @@ def faults(net, known, text, stat):
         yield found
 
 
-def ands_of_yosys(path):
-    script = f"read_verilog {path}; synth -flatten -noabc; dffunmap; aigmap; stat"
-    told = subprocess.run(["yosys", "-p", script], capture_output=True, text=True, check=False).stdout
-    found = re.findall(r"\$_AND_ +(\d+)", told)
-    return int(found[-1]) if found else 0
-
-
-def latch_lines(text):
-    """Where the lines of the latches' names stand in a binary AIGER file, and each line's place and names."""
-    begin = text.rindex(b"i0 ") if b"i0 " in text else 0
-    for found in re.finditer(rb"^l(\d+) (.+)$", text[begin:], re.M):
-        yield begin + found.start(), begin + found.end(), found.group(1), found.group(2)
-
-
-def with_names_of(text, other):
-    """A file in which each latch that shares a name with one of the other file has that one's line of names."""
-    lines = {name: names for _, _, _, names in latch_lines(other) for name in names.split()}
-    pieces, end = [], 0
-    for begin, behind, place, names in latch_lines(text):
-        known = [lines[name] for name in names.split() if name in lines]
-        pieces += [text[end:begin], b"l" + place + b" " + (known or [names])[0]]
-        end = behind
-    return b"".join(pieces) + text[end:]
-
-
-def told_by_abc(script):
+def told_by_abc(one, other):
+    """Whether ABC finds two circuits without latches to have the same outputs for all inputs, which are matched by name."""
+    words = ["berkeley-abc", "-c", f"cec -T {PATIENCE} -C {CONFLICTS} {one} {other}"]
     try:
-        words = ["berkeley-abc", "-c", script]
-        told = subprocess.run(words, capture_output=True, text=True, check=False, timeout=PATIENCE).stdout
+        told = subprocess.run(words, capture_output=True, text=True, check=False, timeout=2 * PATIENCE).stdout
     except subprocess.TimeoutExpired:
         return "undecided"
     return "equal" if "Networks are equivalent" in told else "different" if "NOT EQUIVALENT" in told else "undecided"
 
 
-def judged(folder, known, bits):
-    """What ABC says of the circuit and the Verilog file `v`, without its reset, since both begin with all bits 0. Latches of one name
-    are taken for equal first, so that only their next bits and the outputs are compared; the runs are compared only if that fails.
-    """
-    with open(f"{folder}/v", encoding="ascii") as file:
-        text = file.read()
-    text = re.sub(r"if \(rst\)[^;]*; else", "", text).replace("rst, ", "", 1)
-    with open(f"{folder}/free.v", "w", encoding="ascii") as file:
-        file.write(re.sub(r"input (\[0:0\] )?rst;", "", text))
-    for letter, signals in known.signals.items():
-        place = 0
-        for name, width in signals:
-            if width == 1:
-                bits.names[letter, place] = name.encode()
-            place += width
-    with open(f"{folder}/own.aag", "wb") as file:
-        file.write(aiger.written(bits))
-    end = "setundef -zero -init; delete -port */clk; write_aiger -symbols"
-    script = f"""
-        read_aiger -wideports -clk_name clk -module_name own {folder}/own.aag; {end} {folder}/own.aig; design -reset
-        read_verilog {folder}/free.v; proc; setundef -zero -init; synth -noabc -flatten; dffunmap; aigmap; opt_clean; {end} {folder}/free.aig"""
+def run_yosys(folder, script):
     with open(f"{folder}/script", "w", encoding="ascii") as file:
-        file.write(script.replace(";", "\n"))
-    subprocess.run(["yosys", "-q", "-s", f"{folder}/script"], capture_output=True, text=True, check=False)
-    if not bits.nexts:
-        return told_by_abc(f"cec {folder}/free.aig {folder}/own.aig")
-    with open(f"{folder}/free.aig", "rb") as free, open(f"{folder}/own.aig", "rb") as own:
-        text = with_names_of(free.read(), own.read())
-    with open(f"{folder}/named.aig", "wb") as file:
+        file.write(script.replace("; ", "\n") + "\n")
+    subprocess.run(["yosys", "-q", "-s", f"{folder}/script"], capture_output=True, check=False)
+
+
+def opened_text(text):
+    """A file of `build` without its registers: an input has a register's word, and an output its next one."""
+    registers = re.findall(r"^  reg \[\d+:0\] (\S+);$", text, re.M)
+    ports = "".join(f"{name}, next${name}, " for name in registers)
+    text = re.sub(r"^  input (clk|rst);\n", "", text.replace("(clk, rst, ", f"({ports}", 1), flags=re.M)
+    text = re.sub(r"^  reg (\[\d+:0\]) (\S+);$", r"  input \1 \2;\n  output \1 next$\2;", text, flags=re.M)
+    return re.sub(r"^  always .* else (\S+) <= (\S+);$", r"  assign next$\1 = \2;", text, flags=re.M)
+
+
+def opened_bits(known, bits):
+    """The same of a bit-level circuit. Its places have the names that Yosys gives to the bits of signals."""
+    names = {}
+    for letter, parts in (("i", [("i", ""), ("l", "")]), ("o", [("o", ""), ("l", "next$")])):
+        signals = [(before + name, width) for kind, before in parts for name, width in known.signals[kind]]
+        bit_names = [name if width == 1 else f"{name}[{bit}]" for name, width in signals for bit in range(width)]
+        names |= {(letter, place): name.encode() for place, name in enumerate(bit_names)}
+    return aiger.Bits(bits.inputs + len(bits.nexts), [], bits.outputs + bits.nexts, bits.ands, names)
+
+
+def prepare(folder, known, bits):
+    """Writes the circuit and what Yosys makes of the file `v`, each with its registers opened, and gives the number of Yosys's ANDs."""
+    with open(f"{folder}/v", encoding="ascii") as file:
+        text = opened_text(file.read())
+    with open(f"{folder}/open.v", "w", encoding="ascii") as file:
         file.write(text)
-    parts = [f"read {folder}/{name}.aig; comb; write_aiger -s {folder}/{name}_comb.aig" for name in ("named", "own")]
-    verdict = told_by_abc("; ".join(parts) + f"; cec {folder}/named_comb.aig {folder}/own_comb.aig")
-    return verdict if verdict == "equal" else told_by_abc(f"dsec {folder}/free.aig {folder}/own.aig")
+    with open(f"{folder}/own.aag", "wb") as file:
+        file.write(aiger.written(opened_bits(known, bits)))
+    run_yosys(folder, f"read_aiger -wideports -module_name own {folder}/own.aag; write_aiger -symbols {folder}/own.aig")
+    run_yosys(folder, f"read_verilog {folder}/open.v; techmap -map {PRODUCTS}; {SYNTHESIS} {folder}/yosys.aig")
+    with open(f"{folder}/yosys.aig", "rb") as file:
+        return int(file.readline().split()[5])
+
+
+def verdict_on_products():
+    """What ABC says of products as scripts/products.v has them and as Yosys makes them without it, for small widths."""
+    widths = range(1, WIDEST + 1)
+    with tempfile.TemporaryDirectory() as folder:
+        with open(f"{folder}/products.v", "w", encoding="ascii") as file:
+            file.write(f"module products({', '.join(f'a{w}, b{w}, y{w}' for w in widths)});\n")
+            for w in widths:
+                file.write(f"  input [{w - 1}:0] a{w}, b{w};\n  output [{w - 1}:0] y{w};\n  assign y{w} = a{w} * b{w};\n")
+            file.write("endmodule\n")
+        run_yosys(folder, f"read_verilog {folder}/products.v; {SYNTHESIS} {folder}/yosys.aig")
+        mapped = f"techmap -map {PRODUCTS}; select -assert-none t:$mul"
+        run_yosys(folder, f"read_verilog {folder}/products.v; {mapped}; {SYNTHESIS} {folder}/rows.aig")
+        return told_by_abc(f"{folder}/rows.aig", f"{folder}/yosys.aig")
 
 
 def called(program, words, folder):
@@ -157,15 +164,19 @@ def compare(program, path, folder):
     found = list(faults(net, known, text, stat))
     line = f"{stat[3]}, weight {known.weight()}"
     if shutil.which("yosys"):
-        line += f", {ands_of_yosys(path)} ANDs by Yosys"
+        line += f", {prepare(folder, known, aiger.read(text))} ANDs by Yosys"
         if shutil.which("berkeley-abc"):
-            verdict = judged(folder, known, aiger.read(text))
+            verdict = told_by_abc(f"{folder}/own.aig", f"{folder}/yosys.aig")
             line += f", {verdict} by ABC"
-            found += ["ABC finds it different"] if verdict == "different" else []
+            found += [f"{verdict} by ABC"] if verdict != "equal" else []
     return found, line
 
 
 def main():
+    if sys.argv[1:] == ["--products"]:
+        verdict = verdict_on_products()
+        print(f"bits: products of 1 to {WIDEST} bits by scripts/products.v and by Yosys alone: {verdict} by ABC")
+        sys.exit(verdict != "equal")
     program, paths = os.path.abspath(sys.argv[1]), sys.argv[2:]
     failed = 0
     for path in paths:

@@ -2,10 +2,10 @@
 """Has Yosys count the cells of circuits, and prints them as a table: cells.py [PROGRAM] [NAME..]
 
 The circuits are the examples, those of examples/by_hand, and units with 4, 16, 64 and 256 call sites, or those that are named; as
-`build` writes them, with --opt where the program knows it, and by hand. No library of a technology is used. Gates have at most
-two inputs, or three where they choose; choices and XORs are among them. Then the same is mapped to ANDs of two inputs and to
-inverters alone, for a measure that depends less on what gates there are. A path is as long as the gates on it. The program is
-crates/safl/out/safl, or SAFL names it. The status is 1 where Yosys refuses a file.
+`build` writes them, with --opt if the program knows it, and by hand. No library of a technology is used. Gates have at most two
+inputs, multiplexers three; multiplexers (choices) and XORs are among the gates. Then the same is mapped to ANDs of two inputs and
+to inverters alone, for a measure that depends less on what gates there are. A path is as long as the gates on it. The program is
+crates/safl/out/safl, or SAFL names it. The status is 1 if Yosys refuses a file.
 """
 import concurrent.futures
 import glob
@@ -47,7 +47,7 @@ def path_ends(text):
 
 
 def row_of(file):
-    """The numbers of a circuit's row, or nothing where Yosys refuses the file."""
+    """The numbers of a circuit's row, or nothing if Yosys refuses the file."""
     with tempfile.TemporaryDirectory() as room:
         words = ["yosys", "-q", "-p", STEPS.format(file=file, room=room)]
         if subprocess.run(words, capture_output=True, check=False).returncode != 0:

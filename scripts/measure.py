@@ -64,7 +64,7 @@ def seconds_between(words, others, statuses=(0, NO_RESULT)):
 
 
 def peak(words):
-    """The most memory that a command has, in bytes, where GNU time is there; a child of this process would count its own too."""
+    """The most memory that a command has, in bytes, if GNU time is there; a child of this process would count its own too."""
     if not os.access("/usr/bin/time", os.X_OK):
         return None
     with tempfile.NamedTemporaryFile("r") as told:

@@ -1,11 +1,13 @@
 #!/bin/bash
-# Compares the Verilog that the program writes for all examples with what other tools make of it: Icarus Verilog has to print the
-# same result in the same cycle, Yosys has to synthesise it (scripts/cells.py, which prints what it makes), Verilator to read it
-# without an error, and ABC has to find its bit-level circuit equal to what Yosys makes of it (scripts/bits.py). The same goes for
-# what `build --opt` writes. Traces have to be those of Icarus Verilog, and vcd2fst has to read them. The circuits of
-# examples/by_hand have to give the same results. A refusal has to come on the error output. The arguments of the gallery are those
-# of scripts/examples.py, which also looks at its pages and cases. The last line says how much was compared, and what is missing.
-# The program is built if it is missing (SAFL names another one).
+# Compares the Verilog that the program writes for all examples with what other tools make of it: Icarus Verilog has to print
+# the same result in the same cycle, Yosys has to synthesise it (scripts/cells.py, which prints what it makes), Verilator to
+# read it without an error, and ABC has to find its bit-level circuit equal to what Yosys makes of it (scripts/bits.py). The
+# same goes for what `build --opt` writes. ABC also has to find the products right that Yosys is told to make for this
+# comparison. One session has to draw the picture of examples/mandelbrot (scripts/picture.py). Traces have to be those of Icarus
+# Verilog, for both files, and vcd2fst has to read them; the pictures of waveforms have to be drawn from them. The circuits of
+# examples/by_hand have to give the same results. A refusal has to come on the error output. The arguments of the gallery are
+# those of scripts/examples.py, which also looks at its pages and cases. The last line says how much was compared, and what is
+# missing. The program is built if it is missing (SAFL names another one).
 set -u
 cd "$(dirname "$0")/.." || exit 1
 program=$(realpath -m "${SAFL:-crates/safl/out/safl}")
@@ -71,15 +73,19 @@ same() {
     [ "$2" = "$3" ] || say "$1: $2, but $4 says $3"
 }
 
-# Compares the program's trace with that of the last simulation by Icarus Verilog.
+# Writes the program's trace of a run, and has vcd2fst read it.
 trace() {
     "$program" sim "$1" --cycles "$2" --vcd "$folder/trace.vcd" "${@:3}" >"$folder/log" || say "sim --vcd of $* failed"
-    traces=$((traces + 1))
-    python3 scripts/same_traces.py "$folder/trace.vcd" "$folder/icarus.vcd" >"$folder/log" || say "$*: $(cat "$folder/log")"
     if has vcd2fst; then
         vcd2fst "$folder/trace.vcd" "$folder/trace.fst" >"$folder/log" 2>&1 || say "vcd2fst refuses the trace of $*"
-        [ ! -s "$folder/log" ] || say "vcd2fst complains of the trace of $*"
+        [ ! -s "$folder/log" ] || say "vcd2fst complains of the trace of $*: $(head -n 1 "$folder/log")"
     fi
+}
+
+# Compares the program's trace with that of the last simulation by Icarus Verilog, which these words name.
+same_trace() {
+    traces=$((traces + 1))
+    python3 scripts/same_traces.py "$folder/trace.vcd" "$folder/icarus.vcd" >"$folder/log" 2>&1 || say "$*: $(tail -n 1 "$folder/log")"
 }
 
 # Whether a refusal is told on the error output alone, with its status.
@@ -92,7 +98,7 @@ refuse() {
     [ ! -s "$folder/printed" ] || say "check of a wrong source prints $(cat "$folder/printed")"
 }
 
-# Compares the files of a source, which are built where the last call was for another one, with a limit of cycles and arguments.
+# Compares the files of a source, which are built if the last call was for another one, with a limit of cycles and arguments.
 compare() {
     local source=$1 limit=$2 wanted option hand
     shift 2
@@ -105,6 +111,7 @@ compare() {
     for option in "${options[@]}"; do
         same "$source $option $*" "$wanted" "$("$program" run "$folder/built$option.v" --cycles "$limit" "$@")" "the built file"
     done
+    [ ${#dump[@]} -eq 0 ] || trace "$source" "$limit" "$@"
     has iverilog && has python3 || return
     hand=examples/by_hand/$(basename "$source" .safl).v
     if [ -f "$hand" ]; then
@@ -112,9 +119,7 @@ compare() {
     fi
     for option in "${options[@]}"; do
         same "$source $option $*" "$wanted" "$(simulate "$folder/built$option.v" "$limit" "$@")" "Icarus Verilog"
-        if [ -z "$option" ] && [ ${#dump[@]} -ne 0 ]; then
-            trace "$source" "$limit" "$@"
-        fi
+        [ ${#dump[@]} -eq 0 ] || same_trace "$source $option $*"
     done
 }
 
@@ -141,14 +146,19 @@ compare examples/even_odd.safl 1000 3
 compare examples/even_odd.safl 1000 200
 if has python3; then
     python3 scripts/examples.py --check || say "the gallery's pages or cases hold other numbers"
+    [ ${#dump[@]} -eq 0 ] || python3 scripts/examples.py --waves "$program" --check || say "a picture of waveforms is another one"
     python3 scripts/examples.py --rows >"$folder/rows" || say "scripts/examples.py gives no arguments"
     while read -r name limit arguments <&3; do
         # shellcheck disable=SC2086
         compare "examples/$name/$name.safl" "$limit" $arguments
     done 3<"$folder/rows"
+    python3 scripts/picture.py "$program" || say "the picture of the Mandelbrot set differs"
     for source in examples/*.safl examples/*/*.safl; do
         [[ "$seen" == *" $source "* ]] || say "$source has no arguments here"
     done
+fi
+if has yosys && has berkeley-abc && has python3; then
+    python3 scripts/bits.py --products || say "the products of scripts/products.v are not those of Yosys"
 fi
 if has yosys && has python3; then
     python3 scripts/cells.py "$program" || say "yosys refuses a file"

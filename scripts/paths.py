@@ -2,7 +2,7 @@
 """Prints, for each source of examples/ and for one function that is shared by 4, 16, 64 and 256 call sites, what its circuit
 costs: paths.py [FILE.safl ..]
 
-A row has the call sites, the signals, the longest path of cells in the file as it is written, and, where Yosys is there, the
+A row has the call sites, the signals, the longest path of cells in the file as it is written, and, if Yosys is there, the
 flip-flops, the AND gates (with inverters for nothing) and the longest path of AND gates that it makes of the file. The path of
 cells counts each cell once, however wide, and copies not at all. The program is crates/safl/out/safl, or SAFL names another one.
 """

@@ -1,9 +1,9 @@
 #!/usr/bin/env python3
 """Refuses each allocation of the program in turn, in each command on three sources, until a run asks for no further one.
 
-Each run must end with its usual status or with 5 (or 20, where the words can't be had), what it prints and writes must be a
+Each run must end with its usual status or with 5 (or 20, if the words can't be had), what it prints and writes must be a
 prefix of the usual text, and a run with the usual status must be the usual one. The last line says how many refusals were tried.
-It needs a C compiler. The program is built where it isn't there; SAFL names another one.
+It needs a C compiler. The program is built if it isn't there; SAFL names another one.
 """
 import os
 import subprocess

@@ -2,7 +2,7 @@
 """Refuses each allocation in the tests of libraries in turn, until a test asks for no further one: refused_tests.py CRATE..
 
 A test whose allocation is refused must pass or end by saying that memory ran out: another answer in place of that is wrong.
-The last line says how many refusals were tried. It needs a C compiler. `rt test` builds the tests of a crate where they
+The last line says how many refusals were tried. It needs a C compiler. `rt test` builds the tests of a crate if they
 aren't there.
 """
 import os

@@ -124,7 +124,7 @@ def rename_files(tree):
 def move(a, b):
     if os.path.exists(a):
         if os.path.exists(b):
-            raise SystemExit(f"{b} is there already")
+            raise SystemExit(f"{b} exists already")
         os.makedirs(os.path.dirname(b), exist_ok=True)
         shutil.move(a, b)
 
@@ -157,7 +157,7 @@ def merge(old, into):
             # by hand: both files, one behind the other
             write(target, read(target) + "\n// ---- merge\n" + read(path))
         else:
-            raise SystemExit(f"{target} is there already")
+            raise SystemExit(f"{target} exists already")
     shutil.rmtree(old)
 
 

@@ -4,7 +4,7 @@
     same_traces.py TRACE.vcd ICARUS.vcd
 
 Every signal of the first has to have the same value in the second one in every cycle, and the second may have no other signals.
-The status is 1 where one differs, and the first difference is printed.
+The status is 1 if one differs, and the first difference is printed.
 """
 import sys
 

@@ -2,12 +2,12 @@
 """Times the program on sources of growing size: speed.py [PART..] [--verilator FUNCTIONS]
 
     compile    nodes, signals, signals with --opt, the longest path, bytes of Verilog, and the time of `build`
-    simulate   the time of a cycle of `sim`, and of Icarus Verilog and Verilator on the same file where they are there
+    simulate   the time of a cycle of `sim`, and of Icarus Verilog and Verilator on the same file if they are there
     plan       the plan of nearly 4,000 call sites alone
     sessions   `session` with 100,000 calls beside `sim` of a circuit that does the same again and again, and reading a long script
     nets       the simulator on nets in which nearly all wires change in every cycle
 
-All parts are done where none is named. Verilator is left out for sources of more than 100 functions, or of another number, as
+All parts are done if none is named. Verilator is left out for sources of more than 100 functions, or of another number, as
 its C++ compiler takes more than a quarter of an hour of the processor for 900. The programs are those of the crates safl,
 safl_bench_plan and safl_bench_sim, as `rt` builds them, or SAFL, PLAN and NETS name them; one that isn't built is skipped.
 """
@@ -65,7 +65,7 @@ class Room:
 
 
 def optimised_signals(room):
-    """The number of signals with --opt, or a dash where the program doesn't know it."""
+    """The number of signals with --opt, or a dash if the program doesn't know it."""
     words = ["build", room.path, room.optimised, "--opt"]
     return f"{signals_of(room.optimised):,}" if knows(words) else "-"
 
@@ -96,7 +96,7 @@ def rate_of(words_of, first=1_000):
 
 
 def icarus(room):
-    """Seconds a cycle of Icarus Verilog, or nothing where it is missing. The limit is the bench's, so each has a file."""
+    """Seconds a cycle of Icarus Verilog, or nothing if it is missing. The limit is the bench's, so each has a file."""
     if not shutil.which("iverilog"):
         return None
 
@@ -112,7 +112,7 @@ def icarus(room):
 
 
 def verilator(room, functions):
-    """Seconds a cycle of Verilator, and of its compiling by the clock; or nothing where it is missing or left out."""
+    """Seconds a cycle of Verilator, and of its compiling by the clock; or nothing if it is missing or left out."""
     if not shutil.which("verilator") or room.source.functions > functions:
         return None, None
     begun = time.perf_counter()
@@ -218,7 +218,7 @@ def nets():
 
 def main():
     parser = argparse.ArgumentParser(description="Times the program on sources of growing size.")
-    parser.add_argument("parts", nargs="*", metavar="PART", help="compile, simulate, plan, sessions or nets; all where none is named")
+    parser.add_argument("parts", nargs="*", metavar="PART", help="compile, simulate, plan, sessions or nets; all if none is named")
     parser.add_argument("--verilator", type=int, default=100, metavar="FUNCTIONS", help="the most functions for Verilator")
     words = parser.parse_args()
     parts = words.parts or ["compile", "simulate", "plan", "sessions", "nets"]

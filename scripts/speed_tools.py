@@ -1,5 +1,5 @@
 #!/usr/bin/env python3
-"""Times the commands that speed.py doesn't: speed_tools.py [PART..], with these parts, all where none is named.
+"""Times the commands that speed.py doesn't: speed_tools.py [PART..], with these parts, all if none is named.
 
     commands   `gen`, `bench`, `report` and `reshape` on sources as large as the language allows
     optimise   `build --opt` less `build`, and how many signals are left, on the speed sources; the same without the rest of `build`
@@ -240,7 +240,7 @@ def session():
 
 
 def icarus_trace(folder, built, args):
-    """Seconds a cycle of Icarus Verilog that traces the named signals, or nothing where it is missing."""
+    """Seconds a cycle of Icarus Verilog that traces the named signals, or nothing if it is missing."""
     if not shutil.which("iverilog"):
         return None
     with open(built, encoding="utf-8") as file:

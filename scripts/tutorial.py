@@ -13,7 +13,7 @@ The first line of a block says what it is:
     text                      what the commands above it print, on both outputs; without it they print nothing
 
 Commands have to end with status 0. Those whose tool is missing, or there in another version, are SKIPPED. A file of
-docs/tutorial/ has to be the one of its name that was put or made in the folder. The status is 0 where nothing differs.
+docs/tutorial/ has to be the one of its name that was put or made in the folder. The status is 0 if nothing differs.
 """
 import difflib
 import os
@@ -96,7 +96,7 @@ class Run:
             file.write(block.text)
 
     def commands(self, block):
-        """What the commands print, or nothing where a tool is missing."""
+        """What the commands print, or nothing if a tool is missing."""
         lacks = lacking(block.words)
         if lacks:
             self.skipped += 1

@@ -7,8 +7,8 @@ REPORT is a text of these lines; other lines are passed over:
     site K CALLEE in CALLER kept yes|no
     registers R bits B
 
-Each function is a box, with a double border where its unit has an arbiter. Each site is an arrow from its caller to its callee,
-thick where its value is kept. Graphviz makes the picture; where it is missing, its text is written to OUT.dot instead.
+Each function is a box, with a double border if its unit has an arbiter. Each site is an arrow from its caller to its callee,
+thick if its value is kept. Graphviz makes the picture; if it is missing, its text is written to OUT.dot instead.
 """
 import re
 import shutil

@@ -1,0 +1,76 @@
+#!/usr/bin/env python3
+"""Says where the commands and their options differ between README.md's table, the manual page, the completions for bash and zsh,
+and the oracle. The status is 1 where they do."""
+import pathlib
+import re
+import sys
+
+ROOT = pathlib.Path(__file__).resolve().parent.parent
+sys.path.insert(0, str(ROOT / "scripts/oracle"))
+
+from words import FORMS, TRACES  # noqa: E402
+
+
+def text(path):
+    return (ROOT / path).read_text(encoding="utf-8")
+
+
+def options(words):
+    return set(re.findall(r"--(\w+)", words))
+
+
+def gathered(pairs):
+    """The options of each command, of which there may be several forms."""
+    found = {}
+    for verb, given in pairs:
+        found.setdefault(verb, set()).update(given)
+    return found
+
+
+def readme():
+    return gathered((verb, options(rest)) for verb, rest in re.findall(r"^\| `safl (\w+)([^`]*)` \|", text("README.md"), re.M))
+
+
+def manual():
+    synopsis = text("man/safl.1").split(".SH SYNOPSIS\n")[1].split(".SH ")[0].replace("\\-", "-")
+    forms = [form.split() for form in synopsis.split(".br\n")]
+    return gathered((form[form.index("safl") + 1], options(" ".join(form))) for form in forms)
+
+
+def bash():
+    page = text("completion/safl.bash")
+    verbs = re.search(r'compgen -W "(check [^"]*)"', page)[1].split()
+    found = {verb: set() for verb in verbs}
+    for given, words in re.findall(r"^ +([\w |]+)\) echo (--.*?) ;;$", page, re.M):
+        for verb in given.split(" | "):
+            found[verb] |= options(words)
+    return found
+
+
+def zsh():
+    page = text("completion/_safl")
+    found = {verb: set() for verb in re.findall(r"^        ['\"](\w+):", page, re.M)}
+    branches = page.split("case $verb in\n")[1].split("esac")[0]
+    for given, words in re.findall(r"^        ([\w|]+)\)(.*?);;$", branches, re.M | re.S):
+        for verb in given.split("|"):
+            found[verb] |= {"cycles"} & set(re.findall(r"\$(cycles)", words)) | set(re.findall(r"--(\w+)[=\[]", words))
+    return found
+
+
+def oracle():
+    return {verb: {*given, *flags, *TRACES.get(verb, [])} for verb, (_, given, flags, _) in FORMS.items()}
+
+
+def main():
+    wanted, differing = oracle(), 0
+    for where, found in (("README.md", readme()), ("man/safl.1", manual()), ("completion/safl.bash", bash()), ("completion/_safl", zsh())):
+        for verb in sorted(wanted.keys() | found.keys()):
+            if found.get(verb) != wanted.get(verb):
+                differing += 1
+                print(f"commands: {where} has {verb} with {sorted(found.get(verb, ['nothing']))}, not {sorted(wanted.get(verb, ['nothing']))}")
+    print(f"commands: {len(wanted)} commands, {differing} differences")
+    sys.exit(1 if differing else 0)
+
+
+if __name__ == "__main__":
+    main()
