@@ -14,7 +14,8 @@ _safl_options() {
     # the options of a command
     case "$1" in
         build) echo --opt ;;
-        sim | run | bench | session) echo --cycles ;;
+        sim) echo --cycles --vcd --starts --toggles ;;
+        run | bench | session) echo --cycles ;;
         walk) echo --order --steps ;;
         reshape) echo --copy --unfold ;;
     esac
@@ -28,6 +29,8 @@ _safl() {
         return
     fi
     case "$before" in
+        --vcd) _safl_files vcd "$word"; return ;;
+        --starts | --toggles) mapfile -t COMPREPLY < <(compgen -f -- "$word"); return ;;
         = | --cycles | --order | --steps | --copy | --unfold) return ;; # a number
     esac
     # how many names and arguments there are up to this word, options and their values aside
