@@ -3,7 +3,8 @@ use Rattle.std.proofs.Common.{◌≡◌, ℕ, zero, suc, ◌<◌, ◌≤◌, Lis
 use Rattle.std.specs.Prelude.{slice_get, IsSome}
 use Rattle.safl_word.specs.Words.{Word}
 use Rattle.safl_word.specs.declared.primitive.Primitive.{Primitive}
-use Rattle.safl_word.specs.Primitives.{result_width}
+use Rattle.safl_word.specs.declared.primitive.Primitive.TheVariants.{Add, Sub, Mul, And, Or, Xor, Not, Eq, Ne, Lt, Le, Gt, Ge, Shl, Shr, Cat, Bits, Ext}
+use Rattle.safl_word.specs.Primitives.{result_width, one_width, two_widths}
 use Rattle.safl_term.specs.Program.{Program}
 use Rattle.safl_term.specs.Readiness.{answers, wanted, wanted_in, or_else}
 use Rattle.safl_term.specs.Standing.{Stands, StandsIn}
@@ -40,6 +41,38 @@ have_count C slots (Cons t ts) (w ∷ ws) h = ap suc (have_count C slots ts ws h
 widths_len : (vs : List Word) → length (widths vs) ≡ length vs
 widths_len [] = refl
 widths_len (v ∷ vs) = ap suc (widths_len vs)
+
+one_few : (f : ℕ → Option ℕ) (ws : List ℕ) (w : ℕ) → one_width f ws ≡ Some w → (1 ≤ length ws) × (length ws ≤ 2)
+one_few f [] w e = absurd (some_none w (sym e))
+one_few f (u ∷ []) w e = (omega arith, omega arith)
+one_few f (u ∷ (v ∷ ws)) w e = absurd (some_none w (sym e))
+
+two_few : (f : ℕ → ℕ → Option ℕ) (ws : List ℕ) (w : ℕ) → two_widths f ws ≡ Some w → (1 ≤ length ws) × (length ws ≤ 2)
+two_few f [] w e = absurd (some_none w (sym e))
+two_few f (u ∷ []) w e = absurd (some_none w (sym e))
+two_few f (u ∷ (v ∷ [])) w e = (omega arith, omega arith)
+two_few f (u ∷ (v ∷ (x ∷ ws))) w e = absurd (some_none w (sym e))
+
+-- a primitive has one operand or two
+few_operands : (o : Primitive) (ws : List ℕ) (w : ℕ) → result_width o ws ≡ Some w → (1 ≤ length ws) × (length ws ≤ 2)
+few_operands Add ws w e = two_few _ ws w e
+few_operands Sub ws w e = two_few _ ws w e
+few_operands Mul ws w e = two_few _ ws w e
+few_operands And ws w e = two_few _ ws w e
+few_operands Or ws w e = two_few _ ws w e
+few_operands Xor ws w e = two_few _ ws w e
+few_operands Not ws w e = one_few _ ws w e
+few_operands Eq ws w e = two_few _ ws w e
+few_operands Ne ws w e = two_few _ ws w e
+few_operands Lt ws w e = two_few _ ws w e
+few_operands Le ws w e = two_few _ ws w e
+few_operands Gt ws w e = two_few _ ws w e
+few_operands Ge ws w e = two_few _ ws w e
+few_operands Shl ws w e = two_few _ ws w e
+few_operands Shr ws w e = two_few _ ws w e
+few_operands Cat ws w e = two_few _ ws w e
+few_operands (Bits high low) ws w e = one_few _ ws w e
+few_operands (Ext n) ws w e = one_few _ ws w e
 
 slot_in : (ws : List ℕ) (i w : ℕ) → slice_get ws i ≡ Some w → i < length ws
 slot_in [] i w e = absurd (some_none w (sym e))
@@ -238,6 +271,12 @@ module _ {S : List Stage} {n : ℕ} {E : List Word} where
       let all = answers_widths h.program (back_at S) h.caller h.low h.high E ts h.fits.0 vs h.spans h.fits.1 (λ k v st q. h.back k v q) e in
       let is : result_width o (widths vs) ≡ Some h.width = ap (result_width o) all ∙ h.fits.2 in
       subst (λ (x : Option ℕ). IsSome x) (sym is) (search arith)
+
+  pub op_few : (o : Primitive) (ts : Terms) → CanRun S n E (Op o ts) → (1 ≤ count ts) × (count ts ≤ 2)
+  op_few o ts h =
+      let few = few_operands o h.fits.0 h.width h.fits.2 in
+      let long = have_count h.program (widths E) ts h.fits.0 h.fits.1 in
+      (omega (arith, few.0, long), omega (arith, few.1, long))
 
   pub call_few : (f k : ℕ) (ts : Terms) → CanRun S n E (Call f k ts) → count ts ≤ 16
   call_few f k ts h = omega (arith, have_count h.program (widths E) ts (h.program.params f) h.fits.0, h.few f)

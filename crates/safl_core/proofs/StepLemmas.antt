@@ -7,14 +7,13 @@ use Rattle.safl_term.specs.Sizes.{nodes_in}
 use Rattle.safl_sites.proofs.TermLemmas.{some_node}
 use Rattle.safl_word.specs.Words.{Word, slot, pick, no_word}
 use Rattle.safl_word.specs.declared.primitive.Primitive.{Primitive}
-use Rattle.safl_word.specs.Primitives.{apply_prim}
-use Rattle.safl_term.specs.Readiness.{Answer, Ready, LoopTo, NotYet, answer, answers, wanted, wanted_in, or_else, select, with_all, both, apply_to, loop_to, ready_from}
+use Rattle.safl_term.specs.Readiness.{Answer, Ready, LoopTo, NotYet, answer, answers, wanted, wanted_in, or_else, select, with_all, both, apply_to, loop_to, ready_from, word_of}
+use Rattle.safl_calls.proofs.Basics.{some_none}
 use Rattle.safl_term.specs.Terms.{Term, Const, Var, If, Let, Op, Call, Loop, Terms, Nil, Cons}
 use Rattle.safl_term.specs.declared.term.Term as declared
 use Rattle.safl_term.specs.Tree.{shown_term, shown_terms}
 use Rattle.safl_term.proofs.Once.{count}
-use Rattle.safl_core.specs.Evaluating.{Notes, IsPlaced}
-use Rattle.safl_core.specs.declared.evaluate.Outcome.{Outcome}
+use Rattle.safl_core.specs.Evaluating.{Notes}
 
 or_none : {A : Type 0} (o : Option A) → or_else o None ≡ o
 or_none None = refl
@@ -28,6 +27,45 @@ pick_other : {A : Type 0} (n : ℕ) (x y : A) → (n ≡ 1 → ⊥) → pick n x
 pick_other zero x y h = refl
 pick_other (suc zero) x y h = absurd (h refl)
 pick_other (suc (suc n)) x y h = refl
+
+-- ---- an answer by its word
+
+ready_as : (q : Answer) (v : Word) → Some v ≡ word_of q → Ready v ≡ q
+ready_as (Ready w) v e = ap ready_from e
+ready_as (LoopTo h vs) v e = absurd (some_none v e)
+ready_as NotYet v e = absurd (some_none v e)
+
+select_not : {A : Type 0} (q : Answer) (none a b : A) → None ≡ word_of q → select q none a b ≡ none
+select_not (Ready w) none a b e = absurd (some_none w (sym e))
+select_not (LoopTo h vs) none a b e = refl
+select_not NotYet none a b e = refl
+
+both_not : (q : Answer) (o : Option (List Word)) → None ≡ word_of q → both q o ≡ None
+both_not (Ready w) o e = absurd (some_none w (sym e))
+both_not (LoopTo h vs) o e = refl
+both_not NotYet o e = refl
+
+both_words : (q : Answer) (o : Option (List Word)) → both (ready_from (word_of q)) o ≡ both q o
+both_words (Ready w) o = refl
+both_words (LoopTo h vs) o = refl
+both_words NotYet o = refl
+
+-- a primitive and a site come to a word or to nothing yet, and a tail call to no word
+applied_word : (p : Primitive) (o : Option (List Word)) → ready_from (word_of (apply_to p o)) ≡ apply_to p o
+applied_word p None = refl
+applied_word p (Some vs) = refl
+
+pub back_word_is : (o : Option Word) → o ≡ word_of (ready_from o)
+back_word_is None = refl
+back_word_is (Some v) = refl
+
+back_word_from : (o : Option Word) → ready_from (word_of (ready_from o)) ≡ ready_from o
+back_word_from None = refl
+back_word_from (Some v) = refl
+
+loop_word : (h : ℕ) (o : Option (List Word)) → None ≡ word_of (loop_to h o)
+loop_word h None = refl
+loop_word h (Some vs) = refl
 
 pub notes_none : (A : List (Option (List Word))) (w : ℕ → Option (List Word)) → ((k : ℕ) → w k ≡ None) → Notes A A w
 notes_none A w h = record { each = λ k. sym (ap (or_else (get_or A k None)) (h k) ∙ or_none (get_or A k None)) }
@@ -70,37 +108,29 @@ module _ (B : ℕ → Option Word) (E : List Word) where
   notes_var A i = notes_none A _ (λ k. refl)
 
   module _ (c a b : Term) where
-    pub answer_then : (v : Word) → Ready v ≡ answer B E c → v.bits ≡ 1 → answer B E a ≡ answer B E (If c a b)
+    pub answer_then : (v : Word) → Some v ≡ word_of (answer B E c) → v.bits ≡ 1 → answer B E a ≡ answer B E (If c a b)
     unfolding answer
-    answer_then v e one = sym (ap (λ q. select q NotYet (answer B E a) (answer B E b)) (sym e) ∙ ap (λ n. pick n (answer B E a) (answer B E b)) one)
+    answer_then v e one = sym (ap (λ q. select q NotYet (answer B E a) (answer B E b)) (sym (ready_as (answer B E c) v e)) ∙ ap (λ n. pick n (answer B E a) (answer B E b)) one)
 
-    pub answer_else : (v : Word) → Ready v ≡ answer B E c → (v.bits ≡ 1 → ⊥) → answer B E b ≡ answer B E (If c a b)
+    pub answer_else : (v : Word) → Some v ≡ word_of (answer B E c) → (v.bits ≡ 1 → ⊥) → answer B E b ≡ answer B E (If c a b)
     unfolding answer
-    answer_else v e other = sym (ap (λ q. select q NotYet (answer B E a) (answer B E b)) (sym e) ∙ pick_other v.bits (answer B E a) (answer B E b) other)
+    answer_else v e other = sym (ap (λ q. select q NotYet (answer B E a) (answer B E b)) (sym (ready_as (answer B E c) v e)) ∙ pick_other v.bits (answer B E a) (answer B E b) other)
 
-    pub answer_if_loop : (h : ℕ) (vs : List Word) → LoopTo h vs ≡ answer B E c → NotYet ≡ answer B E (If c a b)
+    pub answer_if_not : None ≡ word_of (answer B E c) → NotYet ≡ answer B E (If c a b)
     unfolding answer
-    answer_if_loop h vs e = sym (ap (λ q. select q NotYet (answer B E a) (answer B E b)) (sym e))
+    answer_if_not e = sym (select_not (answer B E c) NotYet (answer B E a) (answer B E b) e)
 
-    pub answer_if_not : NotYet ≡ answer B E c → NotYet ≡ answer B E (If c a b)
-    unfolding answer
-    answer_if_not e = sym (ap (λ q. select q NotYet (answer B E a) (answer B E b)) (sym e))
-
-    pub notes_then : {A A1 A2 : List (Option (List Word))} (v : Word) → Ready v ≡ answer B E c → v.bits ≡ 1 → Notes A A1 (wanted B E c) → Notes A1 A2 (wanted B E a) → Notes A A2 (wanted B E (If c a b))
+    pub notes_then : {A A1 A2 : List (Option (List Word))} (v : Word) → Some v ≡ word_of (answer B E c) → v.bits ≡ 1 → Notes A A1 (wanted B E c) → Notes A1 A2 (wanted B E a) → Notes A A2 (wanted B E (If c a b))
     unfolding wanted
-    notes_then v e one f g = notes_both f g (λ k. ap (or_else (wanted B E c k)) (sym (ap (λ q. select q None (wanted B E a k) (wanted B E b k)) (sym e) ∙ ap (λ n. pick n (wanted B E a k) (wanted B E b k)) one)))
+    notes_then v e one f g = notes_both f g (λ k. ap (or_else (wanted B E c k)) (sym (ap (λ q. select q None (wanted B E a k) (wanted B E b k)) (sym (ready_as (answer B E c) v e)) ∙ ap (λ n. pick n (wanted B E a k) (wanted B E b k)) one)))
 
-    pub notes_else : {A A1 A2 : List (Option (List Word))} (v : Word) → Ready v ≡ answer B E c → (v.bits ≡ 1 → ⊥) → Notes A A1 (wanted B E c) → Notes A1 A2 (wanted B E b) → Notes A A2 (wanted B E (If c a b))
+    pub notes_else : {A A1 A2 : List (Option (List Word))} (v : Word) → Some v ≡ word_of (answer B E c) → (v.bits ≡ 1 → ⊥) → Notes A A1 (wanted B E c) → Notes A1 A2 (wanted B E b) → Notes A A2 (wanted B E (If c a b))
     unfolding wanted
-    notes_else v e other f g = notes_both f g (λ k. ap (or_else (wanted B E c k)) (sym (ap (λ q. select q None (wanted B E a k) (wanted B E b k)) (sym e) ∙ pick_other v.bits (wanted B E a k) (wanted B E b k) other)))
+    notes_else v e other f g = notes_both f g (λ k. ap (or_else (wanted B E c k)) (sym (ap (λ q. select q None (wanted B E a k) (wanted B E b k)) (sym (ready_as (answer B E c) v e)) ∙ pick_other v.bits (wanted B E a k) (wanted B E b k) other)))
 
-    pub notes_if_loop : {A A1 : List (Option (List Word))} (h : ℕ) (vs : List Word) → LoopTo h vs ≡ answer B E c → Notes A A1 (wanted B E c) → Notes A A1 (wanted B E (If c a b))
+    pub notes_if_not : {A A1 : List (Option (List Word))} → None ≡ word_of (answer B E c) → Notes A A1 (wanted B E c) → Notes A A1 (wanted B E (If c a b))
     unfolding wanted
-    notes_if_loop h vs e f = notes_same f (λ k. sym (ap (λ q. or_else (wanted B E c k) (select q None (wanted B E a k) (wanted B E b k))) (sym e) ∙ or_none (wanted B E c k)))
-
-    pub notes_if_not : {A A1 : List (Option (List Word))} → NotYet ≡ answer B E c → Notes A A1 (wanted B E c) → Notes A A1 (wanted B E (If c a b))
-    unfolding wanted
-    notes_if_not e f = notes_same f (λ k. sym (ap (λ q. or_else (wanted B E c k) (select q None (wanted B E a k) (wanted B E b k))) (sym e) ∙ or_none (wanted B E c k)))
+    notes_if_not e f = notes_same f (λ k. sym (ap (or_else (wanted B E c k)) (select_not (answer B E c) None (wanted B E a k) (wanted B E b k) e) ∙ or_none (wanted B E c k)))
 
   module _ (ts : Terms) where
     pub answer_let : (b : Term) (vs : List Word) → answers B E ts ≡ Some vs → answer B (E ++ vs) b ≡ answer B E (Let ts b)
@@ -119,13 +149,9 @@ module _ (B : ℕ → Option Word) (E : List Word) where
     unfolding wanted
     notes_let_not b e f = notes_same f (λ k. sym (ap (λ o. or_else (wanted_in B E ts k) (with_all o None (λ us. wanted B (E ++ us) b k))) e ∙ or_none (wanted_in B E ts k)))
 
-    pub answer_op : (p : Primitive) (vs : List Word) → answers B E ts ≡ Some vs → Ready (apply_prim p vs) ≡ answer B E (Op p ts)
+    pub answer_op : (p : Primitive) → apply_to p (answers B E ts) ≡ answer B E (Op p ts)
     unfolding answer
-    answer_op p vs e = sym (ap (apply_to p) e)
-
-    pub answer_op_not : (p : Primitive) → answers B E ts ≡ None → NotYet ≡ answer B E (Op p ts)
-    unfolding answer
-    answer_op_not p e = sym (ap (apply_to p) e)
+    answer_op p = refl
 
     pub notes_op : {A A1 : List (Option (List Word))} (p : Primitive) → Notes A A1 (wanted_in B E ts) → Notes A A1 (wanted B E (Op p ts))
     unfolding wanted
@@ -138,6 +164,18 @@ module _ (B : ℕ → Option Word) (E : List Word) where
     pub answer_loop_not : (h : ℕ) → answers B E ts ≡ None → NotYet ≡ answer B E (Loop h ts)
     unfolding answer
     answer_loop_not h e = sym (ap (loop_to h) e)
+
+    pub settled_op : {t : Term} (p : Primitive) → t ≡ Op p ts → ready_from (word_of (answer B E t)) ≡ answer B E t
+    unfolding answer
+    settled_op {t} p e = subst (λ x. ready_from (word_of (answer B E x)) ≡ answer B E x) (sym e) (applied_word p (answers B E ts))
+
+    pub settled_call : {t : Term} (f k : ℕ) → t ≡ Call f k ts → ready_from (word_of (answer B E t)) ≡ answer B E t
+    unfolding answer
+    settled_call {t} f k e = subst (λ x. ready_from (word_of (answer B E x)) ≡ answer B E x) (sym e) (back_word_from (B k))
+
+    pub word_loop : (h : ℕ) → None ≡ word_of (answer B E (Loop h ts))
+    unfolding answer
+    word_loop h = loop_word h (answers B E ts)
 
     pub notes_loop : {A A1 : List (Option (List Word))} (h : ℕ) → Notes A A1 (wanted_in B E ts) → Notes A A1 (wanted B E (Loop h ts))
     unfolding wanted
@@ -169,17 +207,13 @@ module _ (B : ℕ → Option Word) (E : List Word) where
         (λ other. sym (ap (λ b. cond b (answers B E ts) (wanted_in B E ts k)) (ne_eqb j k other)))
         (cases_eq j k))
 
-    pub answers_more : (t : Term) (v : Word) (o : Option (List Word)) → Ready v ≡ answer B E t → answers B E ts ≡ o → answers B E (Cons t ts) ≡ both (Ready v) o
+    pub answers_more : (t : Term) (v : Word) (o : Option (List Word)) → Some v ≡ word_of (answer B E t) → answers B E ts ≡ o → answers B E (Cons t ts) ≡ both (Ready v) o
     unfolding answer
-    answers_more t v o e f = ap (λ q. both q (answers B E ts)) (sym e) ∙ ap (both (Ready v)) f
+    answers_more t v o e f = ap (λ q. both q (answers B E ts)) (sym (ready_as (answer B E t) v e)) ∙ ap (both (Ready v)) f
 
-    pub answers_loop : (t : Term) (h : ℕ) (vs : List Word) → LoopTo h vs ≡ answer B E t → answers B E (Cons t ts) ≡ None
+    pub answers_not : (t : Term) → None ≡ word_of (answer B E t) → answers B E (Cons t ts) ≡ None
     unfolding answer
-    answers_loop t h vs e = ap (λ q. both q (answers B E ts)) (sym e)
-
-    pub answers_not : (t : Term) → NotYet ≡ answer B E t → answers B E (Cons t ts) ≡ None
-    unfolding answer
-    answers_not t e = ap (λ q. both q (answers B E ts)) (sym e)
+    answers_not t e = both_not (answer B E t) (answers B E ts) e
 
     pub notes_more : {A A1 A2 : List (Option (List Word))} (t : Term) → Notes A A1 (wanted B E t) → Notes A1 A2 (wanted_in B E ts) → Notes A A2 (wanted_in B E (Cons t ts))
     unfolding wanted
@@ -194,17 +228,40 @@ module _ (B : ℕ → Option Word) (E : List Word) where
   notes_nil A = notes_none A _ (λ k. refl)
 
 module _ (B : ℕ → Option Word) (E : List Word) where
-  pub answers_two : (a b : Term) (v w : Word) → Ready v ≡ answer B E a → Ready w ≡ answer B E b → answers B E (Cons a (Cons b Nil)) ≡ Some (v ∷ w ∷ [])
-  answers_two a b v w e f = answers_more B E (Cons b Nil) a v (Some (w ∷ [])) e (answers_more B E Nil b w (Some []) f (answers_nil B E))
+  pub answers_one : (a : Term) (v : Word) → Some v ≡ word_of (answer B E a) → answers B E (Cons a Nil) ≡ Some (v ∷ [])
+  answers_one a v e = answers_more B E Nil a v (Some []) e (answers_nil B E)
 
-  -- what a primitive gives on two operands
-  pub answer_two : (p : Primitive) (a b : Term) (x y z : Answer) → z ≡ apply_to p (both x (both y (Some []))) → x ≡ answer B E a → y ≡ answer B E b → z ≡ answer B E (Op p (Cons a (Cons b Nil)))
+  pub answers_two : (a b : Term) (v w : Word) → Some v ≡ word_of (answer B E a) → Some w ≡ word_of (answer B E b) → answers B E (Cons a (Cons b Nil)) ≡ Some (v ∷ w ∷ [])
+  answers_two a b v w e f = answers_more B E (Cons b Nil) a v (Some (w ∷ [])) e (answers_one b w f)
+
+  -- what a primitive gives on one operand, and on two
+  pub applied_one : (p : Primitive) (a : Term) (x : Option Word) → x ≡ word_of (answer B E a) → word_of (apply_to p (both (ready_from x) (Some []))) ≡ word_of (apply_to p (answers B E (Cons a Nil)))
   unfolding answer
-  answer_two p a b x y z is e f = is ∙ (ap (λ q. apply_to p (both q (both y (Some [])))) e ∙ ap (λ q. apply_to p (both (answer B E a) (both q (Some [])))) f)
+  applied_one p a x e = ap (λ o. word_of (apply_to p (both (ready_from o) (Some [])))) e ∙ ap (λ o. word_of (apply_to p o)) (both_words (answer B E a) (Some []))
+
+  pub applied_two : (p : Primitive) (a b : Term) (x y : Option Word) → x ≡ word_of (answer B E a) → y ≡ word_of (answer B E b) → word_of (apply_to p (both (ready_from x) (both (ready_from y) (Some [])))) ≡ word_of (apply_to p (answers B E (Cons a (Cons b Nil))))
+  unfolding answer
+  applied_two p a b x y e f =
+      ap (λ o. word_of (apply_to p (both (ready_from o) (both (ready_from y) (Some []))))) e
+      ∙ (ap (λ o. word_of (apply_to p (both (ready_from (word_of (answer B E a))) (both (ready_from o) (Some []))))) f
+      ∙ (ap (λ o. word_of (apply_to p (both (ready_from (word_of (answer B E a))) o))) (both_words (answer B E b) (Some []))
+      ∙ ap (λ o. word_of (apply_to p o)) (both_words (answer B E a) (both (answer B E b) (Some [])))))
 
 pub count_forest : (ts : List declared.Term) → count (shown_terms ts) ≡ length ts
 count_forest [] = refl
 count_forest (t ∷ ts) = ap suc (count_forest ts)
+
+-- a list of one term, and of two
+pub one_item : (ts : List declared.Term) (t : declared.Term) → 1 ≤ length ts → length ts < 2 → t ≡ get_or ts 0 t → ts ≡ t ∷ []
+one_item [] t least most e = absurd (omega (arith, least))
+one_item (u ∷ []) t least most e = ap (λ (x : declared.Term). x ∷ []) (sym e)
+one_item (u ∷ (v ∷ ts)) t least most e = absurd (omega (arith, most))
+
+pub two_items : (ts : List declared.Term) (t u : declared.Term) → 2 ≤ length ts → length ts < 3 → t ≡ get_or ts 0 t → u ≡ get_or ts 1 u → ts ≡ t ∷ u ∷ []
+two_items [] t u least most e f = absurd (omega (arith, least))
+two_items (x ∷ []) t u least most e f = absurd (omega (arith, least))
+two_items (x ∷ (y ∷ [])) t u least most e f = ap (λ (z : declared.Term). z ∷ y ∷ []) (sym e) ∙ ap (λ (z : declared.Term). t ∷ z ∷ []) (sym f)
+two_items (x ∷ (y ∷ (z ∷ ts))) t u least most e f = absurd (omega (arith, most))
 
 -- the first word is put before those of the rest
 pub words_more : (F : List Word) (at n : ℕ) (v : Word) (r : Bool) → at < length F → both (Ready v) (cond r (Some (take n (drop (at + 1) F))) None) ≡ cond r (Some (take (suc n) (drop at (slice_set F at v)))) None
@@ -257,6 +314,3 @@ slots_kept F G n m e = sym (fewer F n m) ∙ (ap (take n) e ∙ fewer G n m)
 
 pub part_few : (n : ℕ) (F : List Word) → length (take n F) ≤ n
 part_few n F = omega (arith, length-take n F)
-
-pub placed_is : {n m : ℕ} (r : Outcome) → n ≡ m → IsPlaced n r → IsPlaced m r
-placed_is {n} {m} r e h = subst (λ k. IsPlaced k r) e h

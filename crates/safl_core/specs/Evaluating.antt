@@ -1,36 +1,16 @@
 -- What partial evaluation finds and keeps.
-use Rattle.std.specs.Prelude.{◌+◌, ◌≡◌, ℕ, ◌≤◌, List, length, take, drop, Option, Some, None, Bool, get_or, map}
+use Rattle.std.specs.Prelude.{◌≡◌, ℕ, ◌≤◌, List, length, Option, Some, None, Bool, get_or, map}
 use Rattle.safl_word.specs.Words.{Word}
-use Rattle.safl_word.specs.declared.primitive.Primitive.{Primitive}
 use Rattle.safl_term.specs.Program.{Program, arity}
-use Rattle.safl_term.specs.Readiness as plain
 use Rattle.safl_term.specs.Readiness.{or_else}
 use Rattle.safl_term.specs.Standing.{Stands, StandsIn}
-use Rattle.safl_term.specs.Terms.{Term, Op, Terms, Nil, Cons}
+use Rattle.safl_term.specs.Terms.{Term, Terms}
 use Rattle.safl_term.specs.WellFormed.{Spans, SpansAll, HasWidth, HaveWidths}
-use Rattle.safl_core.specs.declared.evaluate.Outcome.{Outcome}
-use Rattle.safl_core.specs.declared.evaluate.Outcome.TheVariants.{Ready, Loop, NotYet}
 use Rattle.safl_core.specs.declared.stage.Stage.{Stage}
 use Rattle.safl_core.specs.Stages.{back_at}
 
--- an outcome's answer, where the arguments of a tail call stand in these words
-abbrev pub shown : List Word → Outcome → plain.Answer
-shown env (Ready v) = plain.Ready v
-shown env (Loop h at n) = plain.LoopTo h (take n (drop at env))
-shown env NotYet = plain.NotYet
-
--- a primitive on two operands
-abbrev pub on_two : Primitive → Term → Term → Term
-on_two p a b = Op p (Cons a (Cons b Nil))
-
 abbrev pub widths : List Word → List ℕ
 widths vs = map (λ v. v.width) vs
-
--- the arguments of a tail call stand in so many words, and are few
-abbrev pub IsPlaced : ℕ → Outcome → Type 0
-IsPlaced room (Ready v) = Unit {0}
-IsPlaced room (Loop h at n) = (at + n ≤ room) × (n ≤ 16)
-IsPlaced room NotYet = Unit {0}
 
 -- A part of a body of a well-formed program: its sites are those of the program, its slots hold these words, and each
 -- word that has come back has its callee's width

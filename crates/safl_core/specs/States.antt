@@ -1,14 +1,15 @@
 -- The state that the code keeps, and what an event does to it.
-use Rattle.std.specs.Prelude.{◌≡◌, ℕ, suc, ◌<◌, List, length, slice_set}
+use Rattle.std.specs.Prelude.{◌≡◌, ◌==◌, ℕ, suc, ◌<◌, ◌≤◌, List, Option, None, Some, cond, length, get_or, slice_set}
 use Rattle.safl_word.specs.Words.{Word}
 use Rattle.safl_term.specs.Checked.{CheckedProgram, IsChecked, program_of}
 use Rattle.safl_term.specs.Program.{Program}
+use Rattle.safl_term.specs.Readiness.{NotYet}
 use Rattle.safl_calls.specs.Machine as core
 use Rattle.safl_core.specs.declared.state.State.{State}
 use Rattle.safl_core.specs.Evaluating.{Notes}
 use Rattle.safl_core.specs.Knowing.{IsKnown, BackFits, RunsMember, HasRoom}
 use Rattle.safl_core.specs.Modes.{unit_at, state_of}
-use Rattle.safl_core.specs.Shown.{shown_of, IsKept}
+use Rattle.safl_core.specs.Shown.{shown_of, args_given, serves_of, IsKept}
 use Rattle.safl_core.specs.Stages.{stage_at}
 
 -- the modes and stages
@@ -50,6 +51,18 @@ pub record Steps (C : Program) (s t : State) (later : core.State) : Type 0 where
   pub answers : t.answers.items ≡ s.answers.items
   pub wants : t.wants.items ≡ s.wants.items
   pub sized : IsSized C t
+
+-- the state before and after a unit loops to a member: it runs it for the site that it serves, with the words that its
+-- body comes to
+pub record Restarts (C : Program) (u h : ℕ) (s t : State) : Type 0 where
+  pub args : List Word
+  pub passed : Some args ≡ args_given (get_or s.answers.items u NotYet)
+  pub steps : Steps C s t (ended_with C s u (core.Runs h (serves_of (unit_at s.modes.items u)) args))
+
+-- What was asked for before and after a unit was cleared: no site in the bodies of its members is asked for, and the others
+-- are as before
+abbrev pub Clears : Program → ℕ → List (Option (List Word)) → List (Option (List Word)) → Type 0
+Clears C u before after = (k : ℕ) → 0 < k → k ≤ C.sites → get_or after k None ≡ cond (C.unit (C.caller k) == u) None (get_or before k None)
 
 -- the state before and after a unit's body was evaluated: what it comes to and the words with which it wants its sites
 -- are noted, and the rest is the same

@@ -44,18 +44,14 @@ impl Answer {
         }
     }
 
-    /// The body comes to nothing yet.
-    pub fn wait(&mut self)
-        ensures { self.new ≡ plain.NotYet }
+    /// The body comes to this word, or else to nothing yet.
+    pub fn settle(&mut self, word: Option<Word>)
+        ensures { self.new ≡ plain.ready_from word }
     {
-        self.kind = Kind::NotYet;
-    }
-
-    /// The body comes to this word.
-    pub fn finish(&mut self, word: Word)
-        ensures { self.new ≡ plain.Ready word }
-    {
-        self.kind = Kind::Ready(word);
+        self.kind = match word {
+            Some(word) => Kind::Ready(word),
+            None => Kind::NotYet,
+        };
     }
 
     /// The body comes to a tail call of a member with these words.

@@ -1,172 +1,211 @@
 //! Partial evaluation: what a running body comes to, and which calls it wants.
 
-ghost use Rattle.std.specs.Prelude.{ℕ, ◌≡◌, ◌+◌, ◌≤◌, ◌<◌, List, [], ◌∷◌, length, take, drop, cond, Some, None, IfSome, IsSome};
-ghost use Rattle.safl_term.specs.Readiness.{answer, answers, apply_to, both, wanted, wanted_in, ready_from};
+ghost use Rattle.std.specs.Prelude.{◌≡◌, ◌+◌, ◌<◌, ◌≤◌, [], ◌∷◌, length, take, drop, cond, Some, None, IsSome};
+ghost use Rattle.safl_term.specs.Readiness.{answer, answers, apply_to, both, wanted, wanted_in, ready_from, word_of};
 ghost use Rattle.safl_term.specs.Sizes.{nodes, nodes_in};
+ghost use Rattle.safl_term.specs.Terms.{Op};
 ghost use Rattle.safl_term.specs.Tree.{shown_term, shown_terms};
 ghost use Rattle.safl_word.specs.Primitives.{result_width};
 ghost use Rattle.safl_word.specs.Words.{Word as a_word};
 ghost use Rattle.safl_core.specs.Stages.{back_at};
-ghost use Rattle.safl_core.specs.Evaluating.{shown, on_two, IsPlaced, CanRun, CanRunAll, Unasked, UnaskedIn, Notes};
+ghost use Rattle.safl_core.specs.Evaluating.{CanRun, CanRunAll, Unasked, UnaskedIn, Notes};
 
+use crate::answer::Answer;
 use crate::stage::Stage;
 use crate::want::Want;
 use safl_term::Term;
 use safl_word::{Primitive, Word, apply};
 
-/// What a term comes to: a word, a tail call, or nothing yet.
-#[derive(Clone, Copy)]
-pub enum Outcome {
-    Ready(Word),
-    /// The member, the slot of the first argument, and the number of arguments.
-    Loop(u32, usize, usize),
-    NotYet,
-}
-
-/// What a term comes to where the first `slots` words of `env` are those of its slots. The words with which it
-/// wants its sites are noted in `asks`. The words of `env` from `slots` on are overwritten.
-#[cycle(evaluate)]
+/// Notes in `told` what a term comes to where the first `slots` words of `env` are those of its slots, and in `asks` the
+/// words with which it wants its sites. The words of `env` from `slots` on are overwritten.
 pub fn evaluate(
     stages: &[Stage],
     asks: &mut [Want],
     env: &mut [Word],
     slots: usize,
     t: &Term,
-) -> Outcome
+    told: &mut Answer,
+)
     requires can { CanRun stages.now (length asks.old) (take slots env.old) (shown_term t.now) }
     requires room { slots + nodes (shown_term t.now) ≤ length env.old }
     requires unasked { Unasked asks.old (shown_term t.now) }
-    ensures outcome { shown env.new result ≡ answer (back_at stages.now) (take slots env.old) (shown_term t.now) }
-    ensures placed { IsPlaced (length env.old) result }
+    ensures answer { told.new ≡ answer (back_at stages.now) (take slots env.old) (shown_term t.now) }
     ensures notes { Notes asks.old asks.new (wanted (back_at stages.now) (take slots env.old) (shown_term t.now)) }
-    ensures kept { take slots env.new ≡ take slots env.old }
 {
     match t {
-        Term::Const(word) => Outcome::Ready(*word),
-        Term::Var(slot) => Outcome::Ready(env[*slot as usize]),
-        Term::If(condition, a, b) => {
-            match evaluate(stages, asks, env, slots, condition) {
-                Outcome::Ready(word) => {
-                    if word.bits() == 1 {
-                        evaluate(stages, asks, env, slots, a)
-                    } else {
-                        evaluate(stages, asks, env, slots, b)
-                    }
+        Term::Const(word) => told.settle(Some(*word)),
+        Term::Var(slot) => told.settle(Some(env[*slot as usize])),
+        Term::If(condition, a, b) => match value(stages, asks, env, slots, condition) {
+            Some(word) => {
+                if word.bits() == 1 {
+                    evaluate(stages, asks, env, slots, a, told)
+                } else {
+                    evaluate(stages, asks, env, slots, b, told)
                 }
-                Outcome::Loop(_, _, _) => Outcome::NotYet,
-                Outcome::NotYet => Outcome::NotYet,
             }
-        }
+            None => told.settle(None),
+        },
         Term::Let(_, bound, body) => {
             let bound = bound.as_slice();
-            if evaluate_all(stages, asks, env, slots, slots, bound) {
-                evaluate(stages, asks, env, slots + bound.len(), body)
+            if values(stages, asks, env, slots, slots, bound) {
+                evaluate(stages, asks, env, slots + bound.len(), body, told)
             } else {
-                Outcome::NotYet
+                told.settle(None)
             }
         }
-        Term::Op(p, ts) => {
-            let operands = ts.as_slice();
-            if let Some((a, b)) = pair(operands) {
-                return evaluate_two(stages, asks, env, slots, *p, a, b);
-            }
-            if evaluate_all(stages, asks, env, slots, slots, operands) {
-                Outcome::Ready(apply(*p, part(env, slots, operands.len())))
-            } else {
-                Outcome::NotYet
-            }
-        }
-        Term::Call(_, k, ts) => {
-            let args = ts.as_slice();
-            if evaluate_all(stages, asks, env, slots, slots, args) {
-                asks[*k as usize].ask(part(env, slots, args.len()));
-            }
-            returned(stages, *k)
-        }
+        Term::Op(_, _) => told.settle(value(stages, asks, env, slots, t)),
+        Term::Call(_, _, _) => told.settle(value(stages, asks, env, slots, t)),
         Term::Loop(h, ts) => {
             let passed = ts.as_slice();
-            if evaluate_all(stages, asks, env, slots, slots, passed) {
-                Outcome::Loop(*h, slots, passed.len())
+            if values(stages, asks, env, slots, slots, passed) {
+                told.pass(*h, part(env, slots, passed.len()))
             } else {
-                Outcome::NotYet
+                told.settle(None)
             }
         }
     }
 }
 
-// What a primitive gives on two operands. Most have two, and no word of theirs goes by way of `env`.
-#[cycle(evaluate)]
-fn evaluate_two(
+// The word that a term comes to, if it does. It notes in `asks` what `evaluate` does.
+#[cycle(value)]
+fn value(
+    stages: &[Stage],
+    asks: &mut [Want],
+    env: &mut [Word],
+    slots: usize,
+    t: &Term,
+) -> Option<Word>
+    requires can { CanRun stages.now (length asks.old) (take slots env.old) (shown_term t.now) }
+    requires room { slots + nodes (shown_term t.now) ≤ length env.old }
+    requires unasked { Unasked asks.old (shown_term t.now) }
+    ensures word { result ≡ word_of (answer (back_at stages.now) (take slots env.old) (shown_term t.now)) }
+    ensures notes { Notes asks.old asks.new (wanted (back_at stages.now) (take slots env.old) (shown_term t.now)) }
+    ensures kept { take slots env.new ≡ take slots env.old }
+{
+    match t {
+        Term::Const(word) => Some(*word),
+        Term::Var(slot) => Some(env[*slot as usize]),
+        Term::If(condition, a, b) => match value(stages, asks, env, slots, condition) {
+            Some(word) => {
+                if word.bits() == 1 {
+                    operand(stages, asks, env, slots, a)
+                } else {
+                    operand(stages, asks, env, slots, b)
+                }
+            }
+            None => None,
+        },
+        Term::Let(_, bound, body) => {
+            let bound = bound.as_slice();
+            if values(stages, asks, env, slots, slots, bound) {
+                value(stages, asks, env, slots + bound.len(), body)
+            } else {
+                None
+            }
+        }
+        Term::Op(p, ts) => {
+            let operands = ts.as_slice();
+            applied(stages, asks, env, slots, *p, operands)
+        }
+        Term::Call(_, k, ts) => {
+            let args = ts.as_slice();
+            if values(stages, asks, env, slots, slots, args) {
+                asks[*k as usize].ask(part(env, slots, args.len()));
+            }
+            returned(stages, *k)
+        }
+        Term::Loop(_, ts) => {
+            let passed = ts.as_slice();
+            values(stages, asks, env, slots, slots, passed);
+            None
+        }
+    }
+}
+
+// The same as `value`, where constants and slots need no call.
+#[cycle(value)]
+fn operand(
+    stages: &[Stage],
+    asks: &mut [Want],
+    env: &mut [Word],
+    slots: usize,
+    t: &Term,
+) -> Option<Word>
+    requires can { CanRun stages.now (length asks.old) (take slots env.old) (shown_term t.now) }
+    requires room { slots + nodes (shown_term t.now) ≤ length env.old }
+    requires unasked { Unasked asks.old (shown_term t.now) }
+    ensures word { result ≡ word_of (answer (back_at stages.now) (take slots env.old) (shown_term t.now)) }
+    ensures notes { Notes asks.old asks.new (wanted (back_at stages.now) (take slots env.old) (shown_term t.now)) }
+    ensures kept { take slots env.new ≡ take slots env.old }
+{
+    match t {
+        Term::Const(word) => Some(*word),
+        Term::Var(slot) => Some(env[*slot as usize]),
+        _ => value(stages, asks, env, slots, t),
+    }
+}
+
+// What a primitive gives on its operands, where they are ready. No word of theirs goes by way of `env`.
+#[cycle(value)]
+fn applied(
     stages: &[Stage],
     asks: &mut [Want],
     env: &mut [Word],
     slots: usize,
     p: Primitive,
-    a: &Term,
-    b: &Term,
-) -> Outcome
-    requires can { CanRun stages.now (length asks.old) (take slots env.old) (on_two p (shown_term a.now) (shown_term b.now)) }
-    requires room { slots + nodes (shown_term a.now) + nodes (shown_term b.now) ≤ length env.old }
-    requires unasked { Unasked asks.old (on_two p (shown_term a.now) (shown_term b.now)) }
-    ensures outcome { shown env.new result ≡ answer (back_at stages.now) (take slots env.old) (on_two p (shown_term a.now) (shown_term b.now)) }
-    ensures placed { IsPlaced (length env.old) result }
-    ensures notes { Notes asks.old asks.new (wanted (back_at stages.now) (take slots env.old) (on_two p (shown_term a.now) (shown_term b.now))) }
+    ts: &[Term],
+) -> Option<Word>
+    requires can { CanRun stages.now (length asks.old) (take slots env.old) (Op p (shown_terms ts.now)) }
+    requires room { slots + nodes_in (shown_terms ts.now) ≤ length env.old }
+    requires unasked { UnaskedIn asks.old (shown_terms ts.now) }
+    ensures word { result ≡ word_of (apply_to p (answers (back_at stages.now) (take slots env.old) (shown_terms ts.now))) }
+    ensures notes { Notes asks.old asks.new (wanted_in (back_at stages.now) (take slots env.old) (shown_terms ts.now)) }
     ensures kept { take slots env.new ≡ take slots env.old }
 {
-    let first = operand(stages, asks, env, slots, a);
-    let second = operand(stages, asks, env, slots, b);
-    operated(p, first, second)
-}
-
-// The same as `evaluate`, which constants and slots need not.
-#[cycle(evaluate)]
-fn operand(stages: &[Stage], asks: &mut [Want], env: &mut [Word], slots: usize, t: &Term) -> Outcome
-    requires can { CanRun stages.now (length asks.old) (take slots env.old) (shown_term t.now) }
-    requires room { slots + nodes (shown_term t.now) ≤ length env.old }
-    requires unasked { Unasked asks.old (shown_term t.now) }
-    ensures outcome { shown env.new result ≡ answer (back_at stages.now) (take slots env.old) (shown_term t.now) }
-    ensures placed { IsPlaced (length env.old) result }
-    ensures notes { Notes asks.old asks.new (wanted (back_at stages.now) (take slots env.old) (shown_term t.now)) }
-    ensures kept { take slots env.new ≡ take slots env.old }
-{
-    match t {
-        Term::Const(word) => Outcome::Ready(*word),
-        Term::Var(slot) => Outcome::Ready(env[*slot as usize]),
-        _ => evaluate(stages, asks, env, slots, t),
+    match ts {
+        [] => unreachable!(),
+        [only] => {
+            let first = operand(stages, asks, env, slots, only);
+            on_one(p, first)
+        }
+        [a, b] => {
+            let first = operand(stages, asks, env, slots, a);
+            let second = operand(stages, asks, env, slots, b);
+            on_two(p, first, second)
+        }
+        [_, _, _, ..] => unreachable!(),
     }
 }
 
-// Two terms, where there are two.
-fn pair(ts: &[Term]) -> Option<(&Term, &Term)>
-    ensures { IfSome result (λ p. ts.now ≡ p.0.now ∷ p.1.now ∷ []) }
+// What a primitive gives where its operand is ready.
+fn on_one(p: Primitive, first: Option<Word>) -> Option<Word>
+    requires { (v : a_word) → first ≡ Some v → IsSome (result_width p (v.width ∷ [])) }
+    ensures { result ≡ word_of (apply_to p (both (ready_from first) (Some []))) }
 {
-    match ts {
-        [a, b] => Some((a, b)),
-        _ => None,
+    match first {
+        Some(v) => Some(apply(p, &[v])),
+        None => None,
     }
 }
 
 // What a primitive gives where both operands are ready.
-fn operated(p: Primitive, first: Outcome, second: Outcome) -> Outcome
-    requires { (v w : a_word) → first ≡ Outcome.Ready v → second ≡ Outcome.Ready w → IsSome (result_width p (v.width ∷ w.width ∷ [])) }
-    ensures shows { (d e f : List Word) → shown d result ≡ apply_to p (both (shown e first) (both (shown f second) (Some []))) }
-    ensures placed { (room : ℕ) → IsPlaced room result }
+fn on_two(p: Primitive, first: Option<Word>, second: Option<Word>) -> Option<Word>
+    requires { (v w : a_word) → first ≡ Some v → second ≡ Some w → IsSome (result_width p (v.width ∷ w.width ∷ [])) }
+    ensures { result ≡ word_of (apply_to p (both (ready_from first) (both (ready_from second) (Some [])))) }
 {
     match first {
-        Outcome::Ready(v) => match second {
-            Outcome::Ready(w) => Outcome::Ready(apply(p, &[v, w])),
-            Outcome::Loop(_, _, _) => Outcome::NotYet,
-            Outcome::NotYet => Outcome::NotYet,
+        Some(v) => match second {
+            Some(w) => Some(apply(p, &[v, w])),
+            None => None,
         },
-        Outcome::Loop(_, _, _) => Outcome::NotYet,
-        Outcome::NotYet => Outcome::NotYet,
+        None => None,
     }
 }
 
 // Puts what each term comes to into `env` from place `at` on, where all of them are ready. A term may overwrite what
 // stands from `slots` on, so each word is put there after those that follow it.
-#[cycle(evaluate)]
-fn evaluate_all(
+#[cycle(value)]
+fn values(
     stages: &[Stage],
     asks: &mut [Want],
     env: &mut [Word],
@@ -186,20 +225,19 @@ fn evaluate_all(
     let Some((first, rest)) = ts.split_first() else {
         return true;
     };
-    let outcome = operand(stages, asks, env, slots, first);
-    let ready = evaluate_all(stages, asks, env, slots, at + 1, rest);
-    match outcome {
-        Outcome::Ready(word) => {
+    let word = operand(stages, asks, env, slots, first);
+    let ready = values(stages, asks, env, slots, at + 1, rest);
+    match word {
+        Some(word) => {
             env[at] = word;
             ready
         }
-        Outcome::Loop(_, _, _) => false,
-        Outcome::NotYet => false,
+        None => false,
     }
 }
 
-/// So many words from a place on.
-pub fn part(env: &[Word], at: usize, count: usize) -> &[Word]
+// So many words from a place on.
+fn part(env: &[Word], at: usize, count: usize) -> &[Word]
     requires { at + count ≤ length env.now }
     ensures { result.now ≡ take count (drop at env.now) }
 {
@@ -207,15 +245,14 @@ pub fn part(env: &[Word], at: usize, count: usize) -> &[Word]
 }
 
 // The word of a site, where it has returned.
-fn returned(stages: &[Stage], k: u32) -> Outcome
+fn returned(stages: &[Stage], k: u32) -> Option<Word>
     requires least { 1 ≤ k }
     requires within { k < length stages.now }
-    ensures shows { (env : List Word) → shown env result ≡ ready_from (back_at stages.now k) }
-    ensures placed { (room : ℕ) → IsPlaced room result }
+    ensures { result ≡ back_at stages.now k }
 {
     match stages[k as usize] {
-        Stage::Unsent => Outcome::NotYet,
-        Stage::Sent => Outcome::NotYet,
-        Stage::Returned(word) => Outcome::Ready(word),
+        Stage::Unsent => None,
+        Stage::Sent => None,
+        Stage::Returned(word) => Some(word),
     }
 }

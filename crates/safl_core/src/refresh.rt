@@ -1,6 +1,6 @@
 //! What is kept of partial evaluation, found anew for a unit.
 
-ghost use Rattle.std.specs.Prelude.{◌≡◌, ℕ, suc, ◌+◌, ◌<◌, ◌≤◌, ◌==◌, List, length, cond, None, IfSome, IfNone, get_or};
+ghost use Rattle.std.specs.Prelude.{◌≡◌, ℕ, suc, ◌+◌, ◌<◌, ◌≤◌, List, length, None, IfSome, IfNone, get_or};
 ghost use Rattle.safl_term.specs.Checked.{program_of};
 ghost use Rattle.safl_term.specs.Readiness.{answer, wanted};
 ghost use Rattle.safl_term.specs.Sizes.{nodes};
@@ -9,11 +9,11 @@ ghost use Rattle.safl_calls.specs.Machine as core;
 ghost use Rattle.safl_core.specs.Evaluating.{CanRun, Unasked, Notes};
 ghost use Rattle.safl_core.specs.Modes.{unit_at};
 ghost use Rattle.safl_core.specs.Stages.{back_at};
-ghost use Rattle.safl_core.specs.States.{CanRefresh, Refreshes, Evaluates};
+ghost use Rattle.safl_core.specs.States.{CanRefresh, Clears, Refreshes, Evaluates};
 
 use crate::answer::Answer;
 use crate::args::Args;
-use crate::evaluate::{Outcome, evaluate, part};
+use crate::evaluate::evaluate;
 use crate::mode::Mode;
 use crate::spans::own_sites;
 use crate::stage::Stage;
@@ -26,7 +26,7 @@ use safl_word::Word;
 pub fn clear(c: &Checked, asks: &mut [Want], u: u32)
     requires unit { u < (program_of c.now).functions }
     requires sized { length asks.old ≡ suc (program_of c.now).sites }
-    ensures { (k : ℕ) → 0 < k → k ≤ (program_of c.now).sites → get_or asks.new k None ≡ cond ((program_of c.now).unit ((program_of c.now).caller k) == u) None (get_or asks.old k None) }
+    ensures { Clears (program_of c.now) u asks.old asks.new }
 {
     let own = own_sites(c, u);
     for k in own.first..own.end {
@@ -52,11 +52,7 @@ pub fn run(
     let words = args.words();
     let slots = words.len();
     env[..slots].copy_from_slice(words);
-    match evaluate(stages, asks, env, slots, body) {
-        Outcome::Ready(word) => told.finish(word),
-        Outcome::Loop(h, at, count) => told.pass(h, part(env, at, count)),
-        Outcome::NotYet => told.wait(),
-    }
+    evaluate(stages, asks, env, slots, body, told);
 }
 
 /// Finds anew what a unit's body comes to, and with which words it wants its sites. What is kept for the other
@@ -84,7 +80,7 @@ fn evaluated(c: &Checked, state: &mut State, u: u32)
             args,
             &mut state.answers[u as usize],
         ),
-        None => state.answers[u as usize].wait(),
+        None => state.answers[u as usize].settle(None),
     }
 }
 

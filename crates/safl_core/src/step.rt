@@ -6,9 +6,9 @@ ghost use Rattle.safl_term.specs.Readiness as plain;
 ghost use Rattle.safl_word.specs.Words.{Word as a_word};
 ghost use Rattle.safl_calls.specs.Machine as core;
 ghost use Rattle.safl_core.specs.Modes.{mode_of, unit_at};
-ghost use Rattle.safl_core.specs.Shown.{args_given, serves_of};
+ghost use Rattle.safl_core.specs.Shown.{args_given};
 ghost use Rattle.safl_core.specs.Stages.{stage_at};
-ghost use Rattle.safl_core.specs.States.{IsSized, Steps, calls_of, ended_with};
+ghost use Rattle.safl_core.specs.States.{IsSized, Restarts, Steps, calls_of, ended_with};
 
 use crate::args::Args;
 use crate::mode::Mode;
@@ -45,7 +45,7 @@ pub fn restart(c: &Checked, state: &mut State, u: u32, h: u32)
     requires sized { IsSized (program_of c.now) state.old }
     requires runs { (f : ℕ) × (k : ℕ) × (ws : List a_word) × (unit_at state.old.modes.items u ≡ core.Runs f k ws) }
     requires passes { IsSome (args_given (get_or state.old.answers.items u plain.NotYet)) }
-    ensures { (vs : List a_word) × (Some vs ≡ args_given (get_or state.old.answers.items u plain.NotYet)) × Steps (program_of c.now) state.old state.new (ended_with (program_of c.now) state.old u (core.Runs h (serves_of (unit_at state.old.modes.items u)) vs)) }
+    ensures { Restarts (program_of c.now) u h state.old state.new }
 {
     let Some(args) = state.answers[u as usize].passed() else {
         unreachable!()

@@ -21,8 +21,8 @@ refresh-requires c =
     let s = calls_of c.args.state.now in
     let h = c.requires.kept.1 in
     let can = c.requires.can in
-    let is = loop_is h c.args.h can.0 can.1 c.unit-unit.result _ c.restart.ensures.0 c.unit-unit.ensures.number refl c.restart.ensures.1 in
-    can_refresh c.args.c.now c.args.opening.now c.requires.kept.0 c.args.state.now _ h (LoopInto c.args.h) can _ c.restart.ensures.2 is c.unit-unit.result (search rules)
+    let is = loop_is h c.args.h can.0 can.1 c.unit-unit.result _ c.restart.ensures.args c.unit-unit.ensures.number refl c.restart.ensures.passed in
+    can_refresh c.args.c.now c.args.opening.now c.requires.kept.0 c.args.state.now _ h (LoopInto c.args.h) can _ c.restart.ensures.steps is c.unit-unit.result (search rules)
 
 pub returns : goal.returns
 returns c =
@@ -30,6 +30,6 @@ returns c =
     let s = calls_of c.args.state.now in
     let h = c.requires.kept.1 in
     let can = c.requires.can in
-    let is = loop_is h c.args.h can.0 can.1 c.unit-unit.result _ c.restart.ensures.0 c.unit-unit.ensures.number refl c.restart.ensures.1 in
-    leads c.args.c.now c.args.opening.now (LoopInto c.args.h) c.args.state.now _ _ _ _ c.restart.ensures.2 c.refresh.ensures is (λ v ne.
+    let is = loop_is h c.args.h can.0 can.1 c.unit-unit.result _ c.restart.ensures.args c.unit-unit.ensures.number refl c.restart.ensures.passed in
+    leads c.args.c.now c.args.opening.now (LoopInto c.args.h) c.args.state.now _ _ _ _ c.restart.ensures.steps c.refresh.ensures is (λ v ne.
     after_end C c.args.opening.now (good h) s (inv h) c.args.state.now.answers.items c.args.state.now.wants.items h.known c.unit-unit.result _ v ne)

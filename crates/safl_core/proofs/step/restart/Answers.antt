@@ -25,13 +25,14 @@ returns c =
     let mode = c.enter.ensures ∙ (ap (λ (m : Mode). core.Runs c.args.h (serves_of (mode_of m)) c.words.result.now) entered ∙ ap (core.Runs c.args.h (serves_of (unit_at s.modes.items u))) c.words.ensures.words) in
     let units = unit_put s.modes.items u c.enter.new.self unit ∙ ap (core.put (unit_at s.modes.items) u) mode in
     let written = refilled s.stages c.end_sites.new.stages c.deref_mut.result.now c.end_sites.auto.stages c.deref_mut.ensures.value in
-    let sites = ap (λ (x : List Stage). stage_at x) written ∙ fun_ext (λ k. c.end_sites.ensures k ∙ ap (λ (x : List Stage). core.ended C u (stage_at x) k) c.deref_mut.ensures.value) in (
-      c.in-Some.args.now,
-      c.in-Some.ensures.some ∙ ap args_given read,
-      record {
+    let sites = ap (λ (x : List Stage). stage_at x) written ∙ fun_ext (λ k. c.end_sites.ensures k ∙ ap (λ (x : List Stage). core.ended C u (stage_at x) k) c.deref_mut.ensures.value) in
+    record {
+      args = c.in-Some.args.now;
+      passed = c.in-Some.ensures.some ∙ ap args_given read;
+      steps = record {
         next = state_is _ _ _ _ units sites;
         answers = refl;
         wants = refl;
         sized = search rules;
-      },
-    )
+      };
+    }
