@@ -1,5 +1,5 @@
 -- The actions of cells.
-use Rattle.std.proofs.Common.{◌≡◌, ℕ, zero, suc, ◌+◌, ◌-◌, ◌*◌, ◌<◌, ◌≤◌, Bool, true, false, bit_and, bit_or, bit_xor, List, [], ◌∷◌, length, get_or, ◌^◌, Some, None, is_some, slice_get, slice_index, refl, sym, ap, subst, ◌∙◌, arith}
+use Rattle.std.proofs.Common.{◌≡◌, ◌⊎◌, inl, inr, ℕ, zero, suc, ◌+◌, ◌-◌, ◌*◌, ◌<◌, ◌≤◌, Bool, true, false, bit_and, bit_or, bit_xor, List, [], ◌∷◌, length, get_or, ◌^◌, Some, None, is_some, slice_get, slice_index, refl, sym, ap, subst, ◌∙◌, arith}
 use lib.Bits.{xor_add_and}
 use Rattle.std.proofs.Math.Nat.{mod-eq_of_lt}
 use Rattle.std.proofs.lemmas.Nat.{and_comm, and_mask}
@@ -266,7 +266,7 @@ bits_or (suc (suc a)) b h k = absurd (omega (arith, h))
 bits_or zero (suc (suc b)) h k = absurd (omega (arith, k))
 bits_or (suc zero) (suc (suc b)) h k = absurd (omega (arith, k))
 
-pub performs_and : (n : Netlist) (x y : Sig) (w : ℕ) → CellFits n w (cell_on (op.Apply And) (x ∷ (y ∷ []))) → width_of n x.0 ≡ 1 → Performs n (cell_on (op.Apply And) (x ∷ (y ∷ []))) (Choose x.0 y.0 x.0 0)
+performs_and : (n : Netlist) (x y : Sig) (w : ℕ) → CellFits n w (cell_on (op.Apply And) (x ∷ (y ∷ []))) → width_of n x.0 ≡ 1 → Performs n (cell_on (op.Apply And) (x ∷ (y ∷ []))) (Choose x.0 y.0 x.0 0)
 performs_and n x y w f one =
     let a : x.0 < length n.signals = f.known 0 0 (omega arith) in
     let b : y.0 < length n.signals = f.known 1 0 (omega arith) in
@@ -276,6 +276,25 @@ performs_and n x y w f one =
       ready = λ values l fits. (omega (arith, a, l), omega (arith, b, l), omega (arith, a, l));
       low = λ values s fits h narrow. (low_number n values x.0 fits a (narrow.operands 0 x.0 refl), low_number n values y.0 fits b (narrow.operands 1 y.0 refl), low_number n values x.0 fits a (narrow.operands 0 x.0 refl));
     }
+
+-- by either of them
+performs_turned : (n : Netlist) (x y : Sig) (w : ℕ) → CellFits n w (cell_on (op.Apply And) (x ∷ (y ∷ []))) → width_of n x.0 ≡ 1 → Performs n (cell_on (op.Apply And) (x ∷ (y ∷ []))) (Choose y.0 x.0 y.0 0)
+performs_turned n x y w f one =
+    let a : x.0 < length n.signals = f.known 0 0 (omega arith) in
+    let b : y.0 < length n.signals = f.known 1 0 (omega arith) in
+    let other : width_of n y.0 ≡ 1 = sym (equal_and (width_of n x.0) (width_of n y.0) w f.gives) ∙ one in
+    record {
+      gives = λ g fits. bits_and (g y.0) (g x.0) (one_bit n g y.0 fits b other) (one_bit n g x.0 fits a one) ∙ and_comm (g y.0) (g x.0);
+      ready = λ values l fits. (omega (arith, b, l), omega (arith, a, l), omega (arith, b, l));
+      low = λ values s fits h narrow. (low_number n values y.0 fits b (narrow.operands 1 y.0 refl), low_number n values x.0 fits a (narrow.operands 0 x.0 refl), low_number n values y.0 fits b (narrow.operands 1 y.0 refl));
+    }
+
+pub performs_both : (n : Netlist) (x y : Sig) (w : ℕ) (action : Action) → CellFits n w (cell_on (op.Apply And) (x ∷ (y ∷ []))) → width_of n x.0 ≡ 1 → (action ≡ Choose x.0 y.0 x.0 0) ⊎ (action ≡ Choose y.0 x.0 y.0 0)
+    → Performs n (cell_on (op.Apply And) (x ∷ (y ∷ []))) action
+performs_both n x y w action f one h = elim h [
+  | inl e ↦ subst (λ a. Performs n (cell_on (op.Apply And) (x ∷ (y ∷ []))) a) (sym e) (performs_and n x y w f one)
+  | inr e ↦ subst (λ a. Performs n (cell_on (op.Apply And) (x ∷ (y ∷ []))) a) (sym e) (performs_turned n x y w f one)
+]
 
 pub performs_or : (n : Netlist) (x y : Sig) (w : ℕ) → CellFits n w (cell_on (op.Apply Or) (x ∷ (y ∷ []))) → width_of n x.0 ≡ 1 → Performs n (cell_on (op.Apply Or) (x ∷ (y ∷ []))) (Choose x.0 x.0 y.0 0)
 performs_or n x y w f one =

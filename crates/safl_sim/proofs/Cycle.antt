@@ -17,8 +17,8 @@ use Rattle.safl_sim.specs.declared.step.Register.{Register}
 use Rattle.safl_sim.specs.Places.{inputs_of, AreInputs, HasWords}
 use Rattle.safl_sim.specs.Simulation.{Simulation, Ticks}
 use Rattle.safl_sim.specs.Marks.{marked, first_register}
-use Rattle.safl_sim.specs.Readers.{Lists, Kept, Shown, Goes}
-use Rattle.safl_sim.specs.Steps.{IsReg, AreRegisters, Waits, Keeps, Runs}
+use Rattle.safl_sim.specs.Readers.{Lists, Kept, Shown}
+use Rattle.safl_sim.specs.Steps.{IsReg, AreRegisters, Waits, Keeps, Runs, Goes}
 use Rattle.safl_sim.specs.declared.plan.Plan.{Plan}
 use Rattle.safl_sim.specs.Cycles.{KeepsPlan, Cycles}
 use Rattle.safl_sim.specs.Writes.{HasPut, HasShown, HasKept, KeepsOn}
@@ -135,6 +135,13 @@ module _ (o : Order) (steps : List Step) (places : List Sig) (regs : List Regist
   pub put_lists : Lists starts readers (length v0) (length marks)
   put_lists = lists_same starts readers _ _ _ _ k.long refl k.lists
 
+  -- the words of the inputs fit
+  pub inputs_fit : (v1 : List ℕ) → HasPut places given (length places) v0 v1 → (i : ℕ) (s : Sig) (w : Word) (g : Signal) → slice_get places i ≡ Some s → slice_get given i ≡ Some w → slice_get o.net.signals s.0 ≡ Some g → w.bits < 2 ^ g.width
+  inputs_fit v1 p i s w g e f at =
+      let word = p.words i w (within places i s e) f in
+      let here : slice_get (inputs_of o.net) i ≡ Some s.0 = ap (λ l. slice_get l i) (sym k.inputs) ∙ get_map (λ (x : Sig). x.0) places i s e in
+      small w.bits w.bits w.width g.width refl (input_width o.net places given i s.0 w are here f ∙ ap width_in at) word.fits
+
   -- the registers that wait still do once the inputs are put
   pub waits_put : (v1 : List ℕ) → HasPut places given (length places) v0 v1 → Waits regs now v1 waiting
   waits_put v1 p = record {
@@ -145,20 +152,23 @@ module _ (o : Order) (steps : List Step) (places : List Sig) (regs : List Regist
   }
 
   pub begins : (v1 v2 m1 m2 : List ℕ) → HasPut places given (length places) v0 v1 → HasShown regs now (length regs) v1 v2 → length m1 ≡ length marks → length m2 ≡ length m1
-      → Goes o.net o.wires regs now starts readers v0 v1 marks m1 → Goes o.net o.wires regs now starts readers v1 v2 m1 m2 → Runs o steps regs now starts readers v2 0 v2 m2
-  begins v1 v2 m1 m2 p q l1 l2 g1 g2 = record {
-    made = k.made;
-    order = k.order;
-    steps = k.steps;
-    lists = lists_same starts readers _ _ _ _ refl (l2 ∙ l1) k.lists;
-    read = k.read;
-    room = (let a = k.room in omega (arith, a, l1, l2));
-    long = long_shown v1 v2 p q;
-    fits = fits_shown v1 v2 p q;
-    others = λ s away. refl;
-    below = λ j h. absurd (omega (arith, h));
-    holding = g2 k.read (g1 k.read k.holding);
-  }
+      → Goes o.net o.wires steps regs now starts readers v0 v1 marks m1 → Goes o.net o.wires steps regs now starts readers v1 v2 m1 m2 → Runs o steps regs now starts readers v2 0 v2 m2
+  begins v1 v2 m1 m2 p q l1 l2 g1 g2 =
+      let put = g1 k.read k.steps k.state k.values k.holding in
+      let shown = g2 k.read k.steps k.state put.0 put.1 in
+      record {
+        made = k.made;
+        order = k.order;
+        steps = k.steps;
+        lists = lists_same starts readers _ _ _ _ refl (l2 ∙ l1) k.lists;
+        read = k.read;
+        room = (let a = k.room in omega (arith, a, l1, l2));
+        long = long_shown v1 v2 p q;
+        fits = shown.0;
+        others = λ s away. refl;
+        below = λ j h. absurd (omega (arith, h));
+        holding = shown.1;
+      }
 
   -- none is kept yet
   pub keeps_start : (v2 v3 m3 w2 : List ℕ) (first : ℕ) → first ≡ first_register (length steps) → Runs o steps regs now starts readers v2 (first_register (length steps)) v3 m3 → ((j : ℕ) → marked w2 j ≡ 0)
@@ -323,12 +333,13 @@ plan_through o steps steps' places places' regs regs' starts starts' readers rea
     (subst (λ x. Keeps o steps places regs x readers' marks waiting now v) (sym s)
     (subst (λ x. Keeps o steps places regs starts x marks waiting now v) (sym r) k))))
 
-pub goes_through : (n : Netlist) (ws : List ℕ) (regs regs' : List Register) (now starts starts' readers readers' v1 v2 m1 m2 : List ℕ) → regs' ≡ regs → starts' ≡ starts → readers' ≡ readers
-    → Goes n ws regs now starts readers v1 v2 m1 m2 → Goes n ws regs' now starts' readers' v1 v2 m1 m2
-goes_through n ws regs regs' now starts starts' readers readers' v1 v2 m1 m2 c s r g =
-    subst (λ x. Goes n ws x now starts' readers' v1 v2 m1 m2) (sym c)
-    (subst (λ x. Goes n ws regs now x readers' v1 v2 m1 m2) (sym s)
-    (subst (λ x. Goes n ws regs now starts x v1 v2 m1 m2) (sym r) g))
+pub goes_through : (n : Netlist) (ws : List ℕ) (steps steps' : List Step) (regs regs' : List Register) (now starts starts' readers readers' v1 v2 m1 m2 : List ℕ) → steps' ≡ steps → regs' ≡ regs → starts' ≡ starts → readers' ≡ readers
+    → Goes n ws steps regs now starts readers v1 v2 m1 m2 → Goes n ws steps' regs' now starts' readers' v1 v2 m1 m2
+goes_through n ws steps steps' regs regs' now starts starts' readers readers' v1 v2 m1 m2 a c s r g =
+    subst (λ x. Goes n ws x regs' now starts' readers' v1 v2 m1 m2) (sym a)
+    (subst (λ x. Goes n ws steps x now starts' readers' v1 v2 m1 m2) (sym c)
+    (subst (λ x. Goes n ws steps regs now x readers' v1 v2 m1 m2) (sym s)
+    (subst (λ x. Goes n ws steps regs now starts x v1 v2 m1 m2) (sym r) g)))
 
 pub keeps_same : (o : Order) (steps : List Step) (places : List Sig) (regs : List Register) (starts readers marks marks' waiting waiting' now now' v v' : List ℕ) → marks' ≡ marks → waiting' ≡ waiting → now' ≡ now → v' ≡ v
     → Keeps o steps places regs starts readers marks waiting now v → Keeps o steps places regs starts readers marks' waiting' now' v'

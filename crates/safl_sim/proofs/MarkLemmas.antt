@@ -1,5 +1,5 @@
 -- One mark more, or one less.
-use Rattle.std.proofs.Common.{◌≡◌, inl, inr, ℕ, zero, suc, max, ◌+◌, ◌*◌, ◌/◌, ◌%◌, ◌^◌, ◌<◌, ◌≤◌, List, length, set, Some, slice_get, slice_index, refl, sym, ap, ◌∙◌, arith}
+use Rattle.std.proofs.Common.{◌≡◌, inl, inr, ℕ, zero, suc, max, ◌+◌, ◌*◌, ◌/◌, ◌%◌, ◌^◌, ◌<◌, ◌≤◌, List, length, set, Some, slice_get, slice_index, refl, sym, ap, subst, ◌∙◌, arith}
 use Rattle.std.specs.Int.{w64, bit_at, bit_not, trailing_zeros}
 use Rattle.std.specs.Int.RustNames.{bit_or}
 use lib.Bits.{bit_and}
@@ -7,7 +7,8 @@ use Rattle.std.proofs.Math.Nat.{zero-max}
 use Rattle.std.proofs.lemmas.Nat.Bits.{bit_at-zero, bit_at_or, bit_at-trailing_zeros, bit_at_set_same, bit_at_set_other, bit_at_clear_same, bit_at_clear_other}
 use Rattle.safl_sim.specs.Marks.{marked, HasMark, HasNone, NoneBetween, HasTaken, HasRange}
 use Rattle.safl_sim.proofs.Written.{same_or_not, lower_or_not, lower_or_same, index_here, index_other, set_length}
-use Rattle.safl_sim.specs.Readers.{HasMarked}
+use Rattle.safl_sim.specs.declared.step.Step.{Step}
+use Rattle.safl_sim.specs.Readers.{Blind, HasMarked}
 
 -- the mark of a step in a word that is written
 pub written_same : (old : List ℕ) (w x k : ℕ) → w < length old → k / 64 ≡ w → marked (set old w x) k ≡ bit_at x (k % 64)
@@ -53,8 +54,8 @@ take_has old w left h is some fits =
       ];
     }
 
-pub marked_none : (readers : List ℕ) (from : ℕ) (marks : List ℕ) → HasMarked readers from from marks marks
-marked_none readers from marks = record {
+pub marked_none : (steps : List Step) (readers : List ℕ) (from p : ℕ) (values marks : List ℕ) → HasMarked steps readers from from p values marks marks
+marked_none steps readers from p values marks = record {
   long = refl;
   grows = λ k e. e;
   all = λ j k f t e. absurd (omega (arith, f, t));
@@ -62,18 +63,31 @@ marked_none readers from marks = record {
 }
 
 -- one reader more is marked
-pub marked_step : (readers : List ℕ) (from j r : ℕ) (old marks new : List ℕ) → from ≤ j → HasMarked readers from j old marks → slice_get readers j ≡ Some r → HasMark marks new r → HasMarked readers from (j + 1) old new
-marked_step readers from j r old marks new le w e m = record {
+pub marked_step : (steps : List Step) (readers : List ℕ) (from j r p : ℕ) (values old marks new : List ℕ) → from ≤ j → HasMarked steps readers from j p values old marks → slice_get readers j ≡ Some r → HasMark marks new r
+    → HasMarked steps readers from (j + 1) p values old new
+marked_step steps readers from j r p values old marks new le w e m = record {
   long = m.long ∙ w.long;
-  grows = λ k h. elim (same_or_not k r) [ inl q ↦ ap (marked new) q ∙ m.here | inr q ↦ m.others k q ∙ w.grows k h ];
-  all = λ i k f t h. elim (same_or_not k r) [
-    | inl q ↦ ap (marked new) q ∙ m.here
-    | inr q ↦ m.others k q ∙ (elim (lower_or_same i j t) [
-      | inl l ↦ w.all i k f l h
-      | inr s ↦ absurd (q (let z : Some k ≡ Some r = sym h ∙ ap (slice_get readers) s ∙ e in cc))
-    ])
+  grows = λ k h. on k (w.grows k h);
+  all = λ i k f t h. elim (lower_or_same i j t) [
+    | inl l ↦ elim (w.all i k f l h) [ inl z ↦ inl (on k z) | inr u ↦ inr u ]
+    | inr s ↦ inl (let z : Some k ≡ Some r = sym h ∙ ap (slice_get readers) s ∙ e in let q : k ≡ r = cc in ap (marked new) q ∙ m.here)
   ];
   others = λ k n. m.others k (λ q. n j le (omega arith) (e ∙ ap Some (sym q))) ∙ w.others k (λ i f t. n i f (omega (arith, t)));
+}
+  where
+    on : (k : ℕ) → marked marks k ≡ 1 → marked new k ≡ 1
+    on k h = elim (same_or_not k r) [ inl q ↦ ap (marked new) q ∙ m.here | inr q ↦ m.others k q ∙ h ]
+
+-- or blind
+pub blind_step : (steps : List Step) (readers : List ℕ) (from j r p : ℕ) (values old marks : List ℕ) → HasMarked steps readers from j p values old marks → slice_get readers j ≡ Some r → Blind steps values p r → HasMarked steps readers from (j + 1) p values old marks
+blind_step steps readers from j r p values old marks w e blind = record {
+  long = w.long;
+  grows = w.grows;
+  all = λ i k f t h. elim (lower_or_same i j t) [
+    | inl l ↦ w.all i k f l h
+    | inr s ↦ inr (let z : Some k ≡ Some r = sym h ∙ ap (slice_get readers) s ∙ e in let q : r ≡ k = cc in subst (λ y. Blind steps values p y) q blind)
+  ];
+  others = λ k n. w.others k (λ i f t. n i f (omega (arith, t)));
 }
 
 pub range_none : (from : ℕ) (marks : List ℕ) → HasRange from from marks marks

@@ -14,7 +14,7 @@ use Rattle.safl_sim.specs.Steps.{action_number, Ready, LowStep, IsStep, Runs}
 use Rattle.safl_sim.specs.Writes.{after_steps, AllReady}
 use Rattle.safl_sim.proofs.Written.{same_or_not, lower_or_not, index_here, index_other, set_length, get_at}
 use Rattle.safl_sim.proofs.Scenes.{wire_at, cell_number_fits, apart, small, step_low, all_steps}
-use Rattle.safl_sim.proofs.Updates.{was_none, operands_same, given_stays, given_kept, given_inside, given_below}
+use Rattle.safl_sim.proofs.Updates.{was_none, operands_same, fits_set, given_stays, given_kept, given_inside, given_below}
 use Rattle.safl_sim.proofs.MarkLemmas.{taken_after, taken_upto, none_upto, none_past}
 
 -- what the numbers are once a step has been taken and its wire is given its number
@@ -24,7 +24,7 @@ pub record Takes (o : Order) (all : List Step) (regs : List Register) (now start
   pub low : LowStep values step
   pub wire : step.wire.0 < length values
   pub lists : Lists starts readers (length values) (length marks')
-  pub next : (values'' marks'' : List ℕ) → HasGiven starts readers step.wire.0 (action_number (slice_index values) step.action) values values'' marks' marks'' → Runs o all regs now starts readers start (i + 1) values'' marks''
+  pub next : (values'' marks'' : List ℕ) → HasGiven all starts readers step.wire.0 (action_number (slice_index values) step.action) values values'' marks' marks'' → Runs o all regs now starts readers start (i + 1) values'' marks''
 
 module _ (o : Order) (all : List Step) (regs : List Register) (now starts readers start : List ℕ) (place word i : ℕ) (values marks marks' : List ℕ) (w : Runs o all regs now starts readers start place values marks) (le : place ≤ (word + 1) * 64) (from : word * 64 ≤ place) (t : HasTaken marks marks' word i) (early : (word + 1) * 64 ≤ first_register (length all)) where
   -- the step that is taken is none of those done, and is in range
@@ -63,15 +63,19 @@ module _ (o : Order) (all : List Step) (regs : List Register) (now starts reader
         low = step_low o.net s step values w.made is w.fits;
         wire = omega (arith, inside, one);
         lists = subst (λ l. Lists starts readers l (length marks')) (sym w.long) (subst (λ l. Lists starts readers (length o.net.signals) l) (sym t.long) w.lists);
-        next = λ values'' marks'' g'. after s step wire is g.0 g.1 g.2 inside gives values'' marks'' (subst (λ y. HasGiven starts readers y x values values'' marks' marks'') is.wire g');
+        next = λ values'' marks'' g'. after s step wire is g.0 g.1 g.2 inside gives values'' marks'' (subst (λ y. HasGiven all starts readers y x values values'' marks' marks'') is.wire g');
       }
     where
       after : (s : ℕ) (step : Step) → slice_get o.wires i ≡ Some s → (is : IsStep o.net s step) → (g : Signal) → slice_get o.net.signals s ≡ Some g → g.kind ≡ Wire (Some is.cell) → s < length values
           → action_number (slice_index values) step.action ≡ (cell_word is.cell.op (map (signal_word o.net values) is.cell.operands)).bits
-          → (values'' marks'' : List ℕ) → HasGiven starts readers s (action_number (slice_index values) step.action) values values'' marks' marks'' → Runs o all regs now starts readers start (i + 1) values'' marks''
+          → (values'' marks'' : List ℕ) → HasGiven all starts readers s (action_number (slice_index values) step.action) values values'' marks' marks'' → Runs o all regs now starts readers start (i + 1) values'' marks''
       after s step at is g sig kind inside gives values'' marks'' h =
           let x = action_number (slice_index values) step.action in
           let set_is = h.is in
+          let fits' : FitWidths o.net (slice_index values'') = subst (λ l. FitWidths o.net (slice_index l)) (sym set_is) (fits_set o.net values s x inside (λ b e.
+          let g' : Some b ≡ Some g = sym e ∙ sig in
+          let one : b ≡ g = cc in
+          small x (cell_word is.cell.op (map (signal_word o.net values) is.cell.operands)).bits g.width b.width gives (ap (λ (z : Signal). z.width) (sym one)) (cell_number_fits o.net values s is.cell g w.made w.fits sig kind)) w.fits) in
           record {
             made = w.made;
             order = w.order;
@@ -80,18 +84,10 @@ module _ (o : Order) (all : List Step) (regs : List Register) (now starts reader
             read = w.read;
             room = (let a = w.room in let b = h.long in let c = t.long in omega (arith, a, b, c));
             long = ap length set_is ∙ set_length values s x ∙ w.long;
-            fits = subst (λ l. FitWidths o.net (slice_index l)) (sym set_is) (λ y b e. elim (same_or_not y s) [
-              | inl q ↦
-                  let g' : Some b ≡ Some g = sym e ∙ ap (slice_get o.net.signals) q ∙ sig in
-                  let one : b ≡ g = cc in
-                  small (slice_index (set values s x) y) (cell_word is.cell.op (map (signal_word o.net values) is.cell.operands)).bits g.width b.width
-                  (ap (slice_index (set values s x)) q ∙ index_here values s x inside ∙ gives) (ap (λ (z : Signal). z.width) (sym one))
-                  (cell_number_fits o.net values s is.cell g w.made w.fits sig kind)
-              | inr q ↦ small (slice_index (set values s x) y) (slice_index values y) b.width b.width (index_other values s x y q) refl (w.fits y b e)
-            ]);
+            fits = fits';
             others = subst (λ l. (y : ℕ) → ¬ (IsWire o.net y) → slice_index l y ≡ slice_index start y) (sym set_is)
                 (λ y v. index_other values s x y (λ q. v (subst (λ z. IsWire o.net z) (sym q) (w.order.wires i s at))) ∙ w.others y v);
-            below = λ k l. given_below o.net o.wires regs starts readers i s x values values'' marks' marks'' w.order w.read h at k (omega (arith, l)) (upto_none k (omega (arith, l)));
+            below = λ k l. given_below o.net o.wires all regs starts readers i s x values values'' marks' marks'' w.order w.read h at k (omega (arith, l)) (upto_none k (omega (arith, l)));
             holding = record {
               stays = λ k y d e f none. elim (same_or_not y s) [
                 | inl q ↦
@@ -104,10 +100,10 @@ module _ (o : Order) (all : List Step) (regs : List Register) (now starts reader
                 | inr q ↦
                     let was : marked marks' k ≡ 0 = was_none marks' marks'' k h.grows none in
                     let other : ¬ (k ≡ i) = λ z. q (let m : Some y ≡ Some s = sym e ∙ ap (slice_get o.wires) z ∙ at in cc) in
-                    given_stays o.net o.wires regs starts readers s x values values'' marks' marks'' w.read h k y d e f q none (w.holding.stays k y d e f (sym (t.others k other) ∙ was))
+                    given_stays o.net o.wires all regs starts readers s x values values'' marks' marks'' w.read w.steps w.fits fits' h k y d e f q none (w.holding.stays k y d e f (sym (t.others k other) ∙ was))
               ];
-              kept = given_kept o.net o.wires regs now starts readers s x values values'' marks' marks'' w.read h (λ k q e none. w.holding.kept k q e (sym (t.others (first_register (length o.wires) + k) (λ z. apart_marks k z)) ∙ none));
-              inside = given_inside o.net o.wires regs starts readers s x values values'' marks' marks'' w.read h (record {
+              kept = given_kept o.net o.wires all regs now starts readers s x values values'' marks' marks'' w.read w.steps.long h (λ k q e none. w.holding.kept k q e (sym (t.others (first_register (length o.wires) + k) (λ z. apart_marks k z)) ∙ none));
+              inside = given_inside o.net o.wires all regs starts readers s x values values'' marks' marks'' w.read h (record {
                 step = λ k e l. elim (same_or_not k i) [ inl q ↦ absurd (gone k q e) | inr q ↦ w.holding.inside.step k (sym (t.others k q) ∙ e) l ];
                 register = λ k e. elim (same_or_not k i) [ inl q ↦ absurd (gone k q e) | inr q ↦ w.holding.inside.register k (sym (t.others k q) ∙ e) ];
               });

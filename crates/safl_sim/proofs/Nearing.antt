@@ -188,10 +188,10 @@ steps_known n ws steps w i s e =
 
 -- ---- a step whose wire is given its number
 
-module _ (starts readers : List ℕ) (s : Step) (i x : ℕ) (values marks : List ℕ) (held : ℕ) where
+module _ (steps : List Step) (starts readers : List ℕ) (s : Step) (i x : ℕ) (values marks : List ℕ) (held : ℕ) where
   -- it is the one that was there
-  pub near_same : slice_index values s.wire.0 ≡ x → HasGiven starts readers s.wire.0 x values (set values s.wire.0 x) (holding marks (i / 64) held) (holding marks (i / 64) (bit_or held 0))
-  near_same e = subst (λ y. HasGiven starts readers s.wire.0 x values (set values s.wire.0 x) (holding marks (i / 64) held) (holding marks (i / 64) y)) (sym (or_zero held)) (record {
+  pub near_same : slice_index values s.wire.0 ≡ x → HasGiven steps starts readers s.wire.0 x values (set values s.wire.0 x) (holding marks (i / 64) held) (holding marks (i / 64) (bit_or held 0))
+  near_same e = subst (λ y. HasGiven steps starts readers s.wire.0 x values (set values s.wire.0 x) (holding marks (i / 64) held) (holding marks (i / 64) y)) (sym (or_zero held)) (record {
     is = refl;
     long = refl;
     grows = λ k h. h;
@@ -200,7 +200,7 @@ module _ (starts readers : List ℕ) (s : Step) (i x : ℕ) (values marks : List
   })
 
   -- or new: the readers are marked, or their bits are in the mask
-  module _ (marks' : List ℕ) (inside : (i / 64) < length marks) (near : NearOf starts readers i s) (m : HasMarked readers s.near.first (slice_index starts (s.wire.0 + 1)) marks marks') where
+  module _ (marks' : List ℕ) (inside : (i / 64) < length marks) (near : NearOf starts readers i s) (m : HasMarked steps readers s.near.first (slice_index starts (s.wire.0 + 1)) s.wire.0 (set values s.wire.0 x) marks marks') where
     inside' : (i / 64) < length marks'
     inside' = let a = m.long in omega (arith, a, inside)
 
@@ -234,14 +234,14 @@ module _ (starts readers : List ℕ) (s : Step) (i x : ℕ) (values marks : List
     stay : (k : ℕ) → ¬ (Reader starts readers s.wire.0 k) → marked marks' k ≡ marked marks k
     stay k n = m.others k (λ j f t e. n (j, (let a = near.least in omega (arith, a, f)), t, e))
 
-    pub near_new : HasGiven starts readers s.wire.0 x values (set values s.wire.0 x) (holding marks (i / 64) held) (holding marks' (i / 64) (bit_or held s.near.mask))
+    pub near_new : HasGiven steps starts readers s.wire.0 x values (set values s.wire.0 x) (holding marks (i / 64) held) (holding marks' (i / 64) (bit_or held s.near.mask))
     near_new = record {
       is = refl;
       long = holding_long marks' (i / 64) (bit_or held s.near.mask) ∙ m.long ∙ sym (holding_long marks (i / 64) held);
       grows = grow;
       told = λ k n r. elim (lower_or_not r.0 s.near.first) [
-        | inl l ↦ (let a = near.all r.0 k r.1 l r.3 in held_now k a.0 (bit k ∙ one_right (bit_at held (k % 64)) (bit_at s.near.mask (k % 64)) a.1 (bit_at-lt held (k % 64))))
-        | inr l ↦ marked_now k (m.all r.0 k l r.2 r.3)
+        | inl l ↦ inl (let a = near.all r.0 k r.1 l r.3 in held_now k a.0 (bit k ∙ one_right (bit_at held (k % 64)) (bit_at s.near.mask (k % 64)) a.1 (bit_at-lt held (k % 64))))
+        | inr l ↦ elim (m.all r.0 k l r.2 r.3) [ inl z ↦ inl (marked_now k z) | inr u ↦ inr u ]
       ];
       others = λ k n. elim (same_or_not (k / 64) (i / 64)) [
         | inl q ↦

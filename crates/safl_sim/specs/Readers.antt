@@ -1,10 +1,14 @@
 -- What reads each place, and numbers that are given to places.
 use Rattle.std.specs.Prelude.{◌≡◌, ◌⊎◌, ℕ, ◌+◌, ◌/◌, ◌<◌, ◌≤◌, List, Vec, map, length, Some, slice_get, slice_set, slice_index}
 use Rattle.std.specs.Global.{Global}
+use Rattle.safl_word.specs.Words.{pick}
 use Rattle.safl_net.specs.Netlist.{Netlist, Wire, Cell}
 use Rattle.safl_net.specs.Valuations.{signal_word, cell_word}
 use Rattle.safl_net.specs.Making.{kind_at}
 use Rattle.safl_order.specs.Order.{operands_of}
+use Rattle.safl_sim.specs.declared.step.Action.{Action}
+use Rattle.safl_sim.specs.declared.step.Action.TheVariants.{Const, Choose, One, Two}
+use Rattle.safl_sim.specs.declared.step.Step.{Step}
 use Rattle.safl_sim.specs.declared.step.Register.{Register}
 use Rattle.safl_sim.specs.Marks.{marked, first_register}
 
@@ -27,19 +31,30 @@ pub record AreReaders (n : Netlist) (ws : List ℕ) (regs : List Register) (star
       → (s : ℕ) × (i : ℕ) × (slice_get ws k ≡ Some s) × (slice_get (operands_of n s) i ≡ Some p)
   pub within : (p k : ℕ) → Reader starts readers p k → k < first_register (length ws) + length regs
 
--- what is on a part of the readers is marked
-pub record HasMarked (readers : List ℕ) (from to : ℕ) (old new : List ℕ) : Type 0 where
+-- a choice that is blind to a place: neither its condition nor what it chooses stands there
+abbrev pub IsBlind : (ℕ → ℕ) → ℕ → Action → Type 0
+IsBlind f p (Const l h) = ⊥
+IsBlind f p (Choose c a b turned) = ¬ (c ≡ p) × ¬ (pick (f c) a b ≡ p)
+IsBlind f p (One q w a) = ⊥
+IsBlind f p (Two q w v a b) = ⊥
+
+-- step k is such a choice
+abbrev pub Blind : List Step → List ℕ → ℕ → ℕ → Type 0
+Blind steps values p k = (s : Step) × (slice_get steps k ≡ Some s) × IsBlind (slice_index values) p s.action
+
+-- what is on a part of the readers of a place is marked, or blind to the place
+pub record HasMarked (steps : List Step) (readers : List ℕ) (from to p : ℕ) (values old new : List ℕ) : Type 0 where
   pub long : length new ≡ length old
   pub grows : (k : ℕ) → marked old k ≡ 1 → marked new k ≡ 1
-  pub all : (j k : ℕ) → from ≤ j → j < to → slice_get readers j ≡ Some k → marked new k ≡ 1
+  pub all : (j k : ℕ) → from ≤ j → j < to → slice_get readers j ≡ Some k → (marked new k ≡ 1) ⊎ Blind steps values p k
   pub others : (k : ℕ) → ((j : ℕ) → from ≤ j → j < to → ¬ (slice_get readers j ≡ Some k)) → marked new k ≡ marked old k
 
--- a place has a number, and if that is new, its readers are marked
-pub record HasGiven (starts readers : List ℕ) (p x : ℕ) (values values' marks marks' : List ℕ) : Type 0 where
+-- a place has a number, and if that is new, its readers are marked or blind to it
+pub record HasGiven (steps : List Step) (starts readers : List ℕ) (p x : ℕ) (values values' marks marks' : List ℕ) : Type 0 where
   pub is : values' ≡ slice_set values p x
   pub long : length marks' ≡ length marks
   pub grows : (k : ℕ) → marked marks k ≡ 1 → marked marks' k ≡ 1
-  pub told : (k : ℕ) → ¬ (slice_index values p ≡ x) → Reader starts readers p k → marked marks' k ≡ 1
+  pub told : (k : ℕ) → ¬ (slice_index values p ≡ x) → Reader starts readers p k → (marked marks' k ≡ 1) ⊎ Blind steps values' p k
   pub others : (k : ℕ) → ¬ (Reader starts readers p k) → marked marks' k ≡ marked marks k
 
 -- wire s has the word of its cell
@@ -73,10 +88,6 @@ pub record Holding (n : Netlist) (ws : List ℕ) (regs : List Register) (now val
 -- registers are no wires
 abbrev pub RegistersAway : List Register → List ℕ → Type 0
 RegistersAway regs ws = (k : ℕ) (r : Register) → slice_get regs k ≡ Some r → (i : ℕ) → ¬ (slice_get ws i ≡ Some r.signal.0)
-
--- it goes on to hold where numbers are given to places that are no wires
-abbrev pub Goes : Netlist → List ℕ → List Register → List ℕ → List ℕ → List ℕ → List ℕ → List ℕ → List ℕ → List ℕ → Type 0
-Goes n ws regs now starts readers values values' marks marks' = AreReaders n ws regs starts readers → Holding n ws regs now values marks → Holding n ws regs now values' marks'
 
 -- the list of each place has the steps, of those before step k and of the first i operands of step k, that read it
 abbrev pub Among : ℕ → ℕ → ℕ → ℕ → Type 0

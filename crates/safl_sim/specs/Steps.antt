@@ -84,6 +84,11 @@ pub record AreRegisters (n : Netlist) (count : ℕ) (registers : List Register) 
   pub all : (s : ℕ) → s < count → IsReg (kind_at n s) → (k : ℕ) × (r : Register) × (slice_get registers k ≡ Some r) × (r.signal.0 ≡ s)
   pub few : length registers ≤ count
 
+-- where numbers are given to places that are no wires, they go on to fit, and what holds goes on to hold
+abbrev pub Goes : Netlist → List ℕ → List Step → List Register → List ℕ → List ℕ → List ℕ → List ℕ → List ℕ → List ℕ → List ℕ → Type 0
+Goes n ws steps regs now starts readers values values' marks marks' = AreReaders n ws regs starts readers → AreSteps n ws steps → FitWidths n (slice_index now)
+    → FitWidths n (slice_index values) → Holding n ws regs now values marks → FitWidths n (slice_index values') × Holding n ws regs now values' marks'
+
 -- the registers that do not wait show their state
 pub record Waits (regs : List Register) (now values waiting : List ℕ) : Type 0 where
   pub room : length regs ≤ length waiting * 64

@@ -12,6 +12,7 @@ mod numbers;
 mod parts;
 mod phases;
 mod plan;
+mod readers;
 pub mod sim;
 mod step;
 

@@ -1,8 +1,7 @@
 //! Marks of steps and registers, a bit for each.
 
-ghost use Rattle.std.specs.Prelude.{◌≡◌, ℕ, ◌+◌, ◌*◌, ◌/◌, ◌<◌, ◌≤◌, ◌^◌, length, Some, slice_get, IfSome, IfNone};
+ghost use Rattle.std.specs.Prelude.{◌≡◌, ℕ, ◌+◌, ◌*◌, ◌/◌, ◌<◌, ◌≤◌, ◌^◌, length, IfSome, IfNone};
 ghost use Rattle.safl_sim.specs.Marks.{marked, holding, HasMark, HasTaken, HasNone, NoneBetween, HasRange};
-ghost use Rattle.safl_sim.specs.Readers.{HasMarked};
 
 /// How many words have a bit for each of so many numbers.
 pub fn word_count(count: usize) -> usize
@@ -98,22 +97,13 @@ fn skip_blocks(marks: &[u64], from: usize, end: usize) -> usize
 {
     let mut w = from;
     'fours: for _n in 0..(end - from) / 4 {
-        let common = four_words(marks, w);
+        let common = marks[w] | marks[w + 1] | marks[w + 2] | marks[w + 3];
         if common != 0 {
             return w;
         }
         w += 4;
     }
     w
-}
-
-// Four words in one, which is 0 if they have no mark.
-#[inline(always)]
-fn four_words(marks: &[u64], w: usize) -> u64
-    requires { w + 4 ≤ length marks.now }
-    ensures { result ≡ 0 → NoneBetween marks.now w (w + 4) }
-{
-    marks[w] | marks[w + 1] | marks[w + 2] | marks[w + 3]
 }
 
 /// Marks a range of numbers.
@@ -133,18 +123,5 @@ pub fn clear(marks: &mut [u64])
 {
     'words: for w in 0..marks.len() {
         marks[w] = 0;
-    }
-}
-
-/// Marks what stands on a part of the readers.
-#[inline(always)]
-pub fn mark_readers(marks: &mut [u64], readers: &[u32], from: u32, to: u32)
-    requires ordered { from ≤ to }
-    requires within { to ≤ length readers.now }
-    requires known { (j k : ℕ) → slice_get readers.now j ≡ Some k → k / 64 < length marks.old }
-    ensures { HasMarked readers.now from to marks.old marks.new }
-{
-    'readers: for j in from..to {
-        mark(marks, readers[j as usize] as usize);
     }
 }

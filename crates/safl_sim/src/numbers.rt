@@ -61,6 +61,14 @@ impl Numbers {
         self.low[i]
     }
 
+    /// How many places there are.
+    #[inline(always)]
+    pub fn count(&self) -> usize
+        ensures { result ≡ length self.now }
+    {
+        self.low.len()
+    }
+
     /// Writes a number to a place.
     #[inline(always)]
     pub fn set(&mut self, i: usize, number: Raw)

@@ -46,7 +46,7 @@ impl Parts {
         let kept = registers.as_slice();
         // First the table: while it is made, it takes more than what stays of it.
         let table = table_of(alloc, net, ordered.wires(), kept)?;
-        let mut steps = steps_of(alloc, net, ordered.wires())?;
+        let mut steps = steps_of(alloc, net, &table.starts, ordered.wires())?;
         note_near(&mut steps, &table.starts, &table.readers);
         let marks = all_marked(alloc, ordered.wires().len(), kept.len())?;
         let waiting = none_marked(alloc, kept.len())?;
@@ -232,7 +232,12 @@ fn narrowed(number: usize) -> Result<u32, AllocError>
 }
 
 // The steps of wires, in their order.
-fn steps_of(alloc: Global, net: &Net, wires: &[Sig]) -> Result<Vec<Step>, AllocError>
+fn steps_of(
+    alloc: Global,
+    net: &Net,
+    starts: &[u32],
+    wires: &[Sig],
+) -> Result<Vec<Step>, AllocError>
     requires netlist { IsNetlist net.now }
     requires set { AllSet net.now }
     requires wires { (i : ℕ) (s : ℕ) → slice_get (numbers wires.now) i ≡ Some s → IsWire net.now s }
@@ -240,12 +245,12 @@ fn steps_of(alloc: Global, net: &Net, wires: &[Sig]) -> Result<Vec<Step>, AllocE
 {
     let mut steps = Vec::with_capacity(alloc, wires.len())?;
     'wires: for i in 0..wires.len() {
-        steps.push(step_of(net, wires[i]))?;
+        steps.push(step_of(net, starts, wires[i]))?;
     }
     Ok(steps)
 }
 
-fn step_of(net: &Net, wire: Sig) -> Step
+fn step_of(net: &Net, starts: &[u32], wire: Sig) -> Step
     requires netlist { IsNetlist net.now }
     requires set { AllSet net.now }
     requires wire { IsWire net.now wire.0 }
@@ -255,7 +260,7 @@ fn step_of(net: &Net, wire: Sig) -> Step
         Some(cell) => Step {
             wire,
             narrow: is_narrow(net, wire, cell),
-            action: action_of(net, cell),
+            action: action_of(net, starts, cell),
             near: Near { mask: 0, first: 0 },
         },
         None => unreachable!(),

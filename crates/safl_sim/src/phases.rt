@@ -2,20 +2,21 @@
 
 ghost use Rattle.std.specs.Prelude.{◌≡◌, ℕ, ◌+◌, ◌*◌, ◌/◌, ◌<◌, ◌≤◌, ◌^◌, List, length, Some, slice_get, slice_set, slice_index, false, bit_or};
 ghost use Rattle.safl_net.specs.declared.cell.Sig.{Sig};
-ghost use Rattle.safl_net.specs.Netlist.{Netlist};
+ghost use Rattle.safl_net.specs.Netlist.{Netlist, Signal};
 ghost use Rattle.safl_sim.specs.declared.step.Register.{Register};
 ghost use Rattle.safl_order.specs.Order.{Order};
 ghost use Rattle.safl_sim.specs.Places.{AreInputs};
-ghost use Rattle.safl_sim.specs.Readers.{Lists, HasGiven, Goes, RegistersAway};
+ghost use Rattle.safl_sim.specs.Readers.{Lists, HasGiven, RegistersAway};
 ghost use Rattle.safl_sim.specs.Marks.{marked, holding, HasMark, first_register};
 ghost use Rattle.safl_sim.specs.Nears.{NearOf, AreNear};
-ghost use Rattle.safl_sim.specs.Steps.{Waits, Runs, Ready, LowStep, action_number};
+ghost use Rattle.safl_sim.specs.Steps.{Waits, Goes, Runs, Ready, LowStep, action_number};
 ghost use Rattle.safl_sim.specs.Cycles.{KeepsPlan, Cycles};
 ghost use Rattle.safl_sim.specs.Writes.{HasPut, HasShown, Shows, KeepsOn, after_steps, AllReady};
 
-use crate::marks::{clear, mark, mark_range, mark_readers, next_word, take, take_held, word_count};
+use crate::marks::{clear, mark, mark_range, next_word, take, take_held, word_count};
 use crate::numbers::Numbers;
 use crate::plan::Plan;
+use crate::readers::mark_readers;
 use crate::step::{Register, Step, act, act_low};
 use safl_net::Sig;
 use safl_word::{Raw, Word};
@@ -25,6 +26,7 @@ use safl_word::{Raw, Word};
 pub fn give(
     values: &mut Numbers,
     marks: &mut [u64],
+    steps: &[Step],
     starts: &[u32],
     readers: &[u32],
     place: u32,
@@ -32,11 +34,19 @@ pub fn give(
 )
     requires lists { Lists starts.now readers.now (length values.old) (length marks.old) }
     requires within { place < length values.old }
-    ensures { HasGiven starts.now readers.now place number values.old values.new marks.old marks.new }
+    ensures { HasGiven steps.now starts.now readers.now place number values.old values.new marks.old marks.new }
 {
     let i = place as usize;
     if renew(values, i, number) {
-        mark_readers(marks, readers, starts[i], starts[i + 1]);
+        mark_readers(
+            values,
+            marks,
+            steps,
+            readers,
+            place,
+            starts[i],
+            starts[i + 1],
+        );
     }
 }
 
@@ -73,6 +83,7 @@ fn renew_low(values: &mut Numbers, place: usize, number: u64) -> bool
 pub fn put_words(
     values: &mut Numbers,
     marks: &mut [u64],
+    steps: &[Step],
     starts: &[u32],
     readers: &[u32],
     places: &[Sig],
@@ -86,10 +97,20 @@ pub fn put_words(
     ensures long { length marks.new ≡ length marks.old }
     ensures goes { (n : Netlist) (ws : List ℕ) (regs : List Register) (held : List ℕ)
         → ((k : ℕ) (s : Sig) → slice_get places.now k ≡ Some s → (i : ℕ) → ¬ (slice_get ws i ≡ Some s.0))
-        → Goes n ws regs held starts.now readers.now values.old values.new marks.old marks.new }
+        → ((k : ℕ) (s : Sig) (w : Word) (g : Signal) → slice_get places.now k ≡ Some s → slice_get words.now k ≡ Some w
+        → slice_get n.signals s.0 ≡ Some g → w.bits < 2 ^ g.width)
+        → Goes n ws steps.now regs held starts.now readers.now values.old values.new marks.old marks.new }
 {
     'words: for i in 0..places.len() {
-        give(values, marks, starts, readers, places[i].0, words[i].bits());
+        give(
+            values,
+            marks,
+            steps,
+            starts,
+            readers,
+            places[i].0,
+            words[i].bits(),
+        );
     }
 }
 
@@ -98,6 +119,7 @@ pub fn put_words(
 pub fn show(
     values: &mut Numbers,
     marks: &mut [u64],
+    steps: &[Step],
     starts: &[u32],
     readers: &[u32],
     register: Register,
@@ -106,10 +128,18 @@ pub fn show(
     requires lists { Lists starts.now readers.now (length values.old) (length marks.old) }
     requires within { register.signal.0 < length values.old }
     requires states { length state.now ≡ length values.old }
-    ensures { HasGiven starts.now readers.now register.signal.0 (slice_index state.now register.signal.0) values.old values.new marks.old marks.new }
+    ensures { HasGiven steps.now starts.now readers.now register.signal.0 (slice_index state.now register.signal.0) values.old values.new marks.old marks.new }
 {
     let place = register.signal.0;
-    give(values, marks, starts, readers, place, state[place as usize]);
+    give(
+        values,
+        marks,
+        steps,
+        starts,
+        readers,
+        place,
+        state[place as usize],
+    );
 }
 
 /// Shows the waiting registers of a word.
@@ -131,15 +161,16 @@ pub fn show_word(
     ensures long { length marks.new ≡ length marks.old }
     ensures shows { (start : List ℕ) → Shows plan.now.registers.items state.now (word * 64) start values.old waiting.old
         → Shows plan.now.registers.items state.now ((word + 1) * 64) start values.new waiting.new }
-    ensures goes { (n : Netlist) (ws held : List ℕ) → RegistersAway plan.now.registers.items ws
-        → Goes n ws plan.now.registers.items held plan.now.starts.items plan.now.readers.items values.old values.new marks.old marks.new }
+    ensures goes { (n : Netlist) (ws : List ℕ) → RegistersAway plan.now.registers.items ws
+        → Goes n ws plan.now.steps.items plan.now.registers.items state.now plan.now.starts.items plan.now.readers.items values.old values.new marks.old marks.new }
 {
+    let steps = plan.steps.as_slice();
     let registers = plan.registers.as_slice();
     let starts = plan.starts.as_slice();
     let readers = plan.readers.as_slice();
     'registers: for _n in 0..64u32 {
         match take(waiting, word) {
-            Some(i) => show(values, marks, starts, readers, registers[i], state),
+            Some(i) => show(values, marks, steps, starts, readers, registers[i], state),
             None => return,
         }
     }
@@ -160,8 +191,8 @@ pub fn show_registers(
     ensures long { length marks.new ≡ length marks.old }
     ensures none { (k : ℕ) → marked waiting.new k ≡ 0 }
     ensures shown { HasShown plan.now.registers.items state.now (length plan.now.registers.items) values.old values.new }
-    ensures goes { (n : Netlist) (ws held : List ℕ) → RegistersAway plan.now.registers.items ws
-        → Goes n ws plan.now.registers.items held plan.now.starts.items plan.now.readers.items values.old values.new marks.old marks.new }
+    ensures goes { (n : Netlist) (ws : List ℕ) → RegistersAway plan.now.registers.items ws
+        → Goes n ws plan.now.steps.items plan.now.registers.items state.now plan.now.starts.items plan.now.readers.items values.old values.new marks.old marks.new }
 {
     let end = waiting.len();
     let mut w = next_word(waiting, 0, end);
@@ -287,6 +318,7 @@ pub fn evaluate(
     marks: &mut [u64],
     starts: &[u32],
     readers: &[u32],
+    steps: &[Step],
     step: &Step,
 ) -> u64
     requires lists { Lists starts.now readers.now (length values.old) (length marks.old) }
@@ -295,18 +327,15 @@ pub fn evaluate(
     requires low { LowStep values.old step.now }
     requires near { (i : ℕ) × NearOf starts.now readers.now i step.now }
     ensures { (i held : ℕ) → i / 64 < length marks.old → NearOf starts.now readers.now i step.now
-        → HasGiven starts.now readers.now step.now.wire.0 (action_number (slice_index values.old) step.now.action) values.old values.new
+        → HasGiven steps.now starts.now readers.now step.now.wire.0 (action_number (slice_index values.old) step.now.action) values.old values.new
         (holding marks.old (i / 64) held) (holding marks.new (i / 64) (bit_or held result)) }
 {
     if !act_anew(values, step) {
         return 0;
     }
-    mark_readers(
-        marks,
-        readers,
-        step.near.first,
-        starts[step.wire.0 as usize + 1],
-    );
+    let place = step.wire.0;
+    let end = starts[place as usize + 1];
+    mark_readers(values, marks, steps, readers, place, step.near.first, end);
     step.near.mask
 }
 
@@ -335,7 +364,7 @@ pub fn run_word(
     'steps: for n in 0..64usize {
         match take_held(marks, word, held) {
             Some(taken) => {
-                let near = evaluate(values, marks, starts, readers, &steps[taken.number]);
+                let near = evaluate(values, marks, starts, readers, steps, &steps[taken.number]);
                 held = taken.left | near;
             }
             None => return n,
@@ -451,7 +480,7 @@ pub fn cycle(
     let registers = plan.registers.as_slice();
     let starts = plan.starts.as_slice();
     let readers = plan.readers.as_slice();
-    put_words(values, marks, starts, readers, inputs, words);
+    put_words(values, marks, steps, starts, readers, inputs, words);
     show_registers(values, marks, waiting, plan, state);
     let count = run_steps(values, marks, starts, readers, steps, registers.len(), all);
     let first = word_count(steps.len());

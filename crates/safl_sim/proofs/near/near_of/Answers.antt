@@ -1,7 +1,6 @@
 use Rattle.std.proofs.Common.{◌≡◌, Some, slice_get, slice_index, arith}
-use Rattle.safl_sim.specs.Nears.{IsNear}
 use Rattle.safl_sim.proofs.Written.{get_at}
-use Rattle.safl_sim.proofs.Nearing.{near_none, near_more, near_to}
+use Rattle.safl_sim.proofs.Nearing.{near_none, near_more}
 use Rattle.safl_sim.proofs.near.near_of.Goals as goal
 
 pub readers-init : goal.readers-init

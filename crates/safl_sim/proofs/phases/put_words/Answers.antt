@@ -1,4 +1,4 @@
-use Rattle.std.proofs.Common.{◌≡◌, ℕ, ◌+◌, List, Some, get_or, set, slice_get, sym, subst, ◌∙◌, arith}
+use Rattle.std.proofs.Common.{◌≡◌, ℕ, ◌+◌, ◌<◌, ◌^◌, List, Some, get_or, set, slice_get, sym, subst, ◌∙◌, arith}
 use Rattle.safl_net.specs.declared.cell.Sig.{Sig}
 use Rattle.safl_sim.specs.Writes.{HasPut}
 use Rattle.safl_sim.proofs.Written.{get_at, get_read, put_step}
@@ -22,5 +22,7 @@ words-preserved c =
           (subst (λ (x : ℕ). HasPut places c.args.words.now (i + 1) c.args.values.now (set c.words.values (get_or places i none).0 x)) (sym c.bits.ensures.value)
           (put_step places c.args.words.now c.args.values.now c.words.values i (get_or places i none) c.index-words-i.result c.words.invariant.put here word c.bits.ensures.word (c.requires.within i (get_or places i none) here) c.requires.once));
       long = c.give.ensures.long ∙ c.words.invariant.long;
-      goes = λ n ws regs held away. goes_step n ws regs held c.args.starts.now c.args.readers.now (get_or places i none).0 _ c.args.values.now c.words.values c.give.new.values c.args.marks.now c.words.marks c.give.new.marks (c.words.invariant.goes n ws regs held away) (away i (get_or places i none) here) c.give.ensures;
+      goes = λ n ws regs held away fit. goes_step n ws c.args.steps.now regs held c.args.starts.now c.args.readers.now (get_or places i none).0 _ c.args.values.now c.words.values c.give.new.values c.args.marks.now c.words.marks c.give.new.marks (c.words.invariant.goes n ws regs held away fit) (away i (get_or places i none) here)
+          (let a = c.requires.within i (get_or places i none) here in let b = c.words.invariant.put.long in omega (arith, a, b))
+          (λ state g at. subst (λ x. x < 2 ^ g.width) (sym c.bits.ensures.value) (fit i (get_or places i none) c.index-words-i.result g here word at)) c.give.ensures;
     }

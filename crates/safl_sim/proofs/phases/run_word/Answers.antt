@@ -81,7 +81,7 @@ steps-preserved c =
       runs = λ o regs now start w.
           let t = turn o c.args.steps.now regs now c.args.starts.now c.args.readers.now start c.args.word c.steps.n i c.steps.values (holding c.steps.marks c.args.word c.steps.held) (holding c.take_held.new.marks c.args.word left) c.steps-test.true c.requires.steps (c.steps.invariant.runs o regs now start w) c.in-Some.ensures.some in
           let g = c.evaluate-near.ensures i left (let a = c.steps.invariant.long in let b = c.take_held.auto.marks in let d = c.requires.within in omega (arith, a, b, d, within)) (c.requires.near i step (get_at c.args.steps.now i none t.0)) in
-          let g' = subst (λ y. HasGiven c.args.starts.now c.args.readers.now step.wire.0 (action_number (slice_index c.steps.values) step.action) c.steps.values c.evaluate-near.new.values (holding c.take_held.new.marks y left) (holding c.evaluate-near.new.marks y (bit_or left c.evaluate-near.result))) within g in
+          let g' = subst (λ y. HasGiven c.args.steps.now c.args.starts.now c.args.readers.now step.wire.0 (action_number (slice_index c.steps.values) step.action) c.steps.values c.evaluate-near.new.values (holding c.take_held.new.marks y left) (holding c.evaluate-near.new.marks y (bit_or left c.evaluate-near.result))) within g in
           let after = t.2.next c.evaluate-near.new.values (holding c.evaluate-near.new.marks c.args.word (bit_or left c.evaluate-near.result)) g' in
           runs_to o c.args.steps.now regs now c.args.starts.now c.args.readers.now start (i + 1) (c.args.word * 64 + (c.steps.n + 1)) c.evaluate-near.new.values (holding c.evaluate-near.new.marks c.args.word (bit_or left c.evaluate-near.result)) after
           (λ k l. after.below k (let a = t.1 in omega (arith, a, l)));

@@ -11,7 +11,7 @@ words-init c = record {
   long = refl;
   shows = shows_skip c.args.plan.now.registers.items c.args.state.now 0 c.next_word-w.result c.args.values.now c.args.values.now c.args.waiting.now
       (shows_start c.args.plan.now.registers.items c.args.state.now c.args.values.now c.args.waiting.now c.requires.waits) c.next_word-w.ensures.none;
-  goes = λ n ws held away r h. h;
+  goes = λ n ws away r are state fits h. (fits, h);
 }
 
 pub show_word-requires-clause-lists : goal.show_word-requires-clause-lists
@@ -31,7 +31,7 @@ words-preserved c = record {
   long = c.show_word.ensures.long ∙ c.words.invariant.long;
   shows = shows_skip c.args.plan.now.registers.items c.args.state.now (c.words.w + 1) c.next_word-w-in-words.result c.args.values.now c.show_word.new.values c.show_word.new.waiting
       (c.show_word.ensures.shows c.args.values.now c.words.invariant.shows) c.next_word-w-in-words.ensures.none;
-  goes = λ n ws held away r h. c.show_word.ensures.goes n ws held away r (c.words.invariant.goes n ws held away r h);
+  goes = λ n ws away r are state fits h. let w = c.words.invariant.goes n ws away r are state fits h in c.show_word.ensures.goes n ws away r are state w.0 w.1;
 }
 
 pub returns-clause-none : goal.returns-clause-none

@@ -1,6 +1,7 @@
 use Rattle.std.proofs.Common.{◌≡◌, ℕ, ◌*◌, ◌≤◌, List, length}
 use Rattle.safl_net.specs.Netlist.{Netlist}
-use Rattle.safl_sim.specs.Readers.{Goes, RegistersAway}
+use Rattle.safl_sim.specs.Readers.{RegistersAway}
+use Rattle.safl_sim.specs.Steps.{Goes}
 use Rattle.safl_sim.specs.Writes.{Shows}
 use Rattle.safl_sim.proofs.phases.show_registers.Given as goal
 
@@ -11,5 +12,5 @@ invariant-words l = record {
   wide : length l.values ≡ length l.initial.values;
   long : length l.marks ≡ length l.initial.marks;
   shows : Shows l.plan.registers.items l.state (l.w * 64) l.initial.values l.values l.waiting;
-  goes : (n : Netlist) (ws held : List ℕ) → RegistersAway l.plan.registers.items ws → Goes n ws l.plan.registers.items held l.plan.starts.items l.plan.readers.items l.initial.values l.values l.initial.marks l.marks;
+  goes : (n : Netlist) (ws : List ℕ) → RegistersAway l.plan.registers.items ws → Goes n ws l.plan.steps.items l.plan.registers.items l.state l.plan.starts.items l.plan.readers.items l.initial.values l.values l.initial.marks l.marks;
 }

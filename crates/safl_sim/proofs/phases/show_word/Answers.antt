@@ -1,4 +1,5 @@
 use Rattle.std.proofs.Common.{◌≡◌, ◌+◌, ◌*◌, ◌<◌, ℕ, List, Some, length, get_or, slice_get, slice_index, sym, ap, subst, ◌∙◌, arith}
+use Rattle.safl_sim.specs.declared.step.Step.{Step}
 use Rattle.safl_sim.specs.declared.step.Register.{Register}
 use Rattle.safl_sim.specs.Marks.{HasTaken}
 use Rattle.safl_sim.specs.Readers.{Lists, HasGiven}
@@ -44,8 +45,9 @@ registers-preserved c =
     let r = get_or c.as_slice-registers.result.now c.in-Some.i none in
     let f = found c.args.plan.now.registers.items c.as_slice-registers.result.now c.args.state.now _ c.args.word c.in-Some.i q.0 c.registers.values c.registers.waiting c.take.new.marks c.as_slice-registers.ensures.value (c.registers.invariant.shows q.0 q.1) c.in-Some.ensures.some in
     let inside : r.signal.0 < length c.registers.values = (let a = c.requires.within c.in-Some.i r f.1 in let b = c.registers.invariant.wide in omega (arith, a, b)) in
-    let g = subst (λ (l : List ℕ). HasGiven l c.args.plan.now.readers.items r.signal.0 (slice_index c.args.state.now r.signal.0) c.registers.values c.show.new.values c.registers.marks c.show.new.marks) c.as_slice-starts.ensures.value
-    (subst (λ (l : List ℕ). HasGiven c.as_slice-starts.result.now l r.signal.0 (slice_index c.args.state.now r.signal.0) c.registers.values c.show.new.values c.registers.marks c.show.new.marks) c.as_slice-readers.ensures.value c.show.ensures) in
+    let g = subst (λ (l : List Step). HasGiven l c.args.plan.now.starts.items c.args.plan.now.readers.items r.signal.0 (slice_index c.args.state.now r.signal.0) c.registers.values c.show.new.values c.registers.marks c.show.new.marks) c.as_slice-steps.ensures.value
+    (subst (λ (l : List ℕ). HasGiven c.as_slice-steps.result.now l c.args.plan.now.readers.items r.signal.0 (slice_index c.args.state.now r.signal.0) c.registers.values c.show.new.values c.registers.marks c.show.new.marks) c.as_slice-starts.ensures.value
+    (subst (λ (l : List ℕ). HasGiven c.as_slice-steps.result.now c.as_slice-starts.result.now l r.signal.0 (slice_index c.args.state.now r.signal.0) c.registers.values c.show.new.values c.registers.marks c.show.new.marks) c.as_slice-readers.ensures.value c.show.ensures)) in
     record {
       wide = (let a = c.registers.invariant.wide in let b = ap length c.show.ensures.is in let d = set_length c.registers.values r.signal.0 (slice_index c.args.state.now r.signal.0) in omega (arith, a, b, d));
       long = c.show.ensures.long ∙ c.registers.invariant.long;
@@ -55,7 +57,7 @@ registers-preserved c =
           let after = shows_step c.args.plan.now.registers.items c.args.state.now (c.args.word * 64 + c.registers._n) c.args.word c.in-Some.i r start c.registers.values c.show.new.values c.registers.waiting c.take.new.marks before (omega arith) t f.1 inside c.show.ensures.is in
           let late = taken_after c.registers.waiting c.take.new.marks 0 (c.args.word * 64 + c.registers._n) c.args.word c.in-Some.i (λ k z h. before.below k h) (omega arith) (omega arith) t in
           shows_to c.args.plan.now.registers.items c.args.state.now (c.in-Some.i + 1) (c.args.word * 64 + (c.registers._n + 1)) start c.show.new.values c.take.new.marks after (λ k l. after.below k (omega (arith, late, l)));
-      goes = λ n ws held away. goes_step n ws c.args.plan.now.registers.items held c.args.plan.now.starts.items c.args.plan.now.readers.items r.signal.0 _ c.args.values.now c.registers.values c.show.new.values c.args.marks.now c.registers.marks c.show.new.marks (c.registers.invariant.goes n ws held away) (away c.in-Some.i r f.1) g;
+      goes = λ n ws away. goes_step n ws c.args.plan.now.steps.items c.args.plan.now.registers.items c.args.state.now c.args.plan.now.starts.items c.args.plan.now.readers.items r.signal.0 _ c.args.values.now c.registers.values c.show.new.values c.args.marks.now c.registers.marks c.show.new.marks (c.registers.invariant.goes n ws away) (away c.in-Some.i r f.1) inside (λ state s e. state r.signal.0 s e) g;
     }
 
 pub returns-in-None-clause-shows : goal.returns-in-None-clause-shows

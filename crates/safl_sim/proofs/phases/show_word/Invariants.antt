@@ -1,6 +1,7 @@
 use Rattle.std.proofs.Common.{◌≡◌, ℕ, ◌+◌, ◌*◌, List, length}
 use Rattle.safl_net.specs.Netlist.{Netlist}
-use Rattle.safl_sim.specs.Readers.{Goes, RegistersAway}
+use Rattle.safl_sim.specs.Readers.{RegistersAway}
+use Rattle.safl_sim.specs.Steps.{Goes}
 use Rattle.safl_sim.specs.Writes.{Shows}
 use Rattle.safl_sim.proofs.phases.show_word.Given as goal
 
@@ -9,5 +10,5 @@ invariant-registers l = record {
   wide : length l.values ≡ length l.initial.values;
   long : length l.marks ≡ length l.initial.marks;
   shows : (start : List ℕ) → Shows l.plan.registers.items l.state (l.word * 64) start l.initial.values l.initial.waiting → Shows l.plan.registers.items l.state (l.word * 64 + l._n) start l.values l.waiting;
-  goes : (n : Netlist) (ws held : List ℕ) → RegistersAway l.plan.registers.items ws → Goes n ws l.plan.registers.items held l.plan.starts.items l.plan.readers.items l.initial.values l.values l.initial.marks l.marks;
+  goes : (n : Netlist) (ws : List ℕ) → RegistersAway l.plan.registers.items ws → Goes n ws l.plan.steps.items l.plan.registers.items l.state l.plan.starts.items l.plan.readers.items l.initial.values l.values l.initial.marks l.marks;
 }

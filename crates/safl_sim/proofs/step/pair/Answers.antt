@@ -5,7 +5,7 @@ use Rattle.safl_net.specs.Making.{cell_on}
 use Rattle.safl_net.specs.Rules.{CellFits}
 use Rattle.safl_sim.specs.declared.step.Action.TheVariants.{Choose}
 use Rattle.safl_sim.specs.Steps.{Performs}
-use Rattle.safl_sim.proofs.Actions.{performs_two, performs_and, performs_or}
+use Rattle.safl_sim.proofs.Actions.{performs_two, performs_both, performs_or}
 use Rattle.safl_sim.proofs.step.pair.Goals as goal
 
 pub returns-in-And : goal.returns-in-And
@@ -14,8 +14,8 @@ returns-in-And c =
     let a = c.args.a in
     let b = c.args.b in
     let f = c.requires.fits in
-    subst (λ (p : Primitive). Performs n (cell_on (op.Apply p) (a ∷ (b ∷ []))) (Choose a.0 b.0 a.0 0)) (sym c.in-And.is)
-    (performs_and n a b f.0 (subst (λ (p : Primitive). CellFits n f.0 (cell_on (op.Apply p) (a ∷ (b ∷ [])))) c.in-And.is f.1) (sym c.width-width.ensures ∙ c.if-width-eq1.true))
+    subst (λ (p : Primitive). Performs n (cell_on (op.Apply p) (a ∷ (b ∷ []))) c.both.result) (sym c.in-And.is)
+    (performs_both n a b f.0 c.both.result (subst (λ (p : Primitive). CellFits n f.0 (cell_on (op.Apply p) (a ∷ (b ∷ [])))) c.in-And.is f.1) (sym c.width-width.ensures ∙ c.if-width-eq1.true) c.both.ensures)
 
 pub returns-in-Or : goal.returns-in-Or
 returns-in-Or c =

@@ -97,7 +97,7 @@ returns-clause-keeps c =
     (let a = c.in_ok-waiting.ensures.long in let b = ap length kept in omega (arith, a, b))
     c.in_ok-waiting.ensures.none
     (c.in_ok-state.ensures ∙ ap resets e)
-    (c.in_ok-values.ensures ∙ c.deref-3.ensures.value ∙ c.in_ok-state.ensures ∙ ap resets e))
+    (c.in_ok-values.ensures ∙ c.deref-4.ensures.value ∙ c.in_ok-state.ensures ∙ ap resets e))
 
 pub note_near-requires : goal.note_near-requires
 note_near-requires c =
@@ -107,8 +107,8 @@ note_near-requires c =
       lists = (
         places,
         words,
-        subst (λ (l : List ℕ). Lists l c.deref-2.result.now places words) (sym c.deref.ensures.value)
-            (subst (λ (l : List ℕ). Lists c.in_ok-table.table.starts.items l places words) (sym c.deref-2.ensures.value) c.in_ok-table.ensures.lists),
+        subst (λ (l : List ℕ). Lists l c.deref-3.result.now places words) (sym c.deref-2.ensures.value)
+            (subst (λ (l : List ℕ). Lists c.in_ok-table.table.starts.items l places words) (sym c.deref-3.ensures.value) c.in_ok-table.ensures.lists),
         λ i s e. steps_known c.net-net.result.now (numbers c.wires-2.result.now) c.in_ok-steps.steps.items c.in_ok-steps.ensures i s (ap (λ (l : List Step). slice_get l i) (sym c.deref_mut.ensures.value) ∙ e),
       );
     }
