@@ -1,4 +1,4 @@
--- The limits of input files and of made sources.
+-- The limits of input files.
 use Rattle.std.specs.Prelude.{ℕ}
 
 -- the most bytes of a source
@@ -16,7 +16,3 @@ verilog_max = 67108864
 -- the most bytes of an AIGER file
 abbrev pub aig_max : ℕ
 aig_max = 536870912
-
--- the most functions of a made source, besides main
-abbrev pub functions_max : ℕ
-functions_max = 900

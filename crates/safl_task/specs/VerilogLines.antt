@@ -23,7 +23,7 @@ vrule_text rules.V10 = codes "V10 port missing"
 abbrev pub both_widths : VFault → List ℕ
 both_widths f = codes ": " ++ decimal f.first ++ codes " and " ++ decimal f.second
 
--- what a fault's text has behind the rule's
+-- what a fault's text has after the rule's
 abbrev pub vdetail_text : VRule → VFault → List ℕ
 vdetail_text rules.V05 f = both_widths f
 vdetail_text _ f = []

@@ -22,7 +22,8 @@ use Rattle.std.specs.Prelude.{is_some, false, Bool, ◌&&◌}
 use Rattle.safl_command.specs.Traces.{Traces, are_apart}
 use Rattle.safl_tool.specs.Tracing.{have_probes}
 use Rattle.safl_tool.specs.Sources.{IsAccepted}
-use Rattle.safl_tool.specs.Arguments.{IsRead, AreRead, HaveFault}
+use Rattle.safl_session.specs.Lines.{IsArgument, AreArguments}
+use Rattle.safl_tool.specs.Arguments.{HaveFault}
 use Rattle.safl_tool.specs.Simulating.{Simulates, IsMisgiven, Evaluates}
 use Rattle.safl_tool.specs.Walking.{MainGives, Walks}
 use Rattle.safl_tool.specs.Running.{RunsText, IsMisrun, IsUnrunnable, faulty, looped, Finishes}
@@ -48,7 +49,7 @@ use Rattle.safl_tool.proofs.Bits.{bits_not_refused, aig_not_refused}
 use Rattle.safl_tool.proofs.Conversed.{misscripted_not, replies_come}
 
 -- arguments are read in one way, and without a fault
-same_words : (widths : List ℕ) (args : List (List ℕ)) (vs us : List Word) → AreRead widths args vs → AreRead widths args us → vs ≡ us
+same_words : (widths : List ℕ) (args : List (List ℕ)) (vs us : List Word) → AreArguments widths args vs → AreArguments widths args us → vs ≡ us
 same_words [] [] [] [] r q = refl
 same_words [] [] [] (u ∷ us) r q = absurd q
 same_words [] [] (v ∷ vs) us r q = absurd r
@@ -58,7 +59,7 @@ same_words (w ∷ ws) (t ∷ ts) [] us r q = absurd r
 same_words (w ∷ ws) (t ∷ ts) (v ∷ vs) [] r q = absurd q
 same_words (w ∷ ws) (t ∷ ts) (v ∷ vs) (u ∷ us) r q = ap (λ x. x ∷ vs) (r.0.is ∙ sym q.0.is) ∙ ap (λ l. u ∷ l) (same_words ws ts vs us r.1 q.1)
 
-read_long : (widths : List ℕ) (args : List (List ℕ)) (vs : List Word) → AreRead widths args vs → length args ≡ length widths
+read_long : (widths : List ℕ) (args : List (List ℕ)) (vs : List Word) → AreArguments widths args vs → length args ≡ length widths
 read_long [] [] [] r = refl
 read_long [] [] (v ∷ vs) r = absurd r
 read_long [] (t ∷ ts) vs r = absurd r
@@ -66,7 +67,7 @@ read_long (w ∷ ws) [] vs r = absurd r
 read_long (w ∷ ws) (t ∷ ts) [] r = absurd r
 read_long (w ∷ ws) (t ∷ ts) (v ∷ vs) r = ap suc (read_long ws ts vs r.1)
 
-read_at : (widths : List ℕ) (args : List (List ℕ)) (vs : List Word) (i w : ℕ) (t : List ℕ) → AreRead widths args vs → slice_get widths i ≡ Some w → slice_get args i ≡ Some t → (v : Word) × IsRead w t v
+read_at : (widths : List ℕ) (args : List (List ℕ)) (vs : List Word) (i w : ℕ) (t : List ℕ) → AreArguments widths args vs → slice_get widths i ≡ Some w → slice_get args i ≡ Some t → (v : Word) × IsArgument w t v
 read_at [] [] [] i w t r e f = absurd (cc)
 read_at [] [] (v ∷ vs) i w t r e f = absurd r
 read_at [] (x ∷ ts) vs i w t r e f = absurd r
@@ -75,10 +76,10 @@ read_at (y ∷ ws) (x ∷ ts) [] i w t r e f = absurd r
 read_at (y ∷ ws) (x ∷ ts) (v ∷ vs) zero w t r e f =
     let a : y ≡ w = cc in
     let b : x ≡ t = cc in
-    (v, subst (λ k. IsRead k t v) a (subst (λ k. IsRead y k v) b r.0))
+    (v, subst (λ k. IsArgument k t v) a (subst (λ k. IsArgument y k v) b r.0))
 read_at (y ∷ ws) (x ∷ ts) (v ∷ vs) (suc i) w t r e f = read_at ws ts vs i w t r.1 e f
 
-no_fault : (widths : List ℕ) (args : List (List ℕ)) (vs : List Word) (line : List ℕ) → AreRead widths args vs → HaveFault widths args line → ⊥
+no_fault : (widths : List ℕ) (args : List (List ℕ)) (vs : List Word) (line : List ℕ) → AreArguments widths args vs → HaveFault widths args line → ⊥
 no_fault widths args vs line r f = elim f [
   | inl m ↦ m.0 (read_long widths args vs r)
   | inr u ↦ let v = read_at widths args vs u.index u.width u.text r u.at_width u.at_text in u.bad v.0 v.1
@@ -88,7 +89,7 @@ no_fault widths args vs line r f = elim f [
 comes_in_time : OneProgram → (source : List ℕ) (args : List (List ℕ)) (limit : ℕ) → Simulates source args limit None → Evaluates source args limit → ⊥
 comes_in_time once source args limit s e =
     let C : s.program ≡ e.program = (once source s.program e.program s.names e.names s.source_of e.source_of).0 in
-    let read : AreRead (s.program.params s.program.main) args e.words = subst (λ (x : Program). AreRead (x.params x.main) args e.words) (sym C) e.read in
+    let read : AreArguments (s.program.params s.program.main) args e.words = subst (λ (x : Program). AreArguments (x.params x.main) args e.words) (sym C) e.read in
     let gives : GivesInCalls s.program e.words e.value e.calls = subst (λ (x : Program). GivesInCalls x e.words e.value e.calls) (sym C) e.gives in
     let same : e.words ≡ s.words = same_words (s.program.params s.program.main) args e.words s.words read s.read in
     let here : GivesInCalls s.program s.words e.value e.calls = subst (λ l. GivesInCalls s.program l e.value e.calls) same gives in
@@ -101,13 +102,13 @@ comes_in_time once source args limit s e =
 misgiven_not : OneProgram → (source : List ℕ) (args : List (List ℕ)) (limit : ℕ) → ((line : List ℕ) × IsMisgiven source args line) → Evaluates source args limit → ⊥
 misgiven_not once source args limit m e =
     let C : m.1.program ≡ e.program = (once source m.1.program e.program m.1.names e.names m.1.source_of e.source_of).0 in
-    no_fault (m.1.program.params m.1.program.main) args e.words m.0 (subst (λ (x : Program). AreRead (x.params x.main) args e.words) (sym C) e.read) m.1.fault
+    no_fault (m.1.program.params m.1.program.main) args e.words m.0 (subst (λ (x : Program). AreArguments (x.params x.main) args e.words) (sym C) e.read) m.1.fault
 
 -- main gives a value in time, so it returns
 returns_in_time : OneProgram → ((C : Program) → OneAnswer C) → (source : List ℕ) (args : List (List ℕ)) (seed steps : ℕ) (w : Walked) → Walks source args seed steps w → w.result ≡ None → Evaluates source args steps → ⊥
 returns_in_time once meaning source args seed steps w s none e =
     let C : s.program ≡ e.program = (once source s.program e.program s.names e.names s.source_of e.source_of).0 in
-    let read : AreRead (s.program.params s.program.main) args e.words = subst (λ (x : Program). AreRead (x.params x.main) args e.words) (sym C) e.read in
+    let read : AreArguments (s.program.params s.program.main) args e.words = subst (λ (x : Program). AreArguments (x.params x.main) args e.words) (sym C) e.read in
     let gives : GivesInCalls s.program e.words e.value e.calls = subst (λ (x : Program). GivesInCalls x e.words e.value e.calls) (sym C) e.gives in
     let same : e.words ≡ s.words = same_words (s.program.params s.program.main) args e.words s.words read s.read in
     let here : GivesInCalls s.program s.words e.value e.calls = subst (λ l. GivesInCalls s.program l e.value e.calls) same gives in
@@ -122,7 +123,7 @@ returns_in_time once meaning source args seed steps w s none e =
 never_finishes : verilog.OneNetlist → (text : List ℕ) (args : List (List ℕ)) (limit : ℕ) → RunsText text args limit None → Finishes text args limit → ⊥
 never_finishes one text args limit r f =
     let n : f.net ≡ r.0 = one text f.net r.0 f.runnable.reads r.1.reads in
-    let read : AreRead (argument_widths r.0.signals) args f.words = subst (λ (x : Netlist). AreRead (argument_widths x.signals) args f.words) n f.read in
+    let read : AreArguments (argument_widths r.0.signals) args f.words = subst (λ (x : Netlist). AreArguments (argument_widths x.signals) args f.words) n f.read in
     let same : f.words ≡ r.2.words = same_words (argument_widths r.0.signals) args f.words r.2.words read r.2.read in
     let done : IsDone r.0 r.2.words limit f.done = subst (λ l. IsDone r.0 l limit f.done) same (subst (λ (x : Netlist). IsDone x f.words limit f.done) n f.outcome) in
     done_not_done r.0 r.2.words limit f.done done r.2.outcome
@@ -130,7 +131,7 @@ never_finishes one text args limit r f =
 misrun_not : verilog.OneNetlist → (text : List ℕ) (args : List (List ℕ)) (limit : ℕ) → ((line : List ℕ) × IsMisrun text args line) → Finishes text args limit → ⊥
 misrun_not one text args limit m f =
     let n : f.net ≡ m.1.0 = one text f.net m.1.0 f.runnable.reads m.1.1.reads in
-    no_fault (argument_widths m.1.0.signals) args f.words m.0 (subst (λ (x : Netlist). AreRead (argument_widths x.signals) args f.words) n f.read) m.1.2
+    no_fault (argument_widths m.1.0.signals) args f.words m.0 (subst (λ (x : Netlist). AreArguments (argument_widths x.signals) args f.words) n f.read) m.1.2
 
 unrunnable_not : verilog.OneNetlist → verilog.NotBoth → (name text line : List ℕ) (args : List (List ℕ)) (limit : ℕ) → IsUnrunnable name text line → Finishes text args limit → ⊥
 unrunnable_not one apart name text line args limit (faulty f h is) e = apart text e.net f e.runnable.reads h

@@ -1,5 +1,5 @@
 -- What a run of a Verilog file says.
-use Rattle.std.proofs.Common.{◌≡◌, ℕ, zero, suc, ◌+◌, ◌<◌, ◌≤◌, List, [], ◌∷◌, ◌++◌, map, length, Option, Some, None, false, slice_get, refl, sym, ap, subst, ◌∙◌, arith, inl, inr}
+use Rattle.std.proofs.Common.{◌≡◌, ℕ, zero, suc, ◌+◌, ◌<◌, ◌≤◌, List, [], ◌∷◌, ◌++◌, map, length, Option, Some, None, false, slice_get, refl, sym, ap, subst, arith, inl, inr}
 use Rattle.safl_word.specs.Words.{Word}
 use Rattle.safl_net.specs.Netlist.{Netlist, Signal, AllSet, IsSet}
 use Rattle.safl_net.specs.Making.{kind_at, kind_in, cell_in, name_at}

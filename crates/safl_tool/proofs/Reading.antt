@@ -2,13 +2,14 @@
 use Rattle.std.proofs.Common.{◌≡◌, ℕ, zero, suc, ◌+◌, ◌<◌, List, [], ◌∷◌, ◌++◌, length, map, get_or, String, string_bytes, Global, Some, slice_get, slice_index, refl, sym, ap, subst, ◌∙◌, arith, inl, inr}
 use Rattle.safl_word.specs.Words.{Word}
 use Rattle.safl_net.proofs.Naming.{pushed}
-use Rattle.safl_tool.specs.Arguments.{IsRead, AreRead, IsUnread}
+use Rattle.safl_session.specs.Lines.{IsArgument, AreArguments}
+use Rattle.safl_tool.specs.Arguments.{IsUnread}
 use Rattle.safl_task.specs.Lines.{argument_line}
 
 -- so many of them are read
 pub record ReadSoFar (widths : List ℕ) (args : List (List ℕ)) (words : List Word) (count : ℕ) : Type 0 where
   pub long : length words ≡ count
-  pub each : (k w : ℕ) (t : List ℕ) (v : Word) → slice_get widths k ≡ Some w → slice_get args k ≡ Some t → slice_get words k ≡ Some v → IsRead w t v
+  pub each : (k w : ℕ) (t : List ℕ) (v : Word) → slice_get widths k ≡ Some w → slice_get args k ≡ Some t → slice_get words k ≡ Some v → IsArgument w t v
 
 pub read_none : (widths : List ℕ) (args : List (List ℕ)) → ReadSoFar widths args [] 0
 read_none widths args = record { long = refl; each = λ k w t v d e f. absurd (cc) }
@@ -17,7 +18,7 @@ long_more : (vs : List Word) (v : Word) → length (vs ++ v ∷ []) ≡ length v
 long_more [] v = omega arith
 long_more (u ∷ vs) v = let e = long_more vs v in omega (arith, e)
 
-pub read_more : (widths : List ℕ) (args : List (List ℕ)) (words : List Word) (i w : ℕ) (t : List ℕ) (v : Word) → ReadSoFar widths args words i → slice_get widths i ≡ Some w → slice_get args i ≡ Some t → IsRead w t v → ReadSoFar widths args (words ++ v ∷ []) (i + 1)
+pub read_more : (widths : List ℕ) (args : List (List ℕ)) (words : List Word) (i w : ℕ) (t : List ℕ) (v : Word) → ReadSoFar widths args words i → slice_get widths i ≡ Some w → slice_get args i ≡ Some t → IsArgument w t v → ReadSoFar widths args (words ++ v ∷ []) (i + 1)
 read_more widths args words i w t v r d e is = record {
   long = long_more words v ∙ ap (λ k. k + 1) r.long;
   each = λ k x s u f g h. elim (pushed words v u k h) [
@@ -28,14 +29,14 @@ read_more widths args words i w t v r d e is = record {
         let b : Some t ≡ Some s = sym e ∙ ap (slice_get args) (sym here) ∙ g in
         let wx : w ≡ x = cc in
         let ts : t ≡ s = cc in
-        subst (λ y. IsRead y s u) wx (subst (λ y. IsRead w y u) ts (subst (λ y. IsRead w t y) (sym q.1) is))
+        subst (λ y. IsArgument y s u) wx (subst (λ y. IsArgument w y u) ts (subst (λ y. IsArgument w t y) (sym q.1) is))
   ];
 }
 
 tail_each : (w : ℕ) (ws : List ℕ) (t : List ℕ) (ts : List (List ℕ)) (v : Word) (vs : List Word) → ReadSoFar (w ∷ ws) (t ∷ ts) (v ∷ vs) (suc (length vs)) → ReadSoFar ws ts vs (length vs)
 tail_each w ws t ts v vs r = record { long = refl; each = λ k x s u f g h. r.each (suc k) x s u f g h }
 
-are_read : (widths : List ℕ) (args : List (List ℕ)) (words : List Word) → length args ≡ length widths → length words ≡ length args → ReadSoFar widths args words (length words) → AreRead widths args words
+are_read : (widths : List ℕ) (args : List (List ℕ)) (words : List Word) → length args ≡ length widths → length words ≡ length args → ReadSoFar widths args words (length words) → AreArguments widths args words
 are_read [] [] [] l m r = tt
 are_read [] [] (v ∷ vs) l m r = absurd (omega (arith, m))
 are_read [] (t ∷ ts) vs l m r = absurd (omega (arith, l))
@@ -43,7 +44,7 @@ are_read (w ∷ ws) [] vs l m r = absurd (omega (arith, l))
 are_read (w ∷ ws) (t ∷ ts) [] l m r = absurd (omega (arith, m))
 are_read (w ∷ ws) (t ∷ ts) (v ∷ vs) l m r = (r.each 0 w t v refl refl refl, are_read ws ts vs (omega (arith, l)) (omega (arith, m)) (tail_each w ws t ts v vs r))
 
-pub all_read : (widths : List ℕ) (args : List (List ℕ)) (words : List Word) (i : ℕ) → length args ≡ length widths → i ≡ length args → ReadSoFar widths args words i → AreRead widths args words
+pub all_read : (widths : List ℕ) (args : List (List ℕ)) (words : List Word) (i : ℕ) → length args ≡ length widths → i ≡ length args → ReadSoFar widths args words i → AreArguments widths args words
 all_read widths args words i l e r = are_read widths args words l (r.long ∙ e) (subst (λ k. ReadSoFar widths args words k) (sym r.long) r)
 
 get_some : (vs : List Word) (s : ℕ) → s < length vs → (v : Word) × (slice_get vs s ≡ Some v)
@@ -51,7 +52,7 @@ get_some [] s h = absurd (omega arith)
 get_some (v ∷ vs) zero h = (v, refl)
 get_some (v ∷ vs) (suc s) h = get_some vs s (omega (arith, h))
 
-pub unread : (widths : List ℕ) (args : List (List ℕ)) (words : List Word) (i w : ℕ) (t : List ℕ) → length args ≡ length widths → ReadSoFar widths args words i → slice_get widths i ≡ Some w → slice_get args i ≡ Some t → ((v : Word) → IsRead w t v → ⊥)
+pub unread : (widths : List ℕ) (args : List (List ℕ)) (words : List Word) (i w : ℕ) (t : List ℕ) → length args ≡ length widths → ReadSoFar widths args words i → slice_get widths i ≡ Some w → slice_get args i ≡ Some t → ((v : Word) → IsArgument w t v → ⊥)
     → IsUnread widths args (argument_line (i + 1) w)
 unread widths args words i w t l r d e bad = record {
   same = l;

@@ -15,7 +15,8 @@ use Rattle.safl_circuit.specs.Correct.{Correct}
 use Rattle.safl_source.specs.Sources.{IsSourceOf}
 use Rattle.safl_source.specs.Circuits.{IsCircuitOf}
 use Rattle.safl_tool.specs.Sources.{IsCompiled}
-use Rattle.safl_tool.specs.Arguments.{AreRead, HaveFault}
+use Rattle.safl_session.specs.Lines.{AreArguments as AreRead}
+use Rattle.safl_tool.specs.Arguments.{HaveFault}
 use Rattle.safl_tool.specs.CommandTasks.{RefusesSourceOf, RefusesGiven}
 use Rattle.safl_task.specs.Endings.{may_give}
 use Rattle.safl_tool.specs.Reporting.{HasHead, Measures}

@@ -21,7 +21,7 @@ use Rattle.safl_drive.specs.Runs.{IsRunOf, until_done, trace_at}
 use Rattle.safl_drive.specs.Stopping.{ProbeFailed}
 use Rattle.safl_command.specs.Traces.{Traces, are_apart}
 use Rattle.safl_task.specs.Answers.{GivesAll, GivingFails}
-use Rattle.safl_tool.specs.Arguments.{AreRead}
+use Rattle.safl_session.specs.Lines.{AreArguments}
 use Rattle.safl_tool.specs.Asking.{IsReadyOf}
 use Rattle.safl_tool.specs.CommandTasks.{outcome, task_if, trace_task, usage_task, GivesTraces}
 use Rattle.safl_task.specs.Endings.{Outside, outside, LeavesAll, LeavesParts, Began, Ended, refused, unwritten, unprinted, unprobed, starved}
@@ -55,7 +55,7 @@ unsent : (text : List ℕ) (x : Option (List ℕ)) → TellsOn (SendsPart text) 
 unsent text None = tt
 unsent text (Some a) = (0, sym (append-nil a))
 
-read_are_words : (widths : List ℕ) (args : List (List ℕ)) (words : List Word) → AreRead widths args words → AreWords words
+read_are_words : (widths : List ℕ) (args : List (List ℕ)) (words : List Word) → AreArguments widths args words → AreWords words
 read_are_words [] [] [] r = tt
 read_are_words [] [] (v ∷ vs) r = absurd r
 read_are_words [] (t ∷ ts) vs r = absurd r
@@ -97,7 +97,7 @@ module _ (source : List ℕ) (args : List (List ℕ)) (limit : ℕ) (t : Traces)
   gives answer o vs run =
       let c = of.compiled in
       let widths : List ℕ = c.program.params c.program.main in
-      let p : AreRead widths args r.words.items = subst (λ l. AreRead l args r.words.items) c.params of.ready.read in
+      let p : AreArguments widths args r.words.items = subst (λ l. AreArguments l args r.words.items) c.params of.ready.read in
       record {
         answer = answer;
         simulates = record {

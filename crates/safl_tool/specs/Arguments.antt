@@ -1,22 +1,10 @@
 -- Arguments: words of the command line that are read as numbers.
-use Rattle.std.specs.Prelude.{◌≡◌, ℕ, ◌+◌, ◌<◌, ◌^◌, ◌⊎◌, List, [], ◌∷◌, length, Some, slice_get}
-use Rattle.safl_word.specs.Words.{Word, IsWord}
-use Rattle.safl_word.specs.Numerals.{IsBounded, value}
+use Rattle.std.specs.Prelude.{◌≡◌, ℕ, ◌+◌, ◌<◌, ◌⊎◌, List, length, Some, slice_get}
+use Rattle.safl_word.specs.Words.{Word}
+use Rattle.safl_session.specs.Lines.{IsArgument}
 use Rattle.safl_task.specs.Lines.{count_line, argument_line}
 use Rattle.safl_task.specs.declared.status.Status.{Status}
 use Rattle.safl_task.specs.declared.status.Status.TheVariants as status
-
--- 1 to 39 digits, whose number fits the width
-pub record IsRead (width : ℕ) (text : List ℕ) (v : Word) : Type 0 where
-  pub numeral : IsBounded 10 39 (2 ^ 128) text
-  pub is : v ≡ record { width = width; bits = value 10 text }
-  pub word : IsWord v
-
--- each argument is read so
-abbrev pub AreRead : List ℕ → List (List ℕ) → List Word → Type 0
-AreRead [] [] [] = Unit {0}
-AreRead (w ∷ ws) (t ∷ ts) (v ∷ vs) = IsRead w t v × AreRead ws ts vs
-AreRead _ _ _ = ⊥
 
 -- there are more or fewer arguments than parameters, and that is the line
 abbrev pub IsMiscounted : List ℕ → List (List ℕ) → List ℕ → Type 0
@@ -30,8 +18,8 @@ pub record IsUnread (widths : List ℕ) (args : List (List ℕ)) (line : List �
   pub text : List ℕ
   pub at_width : slice_get widths index ≡ Some width
   pub at_text : slice_get args index ≡ Some text
-  pub bad : (v : Word) → IsRead width text v → ⊥
-  pub before : (i w : ℕ) (t : List ℕ) → i < index → slice_get widths i ≡ Some w → slice_get args i ≡ Some t → (v : Word) × IsRead w t v
+  pub bad : (v : Word) → IsArgument width text v → ⊥
+  pub before : (i w : ℕ) (t : List ℕ) → i < index → slice_get widths i ≡ Some w → slice_get args i ≡ Some t → (v : Word) × IsArgument w t v
   pub is : line ≡ argument_line (index + 1) width
 
 -- the fault of arguments for parameters of these widths

@@ -8,7 +8,7 @@ use Rattle.safl_probe.specs.Probing.{ProbeState}
 use Rattle.safl_drive.specs.Asked.{Asked, IsAsked}
 use Rattle.safl_command.specs.Traces.{Traces, shown as shown_traces}
 use Rattle.safl_command.specs.declared.command.Tracing.{Tracing}
-use Rattle.safl_tool.specs.Arguments.{AreRead}
+use Rattle.safl_session.specs.Lines.{AreArguments}
 use Rattle.safl_tool.specs.CommandTasks.{probed_task, trace_task}
 use Rattle.safl_tool.specs.Sources.{IsCompiled}
 use Rattle.safl_task.specs.Tasks.{Task}
@@ -38,7 +38,7 @@ ready_task t ps = trace_task (string_bytes t.input) t.limit (shown_traces t.trac
 pub record IsReady (n : Netlist) (args : List (List ℕ)) (r : Ready) : Type 0 where
   pub net : r.sim.net ≡ n
   pub fresh : r.sim.state ≡ resets n
-  pub read : AreRead (argument_widths n.signals) args r.words.items
+  pub read : AreArguments (argument_widths n.signals) args r.words.items
 
 -- the net is the circuit of a source
 pub record IsReadyOf (source : List ℕ) (args : List (List ℕ)) (r : Ready) : Type 0 where

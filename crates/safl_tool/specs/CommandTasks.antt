@@ -28,7 +28,7 @@ use Rattle.safl_task.specs.Lines.{usage_line}
 use Rattle.safl_tool.specs.Printed.{program_lines, outcome_lines, walk_lines, short_line}
 use Rattle.safl_tool.specs.Running.{RunsText, IsMisrun, IsUnrunnable, Finishes}
 use Rattle.safl_tool.specs.Reporting.{GivesReport, RefusesCount, Measures, made_source, made_args}
-use Rattle.safl_task.specs.Limits.{functions_max}
+use Rattle.safl_command.specs.Limits.{functions_max}
 use Rattle.safl_tool.specs.Reshaping.{Reshaping, copies, unfolds, IsUnshaped, IsReshapable, GivesReshaped}
 use Rattle.safl_tool.specs.Simulating.{Simulates, IsMisgiven, Evaluates}
 use Rattle.safl_tool.specs.Walking.{Walks}

@@ -11,8 +11,8 @@ use Rattle.safl_report.specs.Report.{IsReport, IsSummary}
 use Rattle.safl_circuit.specs.Names.{names_of}
 use Rattle.safl_source.specs.Sources.{IsSourceOf}
 use Rattle.safl_source.specs.Circuits.{IsCircuitOf}
-use Rattle.safl_tool.specs.Arguments.{AreRead}
-use Rattle.safl_task.specs.Limits.{functions_max}
+use Rattle.safl_session.specs.Lines.{AreArguments}
+use Rattle.safl_command.specs.Limits.{functions_max}
 use Rattle.safl_task.specs.Lines.{usage_line}
 use Rattle.safl_tool.specs.Printed.{program_lines}
 use Rattle.safl_tool.specs.Simulating.{HasValue}
@@ -63,6 +63,6 @@ pub record Measures (source : List ℕ) (args : List (List ℕ)) (limit : ℕ) (
   pub source_of : IsSourceOf source (program_of program) (names_of program)
   pub circuit : IsCircuitOf (program_of program) (names_of program) net
   pub begins : HasHead program net head
-  pub read : AreRead ((program_of program).params (program_of program).main) args words
+  pub read : AreArguments ((program_of program).params (program_of program).main) args words
   pub outcome : IsOutcome net words limit answer
   pub value : HasValue (program_of program) words answer

@@ -10,13 +10,14 @@ use Rattle.safl_verilog.specs.Reads.{Reads, HasFault}
 use Rattle.safl_sim.specs.declared.done.Done.{Done}
 use Rattle.safl_sim.specs.Arguments.{argument_widths}
 use Rattle.safl_sim.specs.Outcomes.{IsOutcome, IsDone}
-use Rattle.safl_tool.specs.Arguments.{AreRead, HaveFault}
+use Rattle.safl_session.specs.Lines.{AreArguments}
+use Rattle.safl_tool.specs.Arguments.{HaveFault}
 use Rattle.safl_task.specs.VerilogLines.{verilog_line, loop_line}
 
 -- the arguments are read as words for the inputs other than `start`, and the netlist has this outcome in its run with them
 pub record Gives (n : Netlist) (args : List (List ℕ)) (limit : ℕ) (answer : Option Done) : Type 0 where
   pub words : List Word
-  pub read : AreRead (argument_widths n.signals) args words
+  pub read : AreArguments (argument_widths n.signals) args words
   pub outcome : IsOutcome n words limit answer
 
 -- the text reads as this netlist, which has no combinational loop
@@ -43,6 +44,6 @@ pub record Finishes (text : List ℕ) (args : List (List ℕ)) (limit : ℕ) : T
   pub net : Netlist
   pub runnable : IsRunnable text net
   pub words : List Word
-  pub read : AreRead (argument_widths net.signals) args words
+  pub read : AreArguments (argument_widths net.signals) args words
   pub done : Done
   pub outcome : IsDone net words limit done

@@ -9,7 +9,8 @@ use Rattle.safl_term.specs.Fuel.{GivesInCalls}
 use Rattle.safl_circuit.specs.Names.{Names, as_word}
 use Rattle.safl_source.specs.Sources.{IsSourceOf}
 use Rattle.safl_source.specs.Circuits.{IsCircuitOf}
-use Rattle.safl_tool.specs.Arguments.{AreRead, HaveFault}
+use Rattle.safl_session.specs.Lines.{AreArguments}
+use Rattle.safl_tool.specs.Arguments.{HaveFault}
 
 -- main gives the result of that cycle in a number of calls that the cycle bounds, and that bounds the cycle
 pub record IsValue (C : Program) (words : List Word) (d : Done) : Type 0 where
@@ -31,7 +32,7 @@ pub record Simulates (source : List ℕ) (args : List (List ℕ)) (limit : ℕ) 
   pub words : List Word
   pub source_of : IsSourceOf source program names
   pub circuit : IsCircuitOf program names net
-  pub read : AreRead (program.params program.main) args words
+  pub read : AreArguments (program.params program.main) args words
   pub outcome : IsOutcome net words limit answer
   pub value : HasValue program words answer
 
@@ -49,7 +50,7 @@ pub record Evaluates (source : List ℕ) (args : List (List ℕ)) (limit : ℕ) 
   pub names : Names
   pub source_of : IsSourceOf source program names
   pub words : List Word
-  pub read : AreRead (program.params program.main) args words
+  pub read : AreArguments (program.params program.main) args words
   pub value : Word
   pub calls : ℕ
   pub gives : GivesInCalls program words value calls

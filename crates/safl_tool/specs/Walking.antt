@@ -9,7 +9,7 @@ use Rattle.safl_core.specs.Walking as turns
 use Rattle.safl_core.specs.declared.walking.Walked.{Walked}
 use Rattle.safl_circuit.specs.Names.{Names}
 use Rattle.safl_source.specs.Sources.{IsSourceOf}
-use Rattle.safl_tool.specs.Arguments.{AreRead}
+use Rattle.safl_session.specs.Lines.{AreArguments}
 
 -- Main gives the word, and there were three events for each call but two less for each tail call; without a word there were as
 -- many events as are allowed, and main gives no value in so many
@@ -34,5 +34,5 @@ pub record Walks (source : List ℕ) (args : List (List ℕ)) (seed steps : ℕ)
   pub names : Names
   pub words : List Word
   pub source_of : IsSourceOf source program names
-  pub read : AreRead (program.params program.main) args words
+  pub read : AreArguments (program.params program.main) args words
   pub walk : WalksFrom program words seed steps w

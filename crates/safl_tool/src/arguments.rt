@@ -1,10 +1,10 @@
 //! The arguments of a run.
 
-ghost use Rattle.std.specs.Prelude.{◌≡◌, ◌↔◌, ℕ, IsSome, IsNone, IfOk, IfErr, IfSome, map, length, string_bytes};
+ghost use Rattle.std.specs.Prelude.{IsNone, IfOk, IfErr, IfSome, map, string_bytes};
 ghost use Rattle.safl_word.specs.Words.{Word};
-ghost use Rattle.safl_tool.specs.Arguments.{IsRead, AreRead};
-ghost use Rattle.safl_task.specs.Refusals.{RefusesBy};
+ghost use Rattle.safl_session.specs.Lines.{IsArgument, AreArguments};
 ghost use Rattle.safl_tool.specs.Arguments.{RefusesArguments};
+ghost use Rattle.safl_task.specs.Refusals.{RefusesBy};
 
 use safl_task::Refusal;
 use safl_word::{Word, argument};
@@ -16,7 +16,7 @@ pub fn read_arguments<'a>(
     widths: &[u8],
     args: &[String],
 ) -> Result<Vec<Word>, Refusal<'a>>
-    ensures read { IfOk result (λ words. AreRead widths.now (map string_bytes args.now) words.items) }
+    ensures read { IfOk result (λ words. AreArguments widths.now (map string_bytes args.now) words.items) }
     ensures refused { IfErr result (RefusesBy (RefusesArguments widths.now (map string_bytes args.now))) }
 {
     if args.len() != widths.len() {
@@ -38,8 +38,8 @@ pub fn read_arguments<'a>(
 }
 
 fn read_argument(width: u8, text: &[u8]) -> Option<Word>
-    ensures read { IfSome result (IsRead width text.now) }
-    ensures none { IsNone result → (v : Word) → IsRead width text.now v → ⊥ }
+    ensures read { IfSome result (IsArgument width text.now) }
+    ensures none { IsNone result → (v : Word) → IsArgument width text.now v → ⊥ }
 {
     match argument(text) {
         Some(number) => Word::new(width, number),

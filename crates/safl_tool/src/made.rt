@@ -1,6 +1,6 @@
 //! What `gen SEED COUNT` and `bench SEED COUNT --cycles L` print: a source that is made from numbers, and what its circuit gives.
 
-ghost use Rattle.std.specs.Prelude.{◌≡◌, ◌≤◌, ◌<◌, ◌⊎◌, ◌++◌, [], IfOk, IfErr, OnOk, length, map, string_bytes, decimal};
+ghost use Rattle.std.specs.Prelude.{◌≡◌, ◌≤◌, [], IfOk, IfErr, length, map, string_bytes, decimal};
 ghost use Rattle.safl_task.specs.Answers.{given_of, outputs_of};
 ghost use Rattle.safl_tool.specs.CommandTasks.{GivesMeasure, RefusesGiven, RefusesBench, result as result_of};
 ghost use Rattle.safl_task.specs.Limits.{source_max};
