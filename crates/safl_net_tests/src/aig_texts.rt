@@ -1,72 +1,8 @@
-//! Short texts, right and wrong, with the lines of their faults.
+//! Short texts, with what is written of their circuits.
 
-use safl_aig::{Aig, AigErr, AigRule, aig_text, read_aig};
+use safl_aig::{Aig, aig_text, read_aig};
 use std::alloc::Global;
 use std::test::Fail;
-
-// A text, and the rule that one of its lines breaks.
-static WRONG: [(&'static [u8], AigRule, u32); 37] = [
-    (b"", AigRule::B01, 1),
-    (b"\n", AigRule::B01, 1),
-    (b"aag 5 1 1 2 2\n2\n", AigRule::B01, 1),
-    (b"aag 4 1 1 2\n2\n", AigRule::B01, 1),
-    (b"aag  1 1 0 0 0\n2\n", AigRule::B01, 1),
-    (b"aag 1 1 0 0 0 \n2\n", AigRule::B01, 1),
-    (b"aig 1 1 0 0 0\n2\n", AigRule::B01, 1),
-    (b"aag 00000000001 1 0 0 0\n2\n", AigRule::B01, 1),
-    (b"aag 2147483648 2147483648 0 0 0\n", AigRule::B01, 1),
-    (b"aag 1 1 0 0 0 0\n2\n", AigRule::B01, 1),
-    (b"aag 1 1 0 0 0\n", AigRule::B02, 2),
-    (b"aag 1 1 0 0 0\n2 3\n", AigRule::B02, 2),
-    (b"aag 1 1 0 0 0\n00000000002\n", AigRule::B02, 2),
-    (b"aag 1 1 0 0 0\n2147483648\n", AigRule::B02, 2),
-    (b"aag 1 1 0 0 0\n4\n", AigRule::B03, 2),
-    (b"aag 1 0 1 0 0\n2\n", AigRule::B02, 2),
-    (b"aag 1 0 1 0 0\nc\n", AigRule::B02, 2),
-    (b"aag 1 0 1 0 0\n2 4\n", AigRule::B03, 2),
-    (b"aag 2 1 1 0 0\n2\n2 4\n", AigRule::B03, 3),
-    (b"aag 0 0 0 1 0\nx\n", AigRule::B02, 2),
-    (b"aag 0 0 0 2 0\n1\n", AigRule::B02, 3),
-    (b"aag 0 0 0 1 0\n2\n", AigRule::B03, 2),
-    (b"aag 1 0 0 0 1\n2 1\n", AigRule::B02, 2),
-    (b"aag 1 0 0 0 1\n3 0 1\n", AigRule::B03, 2),
-    (b"aag 1 0 0 0 1\n2 2 0\n", AigRule::B03, 2),
-    (b"aag 1 0 0 0 1\n2 0 3\n", AigRule::B03, 2),
-    (
-        b"aag 2 1 1 1 0\n2\n4 5\ni0 start[0]\nl0 t[0]\no0 q[0]\n",
-        AigRule::B02,
-        4,
-    ),
-    (b"aag 1 1 0 0 0\n2\n\n", AigRule::B04, 3),
-    (b"aag 1 1 0 0 0\n2\ni00 x\n", AigRule::B04, 3),
-    (b"aag 1 1 0 0 0\n2\ni1 x\n", AigRule::B04, 3),
-    (b"aag 1 1 0 0 0\n2\ni0 \n", AigRule::B04, 3),
-    (b"aag 1 1 0 0 0\n2\ni0", AigRule::B04, 3),
-    (b"aag 1 1 0 0 0\n2\ni0 x\ni0 y\n", AigRule::B04, 4),
-    (b"aag 1 1 0 0 0\n2\nk0 x\n", AigRule::B04, 3),
-    (b"aag 1 1 0 0 0\n2\no0 x\n", AigRule::B04, 3),
-    (b"aag 1 1 0 0 0\n2\ni0 x\nc \n", AigRule::B04, 4),
-    (b"aag 1 0 0 0 1\n2 0 1\na0 x\n", AigRule::B04, 3),
-];
-
-// Why a text is read as no circuit.
-fn refusal(alloc: Global, text: &[u8]) -> Option<AigErr> {
-    if text.len() >= 4294967296 {
-        return None;
-    }
-    read_aig(alloc, text).err()
-}
-
-#[test]
-fn wrong_texts(rt: HostRuntime) -> Result<(), Fail> {
-    for row in WRONG.iter() {
-        assert_eq!(rt;
-            refusal(rt.alloc(), row.0),
-            Some(AigErr::Refused(row.1, row.2))
-        );
-    }
-    Ok(())
-}
 
 // The numbers of a circuit's places and ANDs.
 #[derive(Clone, Copy, Debug, PartialEq, Eq)]

@@ -1,8 +1,6 @@
 //! Traces of a net by each kind of probe.
 
-ghost use Rattle.std.specs.Prelude.{◌≡◌};
-
-use safl_net::{Net, NetErr, Sig};
+use safl_net::{Net, NetErr};
 use safl_probe::{Probe, ProbeErr, StartsProbe, StubProbe, ToggleProbe, VcdProbe};
 use safl_word::{Raw, Word};
 use std::alloc::{AllocError, Global};

@@ -1,9 +1,10 @@
 -- What is made of a tidy net is tidy.
-use Rattle.std.proofs.Common.{◌≡◌, ℕ, zero, suc, ◌+◌, List, [], ◌∷◌, take, true, ◌⊎◌, inl, inr, slice_get, Some, refl, sym, ap, ◌∙◌}
+use Rattle.std.proofs.Common.{◌≡◌, ℕ, zero, suc, ◌+◌, List, [], ◌∷◌, take, true, false, ◌⊎◌, inl, inr, slice_get, Some, Result, Ok, Err, OnOk, OnErr, refl, sym, ap, subst, ◌∙◌}
 use Rattle.safl_net.specs.Netlist.{Netlist, Signal, Kind}
-use Rattle.safl_net.specs.Making.{with_kind, set_kind, kind_in, kind_at}
+use Rattle.safl_net.specs.Making.{with_signal, with_kind, set_kind, kind_in, kind_at}
 use Rattle.safl_net.specs.Names.{is_temp, one_wire, wires, temp_name, IsTidy}
 use Rattle.safl_net.proofs.Keeping.{Was, was}
+use Rattle.safl_net.proofs.Tidy.{tidy_named}
 
 -- no signals and no outputs
 pub tidy_none : IsTidy (record { signals = []; outputs = [] })
@@ -11,6 +12,11 @@ tidy_none = record {
   signals = λ s g at temp. absurd (cc);
   outputs = λ i o at. absurd (cc);
 }
+
+-- a signal of another name than a temporary's, or none
+pub tidy_placed : {A E : Type 0} (r : Result A E) (n m : Netlist) (g : Signal) → OnOk r (m ≡ with_signal n g) → OnErr r (m ≡ n) → IsTidy n → is_temp g.name ≡ false → IsTidy m
+tidy_placed (Ok x) n m g a b t e = subst IsTidy (sym a) (tidy_named n g t e)
+tidy_placed (Err x) n m g a b t e = subst IsTidy (sym b) t
 
 -- names stay, and so do the numbers of wires
 wires_kept : (gs : List Signal) (s : ℕ) (k : Kind) (t : ℕ) → one_wire k ≡ one_wire (kind_in (slice_get gs s)) → wires (take t (set_kind gs s k)) ≡ wires (take t gs)

@@ -2,11 +2,11 @@
 //!
 //! What the calls of a net require is tested as the tests run, so that their proofs need to know nothing of the net.
 
-ghost use Rattle.std.specs.Prelude.{◌≡◌, ◌<◌, All, None, length, IfOk, IsSome};
+ghost use Rattle.std.specs.Prelude.{◌≡◌, ◌<◌, All, None, false, length, IfOk, IsSome};
 ghost use Rattle.safl_net.specs.Netlist.{Reg, Wire};
 ghost use Rattle.safl_net.specs.Valuations.{reset_state};
 ghost use Rattle.safl_net.specs.Making.{kind_at, width_on};
-ghost use Rattle.safl_net.specs.Names.{is_second, is_temp, IsTidy};
+ghost use Rattle.safl_net.specs.Names.{is_temp, IsTidy};
 
 use arrayvec::ArrayVec;
 use safl_net::{Net, NetErr, Op, Sig, SigKind, WidthsDiffer, op_width};
@@ -61,9 +61,11 @@ fn add(net: &mut Net, line: &Line) -> Result<(), Fault>
     ensures { IsTidy net.new }
 {
     match *line {
-        Line::Input(name, width) => add_input(net, name, width),
-        Line::Reg(name, width, init) => add_register(net, name, width, init),
-        Line::Wire(name, width) => add_wire(net, name, width),
+        Line::Input(name, width) => add_signal(net, SigKind::Input, name, Word::new(width, 0)),
+        Line::Reg(name, width, init) => {
+            add_signal(net, SigKind::Reg, name, Word::new(width, init))
+        }
+        Line::Wire(name, width) => add_signal(net, SigKind::Wire, name, Word::new(width, 0)),
         Line::Temp(does, operands) => add_temporary(net, does, operands),
         Line::Set(s, does, operands) => set(net, s, does, operands),
         Line::Next(r, s) => set_next(net, r, s),
@@ -75,76 +77,36 @@ fn add(net: &mut Net, line: &Line) -> Result<(), Fault>
 fn is_temp(name: &str) -> bool
     ensures { result ≡ is_temp name.now }
 {
-    match name.as_bytes() {
-        [] => false,
-        [first, rest @ ..] => *first == b'n' && is_second(rest),
-    }
+    matches!(name.as_bytes(), [b'n', b'$', ..])
 }
 
-fn is_second(rest: &[u8]) -> bool
-    ensures { result ≡ is_second rest.now }
-{
-    match rest {
-        [] => false,
-        [second, ..] => *second == b'$',
-    }
-}
-
-fn add_input(net: &mut Net, name: &str, width: u8) -> Result<(), Fault>
+// The next signal, of the width of the word, which a register has at reset.
+fn add_signal(net: &mut Net, kind: SigKind, name: &str, word: Option<Word>) -> Result<(), Fault>
     requires { IsTidy net.old }
     ensures { IsTidy net.new }
 {
-    if is_temp(name) {
+    if is_temp(name) || net.signals() == u32::MAX {
         return Err(Fault::Unfit);
     }
-    if width == 0 || width > 128 || net.signals() == u32::MAX {
-        return Err(Fault::Unfit);
-    }
-    match net.input(name, width) {
-        Ok(_) => Ok(()),
-        Err(e) => Err(Fault::Name(e)),
-    }
-}
-
-fn add_wire(net: &mut Net, name: &str, width: u8) -> Result<(), Fault>
-    requires { IsTidy net.old }
-    ensures { IsTidy net.new }
-{
-    if is_temp(name) {
-        return Err(Fault::Unfit);
-    }
-    if width == 0 || width > 128 || net.signals() == u32::MAX {
-        return Err(Fault::Unfit);
-    }
-    match net.wire(name, width) {
-        Ok(_) => Ok(()),
-        Err(e) => Err(Fault::Name(e)),
-    }
-}
-
-fn add_register(net: &mut Net, name: &str, width: u8, init: Raw) -> Result<(), Fault>
-    requires { IsTidy net.old }
-    ensures { IsTidy net.new }
-{
-    match Word::new(width, init) {
-        Some(word) => add_reset(net, name, word),
+    match word {
+        Some(word) => match place(net, kind, name, word) {
+            Ok(_) => Ok(()),
+            Err(e) => Err(Fault::Name(e)),
+        },
         None => Err(Fault::Unfit),
     }
 }
 
-fn add_reset(net: &mut Net, name: &str, init: Word) -> Result<(), Fault>
-    requires { IsTidy net.old }
+fn place(net: &mut Net, kind: SigKind, name: &str, word: Word) -> Result<Sig, NetErr>
+    requires tidy { IsTidy net.old }
+    requires named { is_temp name.now ≡ false }
+    requires room { length net.old.signals < 4294967295 }
     ensures { IsTidy net.new }
 {
-    if is_temp(name) {
-        return Err(Fault::Unfit);
-    }
-    if net.signals() == u32::MAX {
-        return Err(Fault::Unfit);
-    }
-    match net.reg(name, init) {
-        Ok(_) => Ok(()),
-        Err(e) => Err(Fault::Name(e)),
+    match kind {
+        SigKind::Input => net.input(name, word.width()),
+        SigKind::Reg => net.reg(name, word),
+        SigKind::Wire => net.wire(name, word.width()),
     }
 }
 
