@@ -35,7 +35,7 @@ fn run_with_probes(rt: &HostRuntime, words: &[String]) -> Result<Status, AllocEr
     Ok(run(alloc, words, &mut shelf, &mut out, &mut err, &mut probes))
 }
 
-// The words behind the program's name.
+// The words after the program's name.
 fn words_of(rt: &HostRuntime) -> io::Result<Vec<String>> {
     let mut words = Vec::new(rt.alloc());
     for word in env::args(rt)?.skip(1) {

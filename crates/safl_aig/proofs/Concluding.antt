@@ -44,7 +44,7 @@ stop_small text most at c e k s =
     let n = kinds_count c in
     omega (arith, a, b, d, n)
 
--- the header, and the lines behind the body
+-- the header, and the lines after the body
 behind : (text : List ℕ) (at : ℕ) (c : Counts) (b : Body) (h : Begins text c (lines (drop at text))) (p : BodyIs text at c b) → Begins text c (p.passes.front ++ lines (drop b.next text))
 behind text at c b h p = record { head = h.head; lines_are = h.lines_are ∙ ap (λ x. h.head ∷ x) p.passes.lines_are; header = h.header }
 

@@ -259,7 +259,7 @@ decide_letter c = by (decide_eq c 105) (decide_eq c 108) (decide_eq c 111)
     by (inr i) (inr l) (inl o) = inl (sorts.Output, o)
     by (inr i) (inr l) (inr o) = inr (λ h. none i l o h.0 h.1)
 
--- what stands before the first space and behind it
+-- what stands before the first space and after it
 record Cut (c : ℕ) (cs : List ℕ) : Type 0 where
   before : List ℕ
   behind : List ℕ

@@ -7,11 +7,11 @@ use Rattle.safl_aig.specs.Literals.{Assignment, on, on_number}
 use Rattle.safl_aig.specs.Circuits.{Circuit, latches, variables, base, AreBelow, IsCircuit}
 use Rattle.safl_aig.specs.Runs.{variable_bits, next_bits, Fits, all_false, RunsFrom}
 
--- the values of a list, and false behind it
+-- the values of a list, and false after it
 abbrev pub look : List Bool → Assignment
 look vs v = get_or vs v false
 
--- the value of each AND is put behind those before it
+-- the value of each AND is put after those before it
 abbrev pub evaluated : List (Lit × Lit) → List Bool → List Bool
 evaluated [] vs = vs
 evaluated (p ∷ ps) vs = evaluated ps (vs ++ (on (look vs) p.0 && on (look vs) p.1) ∷ [])

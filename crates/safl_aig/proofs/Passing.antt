@@ -29,11 +29,11 @@ passes_on text most at mid next ws vs nss mss p q = record {
   good = good-append most ws vs p.front q.front nss mss p.good q.good;
 }
 
--- a line behind those that pass breaks a rule
+-- a line after those that pass breaks a rule
 pub stops_here : (text : List ℕ) (most at next : ℕ) (all ws left : List LineKind) (w : LineKind) (nss : List (List ℕ)) (e : AigRule) (k : ℕ) → all ≡ ws ++ w ∷ left → length ws ≡ k → Passes text most at ws nss next → Breaks most w (lines (drop next text)) e → Stops text most at all e k
 stops_here text most at next all ws left w nss e k q l p b = record { done = ws; kind = w; left = left; nss = nss; next = next; kinds = q; passes = p; count = l; breaks = b }
 
--- a section stops behind another
+-- a section stops after another
 pub stops_on : (text : List ℕ) (most at mid : ℕ) (ws vs : List LineKind) (nss : List (List ℕ)) (e : AigRule) (k : ℕ) → Passes text most at ws nss mid → Stops text most mid vs e k → Stops text most at (ws ++ vs) e (length ws + k)
 stops_on text most at mid ws vs nss e k p s = record {
   done = ws ++ s.done;
@@ -107,7 +107,7 @@ output_more ls l = map_push (λ (x : Lit). x.0 ∷ []) ls l
 pub outputs_split : (k n : ℕ) → k < n → replicate n Output ≡ replicate k Output ++ Output ∷ replicate (n - (k + 1)) Output
 outputs_split k n h = ap (λ j. replicate j Output) (let z : n ≡ k + suc (n - (k + 1)) = omega (arith, h) in z) ∙ sym (replicate-append-replicate k (suc (n - (k + 1))) Output)
 
--- a section behind another fails
+-- a section after another fails
 pub fails_on : (text : List ℕ) (most at mid : ℕ) (ws vs : List LineKind) (nss : List (List ℕ)) (e d : SectionErr) (k : ℕ) → length ws ≡ k → Passes text most at ws nss mid → Fails text most mid vs e → Later k e d → Fails text most at (ws ++ vs) d
 fails_on text most at mid ws vs nss (Stopped s) (Stopped t) k l p f h = subst (λ r. Stops text most at (ws ++ vs) r t.place) (sym h.0) (subst (λ j. Stops text most at (ws ++ vs) s.rule j) (ap (λ j. j + s.place) l ∙ sym h.1) (stops_on text most at mid ws vs nss s.rule s.place p f))
 fails_on text most at mid ws vs nss (Stopped s) NoMemory k l p f h = absurd h

@@ -56,7 +56,7 @@ abbrev pub kinds_from : (ℕ → LineKind) → ℕ → ℕ → List LineKind
 kinds_from f first zero = []
 kinds_from f first (suc k) = f first ∷ kinds_from f (suc first) k
 
--- the lines behind the header
+-- the lines after the header
 abbrev pub line_kinds : Counts → List LineKind
 line_kinds c =
     kinds_from Input 1 c.inputs ++ (kinds_from Latch (1 + c.inputs) c.latches ++ (replicate c.outputs Output ++ kinds_from And (1 + c.inputs + c.latches) c.ands))

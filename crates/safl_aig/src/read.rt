@@ -37,7 +37,7 @@ pub fn read_aig(alloc: Global, text: &[u8]) -> Result<Aig, AigErr>
     }
 }
 
-// The circuit of the lines behind a header.
+// The circuit of the lines after a header.
 fn read_rest(alloc: Global, text: &[u8], at: usize, h: Header) -> Result<Aig, AigErr>
     requires short { length text.now < 2 ^ 32 }
     requires begins { Begins text.now (counts h) (lines (drop at text.now)) }
@@ -53,7 +53,7 @@ fn read_rest(alloc: Global, text: &[u8], at: usize, h: Header) -> Result<Aig, Ai
     }
 }
 
-// The circuit of a body and the names behind it.
+// The circuit of a body and the names after it.
 fn read_names(alloc: Global, text: &[u8], at: usize, h: Header, body: Body) -> Result<Aig, AigErr>
     requires short { length text.now < 2 ^ 32 }
     requires begins { Begins text.now (counts h) (lines (drop at text.now)) }

@@ -184,7 +184,7 @@ fn later(e: SectionErr, lines: u32) -> SectionErr
     }
 }
 
-/// Reads the lines behind a header, up to the symbols.
+/// Reads the lines after a header, up to the symbols.
 pub fn read_body(alloc: Global, text: &[u8], at: usize, h: Header) -> Result<Body, SectionErr>
     requires sum { h.inputs + h.latches + h.ands < 2 ^ 31 }
     requires outputs { h.outputs < 2 ^ 31 }

@@ -155,7 +155,7 @@ pub fn name_place(alloc: Global, names: &mut Names, line: &[u8]) -> Result<(), S
     }
 }
 
-/// Reads the symbol lines from a place on, behind so many lines.
+/// Reads the symbol lines from a place on, after so many lines.
 pub fn read_symbols(
     alloc: Global,
     text: &[u8],

@@ -100,7 +100,7 @@ taken_y (Ready u) x y e never = pick_cases u.bits x y x y (λ z z'. is_some z �
 taken_y (LoopTo h vs) x y e never = absurd (false≢true e)
 taken_y NotYet x y e never = absurd (false≢true e)
 
--- what stands behind an environment
+-- what stands after an environment
 app_agree : (env vs ws : List Word) (i : ℕ) → ((j : ℕ) → i ≡ length env + j → slot vs j ≡ slot ws j) → slot (env ++ vs) i ≡ slot (env ++ ws) i
 app_agree [] vs ws i h = h i (omega arith)
 app_agree (x ∷ env) vs ws zero h = refl

@@ -154,7 +154,7 @@ fn has_state(trial: &Trial<'_>, disturbed: &Disturbed, state: &str) -> bool {
     }
 }
 
-// The file that a command writes, if it writes one: the word behind that of its input, or the word behind `--vcd`.
+// The file that a command writes, if it writes one: the word after that of its input, or the word after `--vcd`.
 fn output_of(words: &str) -> &str {
     let (verb, names) = words.split_once(' ').unwrap_or((words, ""));
     let separator = match verb {

@@ -23,7 +23,7 @@ pub fn plan_of(alloc: Global, build: &str, source: &str) -> Result<String, NoMem
     Ok(told)
 }
 
-// The numbers behind the lines that begin so.
+// The numbers at the end of the lines that begin so.
 fn push_sites(told: &mut String, text: &str, start: &str) -> Result<(), NoMemory> {
     for line in text.lines() {
         if let Some(rest) = line.strip_prefix(start) {

@@ -83,7 +83,7 @@ pub fn bytes_of(alloc: Global, piece: &str, number: usize) -> Result<Vec<u8>, No
     Ok(bytes)
 }
 
-// What stands behind a `\`.
+// What follows a `\`.
 fn push_escaped(
     alloc: Global,
     bytes: &mut Vec<u8>,

@@ -150,7 +150,7 @@ faultless _ entered = None
 unfoldable pub command_of_line : List (List ℕ) → Option Command
 command_of_line line = faultless (fault_of app line) (subcommand_of app line)
 
--- the command that the words behind the program's name say
+-- the command that the words after the program's name say
 abbrev pub command_of : List (List ℕ) → Option Command
 command_of words = command_of_line (codes "safl" ∷ words)
 

@@ -6,7 +6,7 @@ use Rattle.safl_command.specs.declared.forms.Argument as code
 use Rattle.safl_command.specs.declared.forms.Argument.TheVariants as code_of
 use Rattle.safl_command.specs.declared.forms.Form as code_form
 
--- a word behind a command's own
+-- a word after a command's own
 pub data Argument : Type 0 where
   -- a word that has to be given, as `IN`
   Name : (id : List ℕ) → Argument
@@ -19,7 +19,7 @@ pub data Argument : Type 0 where
   -- any words, as `[ARG..]`
   Rest : (id : List ℕ) → Argument
 
--- a command's own word and what stands behind it
+-- a command's own word and what stands after it
 pub record Form : Type 0 where
   pub word : List ℕ
   pub arguments : List Argument

@@ -8,7 +8,7 @@ ghost use Rattle.safl_command.specs.Forms.{rule, shown, shown_form, form_shape, 
 use clap::{Arg, ArgAction, Command};
 use std::alloc::{AllocError, Global};
 
-/// A word behind a command's own.
+/// A word after a command's own.
 #[derive(Clone, Copy)]
 pub enum Argument<'a> {
     /// A word that has to be given, as `IN`.
@@ -23,7 +23,7 @@ pub enum Argument<'a> {
     Rest(&'a str),
 }
 
-/// A command's own word and what stands behind it.
+/// A command's own word and what may follow it.
 #[derive(Clone, Copy)]
 pub struct Form<'a> {
     pub word: &'a str,

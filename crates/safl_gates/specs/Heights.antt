@@ -1,4 +1,4 @@
--- How many gates stand one behind another above given signals.
+-- How many gates stand one after another above given signals.
 use Rattle.std.specs.Prelude.{◌≡◌, ℕ, zero, suc, ◌+◌, ◌≤◌, ◌^◌, ◌⊎◌, List, [], ◌∷◌, ◌++◌, length, Option, None, Some, slice_get}
 use Rattle.safl_net.specs.declared.cell.Sig.{Sig}
 use Rattle.safl_net.specs.Netlist.{Netlist, Signal, Kind, Input, Reg, Wire}
@@ -28,7 +28,7 @@ abbrev pub IsOneOf : List Sig → ℕ → Type 0
 IsOneOf [] s = ⊥
 IsOneOf (x ∷ xs) s = (x.0 ≡ s) ⊎ IsOneOf xs s
 
--- at most h gates stand one behind another between this signal and those it comes from
+-- at most h gates stand one after another between this signal and those it comes from
 abbrev pub Within : Netlist → List Sig → ℕ → ℕ → Type 0
 Within n from zero s = IsOneOf from s
 Within n from (suc h) s = Within n from h s ⊎ ((ops : List ℕ) × (maybe_reads (slice_get n.signals s) ≡ Some ops) × EachOf (Within n from h) ops)

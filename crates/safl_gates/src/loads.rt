@@ -78,7 +78,7 @@ pub fn add_load(
     Ok(())
 }
 
-/// A load with another behind it.
+/// A load, joined with another that follows it.
 pub fn joined(
     alloc: Global,
     net: &mut Net,

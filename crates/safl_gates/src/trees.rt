@@ -1,4 +1,4 @@
-//! Trees: bits and loads in a row are joined by halves, so that few gates stand one behind another.
+//! Trees: bits and loads in a row are joined by halves, so that few gates stand one after another.
 
 ghost use Rattle.std.specs.Prelude.{◌≡◌, ℕ, ◌+◌, ◌*◌, ◌<◌, ◌≤◌, ◌^◌, ◌++◌, List, map, length, IfOk, OnOk};
 ghost use Rattle.safl_net.specs.declared.cell.Sig.{Sig};

@@ -10,6 +10,6 @@ unfoldable pub number : ℕ → ℕ → ℕ
 number seed zero = seed % 2 ^ 31
 number seed (suc n) = number_after (number seed n)
 
--- draw n, from 0 on, is what the number behind n others has above its low 16 bits; the remainder itself is not drawn from
+-- draw n, from 0 on, is what the number after n others has above its low 16 bits; the remainder itself is not drawn from
 abbrev pub draw : ℕ → ℕ → ℕ
 draw seed n = number seed (suc n) / 65536

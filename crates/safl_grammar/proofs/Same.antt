@@ -92,7 +92,7 @@ module _ {T A B : Type 0} (s : Syntax T A) (f g : A → Syntax T B) where
       one_passes r w h (inl (inr (u, v, x, e, d, k))) = inr (u, v, x, e, d, inl k)
       one_passes r w h (inr (inr (u, v, x, e, d, k))) = inr (u, v, x, e, d, inr k)
 
--- the same behind the same
+-- the same after the same
 pub same_follows : {T A B : Type 0} (s : Syntax T A) {f g : A → Syntax T B} → ((x : A) → Same (f x) (g x)) → Same (follows s f) (follows s g)
 same_follows {T} {A} {B} s {f = f} {g = g} m = record {
   derives = λ w z. (λ d. (d.0, d.1, d.2, d.3, d.4, ((m d.2).derives d.1 z).0 d.5), λ d. (d.0, d.1, d.2, d.3, d.4, ((m d.2).derives d.1 z).1 d.5));

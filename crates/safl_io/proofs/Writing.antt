@@ -5,7 +5,7 @@ use Rattle.safl_io.specs.Shelf.{Files, Leaves, LeavesOldOrEmpty, LeavesOldOrPart
 use Rattle.safl_io.proofs.Telling.{TellsOn-then}
 use Rattle.safl_io.proofs.Pieces.{take-add, take-take}
 
--- the next piece of a text stands behind the earlier ones
+-- the next piece of a text stands after the earlier ones
 Leaves-append : (name text : List ℕ) (at end : ℕ) → at ≤ end → (a b c : Files) → Leaves name (take at text) a b → Appends name (take (end - at) (drop at text)) b c → Leaves name (take end text) a c
 Leaves-append name text at end order a b c left added =
     let whole : at + (end - at) ≡ end = omega arith in
@@ -14,7 +14,7 @@ Leaves-append name text at end order a b c left added =
       others = λ other ne. added.others other ne ∙ left.others other ne;
     }
 
--- a part of the next piece stands behind the earlier ones
+-- a part of the next piece stands after the earlier ones
 Leaves-part : (name text : List ℕ) (at n : ℕ) (a b c : Files) → Leaves name (take at text) a b → AppendsPart name (take n (drop at text)) b c → LeavesOldOrPart name text a c
 Leaves-part name text at n a b c left added =
     let part = rw left.file at added.file in

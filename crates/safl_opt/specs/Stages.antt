@@ -17,7 +17,7 @@ pub record Declared (n : Netlist) (f : Values) (count : ℕ) (m : Netlist) : Typ
   pub each : (x : ℕ) → x < count → slice_get m.signals x ≡ Some (open_signal n (sig_at f.signals.items x))
   pub outputs : m.outputs ≡ []
 
--- the node of a place has its temporary, behind the signals that are kept
+-- the node of a place has its temporary, after the signals that are kept
 pub record HasTemporary (n : Netlist) (f : Values) (made : List Sig) (place : ℕ) (node : Node) (m : Netlist) : Type 0 where
   pub behind : f.kept ≤ sig_at made (f.kept + place)
   pub signal : Signal

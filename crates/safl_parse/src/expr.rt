@@ -119,7 +119,7 @@ impl<'s> Parser<'s> {
         }
     }
 
-    /// An operator of this layer and its right operand, behind its left one.
+    /// An operator of this layer and its right operand, after its left one.
     #[cycle(descent)]
     #[tactic(auto, unfolding(safl_tree::specs::Reader::read_joined))]
     fn joined<'a>(&self, layer: u8, levels: u8, left: Part, tokens: &'a [Token]) -> Read<'a, Part>
@@ -338,7 +338,7 @@ impl<'s> Parser<'s> {
         Ok((parts, rest))
     }
 
-    /// One more, behind a comma.
+    /// One more, after a comma.
     #[cycle(descent)]
     #[tactic(auto, unfolding(safl_tree::specs::Reader::read_another))]
     fn another<'a>(&self, levels: u8, parts: Parts, tokens: &'a [Token]) -> Read<'a, Parts>
@@ -362,7 +362,7 @@ impl<'s> Parser<'s> {
         Ok((bound(self.alloc, place, bindings, body)?, rest))
     }
 
-    /// A width behind a colon, where it is written.
+    /// A width after a colon, where it is written.
     #[tactic(auto, unfolding(safl_tree::specs::Reader::read_written))]
     fn written<'a>(&self, tokens: &'a [Token]) -> Read<'a, Option<u8>>
         ensures { Reads self.now tokens.now (λ x. (x.0, x.1.now)) result read_written }
@@ -414,7 +414,7 @@ impl<'s> Parser<'s> {
         Ok((bindings, rest))
     }
 
-    /// One more, behind a comma.
+    /// One more, after a comma.
     #[cycle(descent)]
     #[tactic(auto, unfolding(safl_tree::specs::Reader::read_another_bind))]
     fn another_bind<'a>(
@@ -456,7 +456,7 @@ impl<'s> Parser<'s> {
         Ok((cased(self.alloc, place, scrutinee, arms)?, rest))
     }
 
-    /// The arms of a case behind these ones, where so many levels are left above the next one's value.
+    /// The arms of a case after these ones, where so many levels are left above the next one's value.
     #[cycle(descent)]
     #[tactic(auto, unfolding(safl_tree::specs::Reader::arms_at, safl_tree::specs::Reader::read_arms))]
     fn arms<'a>(&self, levels: u8, so_far: Labels, tokens: &'a [Token]) -> Read<'a, AllArms>
@@ -469,7 +469,7 @@ impl<'s> Parser<'s> {
         }
     }
 
-    /// A labelled arm, and those behind it.
+    /// A labelled arm, and those after it.
     #[cycle(descent)]
     #[tactic(auto, unfolding(safl_tree::specs::Reader::arm_value_at, safl_tree::specs::Reader::read_arm, safl_tree::specs::Reader::arms_at))]
     fn arm<'a>(&self, levels: u8, so_far: Labels, tokens: &'a [Token]) -> Read<'a, AllArms>

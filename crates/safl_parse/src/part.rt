@@ -172,7 +172,7 @@ pub fn no_labels(alloc: Global) -> Labels
     }
 }
 
-/// The depth of an if behind so many arms, whose branch has this depth, or the limit if that is less.
+/// The depth of an if after so many arms, whose branch has this depth, or the limit if that is less.
 fn arm_depth(before: usize, depth: u8) -> u8
     requires { depth ≤ 100 }
     ensures { result ≡ min (before + 1 + max 2 depth) 100 }
@@ -202,7 +202,7 @@ pub fn push_arm(labels: Labels, label: Expr, value: Part) -> Result<Labels, Allo
     Ok(Labels { arms, depth })
 }
 
-/// The depth of a default behind so many arms, or the limit if that is less.
+/// The depth of a default after so many arms, or the limit if that is less.
 fn default_depth(before: usize, depth: u8) -> u8
     requires { depth ≤ 100 }
     ensures { result ≡ min (before + depth) 100 }

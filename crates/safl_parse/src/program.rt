@@ -44,7 +44,7 @@ impl<'s> Parser<'s> {
         Ok((Param { place, name, width }, rest))
     }
 
-    /// One more parameter, behind a comma.
+    /// One more parameter, after a comma.
     #[tactic(auto, unfolding(safl_tree::specs::Reader::read_another_param))]
     fn another_param<'a>(&self, params: Vec<Param>, tokens: &'a [Token]) -> Read<'a, Vec<Param>>
         ensures { Reads self.now tokens.now (λ x. (shown_parameters x.0.items, x.1.now)) result (read_another_param (shown_parameters params.items)) }
@@ -73,7 +73,7 @@ impl<'s> Parser<'s> {
         Ok((params, rest))
     }
 
-    /// A definition behind `fun` or `and`.
+    /// A definition after `fun` or `and`.
     #[tactic(auto, unfolding(safl_tree::specs::Reader::read_one))]
     fn one<'a>(&self, joined: bool, tokens: &'a [Token]) -> Read<'a, Def>
         ensures { Reads self.now tokens.now (λ x. (shown_definition x.0, x.1.now)) result (read_one joined (expr_at 100)) }
@@ -97,7 +97,7 @@ impl<'s> Parser<'s> {
         Ok((def, rest))
     }
 
-    /// One more member of a group, behind `and`.
+    /// One more member of a group, after `and`.
     #[tactic(auto, unfolding(safl_tree::specs::Reader::read_another_one))]
     fn another_one<'a>(&self, defs: Vec<Def>, tokens: &'a [Token]) -> Read<'a, Vec<Def>>
         ensures { Reads self.now tokens.now (λ x. (shown_definitions x.0.items, x.1.now)) result (read_another_one (expr_at 100) (shown_definitions defs.items)) }

@@ -22,7 +22,7 @@ abbrev pub lines : Text → List Text
 lines [] = []
 lines (c ∷ cs) = if c == 10 then [] ∷ lines cs else before_first c (lines cs)
 
--- the parts of a line before its first space and behind it
+-- the parts of a line before its first space and after it
 abbrev pub before_space : Text → Text
 before_space [] = []
 before_space (c ∷ cs) = if c == 32 then [] else c ∷ before_space cs

@@ -1,4 +1,4 @@
-//! Pieces of lines, each behind its label.
+//! Pieces of lines, each after its label.
 
 ghost use Rattle.std.specs.Prelude.{◌≡◌, ◌++◌, OnOk, codes, decimal};
 ghost use Rattle.safl_report.specs.Report.{answer, function_text, site_text, register_text};
@@ -19,7 +19,7 @@ fn push_name(out: &mut Vec<u8>, label: &str, name: &[u8]) -> Result<(), NoMemory
     Ok(())
 }
 
-/// Appends a number behind its label.
+/// Appends a number after its label.
 pub fn push_number(out: &mut Vec<u8>, label: &str, number: u64) -> Result<(), NoMemory>
     ensures { OnOk result (out.new.items ≡ out.old.items ++ label.now ++ decimal number) }
 {

@@ -1,4 +1,4 @@
--- Nodes from their changed parts, and the sites that are left behind them.
+-- Nodes from their changed parts, and the sites that are left after them.
 use Rattle.std.proofs.Common.{◌≡◌, ℕ, ◌+◌, ◌-◌, List, sym, ap, ◌∙◌, arith}
 use Rattle.std.specs.Prelude.{Result, Ok, Err, OnOk}
 use Rattle.safl_word.specs.declared.primitive.Primitive.{Primitive}

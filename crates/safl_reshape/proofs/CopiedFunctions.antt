@@ -36,7 +36,7 @@ later_units j n u (d ∷ ds) p f =
     let q = unjoined_unit n u d f in
     (omega (arith, q, p), least_units j (suc n) (unit_of n u d) ds (omega arith) (omega (arith, q, p)))
 
--- function t of the first list is copied right behind itself in the second, and all others are kept
+-- function t of the first list is copied right after itself in the second, and all others are kept
 abbrev pub AllCopied : Program → ℕ → ℕ → List FunctionForm → List FunctionForm → Type 0
 AllCopied C j t [] gs = ⊥
 AllCopied C j t (f ∷ fs) [] = ⊥

@@ -125,7 +125,7 @@ module _ (C : Program) (all rest : List Head) (k j : ℕ) (new : List ℕ) (ps :
     first_move = λ s n tail end p x es fs lo m hi ws us w t nm si may l hs q args first f from.
         first_call s n tail end p x es fs lo m hi ws us w t from first (callee (sees all v) x) (is_callee (sees all v) x) si may hs q args f
 
-  -- a body behind that of function j
+  -- a body after that of function j
   module _ (v : ℕ) (lt : j < v) where
     site_call : (s : List Slot) (n : ℕ) (end : Bool) (p : ℕ) (x : List ℕ) (fs : Expressions) (lo : ℕ) (ws : List ℕ) (us : Terms) (w from first i : ℕ) (h : Head) (b : Bool) → (first == k) ≡ b → IsCallee (sees all v) x (Above i h) → C.callee lo ≡ i → count us ≡ arity C i → ws ≡ widths_of h.params → h.width ≡ w
         → ((z : ℕ) → AllMovedIn C (IsCopied j) no_site (sees rest (v + 1)) [] s n z fs ws us) → first ≡ lo → MovedIn C (IsCopied j) no_site (sees rest (v + 1)) [] s n end from (Call p (cond b new x) fs) w (terms.Call i lo us)

@@ -1,4 +1,4 @@
--- What has a width and a term has them too where its calls are changed, behind other slots, and from another first site on.
+-- What has a width and a term has them too where its calls are changed, after other slots, and from another first site on.
 use Rattle.std.proofs.Common.{◌≡◌, ℕ, suc, ◌+◌, List, [], ◌∷◌, ◌++◌, length, Bool, true, false, refl, sym, ap, ◌∙◌, subst, arith}
 use Rattle.std.specs.Prelude.{◌||◌}
 use Rattle.std.proofs.lemmas.List.{append_assoc, length-append}
@@ -34,7 +34,7 @@ bound_count k s lo hi no_binding (w ∷ ws) us h = absurd h
 bound_count k s lo hi (a_binding p x v e bs) [] us h = absurd h
 bound_count k s lo hi (a_binding p x v e bs) (w ∷ ws) us (m, t, ts, keeps, he, hs, q) = ap (λ (n : ℕ). suc n) (bound_count k s m hi bs ws ts hs) ∙ sym (ap count q)
 
--- A term of a body of B that sees b stands there behind these slots, where n slots are seen, and is like the first one
+-- A term of a body of B that sees b stands there after these slots, where n slots are seen, and is like the first one
 abbrev pub MovedIn : Program → (ℕ → ℕ → Type 0) → (ℕ → Bool) → Known → List Slot → List Slot → ℕ → Bool → ℕ → Expression → ℕ → Term → Type 0
 MovedIn C same at b pre s n tail lo e w t = (hi : ℕ) × (u : Term) × Has b (pre ++ s) tail lo hi e w u × Alike C same at (length pre) n t u
 

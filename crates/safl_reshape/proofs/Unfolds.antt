@@ -79,7 +79,7 @@ module _ (C : Program) (at : ℕ → Bool) (all : List Head) (u v : ℕ) (is : I
   abbrev b : Known
   b = sees all v
 
-  -- the body, behind what is seen at the call
+  -- the body, after what is seen at the call
   body_moved : (ps : List Parameter) (of : IsBodyOf C at all u i ps width body) (z : List Slot) (from : ℕ) → MovedIn C is_same at b z (slots_of ps) (length (z ++ slots_of ps)) false from body width (C.body i)
   body_moved ps of z from =
       subst (λ (e : Expression). MovedIn C is_same at b z (slots_of ps) (length (z ++ slots_of ps)) false from e width (C.body i)) (unchanged_same (sees all u) of.first body)

@@ -80,7 +80,7 @@ copy_of all j new d = record {
   body = changed (record { heads = all; unit = j }) (own_call new) 1 d.body;
 }
 
--- one more right behind number j
+-- one more right after number j
 abbrev pub put_behind : ℕ → Definition → List Definition → List Definition
 put_behind j x [] = []
 put_behind zero x (d ∷ ds) = d ∷ (x ∷ ds)

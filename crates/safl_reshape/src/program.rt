@@ -20,7 +20,7 @@ use safl_typing::laws::{fault_or_form_law, one_form_law};
 use safl_word::NoMemory;
 use std::alloc::Global;
 
-/// The program in which the callee of a site is copied for its call: right behind the callee stands the copy, whose name
+/// The program in which the callee of a site is copied for its call: right after the callee stands the copy, whose name
 /// is the callee's, `_` and the number of the site. It has a form, and main gives the same words in as many calls. A
 /// refusal is the first that holds.
 pub fn copy_site(alloc: Global, program: Program, site: u32) -> Result<Program, ReshapeErr>

@@ -116,7 +116,7 @@ module _ (text : List ℕ) (n base count : ℕ) (s : 1 ≤ n) (r : IsRun (is_dig
   unfolding parts
   longest = sized_longest parts (drop count h.digits) like h.run.ends
 
-  -- the digits behind the letter
+  -- the digits after the letter
   pub size_digits : drop 2 (drop n text) ≡ h.digits
   size_digits = ap (drop 2) h.joined
 

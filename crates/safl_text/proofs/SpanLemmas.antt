@@ -52,7 +52,7 @@ some_bytes k w h = some w (token_some w (token_like k w h))
     some [] f = absurd (f refl)
     some (c ∷ w) f = omega arith
 
--- the tokens of the pieces behind u
+-- the tokens of the pieces after u
 lie : (u : List ℕ) (p q : ℕ) (xs : List Piece) (rest text : List ℕ) → p ≡ length u → q ≤ p → StandAll xs rest → text ≡ u ++ text_of_all xs → LieInOrder text q (tokens_from p xs)
 lie u p q [] rest text e le s j = tt
 lie u p q (Blank c ∷ xs) rest text e le s j = lie (u ++ c ∷ []) (p + 1) q xs rest text (omega (arith, length-append u (c ∷ []))) (omega arith) s.1 (j ∙ sym (append_assoc u (c ∷ []) (text_of_all xs)))

@@ -66,7 +66,7 @@ fn number(text: &[u8]) -> Front
     }
 }
 
-// The base of the digits behind a `'`, and how many they are.
+// The base of the digits after a `'`, and how many they are.
 fn size_of(text: &[u8]) -> Option<(u8, usize)>
     ensures some { IfSome result (λ s. HasSize text.now s.0 s.1) }
     ensures none { IfNone result (HasNoSize text.now) }

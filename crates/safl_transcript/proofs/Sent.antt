@@ -20,7 +20,7 @@ both_sent a b (Some x) None new p q = absurd p
 both_sent a b (Some x) (Some y) None p q = absurd q
 both_sent a b (Some x) (Some y) (Some z) p q = q ∙ ap (λ (l : List ℕ). l ++ b) p ∙ append_assoc x a b
 
--- a text and a part of another one are a part of both with more behind them
+-- a text and a part of another one are a part of both with more after them
 part_of : (a b c : List ℕ) (k : ℕ) → take (length (a ++ take k b)) ((a ++ b) ++ c) ≡ a ++ take k b
 part_of a b c k =
     let split : (a ++ b) ++ c ≡ (a ++ take k b) ++ (drop k b ++ c) =

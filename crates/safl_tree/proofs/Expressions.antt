@@ -27,7 +27,7 @@ module _ (pe : Reading Terminal Tree) (se ce : Syntax Terminal Tree) (e : Parses
   unfolding read_unary
   unary_parses = or_else (Only (symbol_code syms.Tilde ∷ [])) inverted_parses (primary_parses pe se ce e) refl refl refl refl
 
--- one layer: behind its operands stands what is in xs, and behind the layer what is in ys
+-- one layer: after its operands stands what is in xs, and after the layer what is in ys
 module _ (k : ℕ) (xs ys : List ℕ) (ps : Reading Terminal Tree) (ss cs : Syntax Terminal Tree) (sub : Parses code ps ss cs false operand_starts operand_opens (Only xs)) (ops_ops : subset (Only (operators k)) (Only (operators k)) ≡ true) (ops_xs : subset (Only (operators k)) (Only xs) ≡ true) (both_xs : subset (Only (operators k ++ ys)) (Only xs) ≡ true) (xs_xs : subset (Only xs) (Only xs) ≡ true) (ys_xs : subset (Only ys) (Only xs) ≡ true) (ys_ys : subset (Only ys) (Only ys) ≡ true) (ys_ops : apart (Only ys) (Only (operators k)) ≡ true) (ops_none : subset (Only (operators k ++ [])) (Only (operators k)) ≡ true) where
   joined_parses : (zs : List ℕ) → subset (Only zs) (Only xs) ≡ true → (a : Tree) → Parses code (read_joined k ps a) (Grammar.joined k ss a) (Grammar.joined k cs a) false (Only (operators k)) (Only (operators k)) (Only zs)
   unfolding read_joined

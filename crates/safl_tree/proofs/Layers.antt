@@ -138,7 +138,7 @@ pub chain_6 : Chain 6
 unfolding read_chain read_layer
 chain_6 = record { other = λ e. absurd cc; few = λ e. absurd cc; lay = λ m w. refl; ops_behind = refl; next_behind = refl; next_apart = refl }
 
--- behind these words the layer's loop goes on with the tree
+-- after these words the layer's loop goes on with the tree
 pub record Loops (k m : ℕ) (ks : List Word) (v : Tree) : Type 0 where
   pub goes : (w r : List Terminal) → words_in w ≡ ks → within (behind k) (code (head_of r)) ≡ true → (x : Tree) × (unplaced x ≡ v) × (read_chain (suc k) (unary_at m) (w ++ r) ≡ turns k m x r)
 
@@ -150,7 +150,7 @@ loops_stand k m ks v c l = record {
       (x.0, x.1, x.2 ∙ stops_here (comes (operators k)) (read_joined k (chain_at k m)) (joined_eats k m) x.0 r (turns k m x.0 r) refl (apart_within (behind (suc k)) (Only (operators k)) (code (head_of r)) c.next_apart h));
 }
 
--- and begins behind a first operand
+-- and begins after a first operand
 pub stand_loops : (k m : ℕ) (ks : List Word) (v : Tree) → Chain k → Stands k m ks v → Loops k m ks v
 unfolding read_chained
 stand_loops k m ks v c s = record {

@@ -53,7 +53,7 @@ an_index = parses_limited code Range tt fits_index number (Only (2 ∷ [])) (cla
 a_sized : Parses code (read_limited Range fits_sized sized) (limited Range fits_sized sized) (limited Range fits_sized sized) false (Only (3 ∷ [])) (Only (3 ∷ [])) Every
 a_sized = parses_limited code Range tt fits_sized sized (Only (3 ∷ [])) (classed_within (Only (3 ∷ [])) _)
 
--- ---- what may begin an expression, and what may stand behind one
+-- ---- what may begin an expression, and what may stand after one
 
 -- a literal, a name, `(`, `cat`, `bits`, `ext`
 abbrev pub primary_list : List ℕ
@@ -73,7 +73,7 @@ operand_opens = Only (3 ∷ [])
 abbrev pub after_list : List ℕ
 after_list = 0 ∷ word_code keys.Fun ∷ word_code keys.And ∷ word_code keys.Then ∷ word_code keys.Else ∷ word_code keys.In ∷ symbol_code syms.CloseParen ∷ symbol_code syms.Comma ∷ symbol_code syms.Semicolon ∷ symbol_code syms.OpenBrace ∷ symbol_code syms.CloseBrace ∷ []
 
--- behind k layers: the operators of the layers from k on, and what ends an expression
+-- after k layers: the operators of the layers from k on, and what ends an expression
 abbrev pub after_layers : ℕ → List ℕ
 after_layers zero = operators 0 ++ (operators 1 ++ (operators 2 ++ (operators 3 ++ (operators 4 ++ (operators 5 ++ (operators 6 ++ after_list))))))
 after_layers (suc zero) = operators 1 ++ (operators 2 ++ (operators 3 ++ (operators 4 ++ (operators 5 ++ (operators 6 ++ after_list)))))

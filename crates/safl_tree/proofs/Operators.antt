@@ -181,7 +181,7 @@ two_words l o a b = enclosed (leb (own a) l) (words a) ++ (Printed.sym (symbol_o
 words_two : (p : ℕ) (o : Primitive) (a b : Tree) → Between o → words (Op p o (a_tree a (a_tree b no_tree))) ≡ two_words (left_place o) o a b
 words_two p o a b s = s.written (enclosed (leb (own a) (left_place o)) (words a) ∷ (enclosed (leb (own b) (right_place o)) (words b) ∷ []))
 
--- an operator and its right operand, behind a left one
+-- an operator and its right operand, after a left one
 joined_reads : (o : Primitive) (m : ℕ) (x : Tree) (ks : List Word) (v : Tree) → Between o → depth x < 100 → Stands (right_place o) m ks v → Reads (read_joined (right_place o) (chain_at (right_place o) m) x) (Printed.sym (symbol_of o) ∷ ks) (behind (right_place o)) unplaced (Op 0 o (a_tree (unplaced x) (a_tree v no_tree)))
 unfolding read_joined
 joined_reads o m x ks v s d b =

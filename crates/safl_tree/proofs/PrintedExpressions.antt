@@ -117,7 +117,7 @@ opens_list : (t : Tree) (xs : List (List Word)) (ks : List Word) → Claim t →
 opens_list t [] ks c = avoids_front close_paren (enclosed (leb (own t) 8) (words t)) ks (opens_part t c 8)
 opens_list t (x ∷ xs) ks c = avoids_front close_paren (separated (Printed.sym syms.Comma) (enclosed (leb (own t) 8) (words t) ∷ (x ∷ xs))) ks (avoids_front close_paren (enclosed (leb (own t) 8) (words t)) (Printed.sym syms.Comma ∷ separated (Printed.sym syms.Comma) (x ∷ xs)) (opens_part t c 8))
 
--- a call, behind its name's `(`
+-- a call, after its name's `(`
 call_read : (p : ℕ) (f : List ℕ) (ts : Trees) → AllClaim ts → (m : ℕ) → most ts ≤ m → (q : Rattle.safl_tree.specs.Terminals.NameAt) → q.name ≡ f → Reads (read_either (comes close_paren) (read_no_arguments q) (read_arguments (expr_at m) q)) (separated (Printed.sym syms.Comma) (part_words 8 8 ts) ++ (Printed.sym syms.CloseParen ∷ [])) (behind 0) unplaced (Call 0 f (unplaced_trees ts))
 unfolding read_no_arguments read_arguments
 call_read p f no_tree c m le q e = reads_narrowed Every (reads_first close_paren _ (reads_give (λ closed. Call q.place q.name (trees_of [])) unplaced (Call 0 f no_tree) (reads_symbol syms.CloseParen) (λ x u. ap (λ (n : List ℕ). Call 0 n no_tree) e)) refl) refl

@@ -118,7 +118,7 @@ another_read acc d j f = reads_then (reads_key keys.And) (λ k u. reads_give (λ
 first_read : (d : Definition) → d.joined ≡ false → Definable d → Reads (read_follows (Rattle.safl_tree.specs.Reader.read_word keys.Fun) (λ f. read_one false (expr_at 100))) (Printed.key keys.Fun ∷ one_words d) after_expr unplaced_definition (unplaced_definition d)
 first_read d j f = reads_then (reads_key keys.Fun) (λ k u. one_read false d j f) refl
 
--- `fun` begins a group, and the loop over its joined definitions goes on behind its first one
+-- `fun` begins a group, and the loop over its joined definitions goes on after its first one
 group_step : (acc : List Definition) (d : Definition) (w v : List Terminal) → comes fun_key (head_of w) ≡ true → (y : Definition) → read_follows (Rattle.safl_tree.specs.Reader.read_word keys.Fun) (λ f. read_one false (expr_at 100)) w ≡ Ok (y, v) → outer acc w ≡ rest_of (inner (acc ++ y ∷ []) v)
 unfolding read_another_group read_group
 group_step acc d w v t y e =
@@ -147,7 +147,7 @@ outer_ends acc = stops_here (comes fun_key) (read_another_group (expr_at 100)) g
 shown_end : (acc : List Definition) (d : Definition) (ds : List Definition) (v : List Definition) → v ≡ unplaced_program acc ++ unplaced_definition d ∷ [] → v ++ unplaced_program ds ≡ unplaced_program acc ++ unplaced_program (d ∷ ds)
 shown_end acc d ds v e = ap (λ (l : List Definition). l ++ unplaced_program ds) e ∙ append_assoc (unplaced_program acc) (unplaced_definition d ∷ []) (unplaced_program ds)
 
--- a group's first definition, where the definitions behind it are read
+-- a group's first definition, where the definitions after it are read
 first_ends : (d : Definition) (ds acc : List Definition) (w : List Terminal) → d.joined ≡ false → Definable d → words_in w ≡ program_words (d ∷ ds) → ((more : List Definition) (v : List Terminal) → words_in v ≡ program_words ds → Ends (rest_of (inner more v)) (unplaced_program more ++ unplaced_program ds)) → (comes and_key (head_of w) ≡ false) × (comes (symbol_code syms.Semicolon ∷ []) (head_of w) ≡ false) × Ends (outer acc w) (unplaced_program acc ++ unplaced_program (d ∷ ds))
 first_ends d ds acc w j f e rest =
     let e' : words_in w ≡ (Printed.key keys.Fun ∷ one_words d) ++ program_words ds = e ∙ ap (λ (b : Bool). opening b ∷ (one_words d ++ program_words ds)) j in

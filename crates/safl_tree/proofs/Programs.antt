@@ -35,7 +35,7 @@ params_parses = or_else (Only (1 ∷ [])) (then param_parses (λ p. repeated (On
 abbrev semicolon : List ℕ
 semicolon = symbol_code syms.Semicolon ∷ []
 
--- what may stand behind a group, with or without its semicolon, and behind a definition
+-- what may stand after a group, with or without its semicolon, and after a definition
 abbrev after_group : List ℕ
 after_group = 0 ∷ word_code keys.Fun ∷ []
 

@@ -163,7 +163,7 @@ AllRead p F g [] (v ∷ vs) = ⊥
 AllRead p F g (x ∷ xs) [] = ⊥
 AllRead p F g (x ∷ xs) (v ∷ vs) = Reads p x F g v × AllRead p F g xs vs
 
--- one more item, behind a comma
+-- one more item, after a comma
 abbrev pub one_more : {A : Type 0} → Reading Terminal A → List A → Reading Terminal (List A)
 one_more p xs = read_follows (read_symbol syms.Comma) (λ sep. read_follows p (λ x. read_nothing (xs ++ x ∷ [])))
 
@@ -234,7 +234,7 @@ reads_sized w n h = reads_limited Every Range fits_sized sized (Printed.sized w 
   ap (λ (k : Word). is_width (width_in k.kind)) e ∙ h,
 ))
 
--- ---- items behind commas
+-- ---- items after commas
 
 one_eats : {A : Type 0} (p : Reading Terminal A) → Small p → (xs : List A) (w r : List Terminal) (x : List A) → one_more p xs w ≡ Ok (x, r) → length r < length w
 one_eats p h xs = (eats_follows (eats_token (marked (symbol_code syms.Comma))) (λ sep. small_follows h (λ x. small_nothing (xs ++ x ∷ [])))).left
@@ -267,6 +267,6 @@ module _ {A B : Type 0} (p : Reading Terminal A) (small_p : Small p) (fs : List 
         );
   }
 
-  -- one item and those behind it
+  -- one item and those after it
   pub list_reads : (x : List Word) (v : B) (xs : List (List Word)) (vs : List B) → Reads p x (Only fs) g v → AllRead p (Only fs) g xs vs → Reads (read_follows p (λ y. read_many (comes comma) (one_more p) (y ∷ []))) (separated (Printed.sym syms.Comma) (x ∷ xs)) G (map g) (v ∷ vs)
   list_reads x v xs vs a b = subst (λ (l : List Word). Reads (read_follows p (λ y. read_many (comes comma) (one_more p) (y ∷ []))) l G (map g) (v ∷ vs)) (sym (separated_commas x xs)) (reads_then a (λ y e. subst (λ (z : B). Reads (read_many (comes comma) (one_more p) (y ∷ [])) (commas xs) G (map g) (z ∷ vs)) e (items_read xs vs b (y ∷ []))) (more_fits xs))

@@ -136,7 +136,7 @@ abbrev pub program_words : List Definition → List Word
 program_words [] = []
 program_words (d ∷ ds) = opening d.joined ∷ (one_words d ++ program_words ds)
 
--- a line of words: the last has a line feed behind it, and any other a space
+-- a line of words: the last has a line feed after it, and any other a space
 abbrev lined : Word → List Word → List Spaced
 lined x [] = record { kind = x.kind; text = x.text; blank = 10 } ∷ []
 lined x (y ∷ ys) = record { kind = x.kind; text = x.text; blank = 32 } ∷ lined y ys

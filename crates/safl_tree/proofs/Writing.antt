@@ -29,7 +29,7 @@ pub ends_with : {A E : Type 0} (r : Result A E) (a b c : List ℕ) (u v : List W
 ends_with (Ok x) a b c u v h i = writes_then a b c u v h i
 ends_with (Err e) a b c u v h i = tt
 
--- words behind a separator each
+-- words after a separator each
 abbrev pub behind : Word → List (List Word) → List Word
 behind s [] = []
 behind s (x ∷ xs) = s ∷ (x ++ behind s xs)
@@ -66,7 +66,7 @@ chain_7 r a b1 b2 b3 b4 b5 b6 c u1 u2 u3 u4 u5 u6 u7 h1 h2 h3 h4 h5 h6 h7 = ends
 pub chain_8 : {A E : Type 0} (r : Result A E) (a b1 b2 b3 b4 b5 b6 b7 c : List ℕ) (u1 u2 u3 u4 u5 u6 u7 u8 : List Word) → Writes a b1 u1 → Writes b1 b2 u2 → Writes b2 b3 u3 → Writes b3 b4 u4 → Writes b4 b5 u5 → Writes b5 b6 u6 → Writes b6 b7 u7 → OnOk r (Writes b7 c u8) → OnOk r (Writes a c (u1 ++ (u2 ++ (u3 ++ (u4 ++ (u5 ++ (u6 ++ (u7 ++ u8))))))))
 chain_8 r a b1 b2 b3 b4 b5 b6 b7 c u1 u2 u3 u4 u5 u6 u7 u8 h1 h2 h3 h4 h5 h6 h7 h8 = ends_with r a b1 c u1 (u2 ++ (u3 ++ (u4 ++ (u5 ++ (u6 ++ (u7 ++ u8)))))) h1 (chain_7 r b1 b2 b3 b4 b5 b6 b7 c u2 u3 u4 u5 u6 u7 u8 h2 h3 h4 h5 h6 h7 h8)
 
--- ---- items behind a separator
+-- ---- items after a separator
 
 module _ {E : Type 0} (item : E → List Word) (f : List E → List (List Word)) (none : f [] ≡ []) (more : (x : E) (xs : List E) → f (x ∷ xs) ≡ item x ∷ f xs) where
   pub items_step : (s : Word) (xs : List E) (i : ℕ) (x : E) → i < length xs → x ≡ get_or xs i x → (a b c d : List ℕ) (all : List Word) → Leaves b (behind s (f (drop i xs))) a all → Writes b c (s ∷ []) → Writes c d (item x) → Leaves d (behind s (f (drop (i + 1) xs))) a all

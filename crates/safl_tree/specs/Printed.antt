@@ -119,7 +119,7 @@ abbrev pub param_words : List Parameter → List (List Word)
 param_words [] = []
 param_words (p ∷ ps) = (name p.name ∷ (sym syms.Colon ∷ (number p.width ∷ []))) ∷ param_words ps
 
--- a definition behind its `fun` or `and`
+-- a definition after its `fun` or `and`
 abbrev pub one_words : Definition → List Word
 one_words d = name d.name ∷ (sym syms.OpenParen ∷ (separated (sym syms.Comma) (param_words d.params) ++ (sym syms.CloseParen ∷ (sym syms.Colon ∷ (number d.width ∷ (sym syms.Assign ∷ words d.body))))))
 
@@ -143,6 +143,6 @@ abbrev pub printed : List Definition → List ℕ
 printed [] = []
 printed (d ∷ ds) = line d ++ printed ds
 
--- these words are written behind what stood there
+-- these words are written after what stood there
 abbrev pub Writes : List ℕ → List ℕ → List Word → Type 0
 Writes old new ws = new ≡ old ++ spaced ws

@@ -166,7 +166,7 @@ read_cases e rest = read_follows (read_word keys.Case) (λ p. read_follows e (λ
 unfoldable pub read_expr : Reading Terminal Tree → Reading Terminal Tree → (List Labelled → Reading Terminal ArmList) → Reading Terminal Tree
 read_expr u e rest = read_either (comes (word_code keys.If ∷ [])) (read_choice e) (read_either (comes (word_code keys.Let ∷ [])) (read_binding e) (read_either (comes (word_code keys.Case ∷ [])) (read_cases e rest) (read_chain 7 u)))
 
--- ---- levels: the operand of "~", an expression, an arm's value and the arms behind it, where m levels are left
+-- ---- levels: the operand of "~", an expression, an arm's value and the arms after it, where m levels are left
 
 unfoldable mutual
   pub operand_at : ℕ → Reading Terminal Tree

@@ -37,7 +37,7 @@ fn push_def(def: &Def, out: &mut Vec<u8>) -> Result<(), NoMemory>
     Ok(())
 }
 
-// Writes a definition behind its `fun` or `and`.
+// Writes a definition after its `fun` or `and`.
 fn push_one(def: &Def, out: &mut Vec<u8>) -> Result<(), NoMemory>
     ensures { OnOk result (Writes out.old.items out.new.items (one_words (shown_definition def.now))) }
 {

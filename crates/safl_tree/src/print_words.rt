@@ -1,4 +1,4 @@
-//! Tokens behind a space each.
+//! Tokens, each after a space.
 
 ghost use Rattle.std.specs.Prelude.{◌≡◌, [], ◌∷◌, ◌++◌, OnOk};
 ghost use Rattle.safl_tree.specs.Printed.{Writes, key, sym, name, number, sized, symbol_of};

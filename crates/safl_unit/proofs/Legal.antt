@@ -81,7 +81,7 @@ all_good true true true e f g = absurd (cc)
 all_good true false c e f g = absurd (cc)
 all_good false b c e f g = absurd (cc)
 
--- a head, and parts of a name behind it
+-- a head, and parts of a name after it
 pub good_headed : (h x : List ℕ) → is_identifier (h ++ x) ≡ are_parts x → length h ≤ 8 → is_reserved (h ++ x) ≡ false → are_parts x ≡ true → length x ≤ 129 → is_good (h ++ x) ≡ true
 unfolding is_good
 good_headed h x i l r e s =

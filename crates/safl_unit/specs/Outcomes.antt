@@ -1,4 +1,4 @@
--- The circuit of one body in the circuit of its program, and how its tail calls come behind those of the bodies before it.
+-- The circuit of one body in the circuit of its program, and how its tail calls come after those of the bodies before it.
 use Rattle.std.specs.Prelude.{◌≡◌, ℕ, suc, ◌+◌, ◌<◌, ◌≤◌, ◌⊎◌, List, [], ◌∷◌, ◌++◌, length, Option, None, Some, Vec, slice_get}
 use Rattle.std.specs.Global.{Global}
 use Rattle.safl_term.specs.Checked.{CheckedProgram, program_of, first_site_of}

@@ -160,7 +160,7 @@ fn own_ports(
     Ok(own)
 }
 
-// Puts the tail calls of a body behind those of the bodies before it, for the members of its group.
+// Puts the tail calls of a body after those of the bodies before it, for the members of its group.
 fn push_loops(
     rows: &mut Vec<Vec<Load>>,
     first_member: u32,

@@ -90,7 +90,7 @@ stmt_ends w x (inr d) = always_ends w x d
 another_stmt_ends : (ss : List Statement) → Ends 23 (Grammar.another_stmt ss).derives
 another_stmt_ends ss = then_nothing 23 Grammar.stmt (λ s. ss ++ s ∷ []) stmt_ends
 
--- what ended so before some turns ends so behind them
+-- what ended so before some turns ends so after them
 turns_end : {A : Type 0} (code : ℕ) (step : A → Syntax Terminal A) → ((a : A) → Ends code (step a).derives) → (k : ℕ) (a : A) (u w : List Terminal) (x : A) → EndsIn code u → (turns k step a).derives w x → EndsIn code (u ++ w)
 turns_end code step h zero a u w x e d = subst (λ (l : List Terminal). EndsIn code (u ++ l)) (sym d.0) (subst (λ (l : List Terminal). EndsIn code l) (sym (append-nil u)) e)
 turns_end code step h (suc k) a u w x e (inl (v, z, y, j, d, g)) =

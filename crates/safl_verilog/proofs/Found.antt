@@ -58,7 +58,7 @@ word_found c w x h e =
 numeral_front : (base c : ℕ) (w : List ℕ) → is_digit base c ≡ true → IsNumeral base (take (run (is_digit base) (c ∷ w)) (c ∷ w))
 numeral_front base c w h = record { some = rw h (omega arith); digits = run_all (is_digit base) (c ∷ w) }
 
--- what stands behind the width of a sized number
+-- what stands after the width of a sized number
 record Based (v : List ℕ) (base : ℕ) : Type 0 where
   letter : ℕ
   first : ℕ

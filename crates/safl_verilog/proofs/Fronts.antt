@@ -7,7 +7,7 @@ use Rattle.safl_verilog.specs.declared.token.TokenKind.{TokenKind}
 use Rattle.safl_verilog.specs.declared.token.TokenKind.TheVariants as kinds
 use Rattle.safl_verilog.specs.Tokens.{stops, next_base, IsToken, Piece, Blank, Line, Block, Lexeme, text_of, text_of_all, StandsBefore, StandAll}
 
--- of two fronts of a text, the second goes on behind the first, or ends within it
+-- of two fronts of a text, the second goes on after the first, or ends within it
 pub either_front : (a b f r : List ℕ) → a ++ b ≡ f ++ r → ((g : List ℕ) × (f ≡ a ++ g) × (b ≡ g ++ r)) ⊎ ((c : ℕ) × (v : List ℕ) × (a ≡ f ++ c ∷ v))
 either_front [] b f r e = inl (f, refl, e)
 either_front (x ∷ a) b [] r e = inr (x, a, refl)

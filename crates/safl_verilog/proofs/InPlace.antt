@@ -1,4 +1,4 @@
--- In a written file no identifier stands behind a `;`, and there is no comment.
+-- In a written file no identifier stands after a `;`, and there is no comment.
 use Rattle.std.proofs.Common.{◌≡◌, ℕ, ◌+◌, Bool, true, false, not, ◌==◌, ◌&&◌, List, [], ◌∷◌, ◌++◌, length, Some, None, Option, refl, ap, subst, ◌∙◌, append_assoc}
 use Rattle.std.specs.List.{flat_map}
 use Rattle.std.proofs.lemmas.Bool.{and_parts}

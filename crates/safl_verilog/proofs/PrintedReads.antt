@@ -50,7 +50,7 @@ bare_file f = record { header = map bare f.header; declarations = map bare_decla
 
 -- ---- tokens of pieces
 
--- where the tokens of the pieces behind these begin
+-- where the tokens of the pieces after these begin
 abbrev pub behind : ℕ → List Piece → ℕ
 behind p [] = p
 behind p (Blank c ∷ xs) = behind (p + 1) xs

@@ -70,7 +70,7 @@ some_token (Line w ∷ xs) p e = some_token xs (p + length (text_of (Line w))) e
 some_token (Block w ∷ xs) p e = some_token xs (p + length (text_of (Block w))) e
 some_token (Lexeme k w ∷ xs) p e = cc
 
--- behind its last token a file has no more than its last line feed
+-- after its last token a file has no more than its last line feed
 left_over : (done more before : List Piece) (p : ℕ) → done ++ more ≡ before ++ last_pieces → tokens_from p more ≡ [] → (more ≡ []) ⊎ (more ≡ line_end ∷ [])
 left_over [] more before p e t = absurd (some_token before p (ap (tokens_from p) (sym e) ∙ t))
 left_over (c ∷ []) more [] p e t = inr cc

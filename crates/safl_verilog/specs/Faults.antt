@@ -29,7 +29,7 @@ where_not false f = f ∷ []
 abbrev pub is_short : ℕ → List ℕ → Bool
 is_short base w = nat_le (length w) digits_max && nat_lt (value base w) value_bound
 
--- a sized number's digits before the `'`, and what stands behind it
+-- a sized number's digits before the `'`, and what stands after it
 abbrev pub before_quote : List ℕ → List ℕ
 before_quote [] = []
 before_quote (c ∷ w) = if c == 39 then [] else c ∷ before_quote w

@@ -62,7 +62,7 @@ abbrev pub stops : (ℕ → Bool) → List ℕ → Bool
 stops p [] = true
 stops p (c ∷ rest) = not (p c)
 
--- the base of digits that come next behind a `'` and the letter of the base, if they do
+-- the base of digits that come next after a `'` and the letter of the base, if they do
 abbrev pub base_with : Option ℕ → ℕ → Option ℕ
 base_with None d = None
 base_with (Some base) d = if is_digit base d then Some base else None

@@ -27,7 +27,7 @@ pub run_is : (p : ℕ → Bool) (text : List ℕ) (n : ℕ) → IsRun p text n �
 run_is p text n h =
     ap (run p) (sym (take-append-drop n text)) ∙ run_of p (take n text) (drop n text) h.passes (stops_of p (drop n text) h.ends) ∙ length-take-le n text h.within
 
--- what stands behind a place, as a slice
+-- what stands after a place, as a slice
 pub slice_rest : (n : ℕ) (text : List ℕ) → n ≤ length text → take (length text - n) (drop n text) ≡ drop n text
 slice_rest n text h = ap (λ k. take k (drop n text)) (sym (length-drop n text)) ∙ take-length (drop n text)
 

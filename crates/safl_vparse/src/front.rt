@@ -82,7 +82,7 @@ fn number(text: &[u8]) -> Front
     }
 }
 
-// The base of digits that come next behind a `'` and the letter of the base.
+// The base of digits that come next after a `'` and the letter of the base.
 fn next_base(text: &[u8]) -> Option<u8>
     ensures { result ≡ next_base text.now }
 {
@@ -122,7 +122,7 @@ fn single(c: u8) -> Front
     }
 }
 
-// A comment, of which these bytes stand behind its first `/`.
+// A comment. These are the bytes after its first `/`.
 fn comment(rest: &[u8]) -> Front
     requires { length rest.now < 2 ^ 32 }
     ensures { result ≡ measured (first_comment rest.now) }

@@ -51,7 +51,7 @@ pub fn literal(bytes: &[u8]) -> Option<Word>
     Word::new(width as u8, value)
 }
 
-// The digits before the `'`, and what stands behind it.
+// The digits before the `'`, and what follows it.
 fn split_at_quote(bytes: &[u8]) -> (&[u8], &[u8])
     ensures before { result.0.now ≡ before_quote bytes.now }
     ensures behind { result.1.now ≡ behind_quote bytes.now }
@@ -81,7 +81,7 @@ fn without_first(bytes: &[u8]) -> &[u8]
     }
 }
 
-// The base of what stands behind the `'`.
+// The base of what stands after the `'`.
 fn base_at(behind: &[u8]) -> u8
     ensures base { result ≡ base_at behind.now }
     ensures some { 1 ≤ result }

@@ -28,7 +28,7 @@ pub enum ReadError<'a> {
     Unexpected(&'a [Token]),
 }
 
-/// The value that tokens begin with and the tokens behind it, or why it is not read.
+/// The value at the beginning of some tokens and the tokens after it, or why it is not read.
 pub type Read<'a, T> = Result<(T, &'a [Token]), ReadError<'a>>;
 
 impl<'a> From<AllocError> for ReadError<'a> {

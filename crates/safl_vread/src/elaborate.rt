@@ -64,7 +64,7 @@ fn elaborate_parts<'t>(
     Ok(Elaborated { scope, drivers })
 }
 
-// The rules behind those on numbers and on names that stand twice; what drives each declared name where they are kept.
+// The rules after those on numbers and on names that stand twice; what drives each declared name where they are kept.
 fn all_drivers(
     alloc: Global,
     scope: &Scope,

@@ -23,7 +23,7 @@ pub fn order_of(alloc: Global, scope: &Scope) -> Result<Vec<usize>, AllocError>
     Ok(order)
 }
 
-// The places of the signals of this sort, behind those before.
+// The places of the signals of this sort, after those before.
 fn add_places(scope: &Scope, sort: Sort, order: &mut Vec<usize>) -> Result<(), AllocError>
     ensures { OnOk result (map (slice_get (shown_declarations scope.now.text.now scope.now.declarations.now)) order.new.items ≡ map (slice_get (shown_declarations scope.now.text.now scope.now.declarations.now)) order.old.items ++ map Some (filter (is_of sort) (shown_declarations scope.now.text.now scope.now.declarations.now))) }
 {

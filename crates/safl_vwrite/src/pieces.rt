@@ -66,7 +66,7 @@ pub fn push_target(out: &mut Vec<u8>, name: &str) -> Result<(), NoMemory>
     push(out, b" = ")
 }
 
-// Appends the front of an update, up to the register behind `else`.
+// Appends the front of an update, up to the register after `else`.
 fn push_reset(out: &mut Vec<u8>, name: &str, width: u8, init: Raw) -> Result<(), NoMemory>
     ensures { OnOk result (out.new.items ≡ out.old.items ++ reset name.now (literal width init)) }
 {

@@ -41,7 +41,7 @@ wanted_and_found f = codes ": " ++ decimal f.first ++ codes " and " ++ decimal f
 abbrev pub limit_text : Fault → List ℕ
 limit_text f = codes ": " ++ limit_name f.first ++ codes " " ++ decimal f.second
 
--- what a fault's text has behind the rule's: two numbers, or a limit's name and value
+-- what a fault's text has after the rule's: two numbers, or a limit's name and value
 abbrev pub detail_text : Rule → Fault → List ℕ
 detail_text rules.E11 f = wanted_and_found f
 detail_text rules.E12 f = wanted_and_found f

@@ -14,7 +14,7 @@ digit c = if nat_le c 57 then c - 48 else if nat_le c 70 then c - 55 else c - 87
 abbrev pub is_digit : ℕ → ℕ → Bool
 is_digit base c = (between 48 57 c || between 65 70 c || between 97 102 c) && nat_lt (digit c) base
 
--- each digit counts its number times the base to the number of digits behind it
+-- each digit counts its number times the base to the number of digits after it
 abbrev pub value : ℕ → List ℕ → ℕ
 value base [] = 0
 value base (c ∷ w) = digit c * base ^ length w + value base w

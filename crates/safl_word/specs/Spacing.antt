@@ -1,11 +1,11 @@
--- Texts of tokens with a blank behind each.
+-- Texts of tokens with a blank after each.
 use Rattle.std.specs.Prelude.{◌≡◌, ℕ, ◌+◌, ◌<◌, ◌^◌, List, [], ◌∷◌, ◌++◌, length, true, codes, decimal}
 use Rattle.safl_word.specs.Tokens.{is_blank, IsToken, HasTokens}
 use Rattle.safl_word.specs.declared.token.TokenKind.{TokenKind}
 use Rattle.safl_word.specs.declared.token.TokenKind.TheVariants as kinds
 use Rattle.safl_word.specs.declared.token.Token.{Token}
 
--- a token's kind and text, and the blank behind it
+-- a token's kind and text, and the blank after it
 pub record Spaced : Type 0 where
   pub kind : TokenKind
   pub text : List ℕ
@@ -28,7 +28,7 @@ abbrev pub spaced_tokens : ℕ → List Spaced → List Token
 spaced_tokens p [] = []
 spaced_tokens p (x ∷ xs) = record { start = p; stop = p + length x.text; kind = x.kind } ∷ spaced_tokens (p + length x.text + 1) xs
 
--- what is written with a blank behind each token is read as these tokens
+-- what is written with a blank after each token is read as these tokens
 abbrev pub SpacedReads : Type 0
 SpacedReads = (xs : List Spaced) → AreSpaced xs → HasTokens (spaced_text xs) (spaced_tokens 0 xs)
 

@@ -44,7 +44,7 @@ pub fn tokens_or_fault_law()
     ensures { TokensOrFault }
 {}
 
-/// Tokens written with a blank, which may be a line feed, behind each are read as these tokens.
+/// Tokens written with a blank, which may be a line feed, after each are read as these tokens.
 pub fn spacing_law()
     ensures { SpacedReads }
 {}
