@@ -8,6 +8,8 @@ With --dump the simulator writes a value change dump of the named signals to OUT
 import re
 import sys
 
+from files import read
+
 
 def named(text):
     """The signals of a file but for clock, reset and temporaries."""
@@ -48,5 +50,4 @@ endmodule
 if __name__ == "__main__":
     dump = sys.argv[2] if sys.argv[1] == "--dump" else None
     path, limit, *args = sys.argv[3 if dump else 1:]
-    with open(path, encoding="utf-8") as file:
-        print(bench(file.read(), int(limit), args, dump), end="")
+    print(bench(read(path), int(limit), args, dump), end="")

@@ -22,12 +22,16 @@ import subprocess
 import sys
 import tempfile
 
-sys.path.insert(0, os.path.join(os.path.dirname(os.path.abspath(__file__)), "oracle"))
-import aiger
-import verilog
+import yosys
+from files import TOP, read, write
+from program import told
+
+sys.path.insert(0, f"{TOP}/scripts/oracle")
+import aiger  # noqa: E402
+import verilog  # noqa: E402
 
 CYCLES = 1000
-PRODUCTS = os.path.join(os.path.dirname(os.path.abspath(__file__)), "products.v")
+PRODUCTS = f"{TOP}/scripts/products.v"
 WIDEST = 8  # the greatest width for which the map of products is checked
 PATIENCE = 300  # seconds for ABC
 CONFLICTS = 1_000_000
@@ -81,18 +85,11 @@ def faults(net, known, text, stat):
 
 def told_by_abc(one, other):
     """Whether ABC finds two circuits without latches to have the same outputs for all inputs, which are matched by name."""
-    words = ["berkeley-abc", "-c", f"cec -T {PATIENCE} -C {CONFLICTS} {one} {other}"]
     try:
-        told = subprocess.run(words, capture_output=True, text=True, check=False, timeout=2 * PATIENCE).stdout
+        verdict = yosys.abc(f"cec -T {PATIENCE} -C {CONFLICTS} {one} {other}", 2 * PATIENCE)
     except subprocess.TimeoutExpired:
         return "undecided"
-    return "equal" if "Networks are equivalent" in told else "different" if "NOT EQUIVALENT" in told else "undecided"
-
-
-def run_yosys(folder, script):
-    with open(f"{folder}/script", "w", encoding="ascii") as file:
-        file.write(script.replace("; ", "\n") + "\n")
-    subprocess.run(["yosys", "-q", "-s", f"{folder}/script"], capture_output=True, check=False)
+    return "equal" if "Networks are equivalent" in verdict else "different" if "NOT EQUIVALENT" in verdict else "undecided"
 
 
 def opened_text(text):
@@ -116,14 +113,11 @@ def opened_bits(known, bits):
 
 def prepare(folder, known, bits):
     """Writes the circuit and what Yosys makes of the file `v`, each with its registers opened, and gives the number of Yosys's ANDs."""
-    with open(f"{folder}/v", encoding="ascii") as file:
-        text = opened_text(file.read())
-    with open(f"{folder}/open.v", "w", encoding="ascii") as file:
-        file.write(text)
+    write(f"{folder}/open.v", opened_text(read(f"{folder}/v")))
     with open(f"{folder}/own.aag", "wb") as file:
         file.write(aiger.written(opened_bits(known, bits)))
-    run_yosys(folder, f"read_aiger -wideports -module_name own {folder}/own.aag; write_aiger -symbols {folder}/own.aig")
-    run_yosys(folder, f"read_verilog {folder}/open.v; techmap -map {PRODUCTS}; {SYNTHESIS} {folder}/yosys.aig")
+    yosys.run(f"read_aiger -wideports -module_name own {folder}/own.aag; write_aiger -symbols {folder}/own.aig")
+    yosys.run(f"read_verilog {folder}/open.v; techmap -map {PRODUCTS}; {SYNTHESIS} {folder}/yosys.aig")
     with open(f"{folder}/yosys.aig", "rb") as file:
         return int(file.readline().split()[5])
 
@@ -132,19 +126,14 @@ def verdict_on_products():
     """What ABC says of products as scripts/products.v has them and as Yosys makes them without it, for small widths."""
     widths = range(1, WIDEST + 1)
     with tempfile.TemporaryDirectory() as folder:
-        with open(f"{folder}/products.v", "w", encoding="ascii") as file:
-            file.write(f"module products({', '.join(f'a{w}, b{w}, y{w}' for w in widths)});\n")
-            for w in widths:
-                file.write(f"  input [{w - 1}:0] a{w}, b{w};\n  output [{w - 1}:0] y{w};\n  assign y{w} = a{w} * b{w};\n")
-            file.write("endmodule\n")
-        run_yosys(folder, f"read_verilog {folder}/products.v; {SYNTHESIS} {folder}/yosys.aig")
+        text = f"module products({', '.join(f'a{w}, b{w}, y{w}' for w in widths)});\n"
+        for w in widths:
+            text += f"  input [{w - 1}:0] a{w}, b{w};\n  output [{w - 1}:0] y{w};\n  assign y{w} = a{w} * b{w};\n"
+        write(f"{folder}/products.v", text + "endmodule\n")
+        yosys.run(f"read_verilog {folder}/products.v; {SYNTHESIS} {folder}/yosys.aig")
         mapped = f"techmap -map {PRODUCTS}; select -assert-none t:$mul"
-        run_yosys(folder, f"read_verilog {folder}/products.v; {mapped}; {SYNTHESIS} {folder}/rows.aig")
+        yosys.run(f"read_verilog {folder}/products.v; {mapped}; {SYNTHESIS} {folder}/rows.aig")
         return told_by_abc(f"{folder}/rows.aig", f"{folder}/yosys.aig")
-
-
-def called(program, words, folder):
-    return subprocess.run([program] + words, cwd=folder, capture_output=True, text=True, check=False)
 
 
 def compare(program, path, folder):
@@ -153,19 +142,19 @@ def compare(program, path, folder):
         net = verilog.Netlist(file.read())
     known = aiger.Blasted.of_netlist(net)
     shutil.copy(path, f"{folder}/v")
-    told = called(program, ["aig", "v", "a"], folder)
+    made = told([program, "aig", "v", "a"], folder)
     fault = known.fault()
-    if fault or told.returncode:
+    if fault or made.returncode:
         wanted = (fault[0], fault[1] + "\n") if fault else (0, "")
-        return [] if (told.returncode, told.stderr) == wanted else [f"ends with {told.returncode}, {told.stderr.strip()}"], "refused"
-    stat = called(program, ["aigstat", "a"], folder).stdout.splitlines()
+        return [] if (made.returncode, made.stderr) == wanted else [f"ends with {made.returncode}, {made.stderr.strip()}"], "refused"
+    stat = told([program, "aigstat", "a"], folder).stdout.splitlines()
     with open(f"{folder}/a", "rb") as file:
         text = file.read()
     found = list(faults(net, known, text, stat))
     line = f"{stat[3]}, weight {known.weight()}"
-    if shutil.which("yosys"):
+    if not yosys.lacks("yosys"):
         line += f", {prepare(folder, known, aiger.read(text))} ANDs by Yosys"
-        if shutil.which("berkeley-abc"):
+        if not yosys.lacks("berkeley-abc"):
             verdict = told_by_abc(f"{folder}/own.aig", f"{folder}/yosys.aig")
             line += f", {verdict} by ABC"
             found += [f"{verdict} by ABC"] if verdict != "equal" else []

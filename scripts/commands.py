@@ -1,18 +1,13 @@
 #!/usr/bin/env python3
 """Says where the commands and their options differ between README.md's table, the manual page, the completions for bash and zsh,
 and the oracle. The status is 1 where they do."""
-import pathlib
 import re
 import sys
 
-ROOT = pathlib.Path(__file__).resolve().parent.parent
-sys.path.insert(0, str(ROOT / "scripts/oracle"))
+from files import TOP, text
 
+sys.path.insert(0, f"{TOP}/scripts/oracle")
 from words import FORMS, TRACES  # noqa: E402
-
-
-def text(path):
-    return (ROOT / path).read_text(encoding="utf-8")
 
 
 def options(words):

@@ -1,28 +1,26 @@
 #!/usr/bin/env python3
 """Checks that README.md and docs/ have the numbers that the repository has, and names each crate: the crates, the cases by file, and
-the definitions that the contract of `run` reaches (scripts/trusted.py). The signals with and without `--opt` in README.md have to be
-those of docs/SPEED.md, which scripts/speed_tools.py prints."""
-import pathlib
+the definitions that the contract of `run` reaches (scripts/trusted.py), whose tables docs/THEOREMS.md has. The signals with and without
+`--opt` in README.md have to be those of docs/SPEED.md, which scripts/speed_tools.py prints."""
 import re
 import subprocess
 import sys
 
-ROOT = pathlib.Path(__file__).resolve().parent.parent
-
-
-def text(path):
-    return (ROOT / path).read_text(encoding="utf-8")
+from files import TOP, text
 
 
 def crates():
     return re.findall(r"^(safl\w*):", text("crates.txt"), re.M)
 
 
-def reached():
-    """How many files and lines of definitions the contract of `run` reaches, as README.md says it."""
-    printed = subprocess.run([sys.executable, ROOT / "scripts/trusted.py"], capture_output=True, text=True, check=True).stdout
-    lines, files = re.search(r"(\d+) lines in (\d+) files", printed).groups()
-    return f"{files} files with {int(lines):,} lines"
+def trusted():
+    """The tables of the definitions that the contract of `run` reaches, as docs/THEOREMS.md has them."""
+    return subprocess.run([sys.executable, f"{TOP}/scripts/trusted.py"], capture_output=True, text=True, check=True).stdout
+
+
+def reached(printed):
+    """How many definitions these are, with how many lines in how many files, as README.md says it."""
+    return "{} definitions with {} lines in {} files".format(*re.search(r"^\| all commands \| (.*) \| (.*) \| (.*) \|$", printed, re.M).groups())
 
 
 def cases():
@@ -54,8 +52,10 @@ def missing():
             yield f"README.md does not name {crate}"
         if f"| {crate} |" not in architecture:
             yield f"docs/ARCHITECTURE.md has no row for {crate}"
-    if reached() not in readme:
-        yield f"README.md does not say '{reached()}'"
+    if trusted() not in text("docs/THEOREMS.md"):
+        yield "docs/THEOREMS.md does not have the tables of scripts/trusted.py"
+    if reached(trusted()) not in readme:
+        yield f"README.md does not say '{reached(trusted())}'"
     for name, where in (("README.md", readme), ("docs/CASES.md", page)):
         if f"{total:,} cases" not in where:
             yield f"{name} does not say '{total:,} cases'"
@@ -72,7 +72,7 @@ def main():
     for line in found:
         print(f"numbers: {line}")
     if not found:
-        print(f"numbers: README.md and docs/ have {len(crates())} crates, {cases()[1]:,} cases and {reached()}")
+        print(f"numbers: README.md and docs/ have {len(crates())} crates, {cases()[1]:,} cases and {reached(trusted())}")
     sys.exit(1 if found else 0)
 
 

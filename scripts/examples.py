@@ -24,9 +24,11 @@ import sys
 import tempfile
 import threading
 
-TOP = os.path.dirname(os.path.dirname(os.path.abspath(__file__)))
-sys.path.insert(0, f"{TOP}/scripts/oracle")
+import yosys
+from files import TOP, read, write, written
+from program import ended, told
 
+sys.path.insert(0, f"{TOP}/scripts/oracle")
 import aiger  # noqa: E402
 import language  # noqa: E402
 from circuit import Circuit, meaning  # noqa: E402
@@ -47,8 +49,7 @@ class Example:
         self.name = name
         self.path = f"{TOP}/examples/{name}/{name}.safl"
         self.page = f"{TOP}/examples/{name}/README.md"
-        with open(self.path, encoding="utf-8") as file:
-            self.source = file.read()
+        self.source = read(self.path)
         try:
             self.program = language.accept(self.source.encode())
         except language.Fault as fault:
@@ -181,22 +182,13 @@ def shown(value, width):
 def cells_text(program, source, what):
     """What Yosys makes of the file that the program builds of a source: how many cells, and the longest path."""
     with tempfile.TemporaryDirectory() as room:
-        with open(f"{room}/source", "w", encoding="utf-8") as file:
-            file.write(source)
-        subprocess.run([program, "build", f"{room}/source", f"{room}/built.v"], check=True)
-        script = f"read_verilog {room}/built.v; synth -flatten -top safl; stat; ltp -noff"
-        told = subprocess.run(["yosys", "-p", script], capture_output=True, text=True, check=True).stdout
-    stat = told[told.rindex("Printing statistics"):]
-    kinds = {kind: int(count) for kind, count in re.findall(r"^\s+(\$_\w+_)\s+(\d+)$", stat, re.M)}
-    flops = sum(count for kind, count in kinds.items() if "DFF" in kind)
-    gates = sum(kinds.values()) - flops
-    longest = re.search(r"Longest topological path in \w+ \(length=(\d+)\)", told)
-    return f"{what} {gates:,} gates and {flops:,} flip-flops. The longest path goes through {longest[1]} gates."
+        ended([program, "build", written(room, "source", source), f"{room}/built.v"], (0,))
+        made = yosys.synthesised(f"{room}/built.v")
+    return f"{what} {made.gates:,} gates and {made.flops:,} flip-flops. The longest path goes through {made.path} gates."
 
 
 def cells_block(program, example):
-    version = subprocess.run(["yosys", "-V"], capture_output=True, text=True, check=True).stdout.split()[1]
-    lines = [cells_text(program, example.source, f"`synth -flatten` of Yosys {version} makes")]
+    lines = [cells_text(program, example.source, f"`synth -flatten` of Yosys {yosys.version()} makes")]
     if example.circuit.plan.arbiters:
         lines.append(cells_text(program, example.apart()[0], "With copies instead of arbiters it makes"))
     return lines
@@ -220,10 +212,7 @@ class Target:
         self.is_check, self.differing = is_check, 0
 
     def put(self, path, text):
-        there = ""
-        if os.path.exists(path):
-            with open(path, encoding="utf-8") as file:
-                there = file.read()
+        there = read(path) if os.path.exists(path) else ""
         if there == text:
             return
         self.differing += 1
@@ -231,15 +220,13 @@ class Target:
             name = os.path.relpath(path, TOP)
             print("\n".join(difflib.unified_diff(there.splitlines(), text.splitlines(), name, "worked out", lineterm="", n=0)))
         else:
-            with open(path, "w", encoding="utf-8") as file:
-                file.write(text)
+            write(path, text)
 
 
 def page_text(path):
     if not os.path.exists(path):
         sys.exit(f"{path} is missing")
-    with open(path, encoding="utf-8") as file:
-        return file.read()
+    return read(path)
 
 
 def index_block(examples):
@@ -266,18 +253,17 @@ def cases_text(examples):
 def pictures(examples):
     for example in examples:
         if example.circuit.plan.arbiters:
-            with tempfile.NamedTemporaryFile("w", encoding="utf-8") as report:
-                report.write("\n".join(example.report()) + "\n")
-                report.flush()
-                subprocess.run([f"{TOP}/scripts/units.py", report.name, f"{os.path.dirname(example.path)}/units.svg"], check=True)
+            with tempfile.TemporaryDirectory() as room:
+                report = written(room, "report", "\n".join(example.report()) + "\n")
+                subprocess.run([f"{TOP}/scripts/units.py", report, f"{os.path.dirname(example.path)}/units.svg"], check=True)
 
 
 def drawn(program, source, limit, args, names, count=None):
     """The picture of the trace that the program writes of a run: these signals, and so many cycles or all of them."""
     with tempfile.TemporaryDirectory() as room:
         words = [program, "sim", source, "--cycles", str(limit), "--vcd", f"{room}/trace.vcd"] + [str(a) for a in args]
-        subprocess.run(words, stdout=subprocess.DEVNULL, check=True)
-        trace = Trace(page_text(f"{room}/trace.vcd"))
+        ended(words, (0,))
+        trace = Trace(read(f"{room}/trace.vcd"))
     numbers = range(trace.end if count is None else count)
     return drawing(trace, names, numbers, list(numbers))
 
@@ -301,11 +287,11 @@ def compare_drawn(examples, program, count, seed):
             title, args, result = answer(*DRAWS[example.name](drawing))
             _, calls, _ = meaning(example.program, args, CALLS_MAX)
             words = [program, "sim", example.path, "--cycles", str(3 * calls)] + [str(a) for a in args]
-            told = subprocess.run(words, capture_output=True, text=True, check=False).stdout.splitlines()
+            printed = told(words).stdout.splitlines()
             tried += 1
-            if told[:1] != [f"result {result}"]:
+            if printed[:1] != [f"result {result}"]:
                 wrong += 1
-                print(f"examples: {example.name}, {title}: the library gives {result:#x}, the program {told}")
+                print(f"examples: {example.name}, {title}: the library gives {result:#x}, the program {printed}")
     print(f"examples: {tried} drawn arguments compared, {wrong} differ")
     return 1 if wrong else 0
 

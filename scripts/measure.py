@@ -1,51 +1,22 @@
-"""What the speed scripts share: how long a command takes, whether the program has a command, and tables.
+"""What the speed scripts share: how long a command takes, what a built file has, and tables.
 
 A time is read from the clock before a command is started and after it has ended, so the start of its process counts. A figure
 is the median of several runs. Figures mean something only on a quiet machine.
 """
 import os
 import re
+import shutil
 import statistics
+import subprocess
 import sys
 import tempfile
-import time
 
-CRATES = os.path.join(os.path.dirname(os.path.dirname(os.path.abspath(__file__))), "crates")
-USAGE, NO_RESULT = 2, 6
+from bench import bench
+from files import read, written
+from program import NO_RESULT, PROGRAM, Ended, ended, told
+
 SECONDS_ENOUGH = 0.5
 LIMIT_MAX = 1_000_000_000
-
-
-def program_of(variable, crate):
-    """The program of a crate as the gate leaves it, or the one that a variable of the environment names."""
-    return os.path.abspath(os.environ.get(variable, os.path.join(CRATES, crate, "out", crate)))
-
-
-PROGRAM = program_of("SAFL", "safl")
-
-
-class Ended:
-    """How a command ended: its status, and its seconds by the clock."""
-
-    def __init__(self, words, out=os.devnull, err=os.devnull):
-        files = [
-            (os.POSIX_SPAWN_OPEN, 0, os.devnull, os.O_RDONLY, 0),
-            (os.POSIX_SPAWN_OPEN, 1, out, os.O_WRONLY | os.O_CREAT | os.O_TRUNC, 0o644),
-            (os.POSIX_SPAWN_OPEN, 2, err, os.O_WRONLY | os.O_CREAT | os.O_TRUNC, 0o644),
-        ]
-        begun = time.perf_counter()
-        child = os.posix_spawnp(words[0], words, os.environ, file_actions=files)
-        _, status = os.waitpid(child, 0)
-        self.seconds = time.perf_counter() - begun
-        self.status = os.waitstatus_to_exitcode(status)
-
-
-def ended(words, statuses=(0, NO_RESULT)):
-    """How a command ends that may end with these statuses only."""
-    found = Ended(words)
-    if found.status not in statuses:
-        sys.exit(f"{os.path.basename(sys.argv[0])}: {' '.join(words)} ends with {found.status}")
-    return found
 
 
 def seconds(words, statuses=(0, NO_RESULT)):
@@ -67,9 +38,9 @@ def peak(words):
     """The most memory that a command has, in bytes, if GNU time is there; a child of this process would count its own too."""
     if not os.access("/usr/bin/time", os.X_OK):
         return None
-    with tempfile.NamedTemporaryFile("r") as told:
-        Ended(["/usr/bin/time", "-q", "-f", "%M", "-o", told.name, *words])
-        return int(told.read()) * 1024
+    with tempfile.NamedTemporaryFile("r") as report:
+        Ended(["/usr/bin/time", "-q", "-f", "%M", "-o", report.name, *words])
+        return int(report.read()) * 1024
 
 
 class Rate:
@@ -85,21 +56,46 @@ class Rate:
         self.begun = begun
 
 
-def knows(words, program=PROGRAM):
-    """Whether the program has a command: it doesn't answer with the usage line."""
-    return Ended([program, *words]).status != USAGE
+def cycles_of(words, limit):
+    """How many cycles a simulation goes: to done, or to its limit."""
+    found = re.search(r"^cycle (\d+)$", told(words).stdout, re.M)
+    return int(found[1]) + 1 if found else limit
+
+
+def rate_of(words_of, first=1_000):
+    """What a cycle of a simulation takes that is told how many cycles to go at most."""
+    return Rate(words_of, lambda limit: 1 if limit == 1 else cycles_of(words_of(limit), limit), first)
+
+
+def rate_of_sim(path, args, *options):
+    return rate_of(lambda limit: [PROGRAM, "sim", path, "--cycles", str(limit), *options, *args])
+
+
+def icarus(folder, built, args, dump=None):
+    """Seconds a cycle of Icarus Verilog, which dumps the named signals to a file if one is given; or nothing if it is missing. The
+    limit is the bench's, so each has a file.
+    """
+    if not shutil.which("iverilog"):
+        return None
+
+    def words_of(limit):
+        made = os.path.join(folder, f"made_{limit}")
+        if not os.path.exists(made):
+            path = written(folder, "bench.v", bench(read(built), limit, args, dump))
+            subprocess.run(["iverilog", "-o", made, path, built], check=True)
+        return ["vvp", "-n", made]
+
+    return rate_of(words_of, 250).turn
 
 
 def signals_of(path):
     """How many inputs, registers and wires a built file declares, but for its clock and reset."""
-    with open(path, encoding="utf-8") as file:
-        return len(re.findall(r"^  (?:input \[|reg|wire)", file.read(), re.M))
+    return len(re.findall(r"^  (?:input \[|reg|wire)", read(path), re.M))
 
 
 def depth_of(path):
     """The most cells on a path through a built file without registers; copies, constants, slices and joined words don't count."""
-    with open(path, encoding="utf-8") as file:
-        cells = dict(re.findall(r"^  assign (\S+) = (.*);", file.read(), re.M))
+    cells = dict(re.findall(r"^  assign (\S+) = (.*);", read(path), re.M))
     operands = {name: re.findall(r"(?<![\w$'])[A-Za-z_][\w$]*", cell) for name, cell in cells.items()}
     depths = {}
     for name in cells:
@@ -114,13 +110,6 @@ def depth_of(path):
             depths[last] = counts + max((depths.get(other, 0) for other in operands[last]), default=0)
             left.pop()
     return max(depths.values(), default=0)
-
-
-def is_there(program):
-    if os.access(program, os.X_OK):
-        return True
-    print(f"{os.path.basename(sys.argv[0])}: skipped, as there is no program {program}")
-    return False
 
 
 def as_memory(value):

@@ -8,12 +8,13 @@ the built program; without it that is $SAFL, or crates/safl/out/safl.
 """
 import os
 import struct
-import subprocess
 import sys
 import tempfile
 import zlib
 
-TOP = os.path.dirname(os.path.dirname(os.path.abspath(__file__)))
+from files import TOP, read, written
+from program import PROGRAM, told
+
 FOLDER = f"{TOP}/examples/mandelbrot"
 PICTURE = f"{FOLDER}/picture.png"
 ONE, HALF_STEP = 1 << 24, 1 << 17  # points are 1/64 apart
@@ -50,13 +51,11 @@ def steps(cx, cy):
 def replies(program):
     """What the session prints for the points: a result and a cycle for each."""
     with tempfile.TemporaryDirectory() as folder:
-        with open(f"{folder}/script", "w", encoding="ascii") as file:
-            file.writelines(f"{word(x)} {word(y)}\n" for x, y in points())
-        words = [program, "session", f"{FOLDER}/mandelbrot.safl", f"{folder}/script", "--cycles", "2000"]
-        told = subprocess.run(words, capture_output=True, text=True, check=False)
-    lines = told.stdout.splitlines()
-    if told.returncode or lines[-1] != f"calls {COLUMNS * ROWS}":
-        sys.exit(f"picture: the session ends with {told.returncode}: {told.stderr.strip()}{lines[-1:]}")
+        script = written(folder, "script", "".join(f"{word(x)} {word(y)}\n" for x, y in points()))
+        session = told([program, "session", f"{FOLDER}/mandelbrot.safl", script, "--cycles", "2000"])
+    lines = session.stdout.splitlines()
+    if session.returncode or lines[-1] != f"calls {COLUMNS * ROWS}":
+        sys.exit(f"picture: the session ends with {session.returncode}: {session.stderr.strip()}{lines[-1:]}")
     return [tuple(int(number) for number in line.split()) for line in lines[:-1]]
 
 
@@ -96,16 +95,14 @@ def parts_of(picture):
         at += 12 + size
 
 
-def faults(told, picture):
+def faults(results, picture):
     """Everything that is not as it should be."""
-    for (x, y), (n, cycle) in zip(points(), told):
+    for (x, y), (n, cycle) in zip(points(), results):
         if (n, cycle) != (steps(x, y), 7 * n + 10):
             yield f"the point {x / ONE} + {y / ONE}i gives {n} in cycle {cycle}, and it takes {steps(x, y)} steps"
             break
-    with open(f"{FOLDER}/README.md", encoding="utf-8") as file:
-        page = file.read()
-    numbers = f"{len(told):,} calls take {sum(cycle + 1 for _, cycle in told):,} cycles"
-    if numbers not in page:
+    numbers = f"{len(results):,} calls take {sum(cycle + 1 for _, cycle in results):,} cycles"
+    if numbers not in read(f"{FOLDER}/README.md"):
         yield f"the page does not say that {numbers}"
     with open(PICTURE, "rb") as file:
         if list(parts_of(file.read())) != list(parts_of(picture)):
@@ -114,16 +111,15 @@ def faults(told, picture):
 
 def main(words):
     named = [each for each in words if each != "--write"]
-    program = named[0] if named else os.environ.get("SAFL", f"{TOP}/crates/safl/out/safl")
-    told = replies(os.path.abspath(program))
-    picture = png([n for n, _ in told])
+    results = replies(os.path.abspath(named[0]) if named else PROGRAM)
+    picture = png([n for n, _ in results])
     if "--write" in words:
         with open(PICTURE, "wb") as file:
             file.write(picture)
-    found = list(faults(told, picture))
+    found = list(faults(results, picture))
     for fault in found:
         print(f"picture: {fault}")
-    print(f"picture: {len(told):,} points compared, {len(found)} faults")
+    print(f"picture: {len(results):,} points compared, {len(found)} faults")
     return 1 if found else 0
 
 

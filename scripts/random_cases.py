@@ -8,11 +8,12 @@ Each program is reshaped at a site, and the text, the numbers and the result of 
 are also reported, walked, built and run. scripts/oracle makes the programs from a number, and works out all answers.
 """
 import os
-import subprocess
 import sys
 import tempfile
 
-TOP = os.path.dirname(os.path.dirname(os.path.abspath(__file__)))
+from files import TOP, write
+from program import told
+
 sys.path.insert(0, f"{TOP}/scripts/oracle")
 import commands  # noqa: E402
 import expect  # noqa: E402
@@ -92,7 +93,7 @@ class Program:
         return found + [""]
 
 
-def write():
+def write_cases():
     seed = 0
     for number in range(1, FILES + 1):
         is_whole = number <= WHOLE_FILES
@@ -105,8 +106,7 @@ def write():
             if program.is_taken(count):
                 count += 1
                 lines += program.case(is_whole)
-        with open(f"{TOP}/crates/safl_cases/data/random_{number}.case", "w", encoding="utf-8") as file:
-            file.write("\n".join(lines[:-1]) + "\n")
+        write(f"{TOP}/crates/safl_cases/data/random_{number}.case", "\n".join(lines[:-1]) + "\n")
     print(f"{FILES * PROGRAMS} programs of the first {seed} numbers")
     return 0
 
@@ -117,9 +117,9 @@ def differing(program, made, folder):
     with open(f"{folder}/p", "wb") as file:
         file.write(made.files["p"])
     for words, status, text in made.calls:
-        ended = subprocess.run([program] + words.split(), cwd=folder, capture_output=True, text=True, check=False)
-        told = (ended.stdout, ended.stderr) if status in expect.PRINTING else (ended.stderr, ended.stdout)
-        if (ended.returncode, *told) != (status, text, ""):
+        ended = told([program, *words.split()], folder)
+        outputs = (ended.stdout, ended.stderr) if status in expect.PRINTING else (ended.stderr, ended.stdout)
+        if (ended.returncode, *outputs) != (status, text, ""):
             found.append(f"{words}: {status} {text!r} is wanted, and {ended.returncode} {ended.stdout!r} {ended.stderr!r} comes")
     if "q" in made.files and not found:
         with open(f"{folder}/q", "rb") as file:
@@ -151,7 +151,7 @@ def main(words):
     if words[:1] == ["--compare"]:
         numbers = [int(word) for word in words[2:]] + [200, 1_000_000][len(words[2:]):]
         return compare(os.path.abspath(words[1]), *numbers)
-    return write()
+    return write_cases()
 
 
 if __name__ == "__main__":

@@ -8,14 +8,10 @@ The status is 1 if one differs, and the first difference is printed.
 """
 import sys
 
+from files import read
 from waves import Trace
 
 PERIOD, FIRST = 2, 2  # the values of cycle c stand at time PERIOD * c + FIRST in the bench
-
-
-def read(path):
-    with open(path, encoding="utf-8") as file:
-        return Trace(file.read())
 
 
 def difference(own, other):
@@ -31,7 +27,7 @@ def difference(own, other):
 
 
 def main():
-    found = difference(*(read(path) for path in sys.argv[1:3]))
+    found = difference(*(Trace(read(path)) for path in sys.argv[1:3]))
     if found:
         print(f"same_traces: {found}")
     return 1 if found else 0

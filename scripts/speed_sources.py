@@ -1,4 +1,15 @@
-"""Sources of growing size for the speed scripts, and a Verilog file. Some come with their number of nodes."""
+"""Sources of growing size for the speed scripts, and a Verilog file."""
+from files import examples, written
+
+LOOP = ["9999", "3", "200"]  # how often main goes through the functions, and what it begins with
+SITES = (4, 16, 64, 256)
+
+
+class Source:
+    """A source by a name, with main's arguments, how many functions it has, and its number of nodes if that is known."""
+
+    def __init__(self, name, text, args, functions, nodes=None):
+        self.name, self.text, self.args, self.functions, self.nodes = name, text, args, functions, nodes
 
 
 def draws():
@@ -9,8 +20,9 @@ def draws():
 
 
 def calls(count):
-    """A source of so many functions that call each other, drawn from the numbers that 1 begins, and a main that goes
-    through them again and again; and how many nodes it has."""
+    """So many functions that call each other, drawn from the numbers that 1 begins, and a main that goes through them again and
+    again.
+    """
     row, nodes, lines = draws(), 0, []
     for i in range(count):
         d, k, j, p = next(row), next(row) % 16 + 1, next(row) % 4, i - 1
@@ -29,17 +41,19 @@ def calls(count):
             ][d % 4]
         nodes += size
         lines.append(f"fun f{i}(x:16, y:16):16 = {body}\n")
-    return "".join(lines) + main_of(count - 1, 16), nodes + 15
+    return Source(f"{count} functions with calls", "".join(lines) + main_of(count - 1, 16), LOOP, count, nodes + 15)
 
 
-def sums(count, terms):
-    """The same with functions that each are a sum of so many products, behind a call of the function before."""
+def sums(count):
+    """The same with functions that each are a sum of products, behind a call of the function before."""
+    terms = 16
     lines = []
     for i in range(count):
         products = " + ".join(f"(x ^ {j + 1}) * y" for j in range(terms))
         inner = f"f{i - 1}(x + {i}, y)" if i else "x + y"
         lines.append(f"fun f{i}(x:32, y:32):32 = let s = {inner} in s + {products}\n")
-    return "".join(lines) + main_of(count - 1, 32), count * (6 * terms + 7) + 13
+    nodes = count * (6 * terms + 7) + 13
+    return Source(f"{count} functions of sums", "".join(lines) + main_of(count - 1, 32), LOOP, count, nodes)
 
 
 def main_of(function, width):
@@ -51,31 +65,34 @@ def main_of(function, width):
 
 def busy():
     """One multiplication of 32 bits that never ends, as its factors are rotated."""
-    return (
+    text = (
         "fun mul(x:32, y:32, acc:32):32 =\n"
         "  if x == 0 then acc\n"
         "  else mul(x << 1 | x >> 31, y >> 1 | y << 31, if bits(y, 0, 0) == 1 then acc + x else acc)\n"
         "fun main(a:32, b:32):32 = mul(a, b, 0)\n"
     )
+    return Source("one multiplication without an end", text, ["3000000001", "2863311531"], 2, 33)
 
 
 def work():
     """A loop of multiplications of 32 bits, by shifts and additions."""
-    return (
+    text = (
         "fun mul(x:32, y:32, acc:32):32 =\n"
         "  if y == 0 then acc else mul(x << 1, y >> 1, if bits(y, 0, 0) == 1 then acc + x else acc)\n"
         "fun main(n:32, a:32, z:32):32 = if n == 0 then z else main(n - 1, a, mul(z, a, n))\n"
     )
+    return Source("a loop of multiplications", text, ["4000000000", "3000000001", "7"], 2, 35)
 
 
 def products():
     """The multiplication of 8 bits of examples/multiply.safl, again and again without an end."""
-    return (
+    text = (
         "fun mul(x:8, y:8, acc:8):8 =\n"
         "  if (x==0)|(y==0) then acc\n"
         "  else mul(x<<1, y>>1, if bits(y,0,0)==1 then acc+x else acc)\n"
         "fun main(a:8, b:8):8 = main(a + 37, b + mul(a, b, 0))\n"
     )
+    return Source("products of 8 bits without an end", text, ["5", "3"], 2)
 
 
 def sites():
@@ -90,7 +107,7 @@ def sites():
         ][i % 3]
         lines.append(f"fun f{i}(x:8):8 = {body}\n")
     twenty = " ^ ".join(f"f{998 - i}(x)" for i in range(20))
-    return "".join(lines) + f"fun main(x:8):8 = {twenty}\n"
+    return Source("1,000 functions with 4,000 sites", "".join(lines) + f"fun main(x:8):8 = {twenty}\n", ["5"], 1000)
 
 
 def largest():
@@ -103,7 +120,13 @@ def largest():
         callees = (i - 1, i % 4, i // 2, (i + 1) % 4)
         each = [f"f{callee}({', '.join(str((i * 7 + k * 3 + j) % 65536) for j in range(10))})" for k, callee in enumerate(callees)]
         lines.append(f"fun f{i}{head} = ({each[0]} + {each[1]}) ^ ({each[2]} + {each[3]})\n")
-    return "".join(lines) + f"fun main(x:16):16 = f998({', '.join(['x'] * 10)})\n"
+    text = "".join(lines) + f"fun main(x:16):16 = f998({', '.join(['x'] * 10)})\n"
+    return Source("999 functions, 3,981 sites with ten arguments", text, ["5"], 1000)
+
+
+def sized():
+    """Sources of growing size."""
+    return [calls(count) for count in (100, 300, 900)] + [sums(count) for count in (50, 150, 485)]
 
 
 def shared(count, is_parallel):
@@ -119,7 +142,14 @@ def shared(count, is_parallel):
         bit = (size - 1).bit_length() - 1
         return f"(if bits(a, {bit % 8}, {bit % 8}) == 1 then {left} else {right})"
 
-    return f"fun f(x:8, y:8):8 = (x ^ y) + 1\nfun main(a:8):8 = {part(0, count)}\n"
+    name = f"{count} sites {'at once' if is_parallel else 'in branches'}"
+    return Source(name, f"fun f(x:8, y:8):8 = (x ^ y) + 1\nfun main(a:8):8 = {part(0, count)}\n", ["5"], 2)
+
+
+def with_units(folder):
+    """The names and files of the examples, and of units with several call sites, which are written into the folder."""
+    units = [shared(count, is_parallel) for is_parallel in (True, False) for count in SITES]
+    return examples() + [(unit.name, written(folder, f"{unit.name}.safl".replace(" ", "_"), unit.text)) for unit in units]
 
 
 def file_of_wires(count):

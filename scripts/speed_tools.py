@@ -14,22 +14,17 @@
 The program is crates/safl/out/safl, or SAFL names it; a command that it doesn't have is skipped. So are the nets where
 crates/safl_bench_opt/out/safl_bench_opt isn't built, or OPT doesn't name it.
 """
-import glob
 import os
 import re
-import shutil
-import subprocess
 import sys
 import tempfile
 
 import speed_sources
-from bench import bench
-from measure import NO_RESULT, PROGRAM, USAGE, Ended, Rate, as_memory, as_nanoseconds, as_time, ended, is_there, knows, peak, program_of
-from measure import seconds, seconds_between, signals_of, table
+import yosys
+from files import examples, read, written
+from measure import Rate, as_memory, as_nanoseconds, as_time, icarus, peak, rate_of_sim, seconds, seconds_between, signals_of, table
+from program import NO_RESULT, PROGRAM, USAGE, Ended, ended, knows, lacks, program_of, told
 
-TOP = os.path.dirname(os.path.dirname(os.path.abspath(__file__)))
-LOOP = ["9999", "3", "200"]
-FACTORS = ["4000000000", "3000000001", "7"]
 CALLS = 100_000
 SCRIPT_MAX = 1_048_576
 WRONG_ARGUMENT = 8
@@ -37,15 +32,8 @@ WIRES = 1_000_000
 OPT = program_of("OPT", "safl_bench_opt")
 
 
-def written(folder, name, text):
-    path = os.path.join(folder, name)
-    with open(path, "w", encoding="utf-8") as file:
-        file.write(text)
-    return path
-
-
 def skipped(what):
-    print(f"speed_tools: the program has no {what}, SKIPPED")
+    print(f"speed_tools: there is no {what}, SKIPPED")
     return []
 
 
@@ -67,22 +55,22 @@ def generating():
 
 
 def reporting(folder):
-    path = written(folder, "sites.safl", speed_sources.sites())
+    source = speed_sources.sites()
+    path = written(folder, "sites.safl", source.text)
     if not knows(["report", path]):
         return skipped("report")
-    what = "1,000 functions with 4,000 sites"
-    return [less("report", what, ["report", path], ["check", path], "200 ms in all")]
+    return [less("report", source.name, ["report", path], ["check", path], "200 ms in all")]
 
 
 def reshaping(folder):
     """`reshape` of nearly as many nodes as a source may have. The 0.1 s that is wanted is for its own work, so less `check`, which reads
     and checks the same source; less the start it is all that a user waits for.
     """
-    text, nodes = speed_sources.sums(484, 16)
-    path, out = written(folder, "sums.safl", text), os.path.join(folder, "reshaped.safl")
+    source = speed_sources.sums(484)
+    path, out = written(folder, "sums.safl", source.text), os.path.join(folder, "reshaped.safl")
     if not knows(["reshape", path, out, "--copy", "484"]):
         return skipped("reshape")
-    words, what = ["reshape", path, out], f"{nodes:,} nodes"
+    words, what = ["reshape", path, out], f"{source.nodes:,} nodes"
     rows = []
     for option in ("--copy", "--unfold"):
         for site in ("1", "484"):
@@ -99,18 +87,6 @@ def commands():
         table("Commands on large sources", ("command", "on", "time", "less", "is", "wanted"), rows)
 
 
-def speed_list():
-    """The speed sources, by name."""
-    for count in (100, 300, 900):
-        yield f"{count} functions with calls", speed_sources.calls(count)[0]
-    for count in (50, 150, 485):
-        yield f"{count} functions of sums", speed_sources.sums(count, 16)[0]
-    yield "1,000 functions with 4,000 sites", speed_sources.sites()
-    yield "999 functions, 3,981 sites with ten arguments", speed_sources.largest()
-    yield "one multiplication without an end", speed_sources.busy()
-    yield "a loop of multiplications", speed_sources.work()
-
-
 def signals_row(folder, name, path):
     """The numbers of signals without and with --opt, and by how much the second is less."""
     files = [os.path.join(folder, each) for each in ("plain.v", "optimised.v")]
@@ -120,10 +96,10 @@ def signals_row(folder, name, path):
     return name, f"{before:,}", f"{after:,}", f"{100 * (before - after) / before:.0f} %"
 
 
-def optimise_row(folder, name, text):
-    path, out = written(folder, "source.safl", text), os.path.join(folder, "out.v")
+def optimise_row(folder, source):
+    path, out = written(folder, "source.safl", source.text), os.path.join(folder, "out.v")
     words = ["build", path, out]
-    row = signals_row(folder, name, path)
+    row = signals_row(folder, source.name, path)
     whole, plain = seconds_between([PROGRAM, *words, "--opt"], [PROGRAM, *words], (0,))
     peaks = [as_memory(peak([PROGRAM, *each])) for each in (words, words + ["--opt"])]
     return *row, as_time(plain), as_time(whole), as_time(whole - plain), *peaks
@@ -138,21 +114,21 @@ def net_row(wires):
     """A net of so many wires: what making and ordering it takes, and what making it smaller takes besides."""
     words = [OPT, str(wires), "1"]
     ordered = [*words, "1"]
-    told = subprocess.run(words, capture_output=True, text=True, check=True).stdout
-    before, after = (int(line.split()[1]) for line in told.splitlines())
+    before, after = (int(line.split()[1]) for line in told(words).stdout.splitlines())
     whole, part = seconds_between(words, ordered, (0,))
     sizes = (f"{before:,}", f"{after:,}", f"{100 * (before - after) / before:.0f} %")
     return *sizes, as_time(part), as_time(whole - part), as_memory(peak(ordered)), as_memory(peak(words))
 
 
 def optimise():
+    few = [speed_sources.sites(), speed_sources.largest(), speed_sources.busy(), speed_sources.work()]
     with tempfile.TemporaryDirectory() as folder:
         if not has_opt(folder):
             return skipped("build --opt")
-        rows = [optimise_row(folder, *each) for each in speed_list()]
+        rows = [optimise_row(folder, source) for source in speed_sources.sized() + few]
     head = ("source", "signals", "with `--opt`", "less", "`build`", "`build --opt`", "difference", "memory of `build`", "of `build --opt`")
     table("Optimising", head, rows)
-    if is_there(OPT):
+    if not lacks(OPT):
         head = ("signals", "made smaller", "less", "making and ordering", "making smaller", "memory of the first", "of both")
         table("Optimising nets of single bits", head, [net_row(wires) for wires in (50_000, 500_000, 3_000_000)])
     return None
@@ -162,8 +138,7 @@ def signals():
     with tempfile.TemporaryDirectory() as folder:
         if not has_opt(folder):
             return skipped("build --opt")
-        paths = sorted(glob.glob(f"{TOP}/examples/*.safl") + glob.glob(f"{TOP}/examples/*/*.safl"))
-        rows = [signals_row(folder, os.path.basename(path).removesuffix(".safl"), path) for path in paths]
+        rows = [signals_row(folder, *example) for example in examples()]
     return table("Signals of the examples", ("example", "signals", "with `--opt`", "less"), rows)
 
 
@@ -180,23 +155,19 @@ def files():
     table(f"`run` of {WIRES:,} wires of 64 bits", head, [(size, *numbers)])
 
 
-def walk_row(folder, name, text, args):
-    path = written(folder, "source.safl", text)
+def walk_row(folder, source):
+    path = written(folder, "source.safl", source.text)
     checked = seconds([PROGRAM, "check", path])
-    rate = Rate(lambda limit: [PROGRAM, "walk", path, "--order", "1", "--steps", str(limit), *args])
-    return name, f"{rate.turns:,}", f"{rate.turn * 1e6:.2f}", as_time(rate.begun - checked), as_time(checked)
+    rate = Rate(lambda limit: [PROGRAM, "walk", path, "--order", "1", "--steps", str(limit), *source.args])
+    wanted = "1" if source.functions >= 100 else "0.5"
+    return source.name, f"{rate.turns:,}", f"{rate.turn * 1e6:.2f}", as_time(rate.begun - checked), as_time(checked), wanted
 
 
 def walk():
-    large = [(f"{count} functions with calls", speed_sources.calls(count)[0], LOOP, "1") for count in (100, 300, 900)]
-    large.append(("1,000 functions with 4,000 sites", speed_sources.sites(), ["5"], "1"))
-    small = [
-        ("a loop of multiplications", speed_sources.work(), FACTORS, "0.5"),
-        ("products of 8 bits without an end", speed_sources.products(), ["5", "3"], "0.5"),
-        ("one multiplication without an end", speed_sources.busy(), ["3000000001", "2863311531"], "0.5"),
-    ]
+    large = [*map(speed_sources.calls, (100, 300, 900)), speed_sources.sites()]
+    small = [speed_sources.work(), speed_sources.products(), speed_sources.busy()]
     with tempfile.TemporaryDirectory() as folder:
-        rows = [(*walk_row(folder, name, text, args), wanted) for name, text, args, wanted in large + small]
+        rows = [walk_row(folder, source) for source in large + small]
     table("Walks", ("source", "events", "us an event", "set-up after `check`", "`check`", "us wanted"), rows)
 
 
@@ -207,8 +178,7 @@ class Session:
         script, out = written(folder, "script", f"{line}\n" * CALLS), os.path.join(folder, "lines")
         words, empty = [[PROGRAM, "session", path, each, "--cycles", "1000"] for each in (script, written(folder, "empty", ""))]
         Ended(words, out)
-        with open(out, encoding="utf-8") as file:
-            self.cycles = sum(int(text.split()[1]) + 1 for text in file.read().splitlines()[:CALLS])
+        self.cycles = sum(int(text.split()[1]) + 1 for text in read(out).splitlines()[:CALLS])
         whole, begun = seconds_between(words, empty)
         self.seconds = whole - begun
 
@@ -224,52 +194,34 @@ def reading(folder, path):
 
 
 def session():
-    path = f"{TOP}/examples/multiply.safl"
+    path = dict(examples())["multiply"]
     with tempfile.TemporaryDirectory() as folder:
         if not knows(["session", path, written(folder, "empty", ""), "--cycles", "1"]):
             return skipped("session")
         long, short = Session(folder, path, "255 255"), Session(folder, path, "0 0")
         cycle = (long.seconds - short.seconds) / (long.cycles - short.cycles)
         call = (short.seconds - cycle * short.cycles) / CALLS
-        loop = written(folder, "products.safl", speed_sources.products())
-        sim = Rate(lambda limit: [PROGRAM, "sim", loop, "--cycles", str(limit), "5", "3"])
+        loop = speed_sources.products()
+        sim = rate_of_sim(written(folder, "products.safl", loop.text), loop.args)
         numbers = (f"{CALLS:,}", f"{long.cycles:,}", as_time(long.seconds), as_nanoseconds(cycle), as_time(call))
         row = (*numbers, as_nanoseconds(sim.turn), as_time(reading(folder, path)))
     head = ("calls", "cycles", "time", "ns a cycle", "a call besides", "`sim`, ns a cycle", "reading 1 MiB (20 ms wanted)")
     return table("A session of the multiplication of 8 bits", head, [row])
 
 
-def icarus_trace(folder, built, args):
-    """Seconds a cycle of Icarus Verilog that traces the named signals, or nothing if it is missing."""
-    if not shutil.which("iverilog"):
-        return None
-    with open(built, encoding="utf-8") as file:
-        text = file.read()
-
-    def words_of(limit):
-        made = os.path.join(folder, f"made_{limit}")
-        if not os.path.exists(made):
-            path = written(folder, "bench.v", bench(text, limit, args, os.path.join(folder, "icarus.vcd")))
-            subprocess.run(["iverilog", "-o", made, path, built], check=True)
-        return ["vvp", "-n", made]
-
-    return Rate(words_of, first=250).turn
-
-
-def vcd_row(name, text, args):
+def vcd_row(source):
     with tempfile.TemporaryDirectory() as folder:
-        path, trace, built = written(folder, "source.safl", text), os.path.join(folder, "trace.vcd"), os.path.join(folder, "built.v")
-        plain = Rate(lambda limit: [PROGRAM, "sim", path, "--cycles", str(limit), *args])
-        traced = Rate(lambda limit: [PROGRAM, "sim", path, "--cycles", str(limit), "--vcd", trace, *args])
+        path, trace, built = written(folder, "source.safl", source.text), os.path.join(folder, "trace.vcd"), os.path.join(folder, "built.v")
+        plain, traced = rate_of_sim(path, source.args), rate_of_sim(path, source.args, "--vcd", trace)
         ended([PROGRAM, "build", path, built], (0,))
         sizes = []
         for limit in (1, traced.limit):
-            ended([PROGRAM, "sim", path, "--cycles", str(limit), "--vcd", trace, *args])
+            ended([PROGRAM, "sim", path, "--cycles", str(limit), "--vcd", trace, *source.args])
             sizes.append(os.path.getsize(trace))
         size = (sizes[1] - sizes[0]) / traced.turns
-        other = icarus_trace(folder, built, args)
+        other = icarus(folder, built, source.args, os.path.join(folder, "icarus.vcd"))
         numbers = (f"{size:,.0f}", as_nanoseconds(plain.turn), as_nanoseconds(traced.turn), f"{traced.turn / plain.turn:.1f}")
-        return name, *numbers, as_nanoseconds(other) if other else "-"
+        return source.name, *numbers, as_nanoseconds(other) if other else "-"
 
 
 def vcd():
@@ -277,14 +229,10 @@ def vcd():
         path = written(folder, "seven.safl", "fun main():8 = 7\n")
         if not knows(["sim", path, "--cycles", "1", "--vcd", os.path.join(folder, "trace.vcd")]):
             return skipped("sim --vcd")
-    large = [(f"{count} functions with calls", speed_sources.calls(count)[0], LOOP) for count in (100, 900)]
-    small = [
-        ("a loop of multiplications", speed_sources.work(), FACTORS),
-        ("products of 8 bits without an end", speed_sources.products(), ["5", "3"]),
-        ("50 functions of sums", speed_sources.sums(50, 16)[0], LOOP),
-    ]
+    large = [speed_sources.calls(100), speed_sources.calls(900)]
+    small = [speed_sources.work(), speed_sources.products(), speed_sources.sums(50)]
     head = ("source", "bytes a cycle", "`sim`, ns a cycle", "with `--vcd`", "ratio (3 wanted below 1 KiB)", "Icarus Verilog with `$dumpvars`")
-    return table("Traces", head, [vcd_row(*each) for each in large + small])
+    return table("Traces", head, [vcd_row(source) for source in large + small])
 
 
 PLAIN = "read_verilog {file}; proc; flatten; techmap; dffunmap; aigmap; tee -q -o {room}/stat stat"
@@ -293,39 +241,34 @@ SYNTH = "read_verilog {file}; synth -flatten -top safl; dffunmap; aigmap; tee -q
 
 
 def ands_of_yosys(folder, script):
-    subprocess.run(["yosys", "-q", "-p", script], capture_output=True, check=True)
-    with open(os.path.join(folder, "stat"), encoding="utf-8") as file:
-        found = re.findall(r"\$_AND_ +(\d+)", file.read())
-    return int(found[-1]) if found else 0
+    if not yosys.run(script):
+        sys.exit("speed_tools: Yosys refuses a file")
+    return yosys.counts(read(os.path.join(folder, "stat"))).get("AND", 0)
 
 
 def ands_of_abc(folder):
     """The ANDs of the circuit that Yosys has not optimised, with equal ones shared by ABC."""
-    script = f"read {folder}/plain.aig; strash; &get; &ps"
-    told = subprocess.run(["berkeley-abc", "-c", script], capture_output=True, text=True, check=True).stdout
-    return int(re.search(r"and =\s*(\d+)", re.sub(r"\x1b\[[\d;]*m", "", told)).group(1))
+    return int(re.search(r"and =\s*(\d+)", yosys.abc(f"read {folder}/plain.aig; strash; &get; &ps"))[1])
 
 
-def ands_row(folder, path):
+def ands_row(folder, name, path):
     built, bits = os.path.join(folder, "v"), os.path.join(folder, "aag")
     ended([PROGRAM, "build", path, built])
     ended([PROGRAM, "aig", built, bits])
-    with open(bits, encoding="ascii") as file:
-        own = int(file.readline().split()[-1])
+    own = int(read(bits).partition("\n")[0].split()[-1])
     plain = ands_of_yosys(folder, f"{PLAIN}; {WRITTEN}".format(file=built, room=folder))
     shared = ands_of_abc(folder)
     synth = ands_of_yosys(folder, SYNTH.format(file=built, room=folder))
-    name = os.path.splitext(os.path.basename(path))[0]
     return name, f"{own:,}", f"{plain:,}", f"{own / max(plain, 1):.2f}", f"{shared:,}", f"{synth:,}"
 
 
 def ands():
     """The ANDs of the examples' circuits, beside what other tools make of the same files."""
-    if not shutil.which("yosys") or not shutil.which("berkeley-abc"):
-        return skipped("yosys or berkeley-abc")
-    paths = sorted(glob.glob(f"{TOP}/examples/*.safl") + glob.glob(f"{TOP}/examples/*/*.safl"))
+    missing = yosys.lacks("yosys", "berkeley-abc")
+    if missing:
+        return skipped(missing)
     with tempfile.TemporaryDirectory() as folder:
-        rows = [ands_row(folder, path) for path in paths]
+        rows = [ands_row(folder, *example) for example in examples()]
     head = ("example", "ANDs of `aig`", "Yosys, nothing optimised", "ratio (1.3 wanted)", "the same, shared by ABC", "Yosys, `synth; aigmap`")
     return table("ANDs of bit-level circuits", head, rows)
 
@@ -347,7 +290,7 @@ def main():
     for part in parts:
         if part not in PARTS:
             sys.exit(f"speed_tools: there is no part {part}; there are {', '.join(PARTS)}")
-    if is_there(PROGRAM):
+    if not lacks(PROGRAM):
         for part in parts:
             PARTS[part]()
 

@@ -1,46 +1,181 @@
 #!/usr/bin/env python3
-"""Lists the files of definitions that the contract of `run` reaches by their imports, with their lines, each after those that it
-reads."""
+"""Prints the definitions that the contract of `run` reaches, by name, as the table of docs/THEOREMS.md: a row for each file of
+specs/ with the lines of its reached definitions (with the comments above them), the lines of the whole file, and the names.
+A row stands below those of the files that it reads, and else the lower crate stands first. A second table has how much of it
+the promises of each command alone reach, with the refusal of all other words.
+
+A definition reaches each definition whose name stands in it; the name of a case stands for its list of cases. Types that the
+code declares and definitions of the standard library are not listed."""
+import dataclasses
 import pathlib
 import re
 
-root = pathlib.Path(__file__).resolve().parent.parent
-USE = re.compile(r"use Rattle\.(safl_\w+)\.specs\.(\w+)")
+ROOT = pathlib.Path(__file__).resolve().parent.parent
+TOP = ROOT / "crates/safl_tool/src/top.rt"
+TASKS = ("safl_tool", "CommandTasks")
+COMMANDS = {
+    "check": ["check_task"],
+    "build": ["build_task"],
+    "build --opt": ["optimise_task"],
+    "sim": ["sim_task"],
+    "sim with traces": ["trace_task", "probed_task"],
+    "run": ["run_task"],
+    "walk": ["walk_task"],
+    "report": ["report_task"],
+    "gen": ["gen_task"],
+    "bench": ["bench_task"],
+    "reshape": ["reshape_task"],
+    "session": ["session_task"],
+    "aig": ["aig_task"],
+    "aigstat": ["aigstat_task"],
+}
+USE = re.compile(r"use Rattle\.(safl_\w+)\.specs\.([\w.]+?)(?:\.\{(.*)\}| as (\w+))?;?$")
+HEAD = re.compile(r"(?:(?:abbrev|unfoldable|total|pub|record|data) )+([^\s:]+)|mutual$|module ")
+MEMBER = re.compile(r"\s+((?:(?:abbrev|unfoldable|pub|record|data) )*)([^\s:]+)(?: [({].*)? :")
+WORD = re.compile(r"[^\s(){}\[\],;.]+(?:\.[^\s(){}\[\],;.]+)?")
 
 
-def file_of(crate, name):
-    return root / "crates" / crate / "specs" / f"{name}.antt"
+@dataclasses.dataclass
+class Item:
+    """A definition, or a group of definitions of each other, with the comment above: from a line up to another."""
+    first: int
+    end: int
+    is_group: bool
+    is_record: bool
+    names: list
 
 
-def read_by(path):
-    return [(c, n) for c, n in USE.findall(path.read_text()) if n != "declared" and file_of(c, n).exists()]
+class File:
+    """A file of definitions: its items, by name the item that defines it, and the files and names that it imports."""
+
+    def __init__(self, path):
+        self.lines = path.read_text().splitlines()
+        self.imports, self.aliases = imports_of(self.lines)
+        self.items, self.owner, self.fields = [], {}, set()
+        comment = None
+        for at, line in enumerate(self.lines):
+            comment = self.take(at, line, comment)
+
+    def take(self, at, line, comment):
+        """Reads a line, below a comment that begins at this line; gives the comment that stands above the next one."""
+        if line.startswith("--"):
+            return at if comment is None else comment
+        if begins := HEAD.match(line):
+            name = begins[1] if begins[1] != "mutual" else None
+            self.items.append(Item(at if comment is None else comment, at + 1, name is None, " record " in f" {line}", []))
+            if name:
+                self.define(name, True)
+        elif line and not line.startswith("use ") and self.items:
+            self.items[-1].end = at + 1
+            if member := MEMBER.match(line):
+                self.define(member[2], self.items[-1].is_group and "pub" in member[1])
+        return None
+
+    def define(self, name, is_listed):
+        name, item = name.replace("◌", ""), self.items[-1]
+        self.owner.setdefault(name, len(self.items) - 1)
+        if is_listed:
+            item.names.append(name)
+        elif item.is_record:
+            self.fields.add(name)
+
+    def words(self, item):
+        lines = self.lines[self.items[item].first:self.items[item].end]
+        return {w for line in lines if not line.startswith("--") for w in WORD.findall(line)}
+
+    def size(self, items):
+        return sum(self.items[i].end - self.items[i].first for i in items)
 
 
-def reached(start):
-    found, order = set(), []
+def imports_of(lines):
+    """What each imported name means, as crate, file and name; and what each name of a file means."""
+    names, files = {}, {}
+    for line in lines:
+        if not (use := USE.search(line)):
+            continue
+        crate, module, listed, alias = use.groups()
+        for name in listed.split(",") if listed else []:
+            there, _, here = name.strip().replace("◌", "").partition(" as ")
+            names[here or there] = (crate, module, there)
+        if not listed:
+            files[alias or module.split(".")[-1]] = (crate, module)
+    return names, files
 
-    def visit(item):
-        if item in found:
+
+def meaning(file, crate, module, word):
+    """The crate, file and name that a word means in a file, if it is one of a definition. The name of a field alone reaches
+    nothing: who has a field has named the record."""
+    head, _, tail = word.partition(".")
+    if tail and head in file.aliases:
+        return (*file.aliases[head], tail)
+    if head in file.owner and head not in file.fields:
+        return crate, module, head
+    return file.imports.get(head)
+
+
+def reached(files, commands):
+    """The items that the contract of `run` reaches for these commands, by file."""
+    found, left = {}, list(imports_of(TOP.read_text().splitlines())[0].values())
+    others = {(*TASKS, task) for command in COMMANDS if command not in commands for task in COMMANDS[command]}
+    while left:
+        crate, module, name = target = left.pop()
+        file = files.get((crate, module))
+        if file is None or target in others or name not in file.owner:
+            continue
+        if file.owner[name] in found.setdefault((crate, module), set()):
+            continue
+        found[crate, module].add(file.owner[name])
+        left += read_by(file, crate, module, [file.owner[name]])
+    return found
+
+
+def read_by(file, crate, module, items):
+    """The definitions whose names stand in these items of a file."""
+    words = sorted(set().union(*(file.words(i) for i in items)))
+    return [target for word in words if (target := meaning(file, crate, module, word))]
+
+
+def in_order(files, found):
+    """The reached files, each after those that its reached items read."""
+    order, seen = [], set()
+
+    def visit(key):
+        if key in seen:
             return
-        found.add(item)
-        for other in read_by(file_of(*item)):
-            visit(other)
-        order.append(item)
+        seen.add(key)
+        for crate, module, _ in read_by(files[key], *key, found[key]):
+            if (crate, module) in found:
+                visit((crate, module))
+        order.append(key)
 
-    for item in start:
-        visit(item)
+    crates = re.findall(r"^(safl\w*):", (ROOT / "crates.txt").read_text(), re.M)
+    for key in sorted(found, key=lambda key: (crates.index(key[0]), key[1])):
+        visit(key)
     return order
 
 
+def names_in(file, items):
+    return [name for i in sorted(items) for name in file.items[i].names]
+
+
+def sums(files, found):
+    """The definitions in these items of files, their lines, and the files."""
+    return (sum(len(names_in(files[key], items)) for key, items in found.items()),
+            sum(files[key].size(items) for key, items in found.items()), len(found))
+
+
 def main():
-    start = read_by(root / "crates/safl_tool/src/top.rt")
-    order = reached(start)
-    total = 0
-    for crate, name in order:
-        n = len(file_of(crate, name).read_text().splitlines())
-        total += n
-        print(f"{n:5} {crate} {name}")
-    print(f"{total} lines in {len(order)} files")
+    files = {(p.parent.parent.name, p.stem): File(p) for p in ROOT.glob("crates/*/specs/*.antt")}
+    found = reached(files, COMMANDS)
+    print("| crate | file | lines | of | definitions |\n|---|---|---|---|---|")
+    for crate, module in in_order(files, found):
+        file, items = files[crate, module], found[crate, module]
+        names = ", ".join(f"`{name}`" for name in names_in(file, items))
+        print(f"| {crate} | {module} | {file.size(items)} | {len(file.lines)} | {names} |")
+    print("\n| for | definitions | lines | files |\n|---|---|---|---|")
+    for command in COMMANDS:
+        print("| {} | {:,} | {:,} | {} |".format(command, *sums(files, reached(files, [command]))))
+    print("| all commands | {:,} | {:,} | {} |".format(*sums(files, found)))
 
 
 if __name__ == "__main__":

@@ -22,7 +22,9 @@ import subprocess
 import sys
 import tempfile
 
-TOP = os.path.dirname(os.path.dirname(os.path.abspath(__file__)))
+from files import TOP, read, write
+from program import built, is_there
+
 PAGE = f"{TOP}/docs/TUTORIAL.md"
 COPIES = f"{TOP}/docs/tutorial"
 SECONDS = 60
@@ -31,13 +33,11 @@ VERSIONS = {"yosys": "-V", "iverilog": "-V", "vvp": "-V"}
 
 def program_of(words):
     """The path of the program, which is built if no other one is named."""
-    path = words[0] if words else os.environ.get("SAFL", f"{TOP}/crates/safl/out/safl")
-    if not words and not os.path.exists(path) and shutil.which("rt"):
-        print(f"tutorial: builds {path}")
-        subprocess.run(["rt", "run", "--", "check", "../../examples/seven.safl"], cwd=f"{TOP}/crates/safl", stdout=subprocess.DEVNULL)
-    if not os.access(path, os.X_OK):
-        sys.exit(f"tutorial: there is no program {path}")
-    return os.path.abspath(path)
+    if not words:
+        return built()
+    if not is_there(words[0]):
+        sys.exit(f"tutorial: there is no program {words[0]}")
+    return os.path.abspath(words[0])
 
 
 class Block:
@@ -92,8 +92,7 @@ class Run:
         print(f"tutorial: {text}")
 
     def put(self, block):
-        with open(f"{self.folder}/{block.words[0]}", "w", encoding="utf-8") as file:
-            file.write(block.text)
+        write(f"{self.folder}/{block.words[0]}", block.text)
 
     def commands(self, block):
         """What the commands print, or nothing if a tool is missing."""
@@ -131,8 +130,7 @@ class Run:
                 shutil.copyfile(made, f"{COPIES}/{name}")
             else:
                 self.files += 1
-                with open(made, encoding="utf-8") as got, open(f"{COPIES}/{name}", encoding="utf-8") as wanted:
-                    self.compare(f"docs/tutorial/{name}", wanted.read(), got.read())
+                self.compare(f"docs/tutorial/{name}", read(f"{COPIES}/{name}"), read(made))
 
 
 def follow(run, blocks):
@@ -165,8 +163,7 @@ def main():
     if len(words) > 1:
         sys.exit("usage: tutorial.py [PROGRAM] [--write]")
     program = program_of(words)
-    with open(PAGE, encoding="utf-8") as file:
-        page = file.read()
+    page = read(PAGE)
     blocks = blocks_of(page)
     with tempfile.TemporaryDirectory(prefix="tutorial-") as folder:
         run = Run(folder, program)
@@ -177,8 +174,7 @@ def main():
                 run.compare(f"line {abs(number)}: what is printed", texts[number] if number > 0 else "", got)
         run.copies(write)
         if write:
-            with open(PAGE, "w", encoding="utf-8") as file:
-                file.write(written(page, blocks, printed))
+            write(PAGE, written(page, blocks, printed))
     skipped = f", {run.skipped} SKIPPED" if run.skipped else ""
     print(f"tutorial: {run.ran} blocks of commands run, {run.files} files compared, {run.failed} differences{skipped}")
     sys.exit(1 if run.failed else 0)

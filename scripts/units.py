@@ -15,6 +15,8 @@ import shutil
 import subprocess
 import sys
 
+from files import read, write
+
 
 def graph(report):
     """The picture as a text for Graphviz."""
@@ -42,15 +44,13 @@ def graph(report):
 def main():
     if len(sys.argv) != 3:
         sys.exit("usage: units.py REPORT OUT.svg")
-    with open(sys.argv[1], encoding="utf-8") as file:
-        text = graph(file.read().splitlines())
+    text = graph(read(sys.argv[1]).splitlines())
     out = sys.argv[2]
     if shutil.which("dot"):
         subprocess.run(["dot", "-Tsvg", "-o", out], input=text, text=True, check=True)
     else:
         out = out.removesuffix(".svg") + ".dot"
-        with open(out, "w", encoding="utf-8") as file:
-            file.write(text)
+        write(out, text)
     print(f"units: {out} is written")
 
 

@@ -10,6 +10,8 @@ import subprocess
 import sys
 import tempfile
 
+from files import read, written
+
 MAIN = """#include "Vsafl.h"
 #include <cstddef>
 #include <cstdio>
@@ -66,12 +68,11 @@ def main_text(text):
 def verilate(path, out, jobs=os.cpu_count()):
     """Whether Verilator and the C++ compiler make the program."""
     with tempfile.TemporaryDirectory() as room:
-        with open(path, encoding="utf-8") as file, open(f"{room}/main.cpp", "w", encoding="utf-8") as main:
-            main.write(main_text(file.read()))
+        main = written(room, "main.cpp", main_text(read(path)))
         words = ["verilator", "--cc", "--exe", "--build", "-O3", "--x-assign", "fast", "--x-initial", "fast", "--noassert"]
         words += ["-Wno-fatal", "-Wno-lint", "--top-module", "safl", "--prefix", "Vsafl", "--Mdir", f"{room}/made"]
         words += ["--output-split", "20000", "-j", str(jobs), "-MAKEFLAGS", "OPT_FAST=-O3 OPT_SLOW=-O1 OPT_GLOBAL=-O2"]
-        ended = subprocess.run(words + ["-o", "made", os.path.abspath(path), f"{room}/main.cpp"], capture_output=True, text=True, check=False)
+        ended = subprocess.run(words + ["-o", "made", os.path.abspath(path), main], capture_output=True, text=True, check=False)
         if ended.returncode != 0:
             print(ended.stderr[-2000:], file=sys.stderr)
             return False

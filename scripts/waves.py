@@ -11,6 +11,8 @@ import html
 import re
 import sys
 
+from files import read
+
 ROW, HIGH, LEFT_CHARACTER, CHARACTER, TOP = 26, 16, 7.3, 6.7, 24
 INK, LIGHT, UNKNOWN, FILL = "#222", "#ddd", "#e8c9c9", "#eef3fa"
 
@@ -156,8 +158,7 @@ def main():
     parser.add_argument("--period", type=int, default=1, metavar="P", help="units of time in a cycle")
     parser.add_argument("--at", type=int, default=0, metavar="O", help="the time in a cycle at which its values are taken")
     words = parser.parse_args()
-    with open(words.trace, encoding="utf-8") as file:
-        trace = Trace(file.read())
+    trace = Trace(read(words.trace))
     names = words.signals.split(",") if words.signals else list(trace.widths)
     for name in names:
         if name not in trace.widths:

@@ -1,0 +1,33 @@
+"""The folder of the repository, and texts in files."""
+import glob
+import os
+
+TOP = os.path.dirname(os.path.dirname(os.path.abspath(__file__)))
+
+
+def read(path):
+    with open(path, encoding="utf-8") as file:
+        return file.read()
+
+
+def text(path):
+    """The text of a file of the repository."""
+    return read(f"{TOP}/{path}")
+
+
+def write(path, text):
+    with open(path, "w", encoding="utf-8") as file:
+        file.write(text)
+
+
+def written(folder, name, text):
+    """The path of a file of the folder that has this text from now on."""
+    path = os.path.join(folder, name)
+    write(path, text)
+    return path
+
+
+def examples():
+    """The names and files of the sources of examples/."""
+    paths = sorted(glob.glob(f"{TOP}/examples/*.safl") + glob.glob(f"{TOP}/examples/*/*.safl"))
+    return [(os.path.basename(path).removesuffix(".safl"), path) for path in paths]
