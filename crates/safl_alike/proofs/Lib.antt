@@ -1,3 +1,3 @@
-pub mod ListLemmas
+pub mod GatheredLists
 pub mod Twins
-pub mod RunLemmas
+pub mod RunsAgree

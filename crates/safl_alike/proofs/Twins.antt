@@ -8,7 +8,7 @@ use Rattle.safl_net.specs.Valuations.{Valuation, Holds, Fits, read}
 use Rattle.safl_net.proofs.Reading.{read_word}
 use Rattle.safl_alike.specs.Alike.{Line, input_line, register_line, inputs_in, registers_in, IsCycle}
 use Rattle.safl_alike.specs.Runs.{with_input, input_numbers}
-use Rattle.safl_alike.proofs.ListLemmas.{Member, gathered, from}
+use Rattle.safl_alike.proofs.GatheredLists.{Member, gathered, from}
 
 -- ---- registers
 

@@ -58,7 +58,7 @@ fn parameters_of(alloc: Global, params: &[Param]) -> Result<Vec<Parameter>, NoMe
 }
 
 // A name as text.
-#[tactic(auto, using(crate::proofs::FormLemmas::utf8_name))]
+#[tactic(auto, using(crate::proofs::NamesAsText::utf8_name))]
 fn text_of(alloc: Global, name: &Name) -> Result<String, NoMemory>
     requires { IsName name.now }
     ensures { IfOk result (λ text. string_bytes text ≡ name.now) }

@@ -1,3 +1,3 @@
-pub mod DrawLemmas
+pub mod DrawsInOrder
 pub mod Lengths
-pub mod LineLemmas
+pub mod OneLineMore

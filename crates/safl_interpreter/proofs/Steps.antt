@@ -16,7 +16,7 @@ use Rattle.safl_term.specs.Tree.{shown_term, shown_terms}
 use Rattle.safl_term.specs.declared.checked.Function.{Function}
 use Rattle.safl_term.specs.declared.term.Term as declared
 use Rattle.safl_term.specs.WellFormed.{HasWidth, HaveWidths, IsWellFormed}
-use Rattle.safl_term.proofs.TreeLemmas.{shown_term-Call, shown_term-Loop}
+use Rattle.safl_term.proofs.PlainTrees.{shown_term-Call, shown_term-Loop}
 use Rattle.safl_term.proofs.Widths.{widths_append}
 use Rattle.safl_interpreter.specs.declared.answer.Answer.{Answer}
 use Rattle.safl_interpreter.specs.declared.answer.Step.{Step}

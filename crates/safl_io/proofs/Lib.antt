@@ -4,4 +4,4 @@ pub mod Writing
 pub mod Reading
 pub mod Files
 pub mod Places
-pub mod MemoryLemmas
+pub mod ShelfInMemory

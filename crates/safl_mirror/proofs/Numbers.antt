@@ -12,7 +12,7 @@ use Rattle.safl_net.proofs.Reading.{read_word}
 use Rattle.safl_circuit.specs.Equations.{Inputs}
 use Rattle.safl_circuit.specs.Names.{Names, view, registers_now, registers_next, input_now, one, as_words}
 use Rattle.safl_alike.specs.Alike.{Line, input_line, inputs_in, Shows}
-use Rattle.safl_alike.proofs.ListLemmas.{Member, map_members}
+use Rattle.safl_alike.proofs.GatheredLists.{Member, map_members}
 use Rattle.safl_alike.proofs.Twins.{input_lasts}
 use Rattle.safl_mirror.specs.Laws.{AreMirrors}
 

@@ -16,7 +16,7 @@ use Rattle.safl_opt.specs.Nodes.{Different}
 use Rattle.safl_opt.specs.Values.{sig_at, Folds}
 use Rattle.safl_opt.specs.Building.{AreRead, AreNeeded, Builds}
 use Rattle.safl_opt.specs.Smaller.{IsSmaller}
-use Rattle.safl_alike.proofs.RunLemmas.{run_alike}
+use Rattle.safl_alike.proofs.RunsAgree.{run_alike}
 use Rattle.safl_opt.proofs.Standing.{SameSort, StandsFor, Stands, found, stands_mirrors}
 use Rattle.safl_opt.proofs.Built.{back, acyclic}
 use Rattle.safl_opt.proofs.Leaning.{lean_built}

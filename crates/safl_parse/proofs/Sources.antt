@@ -3,7 +3,7 @@ use Rattle.std.proofs.Common.{◌≡◌, ℕ, List, Result, Ok, Err, IfOk, IfErr
 use Rattle.safl_word.specs.declared.token.Token.{Token}
 use Rattle.safl_word.specs.declared.fault.Fault.{Fault}
 use Rattle.safl_word.specs.Tokens.{HasTokens}
-use Rattle.safl_word.proofs.TokenLemmas.{tokens_once, not_both}
+use Rattle.safl_word.proofs.TokensOnce.{tokens_once, not_both}
 use Rattle.safl_text.specs.declared.error.LexErr.{LexErr}
 use Rattle.safl_text.specs.declared.error.LexErr.TheVariants as lexing
 use Rattle.safl_text.specs.Lexing.{Refuses}

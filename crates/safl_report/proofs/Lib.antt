@@ -1,4 +1,4 @@
-pub mod LineLemmas
-pub mod CallLemmas
-pub mod RegisterLemmas
-pub mod OnceLemmas
+pub mod OneLineMore
+pub mod CountsByOne
+pub mod RegistersByOne
+pub mod OnePlan

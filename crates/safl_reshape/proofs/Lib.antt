@@ -33,7 +33,7 @@ pub mod CalledMembers
 pub mod BoundParams
 pub mod Counted
 pub mod Callees
-pub mod CopyLemmas
+pub mod CopyHolds
 pub mod Putting
 pub mod FormedTrees
 pub mod KeptLists

@@ -1,9 +1,9 @@
-pub mod PieceLemmas
+pub mod PiecesOfText
 pub mod Digits
-pub mod LineLemmas
-pub mod ScriptLemmas
-pub mod RoomLemmas
-pub mod ReplyLemmas
-pub mod SessionLemmas
+pub mod WordsOfLines
+pub mod LinesOfScripts
+pub mod InputsAroundStart
+pub mod OneListOfReplies
+pub mod CallsOfSessions
 pub mod QuietStates
 pub mod Serving

@@ -27,9 +27,9 @@ use Rattle.safl_circuit.specs.Theorem.{IsCircuit, Runs}
 use Rattle.safl_session.specs.declared.session.Reply.{Reply}
 use Rattle.safl_session.specs.Replies.{Replies, IsSilent, AreReplies}
 use Rattle.safl_session.specs.Circuits.{IsMainReply, Serves, IsInTime, CircuitsServe, CircuitsReply}
-use Rattle.safl_session.proofs.LineLemmas.{list_long, in_front, at_seam}
+use Rattle.safl_session.proofs.WordsOfLines.{list_long, in_front, at_seam}
 use Rattle.safl_session.proofs.QuietStates.{quiet_alike}
-use Rattle.safl_session.proofs.ReplyLemmas.{next_fits, fits_along}
+use Rattle.safl_session.proofs.OneListOfReplies.{next_fits, fits_along}
 
 word_bits : (n : Netlist) (v : Valuation) (o : Option ℕ) → (word_at n v o).bits ≡ number_at v o
 word_bits n v None = refl

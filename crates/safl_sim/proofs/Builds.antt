@@ -15,7 +15,7 @@ use Rattle.safl_sim.specs.declared.step.Step.{Step}
 use Rattle.safl_sim.specs.declared.step.Register.{Register}
 use Rattle.safl_sim.specs.Marks.{marked, first_register}
 use Rattle.safl_sim.specs.Readers.{Lists, AreReaders, Inside}
-use Rattle.safl_sim.proofs.MarkLemmas.{none_in}
+use Rattle.safl_sim.proofs.MarksByOne.{none_in}
 use Rattle.safl_sim.specs.Places.{with_input, inputs_from, inputs_of, resets}
 use Rattle.safl_sim.specs.Steps.{IsReg, IsStep, AreSteps, AreRegisters, Keeps}
 use Rattle.safl_sim.proofs.Written.{lower_or_same}

@@ -23,7 +23,7 @@ use Rattle.safl_sim.specs.declared.plan.Plan.{Plan}
 use Rattle.safl_sim.specs.Cycles.{KeepsPlan, Cycles}
 use Rattle.safl_sim.specs.Writes.{HasPut, HasShown, HasKept, KeepsOn}
 use Rattle.safl_sim.proofs.Registers.{all_kept, was_unmarked}
-use Rattle.safl_sim.proofs.InputLemmas.{inputs_are, inputs_long, map_get, get_map, maps_agree, length_map}
+use Rattle.safl_sim.proofs.InputsInOrder.{inputs_are, inputs_long, map_get, get_map, maps_agree, length_map}
 use Rattle.safl_sim.proofs.Updates.{lists_same}
 
 small : (a b v w : ℕ) → a ≡ b → v ≡ w → b < 2 ^ v → a < 2 ^ w

@@ -1,9 +1,9 @@
 pub mod Joining
 pub mod LowBits
-pub mod MarkLemmas
+pub mod MarksByOne
 pub mod Actions
 pub mod Written
-pub mod InputLemmas
+pub mod InputsInOrder
 pub mod Updates
 pub mod Registers
 pub mod Scenes

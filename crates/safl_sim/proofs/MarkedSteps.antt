@@ -15,7 +15,7 @@ use Rattle.safl_sim.specs.Writes.{after_steps, AllReady}
 use Rattle.safl_sim.proofs.Written.{same_or_not, lower_or_not, index_here, index_other, set_length, get_at}
 use Rattle.safl_sim.proofs.Scenes.{wire_at, cell_number_fits, apart, small, step_low, all_steps}
 use Rattle.safl_sim.proofs.Updates.{was_none, operands_same, fits_set, given_stays, given_kept, given_inside, given_below}
-use Rattle.safl_sim.proofs.MarkLemmas.{taken_after, taken_upto, none_upto, none_past}
+use Rattle.safl_sim.proofs.MarksByOne.{taken_after, taken_upto, none_upto, none_past}
 
 -- what the numbers are once a step has been taken and its wire is given its number
 pub record Takes (o : Order) (all : List Step) (regs : List Register) (now starts readers start : List ℕ) (word i : ℕ) (step : Step) (values marks marks' : List ℕ) : Type 0 where

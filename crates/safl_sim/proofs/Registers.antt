@@ -6,7 +6,7 @@ use Rattle.safl_sim.specs.Marks.{marked, HasMark, HasNone, NoneBetween, HasTaken
 use Rattle.safl_sim.specs.Steps.{Waits}
 use Rattle.safl_sim.specs.Writes.{HasShown, HasKept, Shows, KeepsOn}
 use Rattle.safl_sim.proofs.Written.{same_or_not, index_here, index_other, set_length}
-use Rattle.safl_sim.proofs.MarkLemmas.{taken_upto, none_upto, none_past}
+use Rattle.safl_sim.proofs.MarksByOne.{taken_upto, none_upto, none_past}
 use Rattle.safl_sim.proofs.Updates.{mark_or_none}
 
 -- two registers at one index are one

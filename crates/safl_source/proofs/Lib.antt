@@ -1,3 +1,3 @@
-mod SourceLemmas
+mod OneProgram
 mod Ports
 pub mod Mirrored

@@ -11,7 +11,7 @@ use Rattle.safl_term.specs.Tree.{shown_term, shown_terms}
 use Rattle.safl_term.specs.Weights.{weight, weight_in, code_weight, work, work_at}
 use Rattle.safl_term.specs.declared.dismantle.At.{At}
 use Rattle.safl_term.specs.declared.term.Term.{Term, Const, Var, If', Let, Let', Op, Op', Call, Call', Loop, Loop'}
-use Rattle.safl_term.proofs.TreeLemmas.{shown_term-Op, shown_term-Loop, shown_term-Call, shown_term-Let}
+use Rattle.safl_term.proofs.PlainTrees.{shown_term-Op, shown_term-Loop, shown_term-Call, shown_term-Let}
 
 some_weight : (t : plain.Term) → 1 ≤ weight t
 some_weight (plain.Op o ts) = omega arith

@@ -8,7 +8,7 @@ pub mod Picking
 pub mod Order
 pub mod Widths
 pub mod Values
-pub mod TreeLemmas
-pub mod SlotLemmas
-pub mod CheckedLemmas
+pub mod PlainTrees
+pub mod SlotsOfLets
+pub mod HeldByChecked
 pub mod Dismantling

@@ -173,7 +173,7 @@ impl Checked {
     }
 
     /// The number of sites in a function's body.
-    #[tactic(auto, using(crate::proofs::CheckedLemmas::first_site_rises))]
+    #[tactic(auto, using(crate::proofs::HeldByChecked::first_site_rises))]
     pub fn own_sites(&self, f: u32) -> u32
         requires { f < (program_of self.now).functions }
         ensures { first_site_of self.now f + result ≡ first_site_of self.now (suc f) }

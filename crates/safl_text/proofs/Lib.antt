@@ -1,3 +1,3 @@
-pub mod FrontLemmas
-pub mod CutLemmas
-pub mod SpanLemmas
+pub mod PrefixByRuns
+pub mod CutsByPieces
+pub mod TokensInText

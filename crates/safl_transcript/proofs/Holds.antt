@@ -14,7 +14,7 @@ use Rattle.safl_session.specs.declared.session.Reply.{Reply}
 use Rattle.safl_session.specs.Laws.{AreCallsOf}
 use Rattle.safl_session.specs.Replies.{Replies, IsSilent, AreReplies, AllReply}
 use Rattle.safl_session.specs.Sessions.{Opened}
-use Rattle.safl_session.proofs.ReplyLemmas.{replies_exist, replies_join, all_more}
+use Rattle.safl_session.proofs.OneListOfReplies.{replies_exist, replies_join, all_more}
 use Rattle.safl_transcript.specs.Texts.{reply_line, reply_lines, calls_line, late_line, are_all, transcript}
 use Rattle.safl_transcript.specs.Holding.{IsReady, IsHeld, IsBegun}
 use Rattle.safl_transcript.proofs.Sent.{nothing_sent, both_sent, part_sent, rose_later}

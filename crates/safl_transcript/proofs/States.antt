@@ -11,7 +11,7 @@ use Rattle.safl_net.specs.Runs.{RunFrom, GoesOn}
 use Rattle.safl_net.specs.Valuations.{Valuation, Fits, next_state}
 use Rattle.safl_session.specs.declared.session.Reply.{Reply}
 use Rattle.safl_session.specs.Replies.{Replies, AreReplies, AllReply}
-use Rattle.safl_session.proofs.ReplyLemmas.{next_fits}
+use Rattle.safl_session.proofs.OneListOfReplies.{next_fits}
 use Rattle.safl_transcript.specs.Texts.{reply_line, reply_lines}
 
 -- ---- lists

@@ -19,4 +19,4 @@ pub mod Depths
 pub mod Lists
 pub mod Writing
 pub mod Dismantling
-pub mod DepthLemmas
+pub mod DepthByParts

@@ -10,7 +10,7 @@ use Rattle.safl_word.specs.declared.token.Key.TheVariants as keys
 use Rattle.safl_word.specs.declared.token.Sym.TheVariants as syms
 use Rattle.safl_word.specs.Spacing.{spaced_tokens}
 use Rattle.safl_word.specs.Tokens.{HasTokens}
-use Rattle.safl_word.proofs.SpacingLemmas.{spaced_reads}
+use Rattle.safl_word.proofs.BlanksEndTokens.{spaced_reads}
 use Rattle.safl_tree.specs.Tree.{Parameter, Definition}
 use Rattle.safl_tree.specs.Terminals.{Terminal, terminals, code, code_of, comes, word_code, symbol_code, marked, name, number}
 use Rattle.safl_tree.specs.Grammar

@@ -5,8 +5,8 @@ use Rattle.safl_word.specs.declared.token.Token.{Token}
 use Rattle.safl_word.specs.declared.fault.Rule.{Rule}
 use Rattle.safl_word.specs.declared.fault.Fault.{Fault}
 use Rattle.safl_word.specs.Tokens.{HasTokens}
-use Rattle.safl_word.proofs.TokenLemmas
-use Rattle.safl_word.proofs.TokenLemmas.{Outcome, tokens_of, fault_of, outcome, tokens_once, fault_once}
+use Rattle.safl_word.proofs.TokensOnce
+use Rattle.safl_word.proofs.TokensOnce.{Outcome, tokens_of, fault_of, outcome, tokens_once, fault_once}
 use Rattle.safl_tree.specs.Tree.{Definition}
 use Rattle.safl_tree.specs.Source.{TokensSpell, TokensFault, SpellsProgram, SyntaxFault, lexical, of_tokens, fault_at}
 use Rattle.safl_tree.proofs.Sources
@@ -26,11 +26,11 @@ pub program_or_fault : (text : List ℕ) → ((p : List Definition) × SpellsPro
 program_or_fault text = by_outcome text (outcome text)
 
 pub not_both : (text : List ℕ) (p : List Definition) (f : Fault) → SpellsProgram text p → SyntaxFault text f → ⊥
-not_both text p f s (lexical e q h i) = TokenLemmas.not_both text s.tokens e q s.cut h
+not_both text p f s (lexical e q h i) = TokensOnce.not_both text s.tokens e q s.cut h
 not_both text p f s (of_tokens ts h t) = Sources.not_both text ts p f (subst (λ (ts : List Token). TokensSpell text ts p) (tokens_once text s.tokens ts s.cut h) s.spelled) t
 
 pub one_fault : (text : List ℕ) (f g : Fault) → SyntaxFault text f → SyntaxFault text g → f ≡ g
 one_fault text f g (lexical e p h i) (lexical d q k j) = let r = fault_once text e d p q h k in i ∙ ap (λ (e : Rule). fault_at e p) r.0 ∙ ap (λ (p : ℕ). fault_at d p) r.1 ∙ sym j
-one_fault text f g (lexical e p h i) (of_tokens us k t) = absurd (TokenLemmas.not_both text us e p k h)
-one_fault text f g (of_tokens ts h s) (lexical d q k j) = absurd (TokenLemmas.not_both text ts d q h k)
+one_fault text f g (lexical e p h i) (of_tokens us k t) = absurd (TokensOnce.not_both text us e p k h)
+one_fault text f g (of_tokens ts h s) (lexical d q k j) = absurd (TokensOnce.not_both text ts d q h k)
 one_fault text f g (of_tokens ts h s) (of_tokens us k t) = Sources.one_fault text us f g (subst (λ (ts : List Token). TokensFault text ts f) (tokens_once text ts us h k) s) t

@@ -11,7 +11,7 @@ use Rattle.safl_word.specs.declared.primitive.Primitive.TheVariants as prims
 use Rattle.safl_word.specs.Words.{max_width}
 use Rattle.safl_word.specs.Tokens.{IsToken}
 use Rattle.safl_word.specs.Spacing.{Spaced, AreSpaced, spaced_text, spaced_tokens}
-use Rattle.safl_word.proofs.SpacingLemmas.{number_token, size_token}
+use Rattle.safl_word.proofs.BlanksEndTokens.{number_token, size_token}
 use Rattle.safl_tree.specs.Tree.{Tree, Number, Sized, Variable, If, Let, Cases, Op, Call, Trees, no_tree, a_tree, Binds, no_bind, a_bind, Arms, default_arm, an_arm, Parameter, Definition}
 use Rattle.safl_tree.specs.Terminals.{terminals}
 use Rattle.safl_tree.specs.Grammar.{is_width}

@@ -5,13 +5,13 @@ use Rattle.safl_term.specs.declared.term.Term.{Term}
 use Rattle.safl_term.specs.Slots.{count}
 use Rattle.safl_term.specs.Terms.{Nil}
 use Rattle.safl_term.specs.Tree.{shown_terms}
-use Rattle.safl_term.proofs.SlotLemmas.{count_forest}
+use Rattle.safl_term.proofs.SlotsOfLets.{count_forest}
 use Rattle.safl_typing.specs.Rewriting.{Bindings, no_binding, a_binding}
 use Rattle.safl_typing.specs.Heads.{Known, Slot, sites}
 use Rattle.safl_typing.specs.Typing.{slots}
 use Rattle.safl_typing.specs.Walk.{TypedAll, after, wanted_by, check, check_bound}
 use Rattle.safl_typing.proofs.Sound.{after_ok, ok_is}
-use Rattle.safl_typing.proofs.WalkLemmas.{append_length, joined}
+use Rattle.safl_typing.proofs.WalkByForms.{append_length, joined}
 
 counted : (k : Known) (s : List Slot) (lo : ℕ) (bs : Bindings) (r : TypedAll) → check_bound k s lo bs ≡ Ok r → length (slots bs r.widths) ≡ count r.terms
 counted k s lo no_binding r e = subst (λ (z : TypedAll). length (slots no_binding z.widths) ≡ count z.terms) (ok_is (record { widths = []; terms = Nil }) r e) refl

@@ -9,7 +9,7 @@ use Rattle.safl_term.specs.Terms.{Term, Const, Var, Op, If, Let, Call, Loop, Ter
 use Rattle.safl_term.specs.WellFormed.{Spans, SpansAll}
 use Rattle.safl_term.specs.Standing.{Stands}
 use Rattle.safl_term.specs.Readiness.{Answer, Ready, LoopTo, NotYet, word_of, answer, wanted}
-use Rattle.safl_term.proofs.CheckedLemmas.{first_site_rises, first_site_past}
+use Rattle.safl_term.proofs.HeldByChecked.{first_site_rises, first_site_past}
 use Rattle.safl_term.proofs.Order.{stands_within}
 use Rattle.safl_calls.proofs.Locality.{answer_local, wanted_local}
 use Rattle.safl_net.specs.Netlist.{Netlist}

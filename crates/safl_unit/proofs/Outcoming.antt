@@ -5,7 +5,7 @@ use Rattle.std.proofs.lemmas.Option.{slice_get_within}
 use Rattle.safl_word.specs.Words.{Word}
 use Rattle.safl_term.specs.Checked.{CheckedProgram, IsChecked, program_of, first_site_of}
 use Rattle.safl_term.specs.Readiness.{or_else}
-use Rattle.safl_term.proofs.CheckedLemmas.{first_site_past}
+use Rattle.safl_term.proofs.HeldByChecked.{first_site_past}
 use Rattle.safl_calls.specs.Picks.{first}
 use Rattle.safl_net.specs.declared.cell.Sig.{Sig}
 use Rattle.safl_net.specs.Netlist.{Netlist}

@@ -3,4 +3,4 @@ pub mod Cuts
 pub mod KindCodes
 pub mod Loops
 pub mod Parsed
-pub mod NumberLemmas
+pub mod NumbersRead

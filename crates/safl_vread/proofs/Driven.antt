@@ -13,8 +13,8 @@ use Rattle.safl_vread.specs.declared.driver.Operands.TheVariants as operand
 use Rattle.safl_vread.specs.declared.driver.Driver.{Driver}
 use Rattle.safl_vread.specs.declared.driver.Driver.TheVariants as driver
 use Rattle.safl_vread.specs.Drivers.{IsAt, AreAt, places_of, Drives, HasDrivers, open_faults}
-use Rattle.safl_vread.proofs.MissingLemmas.{same_faults}
-use Rattle.safl_vread.proofs.StatementLemmas.{found_name, get_within, at_within}
+use Rattle.safl_vread.proofs.NotDriven.{same_faults}
+use Rattle.safl_vread.proofs.StatementsDrive.{found_name, get_within, at_within}
 use Rattle.safl_vread.specs.Signals.{AreNumbers}
 use Rattle.safl_vread.specs.Nets.{Fits, AllFit, kind_with, signal_with, shown_with}
 

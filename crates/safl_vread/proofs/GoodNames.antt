@@ -18,9 +18,9 @@ use Rattle.safl_verilog.proofs.Distinct.{other_name, same_name, each_at}
 use Rattle.safl_verilog.proofs.Lookups.{each_found}
 use Rattle.safl_vparse.specs.Parsed.{IsFileText}
 use Rattle.safl_vread.specs.Parts.{later_faults}
-use Rattle.safl_vread.proofs.FileLemmas.{both_empty, parted}
+use Rattle.safl_vread.proofs.FaultsOfFile.{both_empty, parted}
 use Rattle.safl_vread.proofs.Widths.{kept_true}
-use Rattle.safl_vread.proofs.StatementLemmas.{distinct_names}
+use Rattle.safl_vread.proofs.StatementsDrive.{distinct_names}
 use Rattle.safl_vread.specs.Nets.{GoodNames}
 use Rattle.safl_vread.proofs.DeclaredNames.{declared_identifier}
 

@@ -12,7 +12,7 @@ use Rattle.safl_verilog.proofs.Distinct.{Distinct, other_name, each_at}
 use Rattle.safl_verilog.proofs.Lookups.{names, place_at}
 use Rattle.safl_vread.specs.declared.driver.Driver.{Driver}
 use Rattle.safl_vread.specs.declared.driver.Driver.TheVariants as driver
-use Rattle.safl_vread.proofs.StatementLemmas.{get_within}
+use Rattle.safl_vread.proofs.StatementsDrive.{get_within}
 use Rattle.safl_vread.specs.Signals.{IsOrder}
 use Rattle.safl_vread.specs.Nets.{GoodNames, opened, signal_in, signal_at, signals_at, shown_with, output_with}
 use Rattle.safl_vread.proofs.SignalNames.{are_signals}

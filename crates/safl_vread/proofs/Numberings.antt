@@ -9,7 +9,7 @@ use Rattle.safl_verilog.specs.Netlists.{signals_of, place_of, number_of}
 use Rattle.safl_verilog.proofs.Distinct.{Distinct, each_at}
 use Rattle.safl_verilog.proofs.Lookups.{names, each_found, place_at}
 use Rattle.safl_vread.specs.Scopes.{without_statements}
-use Rattle.safl_vread.proofs.StatementLemmas.{get_within}
+use Rattle.safl_vread.proofs.StatementsDrive.{get_within}
 use Rattle.safl_vread.proofs.WholeFiles.{found_signal, found_place}
 use Rattle.safl_vread.specs.Signals.{IsOrder, AreNumbers}
 use Rattle.safl_vread.proofs.SignalNames.{signals_distinct}

@@ -11,7 +11,7 @@ use Rattle.safl_verilog.specs.Files.{Declaration}
 use Rattle.safl_verilog.specs.Faults.{range_width}
 use Rattle.safl_vread.specs.Lists.{widths_of}
 use Rattle.safl_vread.specs.declared.driver.Driver.{Driver}
-use Rattle.safl_vread.proofs.ScopeLemmas.{found_at}
+use Rattle.safl_vread.proofs.DeclaredByName.{found_at}
 use Rattle.safl_vread.specs.Nets.{Fits, AllFit, kind_with, opened_kind, opened, signal_with, signal_in, signal_at, signals_at, partly}
 
 -- ---- signals that are still open

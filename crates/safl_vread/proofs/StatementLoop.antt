@@ -8,9 +8,9 @@ use Rattle.safl_verilog.specs.Faults.{repeat_faults, declared_names, statement_f
 use Rattle.safl_vread.specs.declared.driver.Driver.{Driver}
 use Rattle.safl_vread.specs.Firsts.{first}
 use Rattle.safl_vread.specs.Drivers.{HasDrivers, Steps}
-use Rattle.safl_vread.proofs.FirstLemmas.{first_some}
-use Rattle.safl_vread.proofs.NameLemmas.{take_next}
-use Rattle.safl_vread.proofs.StatementLemmas.{next_drivers}
+use Rattle.safl_vread.proofs.FirstOfSeveral.{first_some}
+use Rattle.safl_vread.proofs.NamesLookedUp.{take_next}
+use Rattle.safl_vread.proofs.StatementsDrive.{next_drivers}
 
 -- what holds after some of the statements
 pub record IsSoFar {X : Type 0} (ds : List Declaration) (g : X → Statement) (xs : List X) (i : ℕ) (vs : List Driver) : Type 0 where

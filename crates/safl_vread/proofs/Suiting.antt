@@ -12,7 +12,7 @@ use Rattle.safl_verilog.specs.Faults as Faults
 use Rattle.safl_vread.specs.declared.driver.Driver.{Driver}
 use Rattle.safl_vread.specs.declared.driver.Driver.TheVariants as driver
 use Rattle.safl_vread.specs.Drivers.{AreAt, places_of, Drives, HasDrivers}
-use Rattle.safl_vread.proofs.StatementLemmas.{get_within}
+use Rattle.safl_vread.proofs.StatementsDrive.{get_within}
 use Rattle.safl_vread.specs.Signals.{AreNumbers}
 use Rattle.safl_vread.specs.Nets.{IsSignalAt, AreSignalsAt, width_at, Suits, AllSuit, SuitsIn, signal_in, signal_at, signals_at, partly}
 

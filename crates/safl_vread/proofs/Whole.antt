@@ -19,8 +19,8 @@ use Rattle.safl_vread.specs.declared.driver.Driver.{Driver}
 use Rattle.safl_vread.specs.declared.driver.Driver.TheVariants as driver
 use Rattle.safl_vread.specs.Drivers.{Drives, HasDrivers}
 use Rattle.safl_vread.specs.Parts.{later_faults}
-use Rattle.safl_vread.proofs.FileLemmas.{both_empty, parted}
-use Rattle.safl_vread.proofs.StatementLemmas.{get_within}
+use Rattle.safl_vread.proofs.FaultsOfFile.{both_empty, parted}
+use Rattle.safl_vread.proofs.StatementsDrive.{get_within}
 use Rattle.safl_vread.proofs.WholeFiles.{reads_whole}
 use Rattle.safl_vread.specs.Signals.{IsOrder, AreNumbers}
 use Rattle.safl_vread.specs.Nets.{Fits, AllFit, AllSuit, signal_in, signal_at, signals_at, shown_with, outputs_with, with_outputs}

@@ -19,9 +19,9 @@ use Rattle.safl_verilog.specs.Reads.{Reads}
 use Rattle.safl_net.specs.Arranged.{Each}
 use Rattle.safl_verilog.proofs.Distinct.{Name, Has, Distinct, each_at, each_join, each_mapped, each_of, other_name}
 use Rattle.safl_vread.specs.Parts.{later_faults}
-use Rattle.safl_vread.proofs.FileLemmas.{both_empty, parted}
+use Rattle.safl_vread.proofs.FaultsOfFile.{both_empty, parted}
 use Rattle.safl_vread.proofs.Widths.{kept_true}
-use Rattle.safl_vread.proofs.StatementLemmas.{found_name, distinct_names, width_found}
+use Rattle.safl_vread.proofs.StatementsDrive.{found_name, distinct_names, width_found}
 
 -- ---- each signal is set
 

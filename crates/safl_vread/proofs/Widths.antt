@@ -10,7 +10,7 @@ use Rattle.safl_verilog.specs.declared.fault.VFault.{VFault}
 use Rattle.safl_verilog.specs.Files.{Spot, Declaration}
 use Rattle.safl_verilog.specs.Faults.{at, where_not, number_faults, is_range, range_faults, range_width, declared_number_faults}
 use Rattle.safl_vread.specs.Lists.{widths_of}
-use Rattle.safl_vread.proofs.FileLemmas.{both_empty}
+use Rattle.safl_vread.proofs.FaultsOfFile.{both_empty}
 
 pub kept_true : (b : Bool) (f : VFault) → where_not b f ≡ [] → b ≡ true
 kept_true true f h = refl

@@ -2,7 +2,7 @@
 use Rattle.std.proofs.Common.{◌≡◌, ℕ, ◌+◌, ◌<◌, ◌≤◌, List, length, take, get_or, true, false, ◌==◌, lit≤, sym, ap, ◌∙◌, arith}
 use Rattle.std.proofs.lemmas.Bool.Decides.{nat_tests}
 use Rattle.safl_word.specs.Numerals.{digit, value}
-use Rattle.safl_word.proofs.NumeralLemmas.{value_more, value_front, taken}
+use Rattle.safl_word.proofs.NumeralsRead.{value_more, value_front, taken}
 
 zero_test : (n : ℕ) → n ≡ 0 → true ≡ (n == 0)
 zero_test n h = grind (arith, nat_tests)

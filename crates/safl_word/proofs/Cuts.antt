@@ -6,10 +6,10 @@ use Rattle.safl_word.specs.declared.fault.Rule.{Rule}
 use Rattle.safl_word.specs.declared.fault.Rule.TheVariants as rules
 use Rattle.safl_word.specs.Runs.{EndsRun}
 use Rattle.safl_word.proofs.Runs.{same_run, same_front}
-use Rattle.safl_word.proofs.ByteLemmas.{name_no_blank, name_no_slash, digit_no_blank, digit_no_slash}
+use Rattle.safl_word.proofs.BytesBegin.{name_no_blank, name_no_slash, digit_no_blank, digit_no_slash}
 use Rattle.safl_word.proofs.Lexemes.{same_head, same_tail, sym_head, name_head, number_head, sized_head, else_blank, else_slash}
 use Rattle.safl_word.proofs.Finds.{sym_some}
-use Rattle.safl_word.proofs.KindLemmas.{token_like, kinds_agree, not_too_long}
+use Rattle.safl_word.proofs.OneKind.{token_like, kinds_agree, not_too_long}
 
 -- a token begins with no blank
 pub token_no_blank : (w v : List ℕ) (c : ℕ) (x : List ℕ) → IsLexeme w → w ++ v ≡ c ∷ x → is_blank c ≡ false

@@ -8,7 +8,7 @@ use Rattle.safl_word.specs.declared.token.Sym.{Sym}
 use Rattle.safl_word.specs.declared.token.Sym.TheVariants as syms
 use Rattle.safl_word.specs.Runs.{EndsRun}
 use Rattle.safl_word.proofs.Runs.{run_short, same_run}
-use Rattle.safl_word.proofs.ByteLemmas.{name_not_digit}
+use Rattle.safl_word.proofs.BytesBegin.{name_not_digit}
 
 pub same_head : (c d : ℕ) (u w : List ℕ) → c ∷ u ≡ d ∷ w → c ≡ d
 same_head c d u w e = cc

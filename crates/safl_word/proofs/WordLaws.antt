@@ -11,7 +11,7 @@ use Rattle.safl_word.specs.Words.{Word, IsWord}
 use Rattle.safl_word.specs.declared.primitive.Primitive.TheVariants.{Cat, Bits, Shl, Shr}
 use Rattle.safl_word.specs.Primitives.{apply_prim}
 use Rattle.safl_word.specs.Numerals.{digit, is_digit, value, IsNumeral, IsBounded}
-use Rattle.safl_word.proofs.NumeralLemmas.{value-append}
+use Rattle.safl_word.proofs.NumeralsRead.{value-append}
 
 abbrev word : ℕ → ℕ → Word
 word w n = record { width = w; bits = n }

@@ -1,4 +1,4 @@
-use Rattle.safl_check.proofs.FormLemmas.{param_name, params_next}
+use Rattle.safl_check.proofs.NamesAsText.{param_name, params_next}
 use Rattle.safl_check.proofs.form.parameters_of.Goals as goal
 
 pub text_of-requires : goal.text_of-requires

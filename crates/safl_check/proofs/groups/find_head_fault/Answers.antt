@@ -4,8 +4,8 @@ use Rattle.std.proofs.lemmas.List.{length-map}
 use Rattle.safl_word.specs.declared.fault.Fault.{Fault}
 use Rattle.safl_tree.specs.Shown.{shown_definition, shown_definitions}
 use Rattle.safl_check.specs.Groups.{earlier}
-use Rattle.safl_check.proofs.GroupLemmas.{head_shown, head_named, head_other, head_same}
-use Rattle.safl_check.proofs.NamesakeLemmas.{namesake}
+use Rattle.safl_check.proofs.EarlierNames.{head_shown, head_named, head_other, head_same}
+use Rattle.safl_check.proofs.SameNames.{namesake}
 use Rattle.safl_check.proofs.Remaining.{as_many_heads}
 use Rattle.safl_check.proofs.groups.find_head_fault.Goals as goal
 

@@ -1,6 +1,6 @@
 use Rattle.std.proofs.Common.{◌≡◌, [], drop}
 use Rattle.safl_typing.specs.Walk.{repeated}
-use Rattle.safl_check.proofs.GroupLemmas.{places, param_names}
+use Rattle.safl_check.proofs.EarlierNames.{places, param_names}
 use Rattle.safl_check.proofs.groups.find_repeated_param.Given as goal
 
 -- the rest decides

@@ -1,4 +1,4 @@
-use Rattle.safl_check.proofs.PrepareLemmas.{heads_next}
+use Rattle.safl_check.proofs.HeadsAndBodies.{heads_next}
 use Rattle.safl_check.proofs.heads.make_heads.Goals as goal
 
 pub loop-number-preserved : goal.loop-number-preserved

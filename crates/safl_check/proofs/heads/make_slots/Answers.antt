@@ -3,7 +3,7 @@ use Rattle.std.specs.Prelude.{ℕ}
 use Rattle.safl_tree.specs.Shown.{shown_parameter}
 use Rattle.safl_typing.specs.Heads.{Slot, slot_of}
 use Rattle.safl_typing.specs.PlainHeads.{shown_slot}
-use Rattle.safl_check.proofs.PrepareLemmas.{shown_next, shown_all}
+use Rattle.safl_check.proofs.HeadsAndBodies.{shown_next, shown_all}
 use Rattle.safl_check.proofs.heads.make_slots.Goals as goal
 
 pub loop-param-preserved : goal.loop-param-preserved

@@ -1,4 +1,4 @@
-use Rattle.safl_check.proofs.NumberedLemmas.{numbered}
+use Rattle.safl_check.proofs.NumberedForms.{numbered}
 use Rattle.safl_check.proofs.laws.forms_are_numbered_law.Goals as goal
 
 pub returns : goal.returns

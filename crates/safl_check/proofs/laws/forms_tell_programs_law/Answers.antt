@@ -1,6 +1,6 @@
 use Rattle.std.proofs.Common.{sym, ap, ◌∙◌}
 use Rattle.safl_check.specs.Numbered.{program_in, name_in, param_names_in}
-use Rattle.safl_check.proofs.NumberedLemmas.{numbered}
+use Rattle.safl_check.proofs.NumberedForms.{numbered}
 use Rattle.safl_check.proofs.laws.forms_tell_programs_law.Goals as goal
 
 pub returns : goal.returns

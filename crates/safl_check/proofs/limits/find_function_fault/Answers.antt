@@ -5,7 +5,7 @@ use Rattle.safl_tree.specs.Shown.{shown_definition}
 use Rattle.safl_tree.specs.Tree.{Definition}
 use Rattle.safl_typing.specs.Walk.{limit}
 use Rattle.safl_typing.specs.Forms.{max_functions}
-use Rattle.safl_check.proofs.LimitLemmas.{excess_some}
+use Rattle.safl_check.proofs.LimitsInOrder.{excess_some}
 use Rattle.safl_check.proofs.limits.find_function_fault.Goals as goal
 
 pub returns : goal.returns

@@ -1,6 +1,6 @@
 use Rattle.safl_tree.specs.Shown.{shown_definitions}
 use Rattle.safl_typing.specs.Heads.{heads}
-use Rattle.safl_check.proofs.LimitLemmas.{IsSearched}
+use Rattle.safl_check.proofs.LimitsInOrder.{IsSearched}
 use Rattle.safl_check.proofs.limits.find_limit_fault.Given as goal
 
 -- the rest decides, and the counts are within their limits

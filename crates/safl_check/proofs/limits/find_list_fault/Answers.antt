@@ -7,7 +7,7 @@ use Rattle.safl_term.specs.Sizes.{max_bindings}
 use Rattle.safl_typing.specs.Forms.{max_params}
 use Rattle.safl_term.specs.Readiness.{or_else}
 use Rattle.safl_typing.specs.Walk.{limit}
-use Rattle.safl_check.proofs.LimitLemmas.{excess_some, excess_none}
+use Rattle.safl_check.proofs.LimitsInOrder.{excess_some, excess_none}
 use Rattle.safl_check.proofs.limits.find_list_fault.Goals as goal
 
 pub returns-in-Some : goal.returns-in-Some

@@ -1,4 +1,4 @@
-use Rattle.safl_check.proofs.StackLemmas.{long_let_at}
+use Rattle.safl_check.proofs.StackFromTop.{long_let_at}
 use Rattle.safl_check.proofs.nodes.find_excess_binding.Goals as goal
 
 pub returns-in-Let : goal.returns-in-Let

@@ -5,7 +5,7 @@ use Rattle.safl_tree.specs.Shown.{shown_tree}
 use Rattle.safl_typing.specs.PlainHeads.{known}
 use Rattle.safl_typing.specs.Rewriting.{rewritten}
 use Rattle.safl_check.specs.Parts.{own_nodes, own_sites, own_long_let}
-use Rattle.safl_check.proofs.StackLemmas.{walk_smaller, walk_next}
+use Rattle.safl_check.proofs.StackFromTop.{walk_smaller, walk_next}
 use Rattle.safl_check.proofs.nodes.measure.Goals as goal
 
 pub loop-e-smaller : goal.loop-e-smaller

@@ -2,7 +2,7 @@ use Rattle.safl_tree.specs.Shown.{shown_tree}
 use Rattle.safl_typing.specs.PlainHeads.{known}
 use Rattle.safl_typing.specs.Rewriting.{rewritten}
 use Rattle.safl_check.specs.Parts.{pending, total_nodes}
-use Rattle.safl_check.proofs.PartLemmas.{IsMeasured}
+use Rattle.safl_check.proofs.CountsByParts.{IsMeasured}
 use Rattle.safl_check.proofs.nodes.measure.Given as goal
 
 abbrev pub invariant-loop-e : goal.invariant-loop-e

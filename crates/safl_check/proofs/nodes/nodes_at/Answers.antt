@@ -1,5 +1,5 @@
 use Rattle.std.proofs.Common.{arith}
-use Rattle.safl_check.proofs.StackLemmas.{case_nodes}
+use Rattle.safl_check.proofs.StackFromTop.{case_nodes}
 use Rattle.safl_check.proofs.nodes.nodes_at.Goals as goal
 
 pub returns-in-Case : goal.returns-in-Case

@@ -1,6 +1,6 @@
 use Rattle.std.proofs.Common.{refl}
 use Rattle.safl_check.specs.Parts.{pending}
-use Rattle.safl_check.proofs.StackLemmas.{arm_pushed}
+use Rattle.safl_check.proofs.StackFromTop.{arm_pushed}
 use Rattle.safl_check.proofs.nodes.push_arms.Goals as goal
 
 pub loop-i-preserved : goal.loop-i-preserved

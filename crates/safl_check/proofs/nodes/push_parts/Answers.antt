@@ -1,4 +1,4 @@
-use Rattle.safl_check.proofs.StackLemmas.{if_pushed, let_pushed, case_pushed, op_pushed, call_pushed}
+use Rattle.safl_check.proofs.StackFromTop.{if_pushed, let_pushed, case_pushed, op_pushed, call_pushed}
 use Rattle.safl_check.proofs.nodes.push_parts.Goals as goal
 
 pub returns-in_ok-push-in-If-3 : goal.returns-in_ok-push-in-If-3

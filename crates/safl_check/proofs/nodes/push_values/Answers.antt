@@ -2,7 +2,7 @@ use Rattle.std.proofs.Common.{refl}
 use Rattle.safl_tree.specs.Shown.{shown_tree}
 use Rattle.safl_tree.specs.declared.tree.Bind.{Bind}
 use Rattle.safl_check.specs.Parts.{pending}
-use Rattle.safl_check.proofs.StackLemmas.{pushed}
+use Rattle.safl_check.proofs.StackFromTop.{pushed}
 use Rattle.safl_check.proofs.nodes.push_values.Goals as goal
 
 pub loop-i-preserved : goal.loop-i-preserved

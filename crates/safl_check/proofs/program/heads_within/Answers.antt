@@ -1,6 +1,6 @@
 use Rattle.std.proofs.Common.{sym, ◌∙◌}
 use Rattle.safl_tree.specs.Shown.{shown_definitions}
-use Rattle.safl_check.proofs.OutcomeLemmas.{count_first, limit_next, few}
+use Rattle.safl_check.proofs.OutcomeByParts.{count_first, limit_next, few}
 use Rattle.safl_check.proofs.program.heads_within.Goals as goal
 
 pub returns-in-Some-clause-refused : goal.returns-in-Some-clause-refused

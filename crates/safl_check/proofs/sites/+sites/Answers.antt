@@ -3,9 +3,9 @@ use Rattle.std.proofs.lemmas.Result.{on_ok_weaker}
 use Rattle.safl_term.specs.declared.checked.Site.{Site}
 use Rattle.safl_term.specs.declared.term.Term as declared
 use Rattle.safl_term.specs.Tree.{shown_term, shown_terms}
-use Rattle.safl_term.proofs.TreeLemmas.{shown_term-Op, shown_term-Loop, shown_term-Call, shown_term-Let}
+use Rattle.safl_term.proofs.PlainTrees.{shown_term-Op, shown_term-Loop, shown_term-Call, shown_term-Let}
 use Rattle.safl_typing.specs.Forms.{sites_of, sites_of_all}
-use Rattle.safl_check.proofs.SiteLemmas.{added}
+use Rattle.safl_check.proofs.SitesAdded.{added}
 use Rattle.safl_check.proofs.sites.+sites.Goals as goal
 
 pub push_sites-returns-in_ok-push_all-in-Let : goal.push_sites-returns-in_ok-push_all-in-Let

@@ -1,5 +1,5 @@
 use Rattle.std.proofs.Common.{inl, inr}
-use Rattle.safl_core.proofs.MarkingLemmas.{relists_by, relists_then, places_after}
+use Rattle.safl_core.proofs.SetsPutRight.{relists_by, relists_then, places_after}
 use Rattle.safl_core.proofs.enabled.relist_after.Goals as goal
 
 pub relist_service-requires-clause-places : goal.relist_service-requires-clause-places

@@ -1,5 +1,5 @@
 use Rattle.std.proofs.Common.{inl, ⊎_elim, ◌∙◌}
-use Rattle.safl_core.proofs.MarkingLemmas.{relists_by, relists_then, places_after}
+use Rattle.safl_core.proofs.SetsPutRight.{relists_by, relists_then, places_after}
 use Rattle.safl_core.proofs.enabled.relist_both.Goals as goal
 
 pub relist-requires-2-clause-places : goal.relist-requires-2-clause-places

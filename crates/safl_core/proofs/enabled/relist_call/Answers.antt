@@ -10,8 +10,8 @@ use Rattle.safl_core.specs.Modes.{unit_at}
 use Rattle.safl_core.specs.Stages.{stage_at}
 use Rattle.safl_core.specs.States.{calls_of}
 use Rattle.safl_core.specs.Testing.{can, wanted_at, is_idle}
-use Rattle.safl_core.proofs.MarkingLemmas.{rights_same, rights_put}
-use Rattle.safl_core.proofs.OutcomeLemmas.{accept_test}
+use Rattle.safl_core.proofs.SetsPutRight.{rights_same, rights_put}
+use Rattle.safl_core.proofs.LawsOfKept.{accept_test}
 use Rattle.safl_core.proofs.enabled.relist_call.Goals as goal
 
 pub returns : goal.returns

@@ -14,8 +14,8 @@ use Rattle.safl_core.specs.Modes.{unit_at}
 use Rattle.safl_core.specs.Stages.{stage_at}
 use Rattle.safl_core.specs.States.{calls_of}
 use Rattle.safl_core.specs.Testing.{can, wanted_at, is_idle}
-use Rattle.safl_core.proofs.MarkingLemmas.{relists_by, relists_then, relists_none, places_after, rights_put, rights_same}
-use Rattle.safl_core.proofs.OutcomeLemmas.{accept_test}
+use Rattle.safl_core.proofs.SetsPutRight.{relists_by, relists_then, relists_none, places_after, rights_put, rights_same}
+use Rattle.safl_core.proofs.LawsOfKept.{accept_test}
 use Rattle.safl_core.proofs.enabled.relist_callers.Goals as goal
 
 pub loop-k-init : goal.loop-k-init

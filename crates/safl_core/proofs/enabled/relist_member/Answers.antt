@@ -7,8 +7,8 @@ use Rattle.safl_core.specs.declared.mode.Mode.{Mode}
 use Rattle.safl_core.specs.Modes.{unit_at}
 use Rattle.safl_core.specs.States.{calls_of}
 use Rattle.safl_core.specs.Testing.{can, is_idle, runs, is_ready, loops_to}
-use Rattle.safl_core.proofs.MarkingLemmas.{rights_same, rights_put}
-use Rattle.safl_core.proofs.OutcomeLemmas.{finish_test, loop_test}
+use Rattle.safl_core.proofs.SetsPutRight.{rights_same, rights_put}
+use Rattle.safl_core.proofs.LawsOfKept.{finish_test, loop_test}
 use Rattle.safl_core.proofs.enabled.relist_member.Goals as goal
 
 pub returns : goal.returns

@@ -1,6 +1,6 @@
 use Rattle.std.proofs.Common.{inl, inr, ⊎_elim, arith}
 use Rattle.std.proofs.lemmas.Bool.{cases_eq}
-use Rattle.safl_core.proofs.MarkingLemmas.{relists_by, relists_then, relists_none, places_after}
+use Rattle.safl_core.proofs.SetsPutRight.{relists_by, relists_then, relists_none, places_after}
 use Rattle.safl_core.proofs.enabled.relist_members.Goals as goal
 
 pub loop-f-init : goal.loop-f-init

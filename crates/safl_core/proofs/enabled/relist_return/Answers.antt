@@ -10,8 +10,8 @@ use Rattle.safl_core.specs.Modes.{unit_at}
 use Rattle.safl_core.specs.Stages.{stage_at}
 use Rattle.safl_core.specs.States.{calls_of}
 use Rattle.safl_core.specs.Testing.{can, is_idle, is_sent, delivers_to}
-use Rattle.safl_core.proofs.MarkingLemmas.{rights_same, rights_put, relists_by, relists_none, some_is, none_is}
-use Rattle.safl_core.proofs.OutcomeLemmas.{return_test}
+use Rattle.safl_core.proofs.SetsPutRight.{rights_same, rights_put, relists_by, relists_none, some_is, none_is}
+use Rattle.safl_core.proofs.LawsOfKept.{return_test}
 use Rattle.safl_core.proofs.enabled.relist_return.Goals as goal
 
 pub returns-in_default : goal.returns-in_default

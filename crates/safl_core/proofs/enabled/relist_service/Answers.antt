@@ -2,7 +2,7 @@ use Rattle.std.proofs.Common.{inl, inr, ⊎_elim, ap, ◌∙◌, List}
 use Rattle.safl_core.specs.declared.mode.Mode.{Mode}
 use Rattle.safl_core.specs.Modes.{unit_at}
 use Rattle.safl_core.specs.Testing.{delivered}
-use Rattle.safl_core.proofs.MarkingLemmas.{relists_by, relists_then, places_after}
+use Rattle.safl_core.proofs.SetsPutRight.{relists_by, relists_then, places_after}
 use Rattle.safl_core.proofs.enabled.relist_service.Goals as goal
 
 pub relist_return-requires-clause-places : goal.relist_return-requires-clause-places

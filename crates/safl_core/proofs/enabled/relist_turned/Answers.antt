@@ -2,7 +2,7 @@ use Rattle.std.proofs.Common.{◌∙◌, ap, sym, List}
 use Rattle.safl_core.specs.declared.mode.Mode.{Mode}
 use Rattle.safl_core.specs.Modes.{unit_at}
 use Rattle.safl_core.specs.Testing.{is_idle, is_like}
-use Rattle.safl_core.proofs.MarkingLemmas.{relists_by, relists_none, same_of}
+use Rattle.safl_core.proofs.SetsPutRight.{relists_by, relists_none, same_of}
 use Rattle.safl_core.proofs.enabled.relist_turned.Goals as goal
 
 pub returns-then-is_as_before : goal.returns-then-is_as_before

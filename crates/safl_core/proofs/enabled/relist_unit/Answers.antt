@@ -6,7 +6,7 @@ use Rattle.safl_core.specs.declared.mode.Mode.{Mode}
 use Rattle.safl_core.specs.Modes.{unit_at}
 use Rattle.safl_core.specs.States.{calls_of}
 use Rattle.safl_core.specs.Testing.{can, is_idle}
-use Rattle.safl_core.proofs.MarkingLemmas.{rights_same, rights_put}
+use Rattle.safl_core.proofs.SetsPutRight.{rights_same, rights_put}
 use Rattle.safl_core.proofs.enabled.relist_unit.Goals as goal
 
 pub returns : goal.returns

@@ -3,12 +3,12 @@ use Rattle.safl_word.specs.Words.{Word}
 use Rattle.safl_term.specs.Readiness.{answer, ready_from, Ready}
 use Rattle.safl_term.specs.Sizes.{nodes}
 use Rattle.safl_term.specs.Tree.{shown_term, shown_terms}
-use Rattle.safl_term.proofs.TreeLemmas.{shown_term-Op, shown_term-Call, shown_term-Loop, shown_term-Let}
+use Rattle.safl_term.proofs.PlainTrees.{shown_term-Op, shown_term-Call, shown_term-Loop, shown_term-Let}
 use Rattle.safl_core.specs.Stages.{back_at}
-use Rattle.safl_core.proofs.RunLemmas as may
-use Rattle.safl_core.proofs.RunLemmas.{can_is, unasked_is}
-use Rattle.safl_core.proofs.StepLemmas as step
-use Rattle.safl_core.proofs.StepLemmas.{if_by, let_by, loop_by, notes_as, answer_is, notes_is, forest_nodes}
+use Rattle.safl_core.proofs.RunsByParts as may
+use Rattle.safl_core.proofs.RunsByParts.{can_is, unasked_is}
+use Rattle.safl_core.proofs.AnswersByParts as step
+use Rattle.safl_core.proofs.AnswersByParts.{if_by, let_by, loop_by, notes_as, answer_is, notes_is, forest_nodes}
 use Rattle.safl_core.proofs.evaluate.+evaluate.Goals as goal
 
 -- ---- conditions

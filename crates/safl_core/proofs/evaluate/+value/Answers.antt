@@ -5,14 +5,14 @@ use Rattle.safl_term.specs.Sizes.{nodes, nodes_in}
 use Rattle.safl_term.specs.Terms as plain
 use Rattle.safl_term.specs.Tree.{shown_term, shown_terms}
 use Rattle.safl_term.specs.declared.term.Term as declared
-use Rattle.safl_term.proofs.TreeLemmas.{shown_term-Op, shown_term-Loop, shown_term-Call, shown_term-Let}
-use Rattle.safl_sites.proofs.TermLemmas.{some_node, empty_list}
+use Rattle.safl_term.proofs.PlainTrees.{shown_term-Op, shown_term-Loop, shown_term-Call, shown_term-Let}
+use Rattle.safl_sites.proofs.NodesOfTerms.{some_node, empty_list}
 use Rattle.safl_core.specs.Stages.{back_at}
 use Rattle.safl_core.specs.Evaluating.{Notes}
-use Rattle.safl_core.proofs.RunLemmas as may
-use Rattle.safl_core.proofs.RunLemmas.{can_is, can_all_is, unasked_is, unasked_in_is}
-use Rattle.safl_core.proofs.StepLemmas as step
-use Rattle.safl_core.proofs.StepLemmas.{if_by, let_by, op_by, call_by, loop_by, notes_as, notes_in_as, answer_is, notes_is, notes_in_is, forest_nodes, one_item, two_items}
+use Rattle.safl_core.proofs.RunsByParts as may
+use Rattle.safl_core.proofs.RunsByParts.{can_is, can_all_is, unasked_is, unasked_in_is}
+use Rattle.safl_core.proofs.AnswersByParts as step
+use Rattle.safl_core.proofs.AnswersByParts.{if_by, let_by, op_by, call_by, loop_by, notes_as, notes_in_as, answer_is, notes_is, notes_in_is, forest_nodes, one_item, two_items}
 use Rattle.safl_core.proofs.evaluate.+value.Goals as goal
 use Rattle.safl_core.proofs.evaluate.+value.Goals.{value-then-values-2, value-else-values-2}
 

@@ -2,8 +2,8 @@ use Rattle.std.proofs.Common.{◌≡◌, Some, sym, ap, ◌∙◌}
 use Rattle.safl_term.specs.Checked.{program_of}
 use Rattle.safl_calls.specs.Machine as core
 use Rattle.safl_core.specs.States.{calls_of}
-use Rattle.safl_core.proofs.KeptLemmas.{inv, good, after_accept, accept_words}
-use Rattle.safl_core.proofs.StatesLemmas.{can_refresh, leads}
+use Rattle.safl_core.proofs.KeptByEvents.{inv, good, after_accept, accept_words}
+use Rattle.safl_core.proofs.StatesByEvents.{can_refresh, leads}
 use Rattle.safl_core.proofs.fire.accept.Goals as goal
 use Rattle.safl_core.proofs.fire.accept.Goals.{then-k-eq0, else-k-eq0}
 

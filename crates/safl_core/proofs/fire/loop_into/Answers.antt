@@ -2,8 +2,8 @@ use Rattle.std.proofs.Common.{refl, ap, ◌∙◌, rules}
 use Rattle.safl_term.specs.Checked.{program_of}
 use Rattle.safl_calls.specs.Machine.{LoopInto}
 use Rattle.safl_core.specs.States.{calls_of}
-use Rattle.safl_core.proofs.KeptLemmas.{inv, good, after_end, looping, loop_is}
-use Rattle.safl_core.proofs.StatesLemmas.{can_refresh, leads}
+use Rattle.safl_core.proofs.KeptByEvents.{inv, good, after_end, looping, loop_is}
+use Rattle.safl_core.proofs.StatesByEvents.{can_refresh, leads}
 use Rattle.safl_core.proofs.fire.loop_into.Goals as goal
 
 pub unit-unit-requires : goal.unit-unit-requires

@@ -2,7 +2,7 @@ use Rattle.std.proofs.Common.{◌≡◌, ◌<◌, length, get_or, slice_set, ap,
 use Rattle.std.proofs.lemmas.List.{get_or_read}
 use Rattle.safl_term.specs.Checked.{program_of}
 use Rattle.safl_term.specs.Program.{unit_for}
-use Rattle.safl_core.proofs.LinkLemmas.{linked_more}
+use Rattle.safl_core.proofs.CallersLinked.{linked_more}
 use Rattle.safl_core.proofs.links.link.Goals as goal
 
 pub returns : goal.returns

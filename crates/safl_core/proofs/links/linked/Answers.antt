@@ -1,7 +1,7 @@
 use Rattle.std.proofs.Common.{◌≡◌, ◌+◌, ◌-◌, suc, replicate, ap, ◌∙◌, subst, arith}
 use Rattle.safl_term.specs.Checked.{program_of}
 use Rattle.safl_core.specs.Linking.{AreLinkedFrom}
-use Rattle.safl_core.proofs.LinkLemmas.{linked_none}
+use Rattle.safl_core.proofs.CallersLinked.{linked_none}
 use Rattle.safl_core.proofs.links.linked.Goals as goal
 
 pub loop-done-init : goal.loop-done-init

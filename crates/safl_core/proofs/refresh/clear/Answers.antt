@@ -1,6 +1,6 @@
 use Rattle.std.proofs.Common.{◌<◌, ◌≤◌, length, refl, arith}
 use Rattle.safl_term.specs.Checked.{program_of}
-use Rattle.safl_core.proofs.ClearLemmas.{clear_site, clear_front, clear_back}
+use Rattle.safl_core.proofs.WantsForgotten.{clear_site, clear_front, clear_back}
 use Rattle.safl_core.proofs.refresh.clear.Goals as goal
 
 pub loop-k-init : goal.loop-k-init

@@ -12,8 +12,8 @@ use Rattle.safl_core.specs.Evaluating.{CanRun, Unasked}
 use Rattle.safl_core.specs.Knowing.{HasRoom}
 use Rattle.safl_core.specs.Modes.{unit_at}
 use Rattle.safl_core.specs.Stages.{back_at}
-use Rattle.safl_core.proofs.OpenLemmas.{widths_long}
-use Rattle.safl_core.proofs.RefreshLemmas.{body_can, own_wants, cleared_unasked, refilled, refilled_long}
+use Rattle.safl_core.proofs.KeptAtFirst.{widths_long}
+use Rattle.safl_core.proofs.KeptByRefresh.{body_can, own_wants, cleared_unasked, refilled, refilled_long}
 use Rattle.safl_core.proofs.refresh.evaluated.Goals as goal
 
 pub body-requires : goal.body-requires

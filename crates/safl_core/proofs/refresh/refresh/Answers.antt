@@ -5,8 +5,8 @@ use Rattle.safl_term.specs.Checked.{program_of}
 use Rattle.safl_calls.specs.Machine as core
 use Rattle.safl_core.specs.Evaluating.{Notes}
 use Rattle.safl_core.specs.States.{calls_of}
-use Rattle.safl_core.proofs.RefreshLemmas.{refreshed, asked_off, refilled}
-use Rattle.safl_core.proofs.StatesLemmas.{known_as}
+use Rattle.safl_core.proofs.KeptByRefresh.{refreshed, asked_off, refilled}
+use Rattle.safl_core.proofs.StatesByEvents.{known_as}
 use Rattle.safl_core.proofs.refresh.refresh.Goals as goal
 
 pub evaluated-requires-clause-cleared : goal.evaluated-requires-clause-cleared

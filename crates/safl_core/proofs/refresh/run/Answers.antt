@@ -1,7 +1,7 @@
 use Rattle.std.proofs.Common.{◌≡◌, length, refl, sym, ap, ◌∙◌, List}
 use Rattle.std.proofs.lemmas.List.{take_at}
 use Rattle.safl_word.specs.Words.{Word}
-use Rattle.safl_core.proofs.RunLemmas.{can_is}
+use Rattle.safl_core.proofs.RunsByParts.{can_is}
 use Rattle.safl_core.proofs.refresh.run.Goals as goal
 
 pub evaluate-requires-clause-can : goal.evaluate-requires-clause-can

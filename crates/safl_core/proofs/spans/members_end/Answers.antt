@@ -1,5 +1,5 @@
 use Rattle.std.proofs.Common.{◌∙◌, arith}
-use Rattle.safl_core.proofs.SpanLemmas.{ends_members}
+use Rattle.safl_core.proofs.MembersAndSites.{ends_members}
 use Rattle.safl_core.proofs.spans.members_end.Goals as goal
 
 pub returns-then-unit-u-clause-ends : goal.returns-then-unit-u-clause-ends

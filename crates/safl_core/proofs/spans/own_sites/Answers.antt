@@ -1,4 +1,4 @@
-use Rattle.safl_core.proofs.SpanLemmas.{span_of}
+use Rattle.safl_core.proofs.MembersAndSites.{span_of}
 use Rattle.safl_core.proofs.spans.own_sites.Goals as goal
 
 pub returns : goal.returns

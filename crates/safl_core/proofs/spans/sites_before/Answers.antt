@@ -1,6 +1,6 @@
 use Rattle.std.proofs.Common.{◌≡◌, ap, arith}
 use Rattle.safl_term.specs.Checked.{program_of, first_site_of}
-use Rattle.safl_term.proofs.CheckedLemmas.{first_site_past}
+use Rattle.safl_term.proofs.HeldByChecked.{first_site_past}
 use Rattle.safl_core.proofs.spans.sites_before.Goals as goal
 
 pub returns-else-f-functions : goal.returns-else-f-functions

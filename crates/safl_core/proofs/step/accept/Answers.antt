@@ -4,7 +4,7 @@ use Rattle.safl_calls.specs.Machine as core
 use Rattle.safl_core.specs.declared.mode.Mode.TheVariants.{Runs}
 use Rattle.safl_core.specs.declared.stage.Stage.TheVariants.{Sent}
 use Rattle.safl_core.specs.Modes.{unit_at}
-use Rattle.safl_core.proofs.StateLemmas.{unit_put, stage_put, state_is}
+use Rattle.safl_core.proofs.WritesAreSteps.{unit_put, stage_put, state_is}
 use Rattle.safl_core.proofs.step.accept.Goals as goal
 
 pub returns : goal.returns

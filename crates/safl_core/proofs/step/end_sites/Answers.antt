@@ -1,6 +1,6 @@
 use Rattle.std.proofs.Common.{◌<◌, ◌≤◌, length, refl, arith}
 use Rattle.safl_term.specs.Checked.{program_of}
-use Rattle.safl_core.proofs.StateLemmas.{end_site, end_front, end_back}
+use Rattle.safl_core.proofs.WritesAreSteps.{end_site, end_front, end_back}
 use Rattle.safl_core.proofs.step.end_sites.Goals as goal
 
 pub loop-k-init : goal.loop-k-init

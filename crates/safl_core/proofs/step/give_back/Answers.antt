@@ -3,7 +3,7 @@ use Rattle.safl_calls.specs.Machine as core
 use Rattle.safl_core.specs.declared.mode.Mode.TheVariants.{Idle}
 use Rattle.safl_core.specs.declared.stage.Stage.TheVariants.{Returned}
 use Rattle.safl_core.specs.Modes.{unit_at}
-use Rattle.safl_core.proofs.StateLemmas.{unit_put, stage_put, state_is}
+use Rattle.safl_core.proofs.WritesAreSteps.{unit_put, stage_put, state_is}
 use Rattle.safl_core.proofs.step.give_back.Goals as goal
 
 pub returns : goal.returns

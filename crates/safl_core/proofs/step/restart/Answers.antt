@@ -10,8 +10,8 @@ use Rattle.safl_core.specs.declared.stage.Stage.{Stage}
 use Rattle.safl_core.specs.Modes.{mode_of, unit_at}
 use Rattle.safl_core.specs.Shown.{args_given, serves_of}
 use Rattle.safl_core.specs.Stages.{stage_at}
-use Rattle.safl_core.proofs.RefreshLemmas.{refilled}
-use Rattle.safl_core.proofs.StateLemmas.{unit_put, state_is}
+use Rattle.safl_core.proofs.KeptByRefresh.{refilled}
+use Rattle.safl_core.proofs.WritesAreSteps.{unit_put, state_is}
 use Rattle.safl_core.proofs.step.restart.Goals as goal
 
 pub returns : goal.returns

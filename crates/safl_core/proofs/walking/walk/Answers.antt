@@ -2,7 +2,7 @@ use Rattle.std.proofs.Common.{◌≡◌, ◌⊎◌, inl, inr, refl, ◌∙◌, a
 use Rattle.std.specs.Prelude.{IsSome}
 use Rattle.safl_term.specs.Readiness.{back_word}
 use Rattle.safl_core.specs.Shown.{event_of, state}
-use Rattle.safl_core.proofs.WalkLemmas.{first_turn, one_turn, short_is, short_end}
+use Rattle.safl_core.proofs.WalksByTurns.{first_turn, one_turn, short_is, short_end}
 use Rattle.safl_core.proofs.walking.walk.Goals as goal
 use Rattle.safl_core.proofs.walking.walk.Goals.{else-loop-turn-test, then-loop-turn-test+in_default}
 

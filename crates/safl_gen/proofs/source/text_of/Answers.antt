@@ -3,9 +3,9 @@ use Rattle.std.specs.Prelude.{string_bytes}
 use Rattle.safl_gen.specs.Draws.{draw}
 use Rattle.std.specs.List.{concat, range_with_len}
 use Rattle.safl_gen.specs.Source.{drawn_line, main_line, source}
-use Rattle.safl_gen.proofs.DrawLemmas.{draws_first, draws_more, line_drawn}
+use Rattle.safl_gen.proofs.DrawsInOrder.{draws_first, draws_more, line_drawn}
 use Rattle.safl_gen.proofs.Lengths.{source_short}
-use Rattle.safl_gen.proofs.LineLemmas.{line_more}
+use Rattle.safl_gen.proofs.OneLineMore.{line_more}
 use Rattle.safl_gen.proofs.source.text_of.Goals as goal
 
 pub loop-i-init : goal.loop-i-init

@@ -7,7 +7,7 @@ use Rattle.safl_term.specs.Checked.{program_of}
 use Rattle.safl_term.specs.Fuel.{eval, eval_all, Gave, Words, NoWords}
 use Rattle.safl_term.specs.Sizes.{nodes, nodes_in}
 use Rattle.safl_term.specs.Tree.{shown_term, shown_terms}
-use Rattle.safl_term.proofs.TreeLemmas.{shown_term-Op, shown_term-Let}
+use Rattle.safl_term.proofs.PlainTrees.{shown_term-Op, shown_term-Let}
 use Rattle.safl_interpreter.specs.Interpreting.{widths, shown, shown_all, applied, finished, GoesOn}
 use Rattle.safl_interpreter.proofs.Meanings.{term_saves, terms_save}
 use Rattle.safl_interpreter.proofs.Steps

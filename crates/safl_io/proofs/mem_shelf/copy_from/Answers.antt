@@ -1,6 +1,6 @@
 use Rattle.std.proofs.Common.{rules, arith, ◌≡◌, ◌++◌, length, take, drop, min}
 use Rattle.std.proofs.lemmas.Grind.{common_steps}
-use Rattle.safl_io.proofs.MemoryLemmas.{copied_reads}
+use Rattle.safl_io.proofs.ShelfInMemory.{copied_reads}
 use Rattle.safl_io.proofs.mem_shelf.copy_from.Goals as goal
 
 pub returns-clause-read : goal.returns-clause-read

@@ -2,7 +2,7 @@ use Rattle.std.proofs.Common.{rules, ◌+◌, ◌*◌, ◌<◌, ◌||◌, Bool, 
 use Rattle.std.proofs.lemmas.Option.{slice_get_read}
 use Rattle.safl_term.specs.declared.term.Term as declared
 use Rattle.safl_term.specs.Tree.{shown_term, shown_terms}
-use Rattle.safl_term.proofs.TreeLemmas.{shown_term-Op, shown_term-Let}
+use Rattle.safl_term.proofs.PlainTrees.{shown_term-Op, shown_term-Let}
 use Rattle.safl_term.specs.Sizes.{nodes, nodes_in}
 use Rattle.safl_lower.specs.Typing.{holds_calls, hold_calls}
 use Rattle.safl_lower.proofs.Trees.{smaller_at, holds_at, none_so_far}

@@ -2,7 +2,7 @@ use Rattle.std.proofs.Common.{◌≡◌, ℕ, ◌+◌, ◌<◌, length, get_or, 
 use Rattle.std.proofs.lemmas.List.{get_or_read}
 use Rattle.safl_term.specs.Checked.{CheckedProgram, program_of}
 use Rattle.safl_report.specs.Counting.{AreCalls}
-use Rattle.safl_report.proofs.CallLemmas.{calls_more, calls_few}
+use Rattle.safl_report.proofs.CountsByOne.{calls_more, calls_few}
 use Rattle.safl_report.proofs.calls.count_calls.Goals as goal
 
 pub loop-done-preserved : goal.loop-done-preserved

@@ -1,4 +1,4 @@
-use Rattle.safl_report.proofs.OnceLemmas.{report_once}
+use Rattle.safl_report.proofs.OnePlan.{report_once}
 use Rattle.safl_report.proofs.laws.one_report_law.Goals as goal
 
 pub returns : goal.returns

@@ -4,7 +4,7 @@ use Rattle.std.specs.Int.{from_bool}
 use Rattle.std.specs.List.{range_with_len}
 use Rattle.safl_term.specs.Checked.{program_of}
 use Rattle.safl_sites.specs.Planned.{arbiter_of}
-use Rattle.safl_report.proofs.CallLemmas.{count_more, count_most, bool_number, bool_few}
+use Rattle.safl_report.proofs.CountsByOne.{count_more, count_most, bool_number, bool_few}
 use Rattle.safl_report.proofs.lines.count_arbiters.Goals as goal
 
 pub loop-f-preserved : goal.loop-f-preserved

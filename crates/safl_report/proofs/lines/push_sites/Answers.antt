@@ -2,7 +2,7 @@ use Rattle.std.proofs.Common.{◌+◌, ℕ, List, ◌++◌, ap, ◌∙◌, arith
 use Rattle.safl_term.specs.Checked.{CheckedProgram, program_of, name_of}
 use Rattle.safl_sites.specs.Planned.{kept_of}
 use Rattle.safl_report.specs.Report.{site_line}
-use Rattle.safl_report.proofs.LineLemmas.{line_more, same_site}
+use Rattle.safl_report.proofs.OneLineMore.{line_more, same_site}
 use Rattle.safl_report.proofs.lines.push_sites.Goals as goal
 
 pub loop-done-preserved : goal.loop-done-preserved

@@ -1,7 +1,7 @@
 use Rattle.std.proofs.Common.{◌++◌, ap, ◌∙◌}
 use Rattle.safl_sites.specs.Planned.{arbiter_of, kept_of}
 use Rattle.safl_report.specs.Report.{Text, function_lines, site_lines, register_line}
-use Rattle.safl_report.proofs.LineLemmas.{three_parts, same_registers}
+use Rattle.safl_report.proofs.OneLineMore.{three_parts, same_registers}
 use Rattle.safl_report.proofs.reports.report.Goals as goal
 
 pub returns : goal.returns

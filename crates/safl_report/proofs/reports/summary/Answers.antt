@@ -3,7 +3,7 @@ use Rattle.std.specs.Prelude.{codes, decimal}
 use Rattle.safl_term.specs.Checked.{program_of}
 use Rattle.safl_sites.specs.Planned.{arbiter_of, kept_of}
 use Rattle.safl_report.specs.Report.{Text, arbiters_of, register_line}
-use Rattle.safl_report.proofs.LineLemmas.{three_parts, same_registers}
+use Rattle.safl_report.proofs.OneLineMore.{three_parts, same_registers}
 use Rattle.safl_report.proofs.reports.summary.Goals as goal
 
 pub returns : goal.returns

@@ -11,7 +11,7 @@ use Rattle.safl_reshape.specs.Laws.{IsAlike}
 use Rattle.safl_reshape.specs.Limits.{KeepsLimits}
 use Rattle.safl_reshape.specs.Reshaped.{copied}
 use Rattle.safl_reshape.specs.Refusals.{RefusesCopy, RefusesLimit, MayCopy}
-use Rattle.safl_reshape.proofs.CopyLemmas.{any_form, limit_refused, good_copy}
+use Rattle.safl_reshape.proofs.CopyHolds.{any_form, limit_refused, good_copy}
 use Rattle.safl_reshape.proofs.program.copy_checked.Goals as goal
 
 pub returns-in_err-defs-clause-refused : goal.returns-in_err-defs-clause-refused

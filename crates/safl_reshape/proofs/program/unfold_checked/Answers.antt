@@ -11,7 +11,7 @@ use Rattle.safl_reshape.specs.Laws.{Spares}
 use Rattle.safl_reshape.specs.Limits.{KeepsLimits}
 use Rattle.safl_reshape.specs.Reshaped.{unfolded}
 use Rattle.safl_reshape.specs.Refusals.{RefusesUnfolding, RefusesLimit, MayUnfold}
-use Rattle.safl_reshape.proofs.CopyLemmas.{any_form, unfolding_limit_refused, good_unfolding}
+use Rattle.safl_reshape.proofs.CopyHolds.{any_form, unfolding_limit_refused, good_unfolding}
 use Rattle.safl_reshape.proofs.program.unfold_checked.Goals as goal
 
 pub returns-in_err-defs-clause-refused : goal.returns-in_err-defs-clause-refused

@@ -1,4 +1,4 @@
-use Rattle.safl_session.proofs.ReplyLemmas.{replies_exist, replies_once, replies_join}
+use Rattle.safl_session.proofs.OneListOfReplies.{replies_exist, replies_once, replies_join}
 use Rattle.safl_session.proofs.laws.replies_law.Goals as goal
 
 pub returns-clause-exist : goal.returns-clause-exist

@@ -1,4 +1,4 @@
-use Rattle.safl_session.proofs.ScriptLemmas.{one_script, one_fault, not_both}
+use Rattle.safl_session.proofs.LinesOfScripts.{one_script, one_fault, not_both}
 use Rattle.safl_session.proofs.laws.script_law.Goals as goal
 
 pub returns-clause-script : goal.returns-clause-script

@@ -1,4 +1,4 @@
-use Rattle.safl_session.proofs.LineLemmas.{SeenTo}
+use Rattle.safl_session.proofs.WordsOfLines.{SeenTo}
 use Rattle.safl_session.proofs.line.read_line.Given as goal
 use Rattle.std.proofs.Common.{length}
 

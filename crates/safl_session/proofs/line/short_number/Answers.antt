@@ -1,6 +1,6 @@
 use Rattle.std.proofs.Common.{get_or, ◌∙◌, sym, arith}
 use Rattle.safl_word.specs.Numerals.{is_digit}
-use Rattle.safl_word.proofs.NumeralLemmas.{value_more, digits_more}
+use Rattle.safl_word.proofs.NumeralsRead.{value_more, digits_more}
 use Rattle.safl_session.proofs.Digits.{digit_is, digit_range, digit_passes, digit_fits, next_power}
 use Rattle.safl_session.proofs.line.short_number.Goals as goal
 

@@ -1,4 +1,4 @@
-use Rattle.safl_session.proofs.PieceLemmas.{cut_short}
+use Rattle.safl_session.proofs.PiecesOfText.{cut_short}
 use Rattle.safl_session.proofs.pieces.cut.Goals as goal
 
 pub returns-then-length-text : goal.returns-then-length-text

@@ -2,8 +2,8 @@ use Rattle.std.proofs.Common.{ap, ◌∙◌, arith}
 use Rattle.safl_net.specs.Netlist.{width_of}
 use Rattle.safl_net.specs.Making.{kind_at}
 use Rattle.safl_session.specs.Rooms.{own_zero, zeros_of}
-use Rattle.safl_session.proofs.LineLemmas.{list_long}
-use Rattle.safl_session.proofs.RoomLemmas.{zeros_more, zeros_none}
+use Rattle.safl_session.proofs.WordsOfLines.{list_long}
+use Rattle.safl_session.proofs.InputsAroundStart.{zeros_more, zeros_none}
 use Rattle.std.proofs.Common.{length, take, sym}
 use Rattle.safl_session.proofs.room.inputs_before.Goals as goal
 

@@ -1,6 +1,6 @@
 use Rattle.std.proofs.Common.{sym, subst}
 use Rattle.safl_word.specs.Words.{IsWord}
-use Rattle.safl_session.proofs.RoomLemmas.{zero_is_word}
+use Rattle.safl_session.proofs.InputsAroundStart.{zero_is_word}
 use Rattle.safl_session.proofs.room.push_zero.Goals as goal
 
 pub from_parts-requires : goal.from_parts-requires

@@ -1,6 +1,6 @@
 use Rattle.std.proofs.Common.{◌∙◌}
 use Rattle.std.proofs.lemmas.List.{take_rest}
-use Rattle.safl_session.proofs.RoomLemmas.{put_round}
+use Rattle.safl_session.proofs.InputsAroundStart.{put_round}
 use Rattle.safl_session.proofs.room.put_arguments.Goals as goal
 
 pub returns : goal.returns

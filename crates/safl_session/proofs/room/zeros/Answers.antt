@@ -2,7 +2,7 @@ use Rattle.std.proofs.Common.{◌++◌, sym, ap, ◌∙◌, arith}
 use Rattle.safl_net.specs.Netlist.{width_of}
 use Rattle.safl_net.specs.Making.{kind_at}
 use Rattle.safl_session.specs.Rooms.{own_zero}
-use Rattle.safl_session.proofs.RoomLemmas.{zeros_more, zeros_none}
+use Rattle.safl_session.proofs.InputsAroundStart.{zeros_more, zeros_none}
 use Rattle.safl_session.proofs.room.zeros.Goals as goal
 
 pub signals-init : goal.signals-init

@@ -1,5 +1,5 @@
 use Rattle.std.proofs.Common.{sym, subst, ◌+◌, refl}
-use Rattle.safl_session.proofs.ScriptLemmas.{ScriptTo, script_none, script_more, script_fault, script_done, some_left, all_read}
+use Rattle.safl_session.proofs.LinesOfScripts.{ScriptTo, script_none, script_more, script_fault, script_done, some_left, all_read}
 use Rattle.safl_session.proofs.script.read_script.Goals as goal
 
 pub lines-init : goal.lines-init

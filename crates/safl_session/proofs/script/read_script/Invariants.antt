@@ -1,5 +1,5 @@
 use Rattle.std.proofs.Common.{length}
-use Rattle.safl_session.proofs.ScriptLemmas.{ScriptTo}
+use Rattle.safl_session.proofs.LinesOfScripts.{ScriptTo}
 use Rattle.safl_session.proofs.script.read_script.Given as goal
 
 abbrev pub invariant-lines : goal.invariant-lines

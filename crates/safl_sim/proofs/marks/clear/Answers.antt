@@ -1,6 +1,6 @@
 use Rattle.std.proofs.Common.{inl, inr, ◌/◌, ◌∙◌, set, slice_index, refl, ap, arith}
 use Rattle.safl_sim.proofs.Written.{lower_or_not, lower_or_same, index_here, index_other, index_past}
-use Rattle.safl_sim.proofs.MarkLemmas.{none_in}
+use Rattle.safl_sim.proofs.MarksByOne.{none_in}
 use Rattle.safl_sim.proofs.marks.clear.Goals as goal
 
 pub words-preserved : goal.words-preserved

@@ -1,4 +1,4 @@
-use Rattle.safl_sim.proofs.MarkLemmas.{mark_has}
+use Rattle.safl_sim.proofs.MarksByOne.{mark_has}
 use Rattle.safl_sim.proofs.marks.mark.Goals as goal
 
 pub returns : goal.returns

@@ -1,6 +1,6 @@
 use Rattle.std.proofs.Common.{subst, arith}
 use Rattle.safl_sim.specs.Marks.{HasRange}
-use Rattle.safl_sim.proofs.MarkLemmas.{range_none, range_step}
+use Rattle.safl_sim.proofs.MarksByOne.{range_none, range_step}
 use Rattle.safl_sim.proofs.marks.mark_range.Goals as goal
 
 pub numbers-init : goal.numbers-init

@@ -1,6 +1,6 @@
 use Rattle.std.proofs.Common.{subst, rules, arith}
 use Rattle.safl_sim.specs.Marks.{NoneBetween}
-use Rattle.safl_sim.proofs.MarkLemmas.{between_one}
+use Rattle.safl_sim.proofs.MarksByOne.{between_one}
 use Rattle.safl_sim.proofs.marks.next_word.Goals as goal
 
 pub words-init : goal.words-init

@@ -1,5 +1,5 @@
 use Rattle.std.proofs.Common.{◌+◌, refl, arith}
-use Rattle.safl_sim.proofs.MarkLemmas.{between_none, between_more, four_none}
+use Rattle.safl_sim.proofs.MarksByOne.{between_none, between_more, four_none}
 use Rattle.safl_sim.proofs.marks.skip_blocks.Goals as goal
 
 pub fours-init : goal.fours-init

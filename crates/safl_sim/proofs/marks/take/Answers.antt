@@ -1,5 +1,5 @@
 use Rattle.std.proofs.Common.{get_or, refl, arith, rules}
-use Rattle.safl_sim.proofs.MarkLemmas.{take_has}
+use Rattle.safl_sim.proofs.MarksByOne.{take_has}
 use Rattle.safl_sim.proofs.marks.take.Goals as goal
 
 pub returns-else-left-eq0-clause-some : goal.returns-else-left-eq0-clause-some

@@ -1,6 +1,6 @@
 use Rattle.std.proofs.Common.{◌+◌, inl, inr, refl, ◌∙◌, arith}
 use Rattle.safl_sim.specs.Marks.{first_register}
-use Rattle.safl_sim.proofs.MarkLemmas.{none_in}
+use Rattle.safl_sim.proofs.MarksByOne.{none_in}
 use Rattle.safl_sim.proofs.Written.{lower_or_not}
 use Rattle.safl_sim.proofs.parts.mark_all.Goals as goal
 

@@ -4,7 +4,7 @@ use Rattle.safl_net.specs.Stored.{cell_of, maybe_cell}
 use Rattle.safl_net.specs.Making.{numbers}
 use Rattle.safl_order.specs.Order.{operands_in}
 use Rattle.safl_net.proofs.Naming.{within}
-use Rattle.safl_sim.proofs.InputLemmas.{get_map}
+use Rattle.safl_sim.proofs.InputsInOrder.{get_map}
 use Rattle.safl_sim.proofs.Builds.{cell_found}
 use Rattle.safl_sim.proofs.Scenes.{index_get}
 use Rattle.safl_sim.proofs.parts.push_step.Goals as goal

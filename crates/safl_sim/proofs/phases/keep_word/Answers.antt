@@ -3,7 +3,7 @@ use Rattle.safl_sim.specs.declared.step.Register.{Register}
 use Rattle.safl_sim.specs.Marks.{HasTaken}
 use Rattle.safl_sim.specs.Writes.{KeepsOn}
 use Rattle.safl_sim.proofs.Written.{get_at}
-use Rattle.safl_sim.proofs.MarkLemmas.{taken_after}
+use Rattle.safl_sim.proofs.MarksByOne.{taken_after}
 use Rattle.safl_sim.proofs.Registers.{keeps_to, keeps_none, keeps_step}
 use Rattle.safl_sim.proofs.phases.keep_word.Goals as goal
 

@@ -5,7 +5,7 @@ use Rattle.safl_sim.specs.Marks.{HasTaken}
 use Rattle.safl_sim.specs.Readers.{Lists, HasGiven}
 use Rattle.safl_sim.specs.Writes.{Shows}
 use Rattle.safl_sim.proofs.Written.{get_at, set_length}
-use Rattle.safl_sim.proofs.MarkLemmas.{taken_after}
+use Rattle.safl_sim.proofs.MarksByOne.{taken_after}
 use Rattle.safl_sim.proofs.Registers.{shows_to, shows_none, shows_step}
 use Rattle.safl_sim.proofs.Updates.{goes_step, lists_same}
 use Rattle.safl_sim.proofs.phases.show_word.Goals as goal

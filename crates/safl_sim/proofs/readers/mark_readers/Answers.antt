@@ -1,7 +1,7 @@
 use Rattle.std.proofs.Common.{◌≡◌, Some, slice_get, slice_index, subst, arith}
 use Rattle.safl_sim.specs.Readers.{HasMarked}
 use Rattle.safl_sim.proofs.Written.{get_at}
-use Rattle.safl_sim.proofs.MarkLemmas.{marked_none, marked_step}
+use Rattle.safl_sim.proofs.MarksByOne.{marked_none, marked_step}
 use Rattle.safl_sim.proofs.readers.mark_readers.Goals as goal
 
 pub readers-init : goal.readers-init

@@ -4,7 +4,7 @@ use Rattle.safl_net.specs.declared.cell.Sig.{Sig}
 use Rattle.safl_net.specs.Netlist.{width_of}
 use Rattle.safl_net.specs.Stored.{cell_of}
 use Rattle.safl_net.proofs.Naming.{within}
-use Rattle.safl_sim.proofs.InputLemmas.{get_map, map_get}
+use Rattle.safl_sim.proofs.InputsInOrder.{get_map, map_get}
 use Rattle.safl_sim.proofs.Scenes.{index_get}
 use Rattle.safl_sim.proofs.step.is_narrow.Goals as goal
 

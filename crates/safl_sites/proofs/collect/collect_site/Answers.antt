@@ -3,9 +3,9 @@ use Rattle.safl_term.specs.Checked.{program_of}
 use Rattle.safl_term.specs.Program.{unit_for}
 use Rattle.safl_sites.specs.Collecting.{IsCollected}
 use Rattle.safl_sites.specs.Rows.{Has, Adds, IsCommon, Meets, no_row}
-use Rattle.safl_sites.proofs.BeforeLemmas.{clash}
-use Rattle.safl_sites.proofs.CollectLemmas.{collected_more, collected_none}
-use Rattle.safl_sites.proofs.PeerLemmas.{unit_within}
+use Rattle.safl_sites.proofs.EarlierConflicts.{clash}
+use Rattle.safl_sites.proofs.ConflictsByOne.{collected_more, collected_none}
+use Rattle.safl_sites.proofs.PeersByOne.{unit_within}
 use Rattle.safl_sites.proofs.collect.collect_site.Goals as goal
 
 pub returns-then-meets : goal.returns-then-meets

@@ -1,7 +1,7 @@
 use Rattle.std.proofs.Common.{◌≡◌, List, replicate, subst}
 use Rattle.safl_sites.specs.declared.site_set.SiteSet.{SiteSet}
 use Rattle.safl_sites.specs.Rows.{HasAt}
-use Rattle.safl_sites.proofs.FillLemmas.{empty_table}
+use Rattle.safl_sites.proofs.TablesByBodies.{empty_table}
 use Rattle.safl_sites.proofs.fill.empty_rows.Goals as goal
 
 pub returns-clause-empty : goal.returns-clause-empty

@@ -6,8 +6,8 @@ use Rattle.safl_sites.specs.Filling.{IsFilled}
 use Rattle.safl_sites.specs.Parallel.{Marked}
 use Rattle.safl_sites.specs.Reach.{MayReach}
 use Rattle.safl_sites.specs.Rows.{has, Has, HasAt, Adds}
-use Rattle.safl_sites.proofs.BeforeLemmas.{clash}
-use Rattle.safl_sites.proofs.FillLemmas.{body_may_reach, filled_more}
+use Rattle.safl_sites.proofs.EarlierConflicts.{clash}
+use Rattle.safl_sites.proofs.TablesByBodies.{body_may_reach, filled_more}
 use Rattle.safl_sites.proofs.fill.fill_body.Goals as goal
 
 pub reach-requires : goal.reach-requires

@@ -4,16 +4,16 @@ use Rattle.safl_term.specs.declared.term.Term as declared
 use Rattle.safl_term.specs.Sizes.{nodes, nodes_in}
 use Rattle.safl_term.specs.Terms.{Term, Cons}
 use Rattle.safl_term.specs.Tree.{shown_term, shown_terms}
-use Rattle.safl_term.proofs.TreeLemmas.{shown_term-Op, shown_term-Loop, shown_term-Call, shown_term-Let}
+use Rattle.safl_term.proofs.PlainTrees.{shown_term-Op, shown_term-Loop, shown_term-Call, shown_term-Let}
 use Rattle.safl_sites.specs.declared.site_set.SiteSet.{SiteSet}
 use Rattle.safl_sites.specs.Keeping.{MayKeep, MayKeepIn, IsHeldHere, Walks, WalksIn, Binds}
 use Rattle.safl_sites.specs.Rows.{Has, Adds}
-use Rattle.safl_sites.proofs.AbleLemmas.{keep_cond, keep_then, keep_else, keep_bound, keep_body, keep_op, keep_args, keep_loop, keep_first, keep_rest, keep_tree, keep_forest, slot_within, bound_length}
-use Rattle.safl_sites.proofs.KeepLemmas.{walks_const, walks_var, walks_op, walks_loop, walks_call, walks_if, walks_let, walks_none, walks_more, binds_none, binds_more}
-use Rattle.safl_sites.proofs.ReachLemmas.{site_below}
-use Rattle.safl_sites.proofs.RowLemmas.{row_at}
-use Rattle.safl_sites.proofs.TermLemmas.{some_node, empty_list}
-use Rattle.safl_sites.proofs.WalkLemmas.{walks_tree, walks_forest, binds_forest, held_tree, inserted, walks_same, binds_same}
+use Rattle.safl_sites.proofs.AbleByParts.{keep_cond, keep_then, keep_else, keep_bound, keep_body, keep_op, keep_args, keep_loop, keep_first, keep_rest, keep_tree, keep_forest, slot_within, bound_length}
+use Rattle.safl_sites.proofs.FoundByParts.{walks_const, walks_var, walks_op, walks_loop, walks_call, walks_if, walks_let, walks_none, walks_more, binds_none, binds_more}
+use Rattle.safl_sites.proofs.ReachBySites.{site_below}
+use Rattle.safl_sites.proofs.RowsByWords.{row_at}
+use Rattle.safl_sites.proofs.NodesOfTerms.{some_node, empty_list}
+use Rattle.safl_sites.proofs.FoundRenamed.{walks_tree, walks_forest, binds_forest, held_tree, inserted, walks_same, binds_same}
 use Rattle.safl_sites.proofs.keep.+keep.Goals as goal
 
 pub walk-walk-requires : goal.walk-walk-requires

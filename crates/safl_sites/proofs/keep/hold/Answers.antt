@@ -7,9 +7,9 @@ use Rattle.safl_sites.specs.Keeping.{IsHeldHere}
 use Rattle.safl_sites.specs.Kept.{InBody}
 use Rattle.safl_sites.specs.Rows.{Has, Adds, Meets, no_row}
 use Rattle.safl_sites.specs.Touched.{IsTouched}
-use Rattle.safl_sites.proofs.BeforeLemmas.{clash}
-use Rattle.safl_sites.proofs.HoldLemmas.{looked_more, held_here, held_meets}
-use Rattle.safl_sites.proofs.KeepLemmas.{full}
+use Rattle.safl_sites.proofs.EarlierConflicts.{clash}
+use Rattle.safl_sites.proofs.LetsReach.{looked_more, held_here, held_meets}
+use Rattle.safl_sites.proofs.FoundByParts.{full}
 use Rattle.safl_sites.proofs.keep.hold.Goals as goal
 use Rattle.safl_sites.proofs.keep.hold.Goals.{then-contains+then-meets, else-contains, else-contains-via-then-contains+else-meets, else-contains-via-else-contains}
 

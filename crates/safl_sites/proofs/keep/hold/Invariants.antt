@@ -1,6 +1,6 @@
 use Rattle.safl_term.specs.Checked.{program_of}
 use Rattle.safl_term.specs.Tree.{shown_term}
-use Rattle.safl_sites.proofs.HoldLemmas.{Looked}
+use Rattle.safl_sites.proofs.LetsReach.{Looked}
 use Rattle.safl_sites.proofs.keep.hold.Given as goal
 
 abbrev pub invariant-loop-done : goal.invariant-loop-done

@@ -2,13 +2,13 @@ use Rattle.std.proofs.Common.{sym, ◌∙◌, ap, subst}
 use Rattle.safl_term.specs.Checked.{program_of}
 use Rattle.safl_term.specs.Terms.{Term}
 use Rattle.safl_term.specs.Tree.{shown_term}
-use Rattle.safl_term.proofs.TreeLemmas.{shown_term-Call, shown_term-Let, shown_term-Op, shown_term-Loop}
+use Rattle.safl_term.proofs.PlainTrees.{shown_term-Call, shown_term-Let, shown_term-Op, shown_term-Loop}
 use Rattle.safl_sites.specs.Kept.{InBody}
 use Rattle.safl_sites.specs.Reach.{MayReach}
 use Rattle.safl_sites.specs.Rows.{Has, Adds}
-use Rattle.safl_sites.proofs.HoldLemmas.{in_body_call, in_body_other, in_body_const, in_body_var, not_if, not_let, not_op, not_loop}
-use Rattle.safl_sites.proofs.PartLemmas.{may_args, may_forest}
-use Rattle.safl_sites.proofs.ReachLemmas.{same_forest}
+use Rattle.safl_sites.proofs.LetsReach.{in_body_call, in_body_other, in_body_const, in_body_var, not_if, not_let, not_op, not_loop}
+use Rattle.safl_sites.proofs.PartsOfParts.{may_args, may_forest}
+use Rattle.safl_sites.proofs.ReachBySites.{same_forest}
 use Rattle.safl_sites.proofs.keep.reach_body.Goals as goal
 
 pub reach_in-requires : goal.reach_in-requires

@@ -6,7 +6,7 @@ use Rattle.safl_term.specs.Tree.{shown_term}
 use Rattle.safl_sites.specs.declared.keep.Keeping.{Keeping}
 use Rattle.safl_sites.specs.Keeping.{MayKeep, Walks}
 use Rattle.safl_sites.specs.Rows.{no_row}
-use Rattle.safl_sites.proofs.BodyLemmas.{body_may_keep, body_kept}
+use Rattle.safl_sites.proofs.KeptByBodies.{body_may_keep, body_kept}
 use Rattle.safl_sites.proofs.kept.keep_body.Goals as goal
 
 pub walk-requires : goal.walk-requires

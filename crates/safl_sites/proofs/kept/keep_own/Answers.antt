@@ -1,5 +1,5 @@
 use Rattle.std.proofs.Common.{◌+◌, arith}
-use Rattle.safl_sites.proofs.OrderLemmas.{own_site}
+use Rattle.safl_sites.proofs.NumbersFollow.{own_site}
 use Rattle.safl_sites.proofs.kept.keep_own.Goals as goal
 
 pub overflow_add-k : goal.overflow_add-k

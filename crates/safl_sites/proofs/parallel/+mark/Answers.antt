@@ -4,14 +4,14 @@ use Rattle.safl_term.specs.declared.term.Term as declared
 use Rattle.safl_term.specs.Sizes.{nodes, nodes_in}
 use Rattle.safl_term.specs.Terms.{Term}
 use Rattle.safl_term.specs.Tree.{shown_term, shown_terms}
-use Rattle.safl_term.proofs.TreeLemmas.{shown_term-Op, shown_term-Loop, shown_term-Call, shown_term-Let}
+use Rattle.safl_term.proofs.PlainTrees.{shown_term-Op, shown_term-Loop, shown_term-Call, shown_term-Let}
 use Rattle.safl_sites.specs.Parallel.{Marked, MarkedIn}
 use Rattle.safl_sites.specs.Reach.{MayReach, MayReachIn}
 use Rattle.safl_sites.specs.Rows.{Has, HasAt, Adds}
-use Rattle.safl_sites.proofs.AddsLemmas.{adds_then, adds_none}
-use Rattle.safl_sites.proofs.PartLemmas.{may_cond, may_then, may_else, may_bound, may_body, may_op, may_args, may_loop, may_first, may_rest, may_call, may_tree, may_forest}
-use Rattle.safl_sites.proofs.MarkLemmas.{mark_if, mark_let, mark_op, mark_loop, mark_call, mark_more, mark_const, mark_var, mark_nil, row_more, mark_tree, mark_forest}
-use Rattle.safl_sites.proofs.TermLemmas.{some_node, empty_list}
+use Rattle.safl_sites.proofs.AddsInSteps.{adds_then, adds_none}
+use Rattle.safl_sites.proofs.PartsOfParts.{may_cond, may_then, may_else, may_bound, may_body, may_op, may_args, may_loop, may_first, may_rest, may_call, may_tree, may_forest}
+use Rattle.safl_sites.proofs.RowsJoined.{mark_if, mark_let, mark_op, mark_loop, mark_call, mark_more, mark_const, mark_var, mark_nil, row_more, mark_tree, mark_forest}
+use Rattle.safl_sites.proofs.NodesOfTerms.{some_node, empty_list}
 use Rattle.safl_sites.proofs.parallel.+mark.Goals as goal
 
 pub mark-mark-requires : goal.mark-mark-requires

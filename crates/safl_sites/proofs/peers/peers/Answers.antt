@@ -4,8 +4,8 @@ use Rattle.safl_term.specs.Program.{unit_for}
 use Rattle.safl_sites.specs.declared.site_set.SiteSet.{SiteSet}
 use Rattle.safl_sites.specs.Peers.{ArePeers}
 use Rattle.safl_sites.specs.Rows.{Has, HasAt, Adds}
-use Rattle.safl_sites.proofs.PeerLemmas.{peers_more}
-use Rattle.safl_sites.proofs.RowLemmas.{row_at}
+use Rattle.safl_sites.proofs.PeersByOne.{peers_more}
+use Rattle.safl_sites.proofs.RowsByWords.{row_at}
 use Rattle.safl_sites.proofs.peers.peers.Goals as goal
 
 pub loop-done-preserved : goal.loop-done-preserved

@@ -4,7 +4,7 @@ use Rattle.safl_term.specs.Checked.{program_of}
 use Rattle.safl_sites.specs.declared.site_set.SiteSet.{SiteSet}
 use Rattle.safl_sites.specs.Planned.{PlannedProgram, BeforeTable}
 use Rattle.safl_sites.specs.Rows.{has}
-use Rattle.safl_sites.proofs.PlanLemmas.{plan_is}
+use Rattle.safl_sites.proofs.TablesDecide.{plan_is}
 use Rattle.safl_sites.proofs.planning.find.Goals as goal
 
 pub overflow_add-sites : goal.overflow_add-sites

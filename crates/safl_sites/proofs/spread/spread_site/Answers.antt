@@ -3,7 +3,7 @@ use Rattle.safl_term.specs.Checked.{program_of}
 use Rattle.safl_term.specs.Program.{unit_for}
 use Rattle.safl_sites.specs.Rows.{Has, HasAt, Adds}
 use Rattle.safl_sites.specs.Spreading.{IsSpread}
-use Rattle.safl_sites.proofs.SpreadLemmas.{spread_more}
+use Rattle.safl_sites.proofs.BeforeByCalls.{spread_more}
 use Rattle.safl_sites.proofs.spread.spread_site.Goals as goal
 
 pub returns : goal.returns

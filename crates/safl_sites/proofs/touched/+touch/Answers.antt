@@ -3,13 +3,13 @@ use Rattle.safl_term.specs.declared.term.Term as declared
 use Rattle.safl_term.specs.Sizes.{nodes, nodes_in}
 use Rattle.safl_term.specs.Terms.{Term, Var}
 use Rattle.safl_term.specs.Tree.{shown_term, shown_terms}
-use Rattle.safl_term.proofs.TreeLemmas.{shown_term-Op, shown_term-Loop, shown_term-Call, shown_term-Let}
+use Rattle.safl_term.proofs.PlainTrees.{shown_term-Op, shown_term-Loop, shown_term-Call, shown_term-Let}
 use Rattle.safl_sites.specs.Rows.{Has, Adds}
 use Rattle.safl_sites.specs.Touched.{IsTouched, IsTouchedIn}
-use Rattle.safl_sites.proofs.AddsLemmas.{adds_then, adds_none}
-use Rattle.safl_sites.proofs.TouchLemmas.{touch_if, touch_let, touch_op, touch_loop, touch_call, touch_more, touch_const, touch_nil, touch_var, touch_below, touch_past, touch_tree, touch_forest}
-use Rattle.safl_sites.proofs.RowLemmas.{no_row_has}
-use Rattle.safl_sites.proofs.TermLemmas.{some_node, empty_list}
+use Rattle.safl_sites.proofs.AddsInSteps.{adds_then, adds_none}
+use Rattle.safl_sites.proofs.RowsTouched.{touch_if, touch_let, touch_op, touch_loop, touch_call, touch_more, touch_const, touch_nil, touch_var, touch_below, touch_past, touch_tree, touch_forest}
+use Rattle.safl_sites.proofs.RowsByWords.{no_row_has}
+use Rattle.safl_sites.proofs.NodesOfTerms.{some_node, empty_list}
 use Rattle.safl_sites.proofs.touched.+touch.Goals as goal
 use Rattle.safl_sites.proofs.touched.+touch.Goals.{touch-else-low-slot-via-then-low-slot+else-slot-slots, touch-else-low-slot-via-else-low-slot}
 

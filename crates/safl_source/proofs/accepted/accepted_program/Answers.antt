@@ -6,7 +6,7 @@ use Rattle.safl_tree.specs.Shown.{shown_definitions, shown_program}
 use Rattle.safl_typing.specs.Forms.{Form, IsFormOf, max_sites, shown}
 use Rattle.safl_check.specs.Answers.{RefusesProgram}
 use Rattle.safl_check.specs.Numbered.{program_in}
-use Rattle.safl_source.proofs.SourceLemmas.{refuses}
+use Rattle.safl_source.proofs.OneProgram.{refuses}
 use Rattle.safl_source.proofs.accepted.accepted_program.Goals as goal
 
 pub returns-in_err-checked-clause-refused : goal.returns-in_err-checked-clause-refused

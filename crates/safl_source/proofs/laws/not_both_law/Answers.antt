@@ -1,4 +1,4 @@
-use Rattle.safl_source.proofs.SourceLemmas.{not_both}
+use Rattle.safl_source.proofs.OneProgram.{not_both}
 use Rattle.safl_source.proofs.laws.not_both_law.Goals as goal
 
 pub returns : goal.returns

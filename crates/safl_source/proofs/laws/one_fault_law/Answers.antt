@@ -1,4 +1,4 @@
-use Rattle.safl_source.proofs.SourceLemmas.{one_fault}
+use Rattle.safl_source.proofs.OneProgram.{one_fault}
 use Rattle.safl_source.proofs.laws.one_fault_law.Goals as goal
 
 pub returns : goal.returns

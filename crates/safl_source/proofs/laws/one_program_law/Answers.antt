@@ -1,4 +1,4 @@
-use Rattle.safl_source.proofs.SourceLemmas.{one_program}
+use Rattle.safl_source.proofs.OneProgram.{one_program}
 use Rattle.safl_source.proofs.laws.one_program_law.Goals as goal
 
 pub returns : goal.returns

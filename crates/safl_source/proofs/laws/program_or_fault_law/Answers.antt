@@ -1,4 +1,4 @@
-use Rattle.safl_source.proofs.SourceLemmas.{program_or_fault}
+use Rattle.safl_source.proofs.OneProgram.{program_or_fault}
 use Rattle.safl_source.proofs.laws.program_or_fault_law.Goals as goal
 
 pub returns : goal.returns

@@ -1,7 +1,7 @@
 use Rattle.std.proofs.Common.{arith, ◌==◌, ◌-◌, not, drop, length, length-drop, subst}
-use Rattle.safl_word.proofs.NumeralLemmas.{taken}
+use Rattle.safl_word.proofs.NumeralsRead.{taken}
 use Rattle.safl_word.specs.Runs.{IsRun}
-use Rattle.safl_text.proofs.FrontLemmas.{comment_front}
+use Rattle.safl_text.proofs.PrefixByRuns.{comment_front}
 use Rattle.safl_text.proofs.front.comment.Goals as goal
 
 pub returns : goal.returns

@@ -1,5 +1,5 @@
 use Rattle.std.proofs.Common.{◌∙◌, sym}
-use Rattle.safl_text.proofs.FrontLemmas.{blank_front}
+use Rattle.safl_text.proofs.PrefixByRuns.{blank_front}
 use Rattle.safl_text.proofs.front.front_of.Goals as goal
 
 pub returns-then-is_blank : goal.returns-then-is_blank

@@ -1,4 +1,4 @@
-use Rattle.safl_text.proofs.FrontLemmas.{key_front, name_front, long_name_front}
+use Rattle.safl_text.proofs.PrefixByRuns.{key_front, name_front, long_name_front}
 use Rattle.safl_text.proofs.front.name_or_key.Goals as goal
 
 pub returns-in-Some : goal.returns-in-Some

@@ -1,5 +1,5 @@
 use Rattle.std.proofs.Common.{refl}
-use Rattle.safl_text.proofs.FrontLemmas.{plain_front, plain_long}
+use Rattle.safl_text.proofs.PrefixByRuns.{plain_front, plain_long}
 use Rattle.safl_text.proofs.front.plain_number.Goals as goal
 
 pub returns-in-Some : goal.returns-in-Some

@@ -1,5 +1,5 @@
 use Rattle.std.proofs.Common.{arith, ap, ◌∙◌, ◌≡◌, ◌+◌, ◌-◌, ℕ, List, take, drop}
-use Rattle.safl_text.proofs.FrontLemmas.{sized_front, long_width, long_value, size_digits, read_some, read_none}
+use Rattle.safl_text.proofs.PrefixByRuns.{sized_front, long_width, long_value, size_digits, read_some, read_none}
 use Rattle.safl_text.proofs.front.sized_number.Goals as goal
 
 -- the slice behind the letter

@@ -1,4 +1,4 @@
-use Rattle.safl_text.proofs.FrontLemmas.{pair_front, lone_front, foreign_front}
+use Rattle.safl_text.proofs.PrefixByRuns.{pair_front, lone_front, foreign_front}
 use Rattle.safl_text.proofs.front.symbol.Goals as goal
 
 pub returns-in-Some : goal.returns-in-Some

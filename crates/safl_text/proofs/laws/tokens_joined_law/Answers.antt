@@ -1,4 +1,4 @@
-use Rattle.safl_text.proofs.SpanLemmas.{tokens_joined}
+use Rattle.safl_text.proofs.TokensInText.{tokens_joined}
 use Rattle.safl_text.proofs.laws.tokens_joined_law.Goals as goal
 
 pub returns : goal.returns

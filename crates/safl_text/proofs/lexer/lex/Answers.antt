@@ -1,5 +1,5 @@
-use Rattle.safl_text.proofs.CutLemmas.{goes_over, takes, rest_is}
-use Rattle.safl_text.proofs.SpanLemmas.{cut_lie}
+use Rattle.safl_text.proofs.CutsByPieces.{goes_over, takes, rest_is}
+use Rattle.safl_text.proofs.TokensInText.{cut_lie}
 use Rattle.safl_text.proofs.lexer.lex.Goals as goal
 
 pub pieces-preserved-in-Gap : goal.pieces-preserved-in-Gap

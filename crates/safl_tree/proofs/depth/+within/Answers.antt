@@ -1,6 +1,6 @@
 use Rattle.std.proofs.Common.{arith}
 use Rattle.safl_tree.specs.Shown.{shown_tree}
-use Rattle.safl_tree.proofs.DepthLemmas.{depth_some, let_depth, case_depth, op_depth, call_depth}
+use Rattle.safl_tree.proofs.DepthByParts.{depth_some, let_depth, case_depth, op_depth, call_depth}
 use Rattle.safl_tree.proofs.depth.+within.Goals as goal
 
 pub is_within-returns-then-levels-eq0 : goal.is_within-returns-then-levels-eq0

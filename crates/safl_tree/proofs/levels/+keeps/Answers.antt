@@ -1,6 +1,6 @@
 use Rattle.std.proofs.Common.{arith}
 use Rattle.safl_tree.specs.Shown.{shown_tree}
-use Rattle.safl_tree.proofs.DepthLemmas.{depth_some}
+use Rattle.safl_tree.proofs.DepthByParts.{depth_some}
 use Rattle.safl_tree.proofs.Descent.{let_keeps, case_keeps, op_keeps, call_keeps}
 use Rattle.safl_tree.proofs.levels.+keeps.Goals as goal
 

@@ -1,7 +1,7 @@
 use Rattle.std.proofs.Common.{ℕ, true, false}
 use Rattle.std.specs.Prelude.{nat_lt}
 use Rattle.std.proofs.lemmas.Bool.{lt-ltb, le-ltb}
-use Rattle.safl_typing.proofs.NamedLemmas.{sought_begins, sought_more, sought_falls}
+use Rattle.safl_typing.proofs.FunctionsByName.{sought_begins, sought_more, sought_falls}
 use Rattle.safl_typing.proofs.heads.find_above.Goals as goal
 use Rattle.safl_typing.proofs.heads.find_above.Goals.{then-get-unit, else-get-unit}
 

@@ -1,4 +1,4 @@
-use Rattle.safl_typing.proofs.HeadLemmas.{found_member}
+use Rattle.safl_typing.proofs.HeadsByName.{found_member}
 use Rattle.safl_typing.proofs.heads.find_callee.Goals as goal
 
 pub returns-in-Some-clause-found : goal.returns-in-Some-clause-found

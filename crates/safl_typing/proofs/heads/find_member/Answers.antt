@@ -1,7 +1,7 @@
 use Rattle.std.proofs.Common.{ℕ, true, false}
 use Rattle.std.specs.Prelude.{◌==◌}
 use Rattle.std.proofs.lemmas.Bool.{eq-eqb, ne_eqb}
-use Rattle.safl_typing.proofs.NamedLemmas.{sought_begins, sought_more, sought_falls}
+use Rattle.safl_typing.proofs.FunctionsByName.{sought_begins, sought_more, sought_falls}
 use Rattle.safl_typing.proofs.heads.find_member.Goals as goal
 use Rattle.safl_typing.proofs.heads.find_member.Goals.{then-get-unit, else-get-unit}
 

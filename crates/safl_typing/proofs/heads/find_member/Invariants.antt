@@ -1,5 +1,5 @@
 use Rattle.std.specs.Prelude.{◌==◌}
-use Rattle.safl_typing.proofs.NamedLemmas.{bound, IsSought}
+use Rattle.safl_typing.proofs.FunctionsByName.{bound, IsSought}
 use Rattle.safl_typing.proofs.heads.find_member.Given as goal
 
 -- it falls to the function before it

@@ -4,8 +4,8 @@ use Rattle.safl_typing.specs.declared.expression.Expression as code
 use Rattle.safl_typing.specs.Rewriting.{Let}
 use Rattle.safl_typing.specs.Plain.{shown_expression, shown_bindings}
 use Rattle.safl_typing.specs.Marks.{IsMarkOf, IsMarked, BoundMarked}
-use Rattle.safl_typing.proofs.PlainLemmas.{shown_expression-Let}
-use Rattle.safl_typing.proofs.MarkLemmas.{binding_marked}
+use Rattle.safl_typing.proofs.PlainLists.{shown_expression-Let}
+use Rattle.safl_typing.proofs.MarksOfParts.{binding_marked}
 use Rattle.safl_typing.proofs.make.bind.Goals as goal
 
 pub returns-clause-made : goal.returns-clause-made

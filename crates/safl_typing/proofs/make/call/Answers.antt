@@ -3,8 +3,8 @@ use Rattle.safl_typing.specs.declared.expression.Expression as code
 use Rattle.safl_typing.specs.Rewriting.{Call}
 use Rattle.safl_typing.specs.Plain.{shown_expressions}
 use Rattle.safl_typing.specs.Marks.{IsMarkOf, AreMarked}
-use Rattle.safl_typing.proofs.PlainLemmas.{shown_expression-Call}
-use Rattle.safl_typing.proofs.MarkLemmas.{called_marked}
+use Rattle.safl_typing.proofs.PlainLists.{shown_expression-Call}
+use Rattle.safl_typing.proofs.MarksOfParts.{called_marked}
 use Rattle.std.proofs.Common.{sym}
 use Rattle.safl_typing.proofs.make.call.Goals as goal
 

@@ -3,8 +3,8 @@ use Rattle.safl_typing.specs.declared.expression.Expression as code
 use Rattle.safl_typing.specs.Rewriting.{Op}
 use Rattle.safl_typing.specs.Plain.{shown_expressions}
 use Rattle.safl_typing.specs.Marks.{IsMarkOf, AreMarked}
-use Rattle.safl_typing.proofs.PlainLemmas.{shown_expression-Op}
-use Rattle.safl_typing.proofs.MarkLemmas.{applied_marked}
+use Rattle.safl_typing.proofs.PlainLists.{shown_expression-Op}
+use Rattle.safl_typing.proofs.MarksOfParts.{applied_marked}
 use Rattle.safl_typing.proofs.make.operate.Goals as goal
 
 pub returns-clause-made : goal.returns-clause-made

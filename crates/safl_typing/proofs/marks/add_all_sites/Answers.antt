@@ -1,5 +1,5 @@
-use Rattle.safl_typing.proofs.CountLemmas.{sites_next}
-use Rattle.safl_typing.proofs.MarkLemmas.{marked_at}
+use Rattle.safl_typing.proofs.ListsByOne.{sites_next}
+use Rattle.safl_typing.proofs.MarksOfParts.{marked_at}
 use Rattle.safl_typing.proofs.marks.add_all_sites.Goals as goal
 
 pub loop-e-preserved : goal.loop-e-preserved

@@ -1,5 +1,5 @@
-use Rattle.safl_typing.proofs.CountLemmas.{bound_sites_next}
-use Rattle.safl_typing.proofs.MarkLemmas.{bound_marked_at}
+use Rattle.safl_typing.proofs.ListsByOne.{bound_sites_next}
+use Rattle.safl_typing.proofs.MarksOfParts.{bound_marked_at}
 use Rattle.safl_typing.proofs.marks.add_bound_sites.Goals as goal
 
 pub loop-b-preserved : goal.loop-b-preserved

@@ -2,7 +2,7 @@ use Rattle.std.proofs.Common.{◌≡◌, ◌∙◌, Bool, sym, arith}
 use Rattle.std.specs.Prelude.{◌&&◌}
 use Rattle.safl_typing.specs.Rewriting.{shape, takes_width, all_flexible}
 use Rattle.safl_typing.specs.Plain.{shown_expressions}
-use Rattle.safl_typing.proofs.CountLemmas.{and_true, and_false}
+use Rattle.safl_typing.proofs.ListsByOne.{and_true, and_false}
 use Rattle.safl_typing.proofs.marks.marks_of_operation.Goals as goal
 use Rattle.safl_typing.proofs.marks.marks_of_operation.Goals.{then-has_operands_width, else-has_operands_width}
 

@@ -1,7 +1,7 @@
 use Rattle.std.proofs.Common.{rules, ◌<◌, List, length, ap, arith}
 use Rattle.std.proofs.lemmas.Result.{on_ok_weaker}
 use Rattle.safl_typing.specs.declared.expression.Bound.{Bound}
-use Rattle.safl_typing.proofs.SaysLemmas.{slots_more}
+use Rattle.safl_typing.proofs.SlotsBelowLets.{slots_more}
 use Rattle.safl_typing.proofs.parts.+add_slots.Goals as goal
 
 pub add_slots-requires : goal.add_slots-requires

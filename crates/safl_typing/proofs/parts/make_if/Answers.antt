@@ -1,6 +1,6 @@
 use Rattle.std.proofs.Common.{subst, sym}
 use Rattle.safl_term.specs.Slots.{HasSlots}
-use Rattle.safl_term.proofs.SlotLemmas.{slots-If}
+use Rattle.safl_term.proofs.SlotsOfLets.{slots-If}
 use Rattle.safl_typing.proofs.parts.make_if.Goals as goal
 
 pub returns-clause-slots : goal.returns-clause-slots

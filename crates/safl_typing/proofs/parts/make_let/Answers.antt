@@ -1,11 +1,11 @@
 use Rattle.std.proofs.Common.{◌+◌, length, ◌∙◌, ap, sym, subst}
 use Rattle.safl_term.specs.Slots.{HasSlots}
-use Rattle.safl_term.proofs.SlotLemmas.{slots-Let}
+use Rattle.safl_term.proofs.SlotsOfLets.{slots-Let}
 use Rattle.safl_term.specs.declared.term.Term as declared
 use Rattle.safl_term.specs.Terms.{Let}
 use Rattle.safl_term.specs.Tree.{shown_term, shown_terms}
-use Rattle.safl_term.proofs.TreeLemmas.{shown_term-Let}
-use Rattle.safl_typing.proofs.SaysLemmas.{same_term}
+use Rattle.safl_term.proofs.PlainTrees.{shown_term-Let}
+use Rattle.safl_typing.proofs.SlotsBelowLets.{same_term}
 use Rattle.safl_typing.proofs.parts.make_let.Goals as goal
 
 pub returns-clause-says : goal.returns-clause-says

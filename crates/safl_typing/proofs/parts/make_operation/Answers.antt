@@ -1,5 +1,5 @@
-use Rattle.safl_term.proofs.SlotLemmas.{slots-Op}
-use Rattle.safl_term.proofs.TreeLemmas.{shown_term-Op}
+use Rattle.safl_term.proofs.SlotsOfLets.{slots-Op}
+use Rattle.safl_term.proofs.PlainTrees.{shown_term-Op}
 use Rattle.safl_typing.proofs.parts.make_operation.Goals as goal
 
 pub returns-clause-term : goal.returns-clause-term

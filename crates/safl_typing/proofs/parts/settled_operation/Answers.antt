@@ -1,8 +1,8 @@
 use Rattle.std.proofs.Common.{subst}
 use Rattle.std.proofs.lemmas.Result.{IfOk-weaker}
-use Rattle.safl_term.proofs.SlotLemmas.{slots-Op}
+use Rattle.safl_term.proofs.SlotsOfLets.{slots-Op}
 use Rattle.safl_term.specs.Terms.{Term}
-use Rattle.safl_term.proofs.TreeLemmas.{shown_term-Op}
+use Rattle.safl_term.proofs.PlainTrees.{shown_term-Op}
 use Rattle.safl_typing.specs.Walk.{settle}
 use Rattle.safl_typing.specs.PlainTyped.{shown_wanted, Says}
 use Rattle.safl_typing.proofs.parts.settled_operation.Goals as goal

@@ -3,7 +3,7 @@ use Rattle.std.specs.List.{list_any}
 use Rattle.std.specs.Str.{bytes_eq}
 use Rattle.safl_typing.specs.declared.expression.Bound.{Bound}
 use Rattle.safl_typing.specs.PlainNames.{earlier}
-use Rattle.safl_typing.proofs.RepeatLemmas.{repeated_next}
+use Rattle.safl_typing.proofs.BindingsByOne.{repeated_next}
 use Rattle.safl_typing.proofs.repeats.find_repeated.Goals as goal
 
 pub loop-i-preserved : goal.loop-i-preserved

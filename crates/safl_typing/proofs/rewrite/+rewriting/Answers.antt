@@ -5,10 +5,10 @@ use Rattle.safl_typing.specs.Rewriting.{rewritten}
 use Rattle.safl_typing.specs.Plain.{shown_expression}
 use Rattle.safl_typing.specs.PlainHeads.{known}
 use Rattle.safl_typing.specs.Heads.{callee, is_site}
-use Rattle.safl_typing.proofs.PlainLemmas.{ok_plain}
-use Rattle.safl_typing.proofs.HeadLemmas.{site_plain}
-use Rattle.safl_typing.proofs.MarkLemmas.{marked_push, bound_push}
-use Rattle.safl_typing.proofs.RewriteLemmas.{let_rewrites, case_rewrites, op_rewrites, call_rewrites, all_push, binds_push, arms_front, arms_whole}
+use Rattle.safl_typing.proofs.PlainLists.{ok_plain}
+use Rattle.safl_typing.proofs.HeadsByName.{site_plain}
+use Rattle.safl_typing.proofs.MarksOfParts.{marked_push, bound_push}
+use Rattle.safl_typing.proofs.ListsRewritten.{let_rewrites, case_rewrites, op_rewrites, call_rewrites, all_push, binds_push, arms_front, arms_whole}
 use Rattle.safl_typing.proofs.rewrite.+rewriting.Goals as goal
 
 pub rewrite-returns-in_ok-body-in-Let-clause-rewritten : goal.rewrite-returns-in_ok-body-in-Let-clause-rewritten

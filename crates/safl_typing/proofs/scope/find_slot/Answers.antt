@@ -1,6 +1,6 @@
 use Rattle.std.proofs.Common.{◌∙◌, ap, sym, true, false}
 use Rattle.safl_typing.specs.declared.heads.Slot as code
-use Rattle.safl_typing.proofs.TypedLemmas.{slot_then, slot_else, name_is}
+use Rattle.safl_typing.proofs.SlotsTyped.{slot_then, slot_else, name_is}
 use Rattle.safl_typing.proofs.scope.find_slot.Goals as goal
 use Rattle.safl_typing.proofs.scope.find_slot.Goals.{then-eq, else-eq}
 

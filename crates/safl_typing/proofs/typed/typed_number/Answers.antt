@@ -1,6 +1,6 @@
 use Rattle.std.proofs.lemmas.Bool.{false≢true}
-use Rattle.safl_term.proofs.SlotLemmas.{slots-Const}
-use Rattle.safl_typing.proofs.TypedLemmas.{number_refused}
+use Rattle.safl_term.proofs.SlotsOfLets.{slots-Const}
+use Rattle.safl_typing.proofs.SlotsTyped.{number_refused}
 use Rattle.safl_typing.proofs.typed.typed_number.Goals as goal
 
 pub returns-in-None : goal.returns-in-None

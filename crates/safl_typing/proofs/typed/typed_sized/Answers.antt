@@ -1,7 +1,7 @@
 use Rattle.std.proofs.lemmas.Result.{IfOk-weaker}
 use Rattle.std.proofs.lemmas.Bool.{false≢true}
-use Rattle.safl_term.proofs.SlotLemmas.{slots-Const}
-use Rattle.safl_typing.proofs.TypedLemmas.{sized_refused}
+use Rattle.safl_term.proofs.SlotsOfLets.{slots-Const}
+use Rattle.safl_typing.proofs.SlotsTyped.{sized_refused}
 use Rattle.safl_typing.proofs.typed.typed_sized.Goals as goal
 
 pub returns-in-None : goal.returns-in-None

@@ -1,5 +1,5 @@
 use Rattle.std.proofs.lemmas.Result.{IfOk-weaker}
-use Rattle.safl_term.proofs.SlotLemmas.{slots-Var}
+use Rattle.safl_term.proofs.SlotsOfLets.{slots-Var}
 use Rattle.safl_typing.proofs.typed.typed_variable.Goals as goal
 
 pub returns-in-Some-clause-slots : goal.returns-in-Some-clause-slots

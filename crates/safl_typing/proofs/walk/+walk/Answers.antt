@@ -22,12 +22,12 @@ use Rattle.safl_typing.specs.PlainScope.{shown_scope}
 use Rattle.safl_typing.specs.PlainNames.{twice_at}
 use Rattle.safl_typing.specs.PlainTyped.{shown_wanted, shown_typed, shown_all_typed, shown_alike, shown_shape, HasWidthOfWord, HasWideWanted, HasWideWritten, Says, SaysAll, SaysAlike, operand_wanted, operands_wanted}
 use Rattle.safl_typing.specs.MayWalk.{MayWalk, MayCheck, MayCheckAll, MayBind}
-use Rattle.safl_typing.proofs.PlainLemmas.{shown_expression-Op, shown_expression-Call, shown_expression-Let}
-use Rattle.safl_typing.proofs.SaysLemmas.{fails, goes}
-use Rattle.safl_typing.proofs.WalkLemmas as walk
-use Rattle.safl_typing.proofs.NamedLemmas.{got}
+use Rattle.safl_typing.proofs.PlainLists.{shown_expression-Op, shown_expression-Call, shown_expression-Let}
+use Rattle.safl_typing.proofs.SlotsBelowLets.{fails, goes}
+use Rattle.safl_typing.proofs.WalkByForms as walk
+use Rattle.safl_typing.proofs.FunctionsByName.{got}
 use Rattle.safl_typing.specs.Marks.{IsMarked, AreMarked, BoundMarked}
-use Rattle.safl_typing.proofs.MarkLemmas as marks
+use Rattle.safl_typing.proofs.MarksOfParts as marks
 use Rattle.safl_typing.proofs.walk.+walk.Goals as goal
 
 pub check_operands-check_expression-requires : goal.check_operands-check_expression-requires

@@ -1,5 +1,5 @@
 use Rattle.std.proofs.Common.{length, refl}
-use Rattle.safl_typing.proofs.WalkLemmas.{same_count}
+use Rattle.safl_typing.proofs.WalkByForms.{same_count}
 use Rattle.safl_typing.proofs.walk.are_as_many.Goals as goal
 
 pub returns : goal.returns

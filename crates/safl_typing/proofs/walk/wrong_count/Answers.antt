@@ -1,7 +1,7 @@
 use Rattle.std.proofs.Common.{ap, ◌∙◌}
 use Rattle.safl_word.specs.declared.fault.Fault.{Fault}
 use Rattle.safl_typing.specs.declared.typed.CheckErr.TheVariants as errors
-use Rattle.safl_typing.proofs.WalkLemmas.{wrong_is}
+use Rattle.safl_typing.proofs.WalkByForms.{wrong_is}
 use Rattle.safl_typing.proofs.walk.wrong_count.Goals as goal
 
 pub returns : goal.returns

@@ -1,7 +1,7 @@
 use Rattle.std.proofs.Common.{◌+◌, ◌*◌, get_or, sym, ◌∙◌, ap, refl, arith}
 use Rattle.safl_word.specs.Numerals.{digit}
-use Rattle.safl_word.proofs.NumeralLemmas.{value_more}
-use Rattle.safl_vparse.proofs.NumberLemmas.{too_great, all_read}
+use Rattle.safl_word.proofs.NumeralsRead.{value_more}
+use Rattle.safl_vparse.proofs.NumbersRead.{too_great, all_read}
 use Rattle.safl_vparse.proofs.numbers.bounded.Goals as goal
 
 pub returns-in_err-number : goal.returns-in_err-number

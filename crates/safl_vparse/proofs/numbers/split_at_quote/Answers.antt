@@ -1,6 +1,6 @@
 use Rattle.std.proofs.Common.{◌∙◌, ap, sym, drop, List, ℕ}
 use Rattle.safl_vparse.proofs.Fronts.{slice_rest}
-use Rattle.safl_vparse.proofs.NumberLemmas.{quote_parts}
+use Rattle.safl_vparse.proofs.NumbersRead.{quote_parts}
 use Rattle.safl_vparse.proofs.numbers.split_at_quote.Goals as goal
 
 pub returns-clause-before : goal.returns-clause-before

@@ -7,7 +7,7 @@ use Rattle.safl_verilog.specs.Files.{Spot, Declaration}
 use Rattle.safl_verilog.specs.Faults.{operation, operands}
 use Rattle.safl_vparse.specs.Shown.{shown_declaration, shown_declarations, shown_expression}
 use Rattle.safl_vread.specs.Drivers.{places_of}
-use Rattle.safl_vread.proofs.StatementLemmas.{at_within, same_widths, widths_small}
+use Rattle.safl_vread.proofs.StatementsDrive.{at_within, same_widths, widths_small}
 use Rattle.safl_vread.proofs.cells.expression_width.Goals as goal
 
 pub width_of-requires : goal.width_of-requires

@@ -12,7 +12,7 @@ use Rattle.safl_vread.specs.declared.driver.Driver.{Driver}
 use Rattle.safl_vread.specs.Drivers.{HasDrivers}
 use Rattle.safl_vread.specs.Firsts.{Answers}
 use Rattle.safl_vread.specs.Parts.{parts_at, later_faults}
-use Rattle.safl_vread.proofs.FileLemmas.{empty, both_empty, numbers_first, header_first, declared_first, later_answers}
+use Rattle.safl_vread.proofs.FaultsOfFile.{empty, both_empty, numbers_first, header_first, declared_first, later_answers}
 use Rattle.safl_vread.proofs.elaborate.elaborate_parts.Goals as goal
 
 pub returns-in-Some-clause-faults : goal.returns-in-Some-clause-faults

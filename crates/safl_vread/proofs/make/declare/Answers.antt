@@ -6,7 +6,7 @@ use Rattle.safl_verilog.specs.declared.token.Sort.TheVariants as sorts
 use Rattle.safl_verilog.specs.Files.{Declaration}
 use Rattle.safl_vparse.specs.declared.file.Declaration.{Declaration as Parsed}
 use Rattle.safl_vparse.specs.Shown.{shown_declaration, shown_declarations}
-use Rattle.safl_vread.proofs.StatementLemmas.{distinct_names}
+use Rattle.safl_vread.proofs.StatementsDrive.{distinct_names}
 use Rattle.safl_vread.specs.Nets.{opened, signal_at, signals_at}
 use Rattle.safl_vread.proofs.Orders.{place_inside}
 use Rattle.safl_vread.proofs.Stages.{declared_there, declared_long, fits_width, width_there, declares_next}

@@ -4,7 +4,7 @@ use Rattle.safl_net.specs.Netlist.{Netlist}
 use Rattle.safl_net.specs.Names.{named_signal}
 use Rattle.safl_verilog.specs.Files.{Declaration}
 use Rattle.safl_vparse.specs.Shown.{shown_declaration, shown_declarations}
-use Rattle.safl_vread.proofs.StatementLemmas.{distinct_names}
+use Rattle.safl_vread.proofs.StatementsDrive.{distinct_names}
 use Rattle.safl_vread.specs.Signals.{IsOrder, AreNumbers}
 use Rattle.safl_vread.specs.Nets.{opened, signals_at}
 use Rattle.safl_vread.proofs.SignalNames.{signals_few}

@@ -4,7 +4,7 @@ use Rattle.safl_verilog.specs.Files.{Declaration}
 use Rattle.safl_vparse.specs.declared.file.Declaration.{Declaration as Parsed}
 use Rattle.safl_vparse.specs.Shown.{shown_declaration, shown_declarations}
 use Rattle.safl_vread.specs.declared.driver.Driver.TheVariants as driver
-use Rattle.safl_vread.proofs.StatementLemmas.{distinct_names}
+use Rattle.safl_vread.proofs.StatementsDrive.{distinct_names}
 use Rattle.safl_vread.specs.Nets.{output_with, with_outputs}
 use Rattle.safl_vread.proofs.Stages.{declared_there, some_width}
 use Rattle.safl_vread.proofs.NewNames.{good_output, output_free}

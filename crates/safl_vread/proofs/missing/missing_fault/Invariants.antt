@@ -5,7 +5,7 @@ use Rattle.safl_verilog.specs.Faults.{missing_faults}
 use Rattle.safl_vparse.specs.Shown.{shown_declaration, shown_declarations}
 use Rattle.safl_vread.specs.Firsts.{first}
 use Rattle.safl_vread.specs.Drivers.{HasDrivers}
-use Rattle.safl_vread.proofs.FirstLemmas.{first_from}
+use Rattle.safl_vread.proofs.FirstOfSeveral.{first_from}
 use Rattle.safl_vread.proofs.missing.missing_fault.Given as goal
 
 abbrev pub invariant-loop-i : goal.invariant-loop-i

@@ -1,6 +1,6 @@
 use Rattle.std.proofs.Common.{ap, ◌∙◌, Some}
 use Rattle.safl_vparse.specs.Shown.{shown_spot, shown_spots}
-use Rattle.safl_vread.proofs.NameLemmas.{item_at, refused, added}
+use Rattle.safl_vread.proofs.NamesLookedUp.{item_at, refused, added}
 use Rattle.safl_vread.proofs.names.header_names.Goals as goal
 
 pub returns-then-not-branch-clause-faults : goal.returns-then-not-branch-clause-faults

@@ -1,5 +1,5 @@
 use Rattle.safl_vparse.specs.Shown.{shown_spots}
-use Rattle.safl_vread.proofs.NameLemmas.{IsApart}
+use Rattle.safl_vread.proofs.NamesLookedUp.{IsApart}
 use Rattle.safl_vread.proofs.names.header_names.Given as goal
 
 abbrev pub invariant-loop-x : goal.invariant-loop-x

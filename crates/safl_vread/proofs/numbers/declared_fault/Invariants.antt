@@ -3,7 +3,7 @@ use Rattle.std.specs.List.{flat_map}
 use Rattle.safl_verilog.specs.Faults.{declared_number_faults}
 use Rattle.safl_vparse.specs.Shown.{shown_declaration, shown_declarations}
 use Rattle.safl_vread.specs.Firsts.{first}
-use Rattle.safl_vread.proofs.FirstLemmas.{first_from}
+use Rattle.safl_vread.proofs.FirstOfSeveral.{first_from}
 use Rattle.safl_vread.proofs.numbers.declared_fault.Given as goal
 
 abbrev pub invariant-loop-d : goal.invariant-loop-d

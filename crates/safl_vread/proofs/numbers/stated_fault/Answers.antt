@@ -3,7 +3,7 @@ use Rattle.std.specs.List.{flat_map}
 use Rattle.safl_verilog.specs.Faults.{stated_number_faults}
 use Rattle.safl_vparse.specs.Shown.{shown_statement, shown_statements}
 use Rattle.safl_vread.specs.Firsts.{first}
-use Rattle.safl_vread.proofs.FirstLemmas.{goes_on, stops, ends}
+use Rattle.safl_vread.proofs.FirstOfSeveral.{goes_on, stops, ends}
 use Rattle.safl_vread.proofs.numbers.stated_fault.Goals as goal
 
 pub returns-then-is_some : goal.returns-then-is_some

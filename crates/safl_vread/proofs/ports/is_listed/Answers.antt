@@ -3,7 +3,7 @@ use Rattle.safl_verilog.specs.Files.{Spot}
 use Rattle.safl_verilog.specs.Faults.{among}
 use Rattle.safl_vparse.specs.Shown.{shown_spot}
 use Rattle.safl_vread.specs.Lists.{has, bytes_of_all}
-use Rattle.safl_vread.proofs.NameLemmas.{among_has}
+use Rattle.safl_vread.proofs.NamesLookedUp.{among_has}
 use Rattle.safl_vread.proofs.ports.is_listed.Goals as goal
 
 pub returns-else-not-is_port : goal.returns-else-not-is_port

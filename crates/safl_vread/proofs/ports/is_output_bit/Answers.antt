@@ -1,5 +1,5 @@
 use Rattle.std.proofs.Common.{refl}
-use Rattle.safl_vread.proofs.ScopeLemmas.{none_passes, some_passes}
+use Rattle.safl_vread.proofs.DeclaredByName.{none_passes, some_passes}
 use Rattle.safl_vread.proofs.ports.is_output_bit.Goals as goal
 
 pub returns-in-None : goal.returns-in-None

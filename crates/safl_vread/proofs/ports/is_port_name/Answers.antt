@@ -1,6 +1,6 @@
 use Rattle.std.proofs.Common.{ap, ◌∙◌}
 use Rattle.safl_verilog.specs.Faults.{is_port}
-use Rattle.safl_vread.proofs.ScopeLemmas.{none_passes, some_passes}
+use Rattle.safl_vread.proofs.DeclaredByName.{none_passes, some_passes}
 use Rattle.safl_vread.proofs.ports.is_port_name.Goals as goal
 
 pub returns-in-None : goal.returns-in-None

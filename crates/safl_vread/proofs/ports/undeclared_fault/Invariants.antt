@@ -4,7 +4,7 @@ use Rattle.safl_verilog.specs.Faults.{header_faults}
 use Rattle.safl_vparse.specs.Shown.{shown_spot, shown_spots, shown_declarations}
 use Rattle.safl_vread.specs.Firsts.{first}
 use Rattle.safl_vread.specs.Scopes.{without_statements}
-use Rattle.safl_vread.proofs.FirstLemmas.{first_from}
+use Rattle.safl_vread.proofs.FirstOfSeveral.{first_from}
 use Rattle.safl_vread.proofs.ports.undeclared_fault.Given as goal
 
 abbrev pub invariant-loop-x : goal.invariant-loop-x

@@ -4,7 +4,7 @@ use Rattle.safl_verilog.specs.Faults.{port_faults}
 use Rattle.safl_vparse.specs.Shown.{shown_spots, shown_declaration, shown_declarations}
 use Rattle.safl_vread.specs.Firsts.{first}
 use Rattle.safl_vread.specs.Scopes.{without_statements}
-use Rattle.safl_vread.proofs.FirstLemmas.{first_from}
+use Rattle.safl_vread.proofs.FirstOfSeveral.{first_from}
 use Rattle.safl_vread.proofs.ports.unlisted_fault.Given as goal
 
 abbrev pub invariant-loop-d : goal.invariant-loop-d

@@ -6,7 +6,7 @@ use Rattle.safl_verilog.specs.Files.{Declaration, File}
 use Rattle.safl_vparse.specs.declared.error.VErr.{VErr}
 use Rattle.safl_vparse.specs.declared.file.Declaration.{Declaration as Parsed}
 use Rattle.safl_vparse.specs.Shown.{shown_declaration, shown_declarations, shown_file}
-use Rattle.safl_vread.proofs.FileLemmas.{refuses_text}
+use Rattle.safl_vread.proofs.FaultsOfFile.{refuses_text}
 use Rattle.safl_vread.specs.Nets.{GoodNames}
 use Rattle.safl_vread.proofs.DeclaredNames.{declared_few}
 use Rattle.safl_vread.proofs.GoodNames.{good_names}

@@ -3,7 +3,7 @@ use Rattle.std.proofs.lemmas.List.{length-map}
 use Rattle.std.proofs.lemmas.Result.{err_from_is_err_and}
 use Rattle.safl_verilog.specs.Faults.{is_target}
 use Rattle.safl_vparse.specs.Shown.{shown_spot, shown_declaration, shown_declarations, shown_expression}
-use Rattle.safl_vread.proofs.StepLemmas.{place_within, assigned_twice, operand_unfit, widths_apart, assign_sets}
+use Rattle.safl_vread.proofs.FaultsByStatement.{place_within, assigned_twice, operand_unfit, widths_apart, assign_sets}
 use Rattle.safl_vread.proofs.statements.assignment.Goals as goal
 
 pub returns-then-not-may_be_assigned-clause-steps : goal.returns-then-not-may_be_assigned-clause-steps

@@ -1,7 +1,7 @@
 use Rattle.std.proofs.Common.{ap, sym, ◌∙◌, bytes_eq, Some}
 use Rattle.safl_verilog.specs.Faults.{is_clock, is_reset}
 use Rattle.safl_vparse.specs.Shown.{shown_spot}
-use Rattle.safl_vread.proofs.StepLemmas.{names_register, names_twice}
+use Rattle.safl_vread.proofs.FaultsByStatement.{names_register, names_twice}
 use Rattle.safl_vread.proofs.statements.updated_name.Goals as goal
 
 pub returns-then-is_open-clause-names : goal.returns-then-is_open-clause-names

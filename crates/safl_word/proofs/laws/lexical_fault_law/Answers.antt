@@ -1,4 +1,4 @@
-use Rattle.safl_word.proofs.TokenLemmas.{fault_once}
+use Rattle.safl_word.proofs.TokensOnce.{fault_once}
 use Rattle.safl_word.proofs.laws.lexical_fault_law.Goals as goal
 
 pub returns : goal.returns

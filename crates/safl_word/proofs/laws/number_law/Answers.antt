@@ -1,4 +1,4 @@
-use Rattle.safl_word.proofs.SpacingLemmas.{number_token}
+use Rattle.safl_word.proofs.BlanksEndTokens.{number_token}
 use Rattle.safl_word.proofs.laws.number_law.Goals as goal
 
 pub returns : goal.returns

@@ -1,4 +1,4 @@
-use Rattle.safl_word.proofs.TokenLemmas.{tokens_once}
+use Rattle.safl_word.proofs.TokensOnce.{tokens_once}
 use Rattle.safl_word.proofs.laws.tokens_law.Goals as goal
 
 pub returns : goal.returns

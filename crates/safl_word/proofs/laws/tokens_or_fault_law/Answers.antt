@@ -1,4 +1,4 @@
-use Rattle.safl_word.proofs.TokenLemmas.{tokens_or_fault}
+use Rattle.safl_word.proofs.TokensOnce.{tokens_or_fault}
 use Rattle.safl_word.proofs.laws.tokens_or_fault_law.Goals as goal
 
 pub returns : goal.returns

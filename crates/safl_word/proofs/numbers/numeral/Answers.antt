@@ -1,6 +1,6 @@
 use Rattle.std.proofs.Common.{◌+◌, ◌*◌, get_or, sym, ◌∙◌, ap, refl, arith}
 use Rattle.safl_word.specs.Numerals.{digit, is_digit}
-use Rattle.safl_word.proofs.NumeralLemmas.{value_more, digits_more, stops_here, read_whole}
+use Rattle.safl_word.proofs.NumeralsRead.{value_more, digits_more, stops_here, read_whole}
 use Rattle.safl_word.proofs.numbers.numeral.Goals as goal
 
 pub returns-in_err-number-clause-some : goal.returns-in_err-number-clause-some

@@ -2,7 +2,7 @@ use Rattle.std.proofs.Common.{sym, ap, ◌∙◌}
 use Rattle.safl_term.specs.Checked.{program_of}
 use Rattle.safl_core.specs.Listing.{busy}
 use Rattle.safl_core.specs.Shown.{Shown, state}
-use Rattle.safl_core.proofs.PickLemmas.{busy_marked}
+use Rattle.safl_core.proofs.EventAtPlace.{busy_marked}
 use Rattle.safl_core.proofs.machine.Machine.busy.Goals as goal
 
 pub returns : goal.returns

@@ -10,8 +10,8 @@ use Rattle.safl_core.specs.Modes.{unit_at}
 use Rattle.safl_core.specs.Shown.{event_of}
 use Rattle.safl_core.specs.Stages.{stage_at}
 use Rattle.safl_core.specs.Testing.{wanted_at, is_idle, runs, is_ready, is_sent, delivers_to, loops_to}
-use Rattle.safl_core.proofs.KeptLemmas.{finish_in, return_in, looping}
-use Rattle.safl_core.proofs.OutcomeLemmas.{tested_as, refused_as, accept_test, accept_within, finish_test, return_test, loop_test}
+use Rattle.safl_core.proofs.KeptByEvents.{finish_in, return_in, looping}
+use Rattle.safl_core.proofs.LawsOfKept.{tested_as, refused_as, accept_test, accept_within, finish_test, return_test, loop_test}
 use Rattle.safl_core.proofs.machine.Machine.enabled.Goals as goal
 
 pub returns-then-k-sites : goal.returns-then-k-sites

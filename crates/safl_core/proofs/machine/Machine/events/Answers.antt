@@ -1,7 +1,7 @@
 use Rattle.std.proofs.Common.{subst}
 use Rattle.safl_core.specs.Outcomes.{IsBounded}
 use Rattle.safl_core.specs.Shown.{Shown}
-use Rattle.safl_core.proofs.OutcomeLemmas.{bounded}
+use Rattle.safl_core.proofs.LawsOfKept.{bounded}
 use Rattle.safl_core.proofs.machine.Machine.events.Goals as goal
 
 pub returns-clause-bounded : goal.returns-clause-bounded

@@ -6,10 +6,10 @@ use Rattle.safl_core.specs.Modes.{unit_at}
 use Rattle.safl_core.specs.Shown.{event_of, CanFire}
 use Rattle.safl_core.specs.States.{calls_of}
 use Rattle.safl_core.specs.Testing.{is_idle, delivered}
-use Rattle.safl_core.proofs.KeptLemmas.{good, inv}
-use Rattle.safl_core.proofs.LocalLemmas.{Local, local_fire, marked_after, there}
-use Rattle.safl_core.proofs.MarkingLemmas.{places_of}
-use Rattle.safl_core.proofs.StatesLemmas.{keeps_next}
+use Rattle.safl_core.proofs.KeptByEvents.{good, inv}
+use Rattle.safl_core.proofs.SeenByUnits.{Local, local_fire, marked_after, there}
+use Rattle.safl_core.proofs.SetsPutRight.{places_of}
+use Rattle.safl_core.proofs.StatesByEvents.{keeps_next}
 use Rattle.safl_core.proofs.machine.Machine.fire.Goals as goal
 
 pub concerned-concerned-requires : goal.concerned-concerned-requires

@@ -2,9 +2,9 @@ use Rattle.std.proofs.Common.{ℕ, List, ◌∙◌, ap, refl, sym, subst, length
 use Rattle.safl_term.specs.Checked.{program_of}
 use Rattle.safl_calls.specs.Machine.{State}
 use Rattle.safl_core.specs.Evaluating.{widths}
-use Rattle.safl_core.proofs.OpenLemmas.{kept_open, opens, widths_long}
-use Rattle.safl_core.proofs.FirstLemmas.{marked_first}
-use Rattle.safl_core.proofs.OutcomeLemmas.{sized}
+use Rattle.safl_core.proofs.KeptAtFirst.{kept_open, opens, widths_long}
+use Rattle.safl_core.proofs.SetsAtFirst.{marked_first}
+use Rattle.safl_core.proofs.LawsOfKept.{sized}
 use Rattle.safl_core.specs.Marking.{AreMarked}
 use Rattle.safl_core.proofs.machine.Machine.opened.Goals as goal
 

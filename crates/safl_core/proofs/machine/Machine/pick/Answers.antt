@@ -5,10 +5,10 @@ use Rattle.safl_core.specs.Listing.{listed}
 use Rattle.safl_core.specs.Picking.{IsPicked}
 use Rattle.safl_core.specs.Shown.{Shown, state, event_of, CanFire}
 use Rattle.safl_core.specs.States.{calls_of}
-use Rattle.safl_core.proofs.ListingLemmas.{none_listed, listing}
-use Rattle.safl_core.proofs.OutcomeLemmas.{enabled_of}
-use Rattle.safl_core.proofs.PickLemmas.{listed_long, nth_listed}
-use Rattle.safl_core.proofs.WalkLemmas.{Ends, none_ends, some_ends}
+use Rattle.safl_core.proofs.EnabledByPlace.{none_listed, listing}
+use Rattle.safl_core.proofs.LawsOfKept.{enabled_of}
+use Rattle.safl_core.proofs.EventAtPlace.{listed_long, nth_listed}
+use Rattle.safl_core.proofs.WalksByTurns.{Ends, none_ends, some_ends}
 use Rattle.safl_core.proofs.machine.Machine.pick.Goals as goal
 
 pub returns-then-count-eq0-clause-none : goal.returns-then-count-eq0-clause-none

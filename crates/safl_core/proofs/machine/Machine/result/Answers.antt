@@ -3,8 +3,8 @@ use Rattle.safl_term.specs.Readiness.{back_word}
 use Rattle.safl_core.specs.Outcomes.{IsValue, GoesOn, IsOver}
 use Rattle.safl_core.specs.Shown.{Shown}
 use Rattle.safl_core.specs.Walking.{IsShort}
-use Rattle.safl_core.proofs.WalkLemmas.{short_of}
-use Rattle.safl_core.proofs.OutcomeLemmas.{value_of, goes_on, over, read_stage}
+use Rattle.safl_core.proofs.WalksByTurns.{short_of}
+use Rattle.safl_core.proofs.LawsOfKept.{value_of, goes_on, over, read_stage}
 use Rattle.safl_core.proofs.machine.Machine.result.Goals as goal
 
 pub returns-in-Unsent-clause-goes_on : goal.returns-in-Unsent-clause-goes_on

@@ -1,6 +1,6 @@
 use Rattle.std.proofs.Common.{ℕ, List, ap, ◌∙◌, arith}
 use Rattle.std.specs.Prelude.{sum}
-use Rattle.safl_core.proofs.NumberLemmas.{are_few}
+use Rattle.safl_core.proofs.SumsOfParts.{are_few}
 use Rattle.safl_core.proofs.number_set.NumberSet.len.Goals as goal
 
 pub returns-clause-count : goal.returns-clause-count

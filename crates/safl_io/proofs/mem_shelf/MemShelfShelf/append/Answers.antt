@@ -1,6 +1,6 @@
 use Rattle.std.proofs.Common.{rules, ap, ◌∙◌}
 use Rattle.safl_io.specs.MemShelf.{Memory}
-use Rattle.safl_io.proofs.MemoryLemmas.{AppendsPart-nothing}
+use Rattle.safl_io.proofs.ShelfInMemory.{AppendsPart-nothing}
 use Rattle.safl_io.proofs.mem_shelf.MemShelfShelf.append.Goals as goal
 
 pub returns-in_err-append-2-clause-not_appended : goal.returns-in_err-append-2-clause-not_appended

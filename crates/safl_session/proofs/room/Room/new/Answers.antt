@@ -1,6 +1,6 @@
 use Rattle.std.proofs.Common.{◌≡◌, length, take, ap, ◌∙◌, arith}
 use Rattle.safl_session.specs.Rooms.{zeros_of}
-use Rattle.safl_session.proofs.RoomLemmas.{start_found, place, place_inside, is_room}
+use Rattle.safl_session.proofs.InputsAroundStart.{start_found, place, place_inside, is_room}
 use Rattle.safl_session.proofs.room.Room.new.Goals as goal
 
 pub index_mut-requires : goal.index_mut-requires

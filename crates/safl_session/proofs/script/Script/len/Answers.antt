@@ -1,5 +1,5 @@
 use Rattle.std.proofs.Common.{length, ap, sym, ◌∙◌}
-use Rattle.safl_session.proofs.ScriptLemmas.{calls_long}
+use Rattle.safl_session.proofs.LinesOfScripts.{calls_long}
 use Rattle.safl_session.proofs.script.Script.len.Goals as goal
 
 pub returns : goal.returns

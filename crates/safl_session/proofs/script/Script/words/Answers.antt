@@ -1,5 +1,5 @@
 use Rattle.std.proofs.Common.{◌≤◌, ◌+◌, ◌*◌, Some, length, take, drop, slice_get, ap, sym, ◌∙◌, arith, rules}
-use Rattle.safl_session.proofs.ScriptLemmas.{call_below, call_within, call_of, call_wide}
+use Rattle.safl_session.proofs.LinesOfScripts.{call_below, call_within, call_of, call_wide}
 use Rattle.safl_session.proofs.script.Script.words.Goals as goal
 
 pub overflow_mul-start : goal.overflow_mul-start

@@ -3,7 +3,7 @@ use Rattle.safl_sim.specs.Arguments.{AreArguments}
 use Rattle.safl_sim.specs.Words.{bit_word}
 use Rattle.safl_session.specs.Sessions.{Opened}
 use Rattle.safl_session.specs.Replies.{Replies, IsSilent}
-use Rattle.safl_session.proofs.SessionLemmas.{first_inputs, later_inputs, kept_on, call_replied, call_silent}
+use Rattle.safl_session.proofs.CallsOfSessions.{first_inputs, later_inputs, kept_on, call_replied, call_silent}
 use Rattle.safl_session.proofs.session.Session.call.Goals as goal
 
 pub watch-reply-requires-clause-first : goal.watch-reply-requires-clause-first

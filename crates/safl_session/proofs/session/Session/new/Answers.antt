@@ -1,4 +1,4 @@
-use Rattle.safl_session.proofs.SessionLemmas.{keeps}
+use Rattle.safl_session.proofs.CallsOfSessions.{keeps}
 use Rattle.safl_session.proofs.session.Session.new.Goals as goal
 
 pub invariant_of-result : goal.invariant_of-result

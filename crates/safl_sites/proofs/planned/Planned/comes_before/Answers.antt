@@ -3,7 +3,7 @@ use Rattle.safl_term.specs.Checked.{CheckedProgram, program_of}
 use Rattle.safl_sites.specs.Parallel.{ComesBefore}
 use Rattle.safl_sites.specs.Rows.{has}
 use Rattle.safl_sites.specs.declared.site_set.SiteSet.{SiteSet}
-use Rattle.safl_sites.proofs.RowLemmas.{row_at}
+use Rattle.safl_sites.proofs.RowsByWords.{row_at}
 use Rattle.safl_sites.proofs.planned.Planned.comes_before.Goals as goal
 
 pub returns : goal.returns

@@ -1,7 +1,7 @@
 use Rattle.std.proofs.Common.{◌≡◌, sym, ◌∙◌, ap, subst, inl, inr}
 use Rattle.safl_term.specs.Checked.{CheckedProgram, program_of}
 use Rattle.safl_term.specs.Program.{unit_for}
-use Rattle.safl_sites.proofs.BeforeLemmas.{conflict_of, conflict_by, clash}
+use Rattle.safl_sites.proofs.EarlierConflicts.{conflict_of, conflict_by, clash}
 use Rattle.safl_sites.proofs.planned.Planned.conflict.Goals as goal
 
 pub returns-then-comes_before : goal.returns-then-comes_before

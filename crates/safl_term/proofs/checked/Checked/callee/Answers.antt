@@ -1,7 +1,7 @@
 use Rattle.std.proofs.Common.{◌≡◌, ℕ, ◌<◌, subst, sym, arith}
 use Rattle.std.proofs.lemmas.Option.{slice_get_read}
 use Rattle.safl_term.specs.Checked.{IsChecked, program_of}
-use Rattle.safl_term.proofs.CheckedLemmas.{callee_in}
+use Rattle.safl_term.proofs.HeldByChecked.{callee_in}
 use Rattle.safl_term.proofs.checked.Checked.callee.Goals as goal
 
 pub returns-clause-within : goal.returns-clause-within

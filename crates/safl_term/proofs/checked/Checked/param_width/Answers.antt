@@ -1,7 +1,7 @@
 use Rattle.std.proofs.Common.{◌≡◌, ◌≤◌, subst, get_or}
 use Rattle.safl_term.specs.Checked.{CheckedProgram, IsChecked}
 use Rattle.safl_word.specs.Words.{max_width}
-use Rattle.safl_term.proofs.CheckedLemmas.{param_fits}
+use Rattle.safl_term.proofs.HeldByChecked.{param_fits}
 use Rattle.safl_term.proofs.checked.Checked.param_width.Goals as goal
 
 fits : (c : goal.After-index-2) → (1 ≤ c.index-2.result.now.width) × (c.index-2.result.now.width ≤ max_width)

@@ -1,5 +1,5 @@
 use Rattle.std.proofs.Common.{◌∙◌, arith}
-use Rattle.safl_typing.proofs.NamedLemmas.{keeps_next}
+use Rattle.safl_typing.proofs.FunctionsByName.{keeps_next}
 use Rattle.safl_typing.proofs.heads.Heads.new.Goals as goal
 
 pub loop-number-preserved : goal.loop-number-preserved

@@ -1,6 +1,6 @@
 use Rattle.std.proofs.Common.{ap, ◌∙◌, not, bytes_eq}
 use Rattle.safl_vread.specs.Lists.{has}
-use Rattle.safl_vread.proofs.NameLemmas.{any_shown}
+use Rattle.safl_vread.proofs.NamesLookedUp.{any_shown}
 use Rattle.safl_vread.proofs.names.Names.add.Goals as goal
 
 pub returns-clause-new : goal.returns-clause-new

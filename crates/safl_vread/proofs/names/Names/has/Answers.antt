@@ -1,6 +1,6 @@
 use Rattle.std.proofs.Common.{ap, ◌∙◌, bytes_eq}
 use Rattle.safl_vread.specs.Lists.{has}
-use Rattle.safl_vread.proofs.NameLemmas.{any_shown}
+use Rattle.safl_vread.proofs.NamesLookedUp.{any_shown}
 use Rattle.safl_vread.proofs.names.Names.has.Goals as goal
 
 pub returns : goal.returns

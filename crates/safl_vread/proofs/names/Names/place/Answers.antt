@@ -1,5 +1,5 @@
 use Rattle.std.proofs.Common.{ap, ◌∙◌, position, bytes_eq}
-use Rattle.safl_vread.proofs.NameLemmas.{place_shown}
+use Rattle.safl_vread.proofs.NamesLookedUp.{place_shown}
 use Rattle.safl_vread.proofs.names.Names.place.Goals as goal
 
 pub returns-clause-place : goal.returns-clause-place

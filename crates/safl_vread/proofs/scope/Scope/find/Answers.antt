@@ -2,7 +2,7 @@ use Rattle.std.proofs.Common.{ap, sym, subst, ◌≡◌, ◌∙◌, List, ℕ, S
 use Rattle.safl_verilog.specs.Files.{Declaration}
 use Rattle.safl_verilog.specs.Faults.{find, range_width}
 use Rattle.safl_vparse.specs.Shown.{shown_declaration, shown_declarations}
-use Rattle.safl_vread.proofs.ScopeLemmas.{Finds, finds, mapped_at, found_at, describes, undescribed}
+use Rattle.safl_vread.proofs.DeclaredByName.{Finds, finds, mapped_at, found_at, describes, undescribed}
 use Rattle.safl_vread.proofs.scope.Scope.find.Goals as goal
 
 pub returns-in-None : goal.returns-in-None

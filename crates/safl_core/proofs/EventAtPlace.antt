@@ -1,0 +1,123 @@
+-- The event at a place among the enabled ones.
+use Rattle.std.proofs.Common.{◌≡◌, ℕ, zero, suc, ◌+◌, ◌<◌, ◌≤◌, ◌⊎◌, ⊎_elim, List, [], ◌∷◌, ◌++◌, length, take, cond, get_or, Some, Bool, true, false, refl, sym, ap, ◌∙◌, arith}
+use Rattle.std.specs.Prelude.{sum, slice_get, not}
+use Rattle.std.specs.Int.{from_bool}
+use Rattle.std.proofs.lemmas.List.{take_all, get_or_past}
+use Rattle.std.proofs.lemmas.List.Sums.{sum_by_more}
+use Rattle.safl_word.specs.Words.{Word}
+use Rattle.safl_term.specs.Program.{Program}
+use Rattle.safl_calls.specs.Machine.{State, Event, Accept, Finish, Return, LoopInto}
+use Rattle.safl_calls.specs.Picks.{picks}
+use Rattle.safl_core.specs.declared.enabled.Enabled.{Enabled}
+use Rattle.safl_core.specs.Listing.{listed, busy, count_below}
+use Rattle.safl_core.specs.Marking.{Marks, AreMarked, IsNth, marked}
+use Rattle.safl_core.specs.Testing.{can, is_idle}
+use Rattle.safl_core.proofs.EnabledByPlace.{picks_zero, count_more, picked_at, got_front, count_none, count_suc}
+
+bit : (b : Bool) → from_bool b ≡ cond b 1 0
+bit true = refl
+bit false = refl
+
+bit_true : (b : Bool) → from_bool b ≡ 1 → b ≡ true
+bit_true true e = refl
+bit_true false e = absurd (omega arith)
+
+abbrev same : ℕ → ℕ
+same x = x
+
+-- as many are picked below a number as there are bits
+picked : (p : ℕ → Bool) (e : ℕ → Event) (n : ℕ) (s : List ℕ) → Marks p n s → (m : ℕ) → m ≤ n → length (picks p e m) ≡ sum (take m s)
+picked p e n s h zero le = ap (λ (l : List Event). length l) (picks_zero p e)
+picked p e n s h (suc m) le =
+    let one : suc m ≡ m + 1 = omega arith in
+    let before = picked p e n s h m (omega (arith, le)) in
+    let more = count_more p e m in
+    let step = sum_by_more same s m 0 (omega (arith, le, h.long)) in
+    let at : get_or s m 0 ≡ cond (p m) 1 0 = h.each m (omega (arith, le)) ∙ bit (p m) in
+    let right : sum (take (suc m) s) ≡ sum (take (m + 1) s) = ap (λ k. sum (take k s)) one in
+    omega (arith, before, more, step, at, right)
+
+all_picked : (p : ℕ → Bool) (e : ℕ → Event) (n : ℕ) (s : List ℕ) → Marks p n s → length (picks p e n) ≡ sum s
+all_picked p e n s h = picked p e n s h n (omega arith) ∙ ap (λ (l : List ℕ). sum l) (take_all n s (omega (arith, h.long)))
+
+counted : (p : ℕ → Bool) (n : ℕ) (s : List ℕ) → Marks p n s → (m : ℕ) → m ≤ n → count_below p m ≡ sum (take m s)
+counted p n s h zero le = sym (count_none p)
+counted p n s h (suc m) le =
+    let one : suc m ≡ m + 1 = omega arith in
+    let before = counted p n s h m (omega (arith, le)) in
+    let more = count_suc p m in
+    let step = sum_by_more same s m 0 (omega (arith, le, h.long)) in
+    let at : get_or s m 0 ≡ cond (p m) 1 0 = h.each m (omega (arith, le)) ∙ bit (p m) in
+    let right : sum (take (suc m) s) ≡ sum (take (m + 1) s) = ap (λ k. sum (take k s)) one in
+    omega (arith, before, more, step, at, right)
+
+pub busy_marked : {C : Program} {args : List Word} {s : State} {e : Enabled} → AreMarked C args s e → busy C s ≡ sum e.busy
+busy_marked {C} {args} {s} {e} h =
+    counted (λ u. not (is_idle (s.unit u))) C.functions e.busy h.busy C.functions (omega arith) ∙ ap (λ (l : List ℕ). sum l) (take_all C.functions e.busy (omega (arith, h.busy.long)))
+
+-- a number with its bit is picked after those below it
+picked_nth : (p : ℕ → Bool) (e : ℕ → Event) (n k i : ℕ) (s : List ℕ) → Marks p n s → k < n → get_or s k 0 ≡ 1 → i ≡ sum (take k s) → (slice_get (picks p e n) i ≡ Some (e k)) × (p k ≡ true)
+picked_nth p e n k i s h lt one is =
+    let yes : p k ≡ true = bit_true (p k) (sym (h.each k lt) ∙ one) in
+    (ap (slice_get (picks p e n)) (is ∙ sym (picked p e n s h k (omega (arith, lt)))) ∙ picked_at p e k n lt yes, yes)
+
+one_in : (s : List ℕ) (k : ℕ) → get_or s k 0 ≡ 1 → k < length s
+one_in s k one = ⊎_elim (λ lt. lt) (λ ge. let past = get_or_past s k 0 ge in absurd (omega (arith, one, past))) (cases_lt k (length s))
+  where
+    cases_lt : (a b : ℕ) → (a < b) ⊎ (b ≤ a)
+    cases_lt a b = grind arith
+
+within : (s : List ℕ) (k n : ℕ) → get_or s k 0 ≡ 1 → length s ≡ n → k < n
+within s k n one long = let lt = one_in s k one in omega (arith, lt, long)
+
+behind : (xs ys : List Event) (i : ℕ) (x : Event) → slice_get ys i ≡ Some x → slice_get (xs ++ ys) (length xs + i) ≡ Some x
+behind [] ys i x e = let z : 0 + i ≡ i = omega arith in ap (slice_get ys) z ∙ e
+behind (y ∷ xs) ys i x e = let z : suc (length xs) + i ≡ suc (length xs + i) = omega arith in ap (slice_get (y ∷ (xs ++ ys))) z ∙ behind xs ys i x e
+
+behind_at : (xs ys : List Event) (i j n : ℕ) (x : Event) → length xs ≡ n → i ≡ n + j → slice_get ys j ≡ Some x → slice_get (xs ++ ys) i ≡ Some x
+behind_at xs ys i j n x long is e = ap (slice_get (xs ++ ys)) (is ∙ ap (λ k. k + j) (sym long)) ∙ behind xs ys j x e
+
+long_both : (xs ys : List Event) → length (xs ++ ys) ≡ length xs + length ys
+long_both [] ys = omega arith
+long_both (x ∷ xs) ys = let r = long_both xs ys in omega (arith, r)
+
+module _ {C : Program} {args : List Word} {s : State} {e : Enabled} (h : AreMarked C args s e) where
+  pub listed_long : length (listed C args s) ≡ marked e
+  listed_long =
+      let a = all_picked (λ k. can C args s (Accept k)) Accept (suc C.sites) e.accepts h.accepts in
+      let f = all_picked (λ k. can C args s (Finish k)) Finish C.functions e.finishes h.finishes in
+      let r = all_picked (λ k. can C args s (Return k)) Return (suc C.sites) e.returns h.returns in
+      let l = all_picked (λ k. can C args s (LoopInto k)) LoopInto C.functions e.loops h.loops in
+      let RL = picks (λ k. can C args s (Return k)) Return (suc C.sites) ++ picks (λ k. can C args s (LoopInto k)) LoopInto C.functions in
+      let FRL = picks (λ k. can C args s (Finish k)) Finish C.functions ++ RL in
+      let x = long_both (picks (λ k. can C args s (Accept k)) Accept (suc C.sites)) FRL in
+      let y = long_both (picks (λ k. can C args s (Finish k)) Finish C.functions) RL in
+      let z = long_both (picks (λ k. can C args s (Return k)) Return (suc C.sites)) (picks (λ k. can C args s (LoopInto k)) LoopInto C.functions) in
+      omega (arith, a, f, r, l, x, y, z)
+
+  pub nth_listed : (i : ℕ) (x : Event) → IsNth e i x → (slice_get (listed C args s) i ≡ Some x) × (can C args s x ≡ true)
+  nth_listed i (Accept k) q =
+      let p = picked_nth (λ k. can C args s (Accept k)) Accept (suc C.sites) k i e.accepts h.accepts (within e.accepts k (suc C.sites) q.0 h.accepts.long) q.0 q.1 in
+      (got_front _ _ i (Accept k) p.0, p.1)
+  nth_listed i (Finish k) q =
+      let a = all_picked (λ k. can C args s (Accept k)) Accept (suc C.sites) e.accepts h.accepts in
+      let p = picked_nth (λ k. can C args s (Finish k)) Finish C.functions k (sum (take k e.finishes)) e.finishes h.finishes (within e.finishes k C.functions q.0 h.finishes.long) q.0 refl in
+      (behind_at _ _ i (sum (take k e.finishes)) (sum e.accepts) (Finish k) a q.1 (got_front _ _ (sum (take k e.finishes)) (Finish k) p.0), p.1)
+  nth_listed i (Return k) q =
+      let a = all_picked (λ k. can C args s (Accept k)) Accept (suc C.sites) e.accepts h.accepts in
+      let f = all_picked (λ k. can C args s (Finish k)) Finish C.functions e.finishes h.finishes in
+      let p = picked_nth (λ k. can C args s (Return k)) Return (suc C.sites) k (sum (take k e.returns)) e.returns h.returns (within e.returns k (suc C.sites) q.0 h.returns.long) q.0 refl in (
+        behind_at _ _ i (sum e.finishes + sum (take k e.returns)) (sum e.accepts) (Return k) a q.1
+            (behind_at _ _ (sum e.finishes + sum (take k e.returns)) (sum (take k e.returns)) (sum e.finishes) (Return k) f refl (got_front _ _ (sum (take k e.returns)) (Return k) p.0)),
+        p.1,
+      )
+  nth_listed i (LoopInto k) q =
+      let a = all_picked (λ k. can C args s (Accept k)) Accept (suc C.sites) e.accepts h.accepts in
+      let f = all_picked (λ k. can C args s (Finish k)) Finish C.functions e.finishes h.finishes in
+      let r = all_picked (λ k. can C args s (Return k)) Return (suc C.sites) e.returns h.returns in
+      let p = picked_nth (λ k. can C args s (LoopInto k)) LoopInto C.functions k (sum (take k e.loops)) e.loops h.loops (within e.loops k C.functions q.0 h.loops.long) q.0 refl in (
+        behind_at _ _ i (sum e.finishes + (sum e.returns + sum (take k e.loops))) (sum e.accepts) (LoopInto k) a q.1
+            (behind_at _ _ (sum e.finishes + (sum e.returns + sum (take k e.loops))) (sum e.returns + sum (take k e.loops)) (sum e.finishes) (LoopInto k) f refl
+            (behind_at _ _ (sum e.returns + sum (take k e.loops)) (sum (take k e.loops)) (sum e.returns) (LoopInto k) r refl p.0)),
+        p.1,
+      )

@@ -1,0 +1,115 @@
+-- What a machine keeps at first.
+use Rattle.std.proofs.Common.{◌≡◌, ℕ, zero, suc, ◌+◌, ◌<◌, ◌≤◌, List, [], ◌∷◌, ◌++◌, length, take, Bool, true, false, Option, Some, None, get_or, refl, sym, ap, ◌∙◌, arith}
+use Rattle.std.specs.Prelude.{slice_get, sum_by, IsTrue}
+use Rattle.std.proofs.lemmas.Bool.{false≢true}
+use Rattle.std.proofs.lemmas.List.{get_or-map, get_or_read, take_all}
+use Rattle.std.proofs.Math.Seq.{take-suc}
+use Rattle.std.proofs.lemmas.List.Sums.{get_or-le-sum_by}
+use Rattle.std.specs.Option.{option_map_or}
+use Rattle.std.proofs.Math.Path.{fun_ext}
+use Rattle.safl_word.specs.Words.{Word, no_word}
+use Rattle.safl_term.specs.Checked.{CheckedProgram, IsChecked, program_of}
+use Rattle.safl_term.specs.declared.checked.Function.{Function}
+use Rattle.safl_term.specs.Readiness as plain
+use Rattle.safl_term.specs.Sizes.{nodes}
+use Rattle.safl_term.specs.Terms.{Const}
+use Rattle.safl_term.specs.Tree.{shown_term}
+use Rattle.safl_calls.specs.Machine as core
+use Rattle.safl_core.specs.declared.mode.Mode.{Mode}
+use Rattle.safl_core.specs.declared.stage.Stage.{Stage}
+use Rattle.safl_core.specs.Evaluating.{widths}
+use Rattle.safl_core.specs.Knowing.{IsKnown, HasRoom}
+use Rattle.safl_core.specs.Modes.{unit_at, state_of}
+use Rattle.safl_core.specs.Shown.{shown_of, IsKept, IsReached}
+use Rattle.safl_core.specs.Stages.{stage_at}
+use Rattle.safl_core.proofs.WritesAreSteps.{state_is}
+
+abbrev size : Function → ℕ
+size f = nodes (shown_term f.body)
+
+body_at : (fs : List Function) (f : ℕ) (d : Function) → f < length fs → nodes (option_map_or (λ g. shown_term g.body) (slice_get fs f) (Const no_word)) ≡ size (get_or fs f d)
+body_at [] f d lt = absurd (omega (arith, lt))
+body_at (x ∷ xs) zero d lt = refl
+body_at (x ∷ xs) (suc f) d lt = body_at xs f d (omega (arith, lt))
+
+body_size : (fs : List Function) (f : ℕ) → f < length fs → nodes (option_map_or (λ g. shown_term g.body) (slice_get fs f) (Const no_word)) ≤ sum_by size fs
+body_size [] f lt = absurd (omega (arith, lt))
+body_size (x ∷ xs) f lt = omega (arith, body_at (x ∷ xs) f x lt, get_or-le-sum_by size (x ∷ xs) f x lt)
+
+pub enough_room : (c : CheckedProgram) (room : ℕ) → IsChecked c → 50016 ≤ room → HasRoom (program_of c) room
+unfolding program_of
+enough_room c room h le = λ f lt. omega (arith, h.limits.params f, h.limits.nodes, body_size c.functions f lt, le)
+
+module _ (c : CheckedProgram) (args : List Word) (units : List Mode) (sites : List Stage) (answers : List plain.Answer) (wants : List (Option (List Word))) (room : ℕ) where
+  pub opens : ((u : ℕ) → unit_at units u ≡ core.Idle) → ((k : ℕ) → stage_at sites k ≡ plain.Unsent) → state_of units sites ≡ core.opening
+  opens idle unsent = state_is (unit_at units) (λ u. core.Idle) (stage_at sites) (λ k. plain.Unsent) (fun_ext idle) (fun_ext unsent)
+
+  first_reached : state_of units sites ≡ core.opening → IsReached (shown_of c args units sites 0)
+  unfolding core.Legal core.after
+  first_reached e = record { list = []; count = refl; legal = tt; ends = sym e }
+
+  first_known : ((u : ℕ) → unit_at units u ≡ core.Idle) → ((u : ℕ) → get_or answers u plain.NotYet ≡ plain.NotYet) → ((k : ℕ) → get_or wants k None ≡ None) → (u : ℕ) → IsKnown (program_of c) (state_of units sites) answers wants u
+  first_known idle none unwanted u = record {
+    outcome = none u ∙ ap (core.says_as (program_of c) (core.back (state_of units sites))) (sym (idle u));
+    wants = λ k pos le on. unwanted k ∙ ap (λ m. core.asked_as (program_of c) (core.back (state_of units sites)) m ((program_of c).caller k) k) (sym (idle u));
+  }
+
+  pub kept_open : IsChecked c → widths args ≡ (program_of c).params (program_of c).main
+      → ((u : ℕ) → unit_at units u ≡ core.Idle) → ((k : ℕ) → stage_at sites k ≡ plain.Unsent) → ((u : ℕ) → get_or answers u plain.NotYet ≡ plain.NotYet) → ((k : ℕ) → get_or wants k None ≡ None)
+      → length units ≡ (program_of c).functions → length sites ≡ suc (program_of c).sites → length answers ≡ (program_of c).functions → length wants ≡ suc (program_of c).sites → 50016 ≤ room
+      → IsKept (shown_of c args units sites 0) answers wants room
+  kept_open checked given idle unsent none unwanted l1 l2 l3 l4 le = record {
+    checked = checked;
+    units = l1;
+    sites = l2;
+    answers_all = l3;
+    wants_all = l4;
+    given = given;
+    room_all = enough_room c room checked le;
+    reached = first_reached (opens idle unsent);
+    known = first_known idle none unwanted;
+  }
+
+-- ---- one more argument has its width
+
+pub widths_long : (args : List Word) → length (widths args) ≡ length args
+widths_long [] = refl
+widths_long (w ∷ ws) = ap suc (widths_long ws)
+
+none_is : {A : Type 0} (x : ℕ) → None ≡ Some x → A
+none_is x e = cc
+
+some_is : (x y : ℕ) → Some x ≡ Some y → x ≡ y
+some_is x y e = cc
+
+got : (ps : List ℕ) (i p : ℕ) → slice_get ps i ≡ Some p → get_or ps i 0 ≡ p
+got [] i p e = none_is p e
+got (x ∷ xs) zero p e = some_is x p e
+got (x ∷ xs) (suc i) p e = got xs i p e
+
+got_in : (ps : List ℕ) (i p : ℕ) → slice_get ps i ≡ Some p → i < length ps
+got_in [] i p e = none_is p e
+got_in (x ∷ xs) zero p e = omega arith
+got_in (x ∷ xs) (suc i) p e = omega (arith, got_in xs i p e)
+
+width_at : (args : List Word) (i w : ℕ) (v : Word) → i < length args → v ≡ get_or args i v → w ≡ v.width → get_or (widths args) i 0 ≡ w
+width_at args i w v lt is e = get_or-map (λ z. z.width) args i no_word 0 lt ∙ (ap (λ z. z.width) (sym (get_or_read args i v lt is no_word)) ∙ sym e)
+
+abbrev pub Tested : Bool → List Word → List ℕ → Type 0
+Tested b args ps = (IsTrue b → widths args ≡ ps) × (widths args ≡ ps → IsTrue b)
+
+pub fits_count : (args : List Word) (ps : List ℕ) → (length args ≡ length ps → ⊥) → Tested false args ps
+fits_count args ps ne = (λ t. absurd (false≢true t), λ e. absurd (ne (sym (widths_long args) ∙ ap (λ (x : List ℕ). length x) e)))
+
+pub fits_off : (args : List Word) (ps : List ℕ) (i w p : ℕ) (v : Word) → i < length args → v ≡ get_or args i v → w ≡ v.width → slice_get ps i ≡ Some p → (w ≡ p → ⊥) → Tested false args ps
+fits_off args ps i w p v lt is e f ne = (λ t. absurd (false≢true t), λ q. absurd (ne (sym (width_at args i w v lt is e) ∙ (ap (λ (l : List ℕ). get_or l i 0) q ∙ got ps i p f))))
+
+pub fits_more : (args : List Word) (ps : List ℕ) (i w p : ℕ) (v : Word) → take i (widths args) ≡ take i ps → i < length args → v ≡ get_or args i v → w ≡ v.width → slice_get ps i ≡ Some p → w ≡ p → take (i + 1) (widths args) ≡ take (i + 1) ps
+fits_more args ps i w p v before lt is e f same =
+    let one : i + 1 ≡ suc i = omega arith in
+    let inside : i < length (widths args) = omega (arith, lt, widths_long args) in
+    ap (λ n. take n (widths args)) one ∙ (take-suc (widths args) i 0 inside ∙ (ap (λ l. l ++ get_or (widths args) i 0 ∷ []) before
+    ∙ (ap (λ x. take i ps ++ x ∷ []) (width_at args i w v lt is e ∙ (same ∙ sym (got ps i p f))) ∙ (sym (take-suc ps i 0 (got_in ps i p f)) ∙ sym (ap (λ n. take n ps) one)))))
+
+pub fits_all : (args : List Word) (ps : List ℕ) (n : ℕ) → take n (widths args) ≡ take n ps → length args ≤ n → length args ≡ length ps → Tested true args ps
+fits_all args ps n e le long = (λ t. sym (take_all n (widths args) (omega (arith, le, widths_long args))) ∙ (e ∙ take_all n ps (omega (arith, le, long))), λ q. refl)

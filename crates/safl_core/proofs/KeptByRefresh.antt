@@ -1,0 +1,96 @@
+-- What is kept of partial evaluation, after a unit's body was looked at anew.
+use Rattle.std.proofs.Common.{◌≡◌, ◌≢◌, ℕ, suc, ◌<◌, ◌≤◌, List, length, cond, eqb, Option, Some, None, true, get_or, slice_set, refl, sym, ap, ◌∙◌, subst, ⊎_elim, arith}
+use Rattle.std.proofs.lemmas.Bool.{cases_eq, eq-eqb, ne_eqb}
+use Rattle.std.proofs.lemmas.List.{get_or-set_other, get_or-set_same, with_items_is}
+use Rattle.std.specs.declared.vec.Vec.{Vec}
+use Rattle.std.specs.Vec.{with_items}
+use Rattle.safl_word.specs.Words.{Word}
+use Rattle.safl_term.specs.Checked.{CheckedProgram, IsChecked, program_of}
+use Rattle.safl_term.specs.Program.{Program}
+use Rattle.safl_term.specs.Readiness.{Answer, NotYet, wanted, or_else}
+use Rattle.safl_term.specs.WellFormed.{HasWidth}
+use Rattle.safl_calls.specs.Machine.{State, Mode, Idle, Runs, Delivers, back, says, asked_as}
+use Rattle.safl_calls.proofs.Numbered.{Numbered}
+use Rattle.safl_core.specs.declared.stage.Stage.{Stage}
+use Rattle.safl_core.specs.Evaluating.{CanRun, Notes, Unasked, widths}
+use Rattle.safl_core.specs.Knowing.{IsKnown, BackFits}
+use Rattle.safl_core.proofs.RunsByParts.{not_wanted}
+
+-- a function's body may be evaluated with arguments of the widths of its parameters
+pub body_can : (c : CheckedProgram) (S : List Stage) (n : ℕ) (E : List Word) (f : ℕ) → IsChecked c → f < (program_of c).functions → widths E ≡ (program_of c).params f → BackFits (program_of c) S → length S ≡ suc (program_of c).sites → n ≡ suc (program_of c).sites → CanRun S n E ((program_of c).body f)
+body_can c S n E f checked lt fits back sites places =
+    let C = program_of c in
+    let b = checked.formed.numbered.bodies f in
+    record {
+      program = C;
+      caller = f;
+      tail = true;
+      low = b.0;
+      high = b.1;
+      width = C.result f;
+      spans = b.3;
+      fits = subst (λ l. HasWidth C l (C.body f) (C.result f)) (sym fits) (checked.formed.widths f lt);
+      first = b.2;
+      within = omega (arith, checked.formed.sites f lt, places);
+      all_sites = omega (arith, sites, places);
+      few = checked.limits.params;
+      back = back;
+    }
+
+module _ (C : Program) (s : State) (u : ℕ) (answers : List Answer) (asks asks1 asks2 : List (Option (List Word))) (r : Answer) (w : ℕ → Option (List Word)) where
+  pub refreshed : ((k : ℕ) → 0 < k → k ≤ C.sites → get_or asks1 k None ≡ cond (eqb (C.unit (C.caller k)) u) None (get_or asks k None))
+      → Notes asks1 asks2 w
+      → ((k : ℕ) → 0 < k → k ≤ C.sites → C.unit (C.caller k) ≡ u → w k ≡ asked_as C (back s) (s.unit u) (C.caller k) k)
+      → ((k : ℕ) → (C.unit (C.caller k) ≡ u → ⊥) → w k ≡ None)
+      → r ≡ says C s u → u < length answers
+      → (v : ℕ) → (v ≢ u → IsKnown C s answers asks v) → IsKnown C s (slice_set answers u r) asks2 v
+  refreshed cleared notes here off is lt v before = ⊎_elim same other (cases_eq v u)
+    where
+      or_none : (o p : Option (List Word)) → p ≡ None → or_else o p ≡ o
+      or_none None p e = e
+      or_none (Some x) p e = refl
+
+      same : v ≡ u → IsKnown C s (slice_set answers u r) asks2 v
+      same e = subst (λ n. IsKnown C s (slice_set answers u r) asks2 n) (sym e) (record {
+        outcome = get_or-set_same answers u r NotYet lt ∙ is;
+        wants = λ k pos le on. notes.each k ∙ (ap (λ o. or_else o (w k)) (cleared k pos le ∙ ap (λ b. cond b None (get_or asks k None)) (eq-eqb (C.unit (C.caller k)) u on)) ∙ here k pos le on);
+      })
+
+      other : (v ≡ u → ⊥) → IsKnown C s (slice_set answers u r) asks2 v
+      other ne =
+          let h = before ne in
+          record {
+            outcome = get_or-set_other answers u v r NotYet ne ∙ h.outcome;
+            wants = λ k pos le on.
+                let apart : C.unit (C.caller k) ≡ u → ⊥ = λ q. ne (sym on ∙ q) in
+                notes.each k ∙ (or_none (get_or asks1 k None) (w k) (off k apart) ∙ (cleared k pos le ∙ (ap (λ b. cond b None (get_or asks k None)) (ne_eqb (C.unit (C.caller k)) u apart) ∙ h.wants k pos le on)));
+          }
+
+-- a running body wants its own sites alone
+pub own_wants : (C : Program) (b : ℕ → Option Word) (f j : ℕ) (args : List Word) (k : ℕ) → Numbered C → f < C.functions → wanted b args (C.body f) k ≡ asked_as C b (Runs f j args) (C.caller k) k
+own_wants C b f j args k good lt = ⊎_elim
+    (λ same. sym (ap (λ t. cond t (wanted b args (C.body (C.caller k)) k) None) (eq-eqb f (C.caller k) same) ∙ ap (λ g. wanted b args (C.body g) k) (sym same)))
+    (λ other. not_wanted b args (C.body f) k (λ st. other (sym (good.own f k lt st).2)) ∙ sym (ap (λ t. cond t (wanted b args (C.body (C.caller k)) k) None) (ne_eqb f (C.caller k) other)))
+    (cases_eq f (C.caller k))
+
+-- a unit wants no site of another unit
+pub asked_off : (C : Program) (b : ℕ → Option Word) (u k : ℕ) (m : Mode) → ((f j : ℕ) (ws : List Word) → m ≡ Runs f j ws → C.unit f ≡ u) → (C.unit (C.caller k) ≡ u → ⊥) → asked_as C b m (C.caller k) k ≡ None
+asked_off C b u k Idle own apart = refl
+asked_off C b u k (Delivers j v) own apart = refl
+asked_off C b u k (Runs f j ws) own apart = ap (λ t. cond t (wanted b ws (C.body (C.caller k)) k) None) (ne_eqb f (C.caller k) (λ q. apart (sym (ap C.unit q) ∙ own f j ws refl)))
+
+-- no site of a unit's body is asked for where what it asked for was forgotten
+pub cleared_unasked : (C : Program) (u f : ℕ) (asks : List (Option (List Word))) → Numbered C → f < C.functions → C.unit f ≡ u
+    → ((k : ℕ) → 0 < k → k ≤ C.sites → C.unit (C.caller k) ≡ u → get_or asks k None ≡ None) → Unasked asks (C.body f)
+cleared_unasked C u f asks good lt is cleared = record {
+  none = λ k st.
+      let own = good.own f k lt st in
+      cleared k own.0 own.1 (ap C.unit own.2 ∙ is);
+}
+
+-- a list that was written over another one of the same length
+pub refilled : {X Z : Type 0} (v : Vec X Z) (xs old : List X) → length xs ≡ length old → old ≡ v.items → (with_items v xs).items ≡ xs
+refilled v xs old long is = with_items_is v xs (long ∙ (ap length is ∙ sym v.ok.0))
+
+pub refilled_long : {X Z : Type 0} (v : Vec X Z) (xs : List X) → length (with_items v xs).items ≡ length v.items
+refilled_long v xs = sym (with_items v xs).ok.0 ∙ v.ok.0

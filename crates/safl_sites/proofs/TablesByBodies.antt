@@ -1,0 +1,115 @@
+-- One more body in the tables.
+use Rattle.std.proofs.Common.{◌≡◌, ℕ, zero, suc, ◌<◌, ◌⊎◌, true, false, List, length, length-set, get_or, slice_set, replicate, refl, sym, subst, ◌∙◌, inl, inr, arith}
+use Rattle.std.proofs.lemmas.Bool.{cases_eq}
+use Rattle.std.proofs.lemmas.Grind.{get_or-set_at}
+use Rattle.std.proofs.lemmas.List.{get_or-set_other}
+use Rattle.safl_term.specs.Checked.{CheckedProgram, program_of, IsChecked}
+use Rattle.safl_term.specs.Program.{Program}
+use Rattle.safl_sites.specs.declared.site_set.SiteSet.{SiteSet}
+use Rattle.safl_sites.specs.Conflicts.{Reaches}
+use Rattle.safl_sites.specs.Filling.{ReachedBelow, StandsAfter, IsFilled}
+use Rattle.safl_sites.specs.Parallel.{After, Marked}
+use Rattle.safl_sites.specs.Parts.{IsPart}
+use Rattle.safl_sites.specs.Reach.{MayReach}
+use Rattle.safl_sites.specs.Rows.{has, Has, HasAt, Adds, no_row}
+use Rattle.safl_sites.proofs.EarlierConflicts.{clash}
+use Rattle.safl_sites.proofs.RowsJoined.{row_more}
+use Rattle.safl_sites.proofs.NumbersFollow.{lower_before}
+use Rattle.safl_sites.proofs.RowsByWords.{no_row_has}
+
+-- a table of empty rows
+pub empty_table : (n : ℕ) (r : SiteSet) → ((k : ℕ) → has r k ≡ false) → (i k : ℕ) → HasAt (replicate n r) i k → ⊥
+empty_table zero r none i k h = no_row_has k h
+empty_table (suc n) r none zero k h = clash (has r k) (none k) h
+empty_table (suc n) r none (suc i) k h = empty_table n r none i k h
+
+module _ (p : CheckedProgram) (h : IsChecked p) where
+  abbrev C : Program
+  C = program_of p
+
+  -- the body of a function is a part of it
+  pub body_part : (f : ℕ) → f < C.functions → IsPart C f (length (C.params f)) (C.body f)
+  body_part f within =
+      let (lo, hi, least, spans) = h.formed.numbered.bodies f in
+      record { tail = true; lo = lo; hi = hi; spans = spans; least = least; most = h.formed.sites f within; scope = C.params f; count = refl; width = C.result f; typed = h.formed.widths f within }
+
+  -- the rows of the lower units are complete
+  pub body_may_reach : (f : ℕ) (bodies units after : List SiteSet) → f < C.functions → IsFilled C f bodies units after → (n : ℕ) × MayReach C units n (C.body f)
+  body_may_reach f bodies units after within t = (
+    length (C.params f),
+    record {
+      caller = f;
+      part = body_part f within;
+      below = record {
+        count = t.units_count;
+        top = omega (arith, (h.formed.first f within).0);
+        rows = λ v k less. (
+          λ x. let r = (t.unit_rows v k).0 x in record { member = r.member; is_member = omega (arith, r.is_member); unit = r.unit; reached = r.reached },
+          λ r. (t.unit_rows v k).1 (record {
+            member = r.member;
+            is_member = lower_before p h r.member f r.is_member within (subst (λ u. u < C.unit f) (sym r.unit) less);
+            unit = r.unit;
+            reached = r.reached;
+          }),
+        );
+      };
+      few = h.limits.sites;
+    },
+  )
+
+module _ (C : Program) (f : ℕ) where
+  one_more : (u k : ℕ) → ReachedBelow C f u k ⊎ ((C.unit f ≡ u) × Reaches C k (C.body f)) → ReachedBelow C (suc f) u k
+  one_more u k (inl r) = record { member = r.member; is_member = omega (arith, r.is_member); unit = r.unit; reached = r.reached }
+  one_more u k (inr (e, r)) = record { member = f; is_member = omega arith; unit = e; reached = r }
+
+  one_of : (u k : ℕ) → ReachedBelow C (suc f) u k → ReachedBelow C f u k ⊎ ((C.unit f ≡ u) × Reaches C k (C.body f))
+  one_of u k r = elim (cases_eq r.member f) [
+    | inl e ↦ inr (subst (λ n. C.unit n ≡ u) e r.unit, subst (λ n. Reaches C k (C.body n)) e r.reached)
+    | inr n ↦ inl (record { member = r.member; is_member = omega (arith, r.is_member); unit = r.unit; reached = r.reached })
+  ]
+
+  after_more : (k b : ℕ) → StandsAfter C f k b ⊎ After C k b (C.body f) → StandsAfter C (suc f) k b
+  after_more k b (inl r) = record { body = r.body; is_body = omega (arith, r.is_body); after = r.after }
+  after_more k b (inr r) = record { body = f; is_body = omega arith; after = r }
+
+  after_of : (k b : ℕ) → StandsAfter C (suc f) k b → StandsAfter C f k b ⊎ After C k b (C.body f)
+  after_of k b r = elim (cases_eq r.body f) [
+    | inl e ↦ inr (subst (λ n. After C k b (C.body n)) e r.after)
+    | inr n ↦ inl (record { body = r.body; is_body = omega (arith, r.is_body); after = r.after })
+  ]
+
+  pub filled_more : (bodies units after after' : List SiteSet) (e row joined : SiteSet) → f < C.functions → C.unit f < C.functions → IsFilled C f bodies units after
+      → ((k : ℕ) → has e k ≡ false) → ((k : ℕ) → Adds (Has e k) (Has row k) (Reaches C k (C.body f)))
+      → (B : ℕ → Type 0) → ((k : ℕ) → B k → ⊥) → length after' ≡ length after → ((b k : ℕ) → Adds (HasAt after b k) (HasAt after' b k) (Marked C (B k) k b (C.body f)))
+      → ((k : ℕ) → Adds (HasAt units (C.unit f) k) (Has joined k) (Has row k))
+      → IsFilled C (suc f) (slice_set bodies f row) (slice_set units (C.unit f) joined) after'
+  filled_more bodies units after after' e row joined within low t none reached B never count marked union =
+      let full : (k : ℕ) → Has row k → Reaches C k (C.body f) = λ k x. elim ((reached k).splits x) [ inl y ↦ absurd (clash (has e k) (none k) y) | inr y ↦ y ] in
+      record {
+        bodies_count = length-set bodies f row ∙ t.bodies_count;
+        units_count = length-set units (C.unit f) joined ∙ t.units_count;
+        after_count = count ∙ t.after_count;
+        body_rows = λ g k less. elim (cases_eq g f) [
+          | inl i ↦
+              let s : get_or (slice_set bodies f row) g no_row ≡ row = get_or-set_at bodies f g row no_row i (omega (arith, t.bodies_count)) in (
+                λ x. subst (λ n. Reaches C k (C.body n)) (sym i) (full k (subst (λ (r : SiteSet). Has r k) s x)),
+                λ x. subst (λ (r : SiteSet). Has r k) (sym s) ((reached k).joins (subst (λ n. Reaches C k (C.body n)) i x)),
+              )
+          | inr i ↦
+              let s : get_or (slice_set bodies f row) g no_row ≡ get_or bodies g no_row = get_or-set_other bodies f g row no_row i in
+              let b = t.body_rows g k (omega arith) in
+              (λ x. b.0 (subst (λ (r : SiteSet). Has r k) s x), λ x. subst (λ (r : SiteSet). Has r k) (sym s) (b.1 x))
+        ];
+        unit_rows = λ u k.
+            let m = row_more units (C.unit f) joined u k (omega (arith, t.units_count)) (union k) in
+            let b = t.unit_rows u k in (
+              λ x. one_more u k (elim (m.splits x) [ inl y ↦ inl (b.0 y) | inr (i, y) ↦ inr (i, full k y) ]),
+              λ x. elim (one_of u k x) [ inl y ↦ m.stays (b.1 y) | inr (i, y) ↦ m.joins (i, (reached k).joins y) ],
+            );
+        after_rows = λ k b.
+            let m = marked b k in
+            let r = t.after_rows k b in (
+              λ x. after_more k b (elim (m.splits x) [ inl y ↦ inl (r.0 y) | inr y ↦ elim y [ inl (s, q) ↦ absurd (never k q) | inr z ↦ inr z ] ]),
+              λ x. elim (after_of k b x) [ inl y ↦ m.stays (r.1 y) | inr y ↦ m.joins (inr y) ],
+            );
+      }
