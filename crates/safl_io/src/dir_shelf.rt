@@ -5,17 +5,34 @@ use crate::calls::raise;
 use crate::fault::{Failed, OutErr};
 use crate::shelf::Shelf;
 use crate::transfer::write_whole;
+use std::alloc::Allocator;
 use std::fs::OpenOptions;
 use std::io::{Read, Seek, SeekFrom};
 use std::marker::Model;
 use std::rt::Files;
 use std::{fs, io};
 
+// How many files stay open at most.
+const KEPT_MAX: usize = 8;
+
+// A file that was appended to, and stays open for more.
+#[derive(Drop)]
+struct KeptFile<F, A: Allocator> {
+    name: String<A>,
+    file: F,
+}
+
+type KeptFiles<R> = Vec<KeptFile<<R as Files>::File, <R as Alloc>::A>, <R as Alloc>::A>;
+
 /// A shelf over the files of the system. A name is a path, which the system reads from the current folder.
 /// It tells nothing of what it holds. Each error that the system reports is a counted fault.
+///
+/// The first files that are appended to stay open until they are created anew, an append fails, or the shelf is dropped.
+/// All bytes go to the system at once, so a read sees them.
 #[derive(Drop)]
 pub struct DirShelf<'a, R: Files + Alloc> {
     rt: &'a R,
+    kept: KeptFiles<R>,
     read_faults: u64,
     write_faults: u64,
 }
@@ -35,6 +52,7 @@ impl<'a, R: Files + Alloc> DirShelf<'a, R> {
     {
         DirShelf {
             rt,
+            kept: Vec::new(rt.alloc()),
             read_faults: 0,
             write_faults: 0,
         }
@@ -57,6 +75,7 @@ impl<'a, R: Files + Alloc> Shelf for DirShelf<'a, R> {
     }
 
     fn create(&mut self, name: &str) -> Result<(), OutErr> {
+        forget(&mut self.kept, name);
         match fs::create(self.rt, name) {
             Ok(_) => Ok(()),
             Err(_) => {
@@ -67,9 +86,10 @@ impl<'a, R: Files + Alloc> Shelf for DirShelf<'a, R> {
     }
 
     fn append(&mut self, name: &str, bytes: &[u8]) -> Result<(), OutErr> {
-        match append_to_file(self.rt, name, bytes) {
+        match append_to_file(self.rt, &mut self.kept, name, bytes) {
             Ok(()) => Ok(()),
             Err(_) => {
+                forget(&mut self.kept, name);
                 self.write_faults = raise(self.write_faults);
                 Err(OutErr::Failed)
             }
@@ -85,7 +105,32 @@ fn read_file_at<R: Files>(rt: &R, name: &str, at: u64, buf: &mut [u8]) -> io::Re
     file.read(buf)
 }
 
-fn append_to_file<R: Files>(rt: &R, name: &str, bytes: &[u8]) -> io::Result<()> {
+fn append_to_file<R: Files + Alloc>(
+    rt: &R,
+    kept: &mut KeptFiles<R>,
+    name: &str,
+    bytes: &[u8],
+) -> io::Result<()> {
+    if let Some(open) = kept.iter_mut().find(|open| open.name.as_str() == name) {
+        return write_whole(&mut open.file, bytes);
+    }
     let mut file = OpenOptions::new().append(true).open(rt, name)?;
-    write_whole(&mut file, bytes)
+    write_whole(&mut file, bytes)?;
+    keep(rt, kept, name, file);
+    Ok(())
+}
+
+// Keeps a file open. Where there is no room for it, it is closed.
+fn keep<R: Files + Alloc>(rt: &R, kept: &mut KeptFiles<R>, name: &str, file: R::File) {
+    if kept.len() >= KEPT_MAX {
+        return;
+    }
+    if let Ok(name) = String::from_str(rt.alloc(), name) {
+        let _ = kept.push(KeptFile { name, file });
+    }
+}
+
+// Closes the file of a name.
+fn forget<F: Drop, A: Allocator>(kept: &mut Vec<KeptFile<F, A>, A>, name: &str) {
+    kept.retain(|open| open.name.as_str() != name);
 }
