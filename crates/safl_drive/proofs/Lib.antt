@@ -1,4 +1,5 @@
 pub mod Growing
+pub mod Widths
 pub mod Telling
 pub mod Frames
 pub mod Rounds

@@ -2,6 +2,7 @@ pub mod Asked
 pub mod Moments
 pub mod Growth
 pub mod Stopping
+pub mod Rooms
 pub mod Runs
 pub mod Schedules
 pub mod Watching

@@ -2,6 +2,7 @@
 
 ghost use Rattle.std.specs.Prelude.{◌≡◌, map, length, IfOk};
 ghost use Rattle.safl_word.specs.Words.{Word};
+ghost use Rattle.safl_drive.specs.Rooms.{HasWidths};
 
 use safl_net::Sig;
 use safl_sim::Sim;
@@ -17,7 +18,7 @@ pub struct Room {
 
 /// Room for the frames of a net.
 pub(crate) fn make_room(alloc: Global, sim: &Sim) -> Result<Room, AllocError>
-    ensures { IfOk result (λ room. length room.frame.items ≡ length sim.now.net.signals) }
+    ensures { IfOk result (λ room. HasWidths sim.now.net room.frame.items) }
 {
     let mut frame = Vec::new(alloc);
     'signals: for i in 0..sim.net().signals() {
@@ -31,11 +32,21 @@ pub(crate) fn make_room(alloc: Global, sim: &Sim) -> Result<Room, AllocError>
 
 /// Shows the values of the last cycle.
 pub(crate) fn fill(frame: &mut [Word], sim: &Sim)
-    requires frame { length frame.old ≡ length sim.now.net.signals }
+    requires frame { HasWidths sim.now.net frame.old }
     requires values { length sim.now.values ≡ length sim.now.net.signals }
-    ensures { map (λ (w : Word). w.bits) frame.new ≡ sim.now.values }
+    ensures values { map (λ (w : Word). w.bits) frame.new ≡ sim.now.values }
+    ensures frame { HasWidths sim.now.net frame.new }
 {
     'signals: for i in 0..sim.net().signals() {
-        frame[i as usize] = sim.value(Sig(i));
+        renew(&mut frame[i as usize], sim.value(Sig(i)));
     }
+}
+
+// Puts a word in the place of one of the same width. The width is not written, so that it need not be looked up.
+#[inline(always)]
+fn renew(word: &mut Word, now: Word)
+    requires { word.old.width ≡ now.width }
+    ensures { word.new ≡ now }
+{
+    *word = Word::from_parts(word.width(), now.bits());
 }

@@ -4,6 +4,7 @@ ghost use Rattle.std.specs.Prelude.{◌≡◌, ◌<◌, ℕ, List, map, length, 
 ghost use Rattle.safl_word.specs.Words.{Word};
 ghost use Rattle.safl_io.specs.Told.{TellsOn};
 ghost use Rattle.safl_probe.specs.Probing.{Tells, after_frame, cycle_text};
+ghost use Rattle.safl_drive.specs.Rooms.{HasWidths};
 ghost use Rattle.safl_drive.specs.Asked.{IsAsked, NoneAsked, AreApart, SameUnasked, asked, probe_at};
 ghost use Rattle.safl_drive.specs.Moments.{CanTell};
 ghost use Rattle.safl_drive.specs.Growth.{AllGrow, Longer, LongerPart, AllThere, NowThere};
@@ -29,7 +30,7 @@ pub(crate) fn show<S: Shelf>(
 ) -> Result<(), DriveErr>
     requires files { length files.now ≡ length probes.old }
     requires can { (i : ℕ) (name : List ℕ) → IsAsked (asked files.now) i name → CanTell (moments.Frame cycle) sim.now.values (probe_at (map (λ p. state p) probes.old) i) }
-    requires room { length room.old.frame.items ≡ length sim.now.net.signals }
+    requires room { HasWidths sim.now.net room.old.frame.items }
     requires values { length sim.now.values ≡ length sim.now.net.signals }
     ensures grown { OnOk result (AreApart (asked files.now) → TellsOn (AllGrow Longer (asked files.now)
         (λ i. cycle_text sim.now.values (probe_at (map (λ p. state p) probes.old) i))) (S.told shelf.old).holds (S.told shelf.new).holds) }
@@ -39,7 +40,7 @@ pub(crate) fn show<S: Shelf>(
         Tells (after_frame sim.now.values (probe_at (map (λ p. state p) probes.old) i)) (probe_at (map (λ p. state p) probes.new) i)) }
     ensures unasked { SameUnasked (asked files.now) probes.old probes.new }
     ensures probes { SameProbes (map (λ p. state p) probes.old) (map (λ p. state p) probes.new) }
-    ensures room { length room.new.frame.items ≡ length sim.now.net.signals }
+    ensures room { HasWidths sim.now.net room.new.frame.items }
     ensures stopped { IfErr result (λ why. Stopped why (asked files.now) (map (λ p. state p) probes.old) (map (λ p. state p) probes.new) (S.told shelf.old) (S.told shelf.new)) }
     ensures reads { SameReads (S.told shelf.old) (S.told shelf.new) }
     ensures strays { AllThere moments.End (asked files.now) (S.told shelf.old).holds → OnSome (S.told shelf.old).holds ((S.told shelf.new).strays ≡ (S.told shelf.old).strays) }

@@ -2,6 +2,7 @@
 
 ghost use Rattle.std.specs.Prelude.{◌≡◌, ◌↔◌, ◌<◌, ℕ, List, map, length, slice_index, IsTrue, IfOk, IfErr, OnOk, OnErr, OnSome};
 ghost use Rattle.safl_net.specs.Netlist.{width_of};
+ghost use Rattle.safl_drive.specs.Rooms.{HasWidths};
 ghost use Rattle.safl_drive.specs.Asked.{IsAsked, SameUnasked, asked, probe_at};
 ghost use Rattle.safl_drive.specs.Growth.{AllThere, NowThere};
 ghost use Rattle.safl_drive.specs.Stopping.{Stopped, SameProbes, SameReads};
@@ -32,7 +33,7 @@ pub(crate) fn watch<S: Shelf>(
     requires fitting { Fitting sim.old.net schedule.now }
     requires files { length files.now ≡ length probes.old }
     requires ready { (i : ℕ) (name : List ℕ) → IsAsked (asked files.now) i name → IsReady sim.old.net (probe_at (map (λ p. state p) probes.old) i) }
-    requires room { length room.old.frame.items ≡ length sim.old.net.signals }
+    requires room { HasWidths sim.old.net room.old.frame.items }
     ensures watched { IfOk result (Watches sim.old.net (slice_index sim.old.state) schedule.now limit (asked files.now) (map (λ p. state p) probes.old)
         (map (λ p. state p) probes.new) (S.told shelf.old).holds (S.told shelf.new).holds) }
     ensures broken { OnErr result (BreaksOff sim.old.net (slice_index sim.old.state) schedule.now limit (asked files.now) (map (λ p. state p) probes.old)

@@ -1,13 +1,15 @@
 -- What entries tell, before a frame and after it.
-use Rattle.std.proofs.Common.{◌≡◌, ℕ, suc, ◌+◌, List, length, Option, Some, None, Bool, true, false, cond, ◌==◌, refl, sym, ap, subst, ◌∙◌, add-one}
+use Rattle.std.proofs.Common.{◌≡◌, ℕ, suc, ◌+◌, List, map, length, Option, Some, None, Bool, true, false, cond, ◌==◌, refl, sym, ap, subst, ◌∙◌, add-one}
 use Rattle.std.proofs.Math.Dec.{eqb-suc-zero}
 use Rattle.safl_net.specs.Netlist.{Netlist}
 use Rattle.safl_net.specs.Valuations.{Valuation}
 use Rattle.safl_probe.specs.Watching.{Watched, kind_of, seen, watched_by}
 use Rattle.safl_probe.specs.Texts.{frame_text}
 use Rattle.safl_probe.specs.Probing.{ProbeState, FrameFits, begun, after_frame, cycle_text}
-use Rattle.safl_probe.specs.Entries.{watched_all, lasts, nows, told_of}
+use Rattle.safl_probe.specs.Entries.{watched_all, spot_of, watched_from, numbers, looked_all, told_of}
 use Rattle.safl_probe.specs.declared.entry.Entry.{Entry}
+use Rattle.safl_probe.specs.declared.entry.Spot.{Spot}
+use Rattle.safl_probe.proofs.Spots.{drop_none, watched_spots, same_named, new_numbers}
 
 abbrev pub state_on : ℕ → ℕ → List Watched → Option (List ℕ) → ℕ → ProbeState
 state_on kind signals ws last turn = record {
@@ -19,34 +21,38 @@ state_on kind signals ws last turn = record {
 }
 
 -- a frame fits only where there was a beginning
-pub begun_is : (kind : ℕ) (b : Bool) (signals : ℕ) (es : List Entry) (turn : ℕ) (frame : Valuation) → FrameFits (told_of kind b signals es turn).shape frame → b ≡ true
-begun_is kind true signals es turn frame fits = refl
-begun_is kind false signals es turn frame fits = absurd fits
+pub begun_is : (kind : ℕ) (b : Bool) (signals : ℕ) (es : List Entry) (ss : List Spot) (turn : ℕ) (frame : Valuation)
+    → FrameFits (told_of kind b signals es ss turn).shape frame → b ≡ true
+begun_is kind true signals es ss turn frame fits = refl
+begun_is kind false signals es ss turn frame fits = absurd fits
 
 -- after the beginning
-pub told_begun : (n : Netlist) (kind : ℕ) (b : Bool) (signals : ℕ) (es old : List Entry) (turn : ℕ) → signals ≡ length n.signals → watched_all es ≡ watched_by (kind_of kind) n
-    → (earlier : ℕ) → told_of kind true signals es 0 ≡ begun n (told_of kind b earlier old turn)
-told_begun n kind b signals es old turn count are earlier =
-    ap (λ (k : ℕ). state_on kind k (watched_all es) None 0) count ∙ ap (λ (ws : List Watched). state_on kind (length n.signals) ws None 0) are
+pub told_begun : (n : Netlist) (kind : ℕ) (b : Bool) (signals : ℕ) (es old : List Entry) (ss older : List Spot) (turn : ℕ)
+    → signals ≡ length n.signals → watched_all es ≡ watched_by (kind_of kind) n → ss ≡ map spot_of es
+    → (earlier : ℕ) → told_of kind true signals es ss 0 ≡ begun n (told_of kind b earlier old older turn)
+told_begun n kind b signals es old ss older turn count are made earlier =
+    ap (λ (k : ℕ). state_on kind k (watched_from 0 es ss) None 0) count
+    ∙ ap (λ (l : List Spot). state_on kind (length n.signals) (watched_from 0 es l) None 0) made
+    ∙ ap (λ (ws : List Watched). state_on kind (length n.signals) ws None 0) (watched_spots 0 es es (drop_none es) ∙ are)
 
--- the text of a frame, from entries that have seen it
-pub cycle_text_is : (kind : ℕ) (b : Bool) (signals : ℕ) (es now : List Entry) (t turn : ℕ) (frame : Valuation) → b ≡ true → t ≡ turn → watched_all now ≡ watched_all es → lasts now ≡ nows es → nows now ≡ seen (watched_all es) frame
-    → frame_text (kind_of kind) (watched_all now) t (cond (t == 0) None (Some (lasts now))) (nows now) ≡ cycle_text frame (told_of kind b signals es turn)
-cycle_text_is kind b signals es now t turn frame is same ws old new =
-    ap (λ (l : List Watched). frame_text (kind_of kind) l t (cond (t == 0) None (Some (lasts now))) (nows now)) ws
-    ∙ ap (λ (l : List ℕ). frame_text (kind_of kind) (watched_all es) t (cond (t == 0) None (Some l)) (nows now)) old
-    ∙ ap (λ (l : List ℕ). frame_text (kind_of kind) (watched_all es) t (cond (t == 0) None (Some (nows es))) l) new
-    ∙ ap (λ (k : ℕ). frame_text (kind_of kind) (watched_all es) k (cond (k == 0) None (Some (nows es))) (seen (watched_all es) frame)) same
-    ∙ subst (λ (x : Bool). frame_text (kind_of kind) (watched_all es) turn (cond (turn == 0) None (Some (nows es))) (seen (watched_all es) frame) ≡ cycle_text frame (told_of kind x signals es turn)) (sym is) refl
+-- the text of a frame
+pub cycle_text_is : (kind : ℕ) (b : Bool) (signals : ℕ) (es : List Entry) (ss : List Spot) (t turn : ℕ) (frame : Valuation) → b ≡ true → t ≡ turn
+    → frame_text (kind_of kind) (watched_from 0 es ss) t (cond (t == 0) None (Some (numbers ss))) (seen (watched_from 0 es ss) frame)
+    ≡ cycle_text frame (told_of kind b signals es ss turn)
+cycle_text_is kind b signals es ss t turn frame is same =
+    ap (λ (k : ℕ). frame_text (kind_of kind) (watched_from 0 es ss) k (cond (k == 0) None (Some (numbers ss))) (seen (watched_from 0 es ss) frame)) same
+    ∙ subst (λ (x : Bool). frame_text (kind_of kind) (watched_from 0 es ss) turn (cond (turn == 0) None (Some (numbers ss))) (seen (watched_from 0 es ss) frame)
+    ≡ cycle_text frame (told_of kind x signals es ss turn)) (sym is) refl
 
 -- after a frame
-pub told_after : (kind : ℕ) (b : Bool) (signals : ℕ) (es now : List Entry) (t turn : ℕ) (frame : Valuation) → b ≡ true → t ≡ turn → watched_all now ≡ watched_all es → nows now ≡ seen (watched_all es) frame
-    → told_of kind b signals now (t + 1) ≡ after_frame frame (told_of kind b signals es turn)
-told_after kind b signals es now t turn frame is same ws xs =
-    subst (λ (x : Bool). told_of kind x signals now (t + 1) ≡ after_frame frame (told_of kind x signals es t)) (sym is) (
-    ap (λ (k : ℕ). told_of kind true signals now k) (add-one t)
-    ∙ ap (λ (x : Bool). state_on kind signals (watched_all now) (cond x None (Some (nows now))) (suc t)) (eqb-suc-zero t)
-    ∙ ap (λ (l : List Watched). state_on kind signals l (Some (nows now)) (suc t)) ws
-    ∙ ap (λ (l : List ℕ). state_on kind signals (watched_all es) (Some l) (suc t)) xs
-    ∙ ap (λ (k : ℕ). state_on kind signals (watched_all es) (Some (seen (watched_all es) frame)) k) (sym (add-one t)))
-    ∙ ap (λ (k : ℕ). after_frame frame (told_of kind b signals es k)) same
+pub told_after : (kind : ℕ) (b : Bool) (signals : ℕ) (es : List Entry) (ss now : List Spot) (t turn : ℕ) (frame : Valuation) → b ≡ true → t ≡ turn → now ≡ looked_all frame ss
+    → told_of kind b signals es now (t + 1) ≡ after_frame frame (told_of kind b signals es ss turn)
+told_after kind b signals es ss now t turn frame is same after =
+    subst (λ (x : Bool). told_of kind x signals es now (t + 1) ≡ after_frame frame (told_of kind x signals es ss t)) (sym is) (
+    ap (λ (k : ℕ). told_of kind true signals es now k) (add-one t)
+    ∙ ap (λ (x : Bool). state_on kind signals (watched_from 0 es now) (cond x None (Some (numbers now))) (suc t)) (eqb-suc-zero t)
+    ∙ ap (λ (l : List Spot). state_on kind signals (watched_from 0 es l) (Some (numbers l)) (suc t)) after
+    ∙ ap (λ (l : List Watched). state_on kind signals l (Some (numbers (looked_all frame ss))) (suc t)) (same_named 0 es ss frame)
+    ∙ ap (λ (l : List ℕ). state_on kind signals (watched_from 0 es ss) (Some l) (suc t)) (new_numbers 0 es ss frame)
+    ∙ ap (λ (k : ℕ). state_on kind signals (watched_from 0 es ss) (Some (seen (watched_from 0 es ss) frame)) k) (sym (add-one t)))
+    ∙ ap (λ (k : ℕ). after_frame frame (told_of kind b signals es ss k)) same

@@ -1,33 +1,56 @@
 -- What is kept of watched signals.
-use Rattle.std.specs.Prelude.{ℕ, List, map, Some, None, Bool, cond, ◌==◌, string_bytes}
+use Rattle.std.specs.Prelude.{ℕ, suc, List, [], ◌∷◌, map, Option, Some, None, Bool, cond, ◌==◌, string_bytes, slice_get, slice_index}
+use Rattle.safl_net.specs.Valuations.{Valuation}
 use Rattle.safl_probe.specs.Watching.{Watched}
 use Rattle.safl_probe.specs.Probing.{ProbeState}
 use Rattle.safl_probe.specs.declared.entry.Entry.{Entry}
+use Rattle.safl_probe.specs.declared.entry.Spot.{Spot}
 
+-- the signals of entries
 abbrev pub watched_in : Entry → Watched
 watched_in e = record { name = string_bytes e.name; signal = e.signal; width = e.width }
 
--- the signals, and their numbers in the frame before the last one and in the last one
 abbrev pub watched_all : List Entry → List Watched
 watched_all es = map watched_in es
 
-abbrev pub lasts : List Entry → List ℕ
-lasts es = map (λ (e : Entry). e.last) es
+-- the spot of an entry, before the first frame
+abbrev pub spot_of : Entry → Spot
+spot_of e = record { signal = e.signal; width = e.width; number = 0 }
 
-abbrev pub nows : List Entry → List ℕ
-nows es = map (λ (e : Entry). e.number) es
+-- the signals of spots, which have the names of the entries from the i-th on
+abbrev pub name_of : Option Entry → List ℕ
+name_of None = []
+name_of (Some e) = string_bytes e.name
 
--- one more frame, in which the signal has this number
-abbrev pub looked : ℕ → Entry → Entry
-looked number e = record e { last = e.number; number = number }
+abbrev pub named : List ℕ → Spot → Watched
+named name s = record { name = name; signal = s.signal; width = s.width }
 
--- what is told of entries of a net of so many signals, after so many frames
-abbrev pub told_of : ℕ → Bool → ℕ → List Entry → ℕ → ProbeState
-told_of kind begun signals es turn =
+abbrev pub watched_from : ℕ → List Entry → List Spot → List Watched
+watched_from i es [] = []
+watched_from i es (s ∷ ss) = named (name_of (slice_get es i)) s ∷ watched_from (suc i) es ss
+
+-- the same without names
+abbrev pub nameless : List Spot → List Watched
+nameless ss = map (named []) ss
+
+-- their numbers in the last frame
+abbrev pub numbers : List Spot → List ℕ
+numbers ss = map (λ (s : Spot). s.number) ss
+
+-- one more frame
+abbrev pub looked : Valuation → Spot → Spot
+looked frame s = record s { number = slice_index frame s.signal }
+
+abbrev pub looked_all : Valuation → List Spot → List Spot
+looked_all frame ss = map (looked frame) ss
+
+-- what is told of entries and spots of a net of so many signals, after so many frames
+abbrev pub told_of : ℕ → Bool → ℕ → List Entry → List Spot → ℕ → ProbeState
+told_of kind begun signals es ss turn =
     record {
       kind = kind;
-      shape = cond begun (Some (record { signals = signals; watched = watched_all es })) None;
-      last = cond (turn == 0) None (Some (nows es));
+      shape = cond begun (Some (record { signals = signals; watched = watched_from 0 es ss })) None;
+      last = cond (turn == 0) None (Some (numbers ss));
       turn = turn;
       faults = 0;
     }

@@ -1,24 +1,30 @@
 //! What is kept of a watched signal.
 
 ghost use Rattle.std.specs.Prelude.{◌≡◌, IfOk};
-ghost use Rattle.safl_probe.specs.Entries.{watched_in, looked};
+ghost use Rattle.safl_probe.specs.Entries.{watched_in, spot_of};
 
 use safl_net::Sig;
 use safl_word::Raw;
 use std::alloc::{AllocError, Global};
 
-/// A watched signal: its name in the trace, its number, its width in bits, and its numbers in the frame before the
-/// last one and in the last one.
+/// A watched signal: its name in the trace, its number, and its width in bits.
 #[derive(Drop)]
 pub struct Entry {
     pub name: String,
     pub signal: u32,
     pub width: u8,
-    pub last: Raw,
+}
+
+/// What a frame needs of a watched signal: its number among the signals, its width in bits, and its number in the last
+/// frame.
+#[derive(Clone, Copy)]
+pub struct Spot {
+    pub signal: u32,
+    pub width: u8,
     pub number: Raw,
 }
 
-/// The entry of a signal, before the first frame.
+/// The entry of a signal.
 pub(crate) fn make_entry(
     alloc: Global,
     name: &str,
@@ -31,15 +37,16 @@ pub(crate) fn make_entry(
         name: String::from_str(alloc, name)?,
         signal: signal.0,
         width,
-        last: 0,
-        number: 0,
     })
 }
 
-/// One more frame, in which the signal has this number.
-pub(crate) fn see(entry: &mut Entry, number: Raw)
-    ensures { entry.new ≡ looked number entry.old }
+/// The spot of an entry, before the first frame.
+pub(crate) fn make_spot(entry: &Entry) -> Spot
+    ensures { result ≡ spot_of entry.now }
 {
-    entry.last = entry.number;
-    entry.number = number;
+    Spot {
+        signal: entry.signal,
+        width: entry.width,
+        number: 0,
+    }
 }

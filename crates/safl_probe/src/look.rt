@@ -1,18 +1,18 @@
 //! What a probe watches of a net, and what it sees in a frame.
 
-ghost use Rattle.std.specs.Prelude.{◌≡◌, ◌++◌, ◌<◌, ◌∷◌, [], length, map, slice_index, IfOk, OnOk};
+ghost use Rattle.std.specs.Prelude.{◌≡◌, ◌++◌, ◌<◌, ◌∷◌, [], length, map, slice_get, slice_index, IfOk, OnOk};
 ghost use Rattle.safl_word.specs.Words.{Word};
 ghost use Rattle.safl_net.specs.Netlist.{Signal, width_of};
 ghost use Rattle.safl_net.specs.Rules.{IsNetlist};
 ghost use Rattle.safl_net.specs.Making.{kind_at, name_at};
-ghost use Rattle.safl_probe.specs.Watching.{watched_by, group_from, one_watched, output_watched, seen};
-ghost use Rattle.safl_probe.specs.Entries.{watched_all, lasts, nows};
+ghost use Rattle.safl_probe.specs.Watching.{watched_by, group_from, one_watched, output_watched};
+ghost use Rattle.safl_probe.specs.Entries.{watched_all, spot_of, name_of, looked, looked_all};
 
-use crate::entry::{Entry, make_entry, see};
+use crate::entry::{Entry, Spot, make_entry, make_spot};
 use crate::kind::{Group, TraceKind, belongs};
 use safl_net::{Net, Sig};
 use safl_word::{NoMemory, Raw, Word};
-use std::alloc::Global;
+use std::alloc::{AllocError, Global};
 
 /// The entries of what a probe of a kind watches.
 pub(crate) fn entries_of(alloc: Global, kind: TraceKind, net: &Net) -> Result<Vec<Entry>, NoMemory>
@@ -84,20 +84,44 @@ fn watch_outputs(alloc: Global, entries: &mut Vec<Entry>, net: &Net) -> Result<(
     Ok(())
 }
 
-/// Sees a frame: each entry takes the number that its signal has in it.
-pub(crate) fn look(entries: &mut [Entry], frame: &[Word])
-    ensures same { watched_all entries.new ≡ watched_all entries.old }
-    ensures last { lasts entries.new ≡ nows entries.old }
-    ensures now { nows entries.new ≡ seen (watched_all entries.old) (map (λ (w : Word). w.bits) frame.now) }
+/// The spots of entries, before the first frame.
+pub(crate) fn spots_of(alloc: Global, entries: &[Entry]) -> Result<Vec<Spot>, AllocError>
+    ensures { IfOk result (λ v. v.items ≡ map spot_of entries.now) }
 {
+    let mut spots = Vec::with_capacity(alloc, entries.len())?;
     'entries: for i in 0..entries.len() {
-        let number = number_at(frame, entries[i].signal);
-        see(&mut entries[i], number);
+        spots.push(make_spot(&entries[i]))?;
+    }
+    Ok(spots)
+}
+
+/// The name of the entry at a place.
+pub(crate) fn entry_name(entries: &[Entry], i: usize) -> &str
+    ensures { result.now ≡ name_of (slice_get entries.now i) }
+{
+    match entries.get(i) {
+        Some(entry) => entry.name.as_str(),
+        None => "",
     }
 }
 
-// The number of a signal in a frame, and 0 where there is no such signal.
-fn number_at(frame: &[Word], signal: u32) -> Raw
+/// Sees a frame: each spot takes the number that its signal has in it.
+pub(crate) fn look(spots: &mut [Spot], frame: &[Word])
+    ensures { spots.new ≡ looked_all (map (λ (w : Word). w.bits) frame.now) spots.old }
+{
+    'spots: for i in 0..spots.len() {
+        see(&mut spots[i], frame);
+    }
+}
+
+fn see(spot: &mut Spot, frame: &[Word])
+    ensures { spot.new ≡ looked (map (λ (w : Word). w.bits) frame.now) spot.old }
+{
+    spot.number = number_at(frame, spot.signal);
+}
+
+/// The number of a signal in a frame, and 0 where there is no such signal.
+pub(crate) fn number_at(frame: &[Word], signal: u32) -> Raw
     ensures { result ≡ slice_index (map (λ (w : Word). w.bits) frame.now) signal }
 {
     match frame.get(signal as usize) {

@@ -1,32 +1,46 @@
 //! The texts of starts and toggles.
 
-ghost use Rattle.std.specs.Prelude.{◌≡◌, ◌++◌, ◌*◌, ◌≤◌, length, string_bytes, bit_xor, count_ones, OnOk};
+ghost use Rattle.std.specs.Prelude.{◌≡◌, ◌++◌, ◌≤◌, map, slice_get, slice_index, bit_xor, count_ones, OnOk};
+ghost use Rattle.safl_word.specs.Words.{Word};
+ghost use Rattle.safl_probe.specs.Watching.{seen};
 ghost use Rattle.safl_probe.specs.Texts.{start, starts, toggles, toggled};
-ghost use Rattle.safl_probe.specs.Entries.{watched_all, lasts, nows};
+ghost use Rattle.safl_probe.specs.Entries.{name_of, watched_from, nameless, numbers, looked, looked_all};
 
-use crate::entry::Entry;
+use crate::entry::{Entry, Spot};
+use crate::look::{entry_name, number_at};
 use crate::pieces::push;
-use safl_word::{NoMemory, Raw, push_decimal};
+use safl_word::{NoMemory, Raw, Word, push_decimal};
 
 /// Appends a line for each signal that is 1.
-pub(crate) fn push_starts(out: &mut Vec<u8>, t: u64, entries: &[Entry]) -> Result<(), NoMemory>
-    ensures { OnOk result (out.new.items ≡ out.old.items ++ starts t (watched_all entries.now) (nows entries.now)) }
+pub(crate) fn push_starts(
+    out: &mut Vec<u8>,
+    t: u64,
+    entries: &[Entry],
+    spots: &[Spot],
+) -> Result<(), NoMemory>
+    ensures { OnOk result (out.new.items ≡ out.old.items ++ starts t (watched_from 0 entries.now spots.now) (numbers spots.now)) }
 {
-    'entries: for i in 0..entries.len() {
-        push_start(out, t, &entries[i])?;
+    'spots: for i in 0..spots.len() {
+        push_start(out, t, entries, i, spots[i].number)?;
     }
     Ok(())
 }
 
-fn push_start(out: &mut Vec<u8>, t: u64, entry: &Entry) -> Result<(), NoMemory>
-    ensures { OnOk result (out.new.items ≡ out.old.items ++ start t (string_bytes entry.now.name) entry.now.number) }
+fn push_start(
+    out: &mut Vec<u8>,
+    t: u64,
+    entries: &[Entry],
+    i: usize,
+    number: Raw,
+) -> Result<(), NoMemory>
+    ensures { OnOk result (out.new.items ≡ out.old.items ++ start t (name_of (slice_get entries.now i)) number) }
 {
-    if entry.number != 1 {
+    if number != 1 {
         return Ok(());
     }
     push_decimal(Raw::from(t), out)?;
     push(out, b" ")?;
-    push(out, entry.name.as_bytes())?;
+    push(out, entry_name(entries, i).as_bytes())?;
     push(out, b"\n")
 }
 
@@ -40,20 +54,33 @@ pub(crate) fn push_toggles(out: &mut Vec<u8>, t: u64, count: Raw) -> Result<(), 
     push(out, b"\n")
 }
 
-/// How many bits differ between the last two frames.
-pub(crate) fn toggled(entries: &[Entry]) -> Raw
-    ensures { result ≡ toggled (lasts entries.now) (nows entries.now) }
+/// Sees a frame, and answers how many bits differ from the frame before.
+pub(crate) fn toggle(spots: &mut [Spot], frame: &[Word]) -> Raw
+    ensures count { result ≡ toggled (numbers spots.old) (seen (nameless spots.old) (map (λ (w : Word). w.bits) frame.now)) }
+    ensures now { spots.new ≡ looked_all (map (λ (w : Word). w.bits) frame.now) spots.old }
 {
     let mut count: Raw = 0;
-    'entries: for i in 0..entries.len() {
-        count += Raw::from(difference(&entries[i]));
+    'spots: for i in 0..spots.len() {
+        count += Raw::from(toggle_one(&mut spots[i], frame));
     }
     count
 }
 
-fn difference(entry: &Entry) -> u32
-    ensures number { result ≡ count_ones (bit_xor entry.now.last entry.now.number) }
+#[inline(always)]
+fn toggle_one(spot: &mut Spot, frame: &[Word]) -> u32
+    ensures count { result ≡ count_ones (bit_xor spot.old.number (slice_index (map (λ (w : Word). w.bits) frame.now) spot.old.signal)) }
+    ensures most { result ≤ 128 }
+    ensures now { spot.new ≡ looked (map (λ (w : Word). w.bits) frame.now) spot.old }
+{
+    let last = spot.number;
+    let number = number_at(frame, spot.signal);
+    spot.number = number;
+    difference(last, number)
+}
+
+fn difference(last: Raw, number: Raw) -> u32
+    ensures number { result ≡ count_ones (bit_xor last number) }
     ensures most { result ≤ 128 }
 {
-    (entry.last ^ entry.number).count_ones()
+    (last ^ number).count_ones()
 }

@@ -1,15 +1,18 @@
 //! What a probe of a kind writes.
 
-ghost use Rattle.std.specs.Prelude.{◌≡◌, ◌++◌, ◌==◌, cond, Some, None, OnOk, OnErr};
+ghost use Rattle.std.specs.Prelude.{◌≡◌, ◌++◌, ◌==◌, cond, map, Some, None, OnOk, OnErr};
+ghost use Rattle.safl_word.specs.Words.{Word};
+ghost use Rattle.safl_probe.specs.Watching.{seen};
 ghost use Rattle.safl_probe.specs.Texts.{opening, frame_text, closing};
-ghost use Rattle.safl_probe.specs.Entries.{watched_all, lasts, nows};
+ghost use Rattle.safl_probe.specs.Entries.{watched_all, watched_from, numbers, looked_all};
 
-use crate::entry::Entry;
+use crate::entry::{Entry, Spot};
 use crate::kind::TraceKind;
+use crate::look::look;
 use crate::pieces::{push, push_time};
-use crate::tables::{push_starts, push_toggles, toggled};
+use crate::tables::{push_starts, push_toggles, toggle};
 use crate::vcd_text::{push_change, push_dump, push_header};
-use safl_word::NoMemory;
+use safl_word::{NoMemory, Word};
 
 // The text of each call is made in a buffer of its own first, so that all of it is appended or nothing.
 
@@ -28,19 +31,23 @@ pub(crate) fn send_opening(
     push(out, text)
 }
 
-/// Appends the text of a frame, or nothing where memory runs out.
+/// Sees a frame, and appends its text, or nothing where memory runs out.
 pub(crate) fn send_frame(
     text: &mut Vec<u8>,
     kind: TraceKind,
     t: u64,
     entries: &[Entry],
+    spots: &mut [Spot],
+    frame: &[Word],
     out: &mut Vec<u8>,
 ) -> Result<(), NoMemory>
-    ensures added { OnOk result (out.new.items ≡ out.old.items ++ frame_text kind (watched_all entries.now) t (cond (t == 0) None (Some (lasts entries.now))) (nows entries.now)) }
+    ensures added { OnOk result (out.new.items ≡ out.old.items ++ frame_text kind (watched_from 0 entries.now spots.old) t (cond (t == 0) None (Some (numbers spots.old)))
+        (seen (watched_from 0 entries.now spots.old) (map (λ (w : Word). w.bits) frame.now))) }
+    ensures now { OnOk result (spots.new ≡ looked_all (map (λ (w : Word). w.bits) frame.now) spots.old) }
     ensures same { OnErr result (out.new.items ≡ out.old.items) }
 {
     text.clear();
-    push_frame(text, kind, t, entries)?;
+    push_frame(text, kind, t, entries, spots, frame)?;
     push(out, text)
 }
 
@@ -59,13 +66,22 @@ pub(crate) fn send_closing(
     push(out, text)
 }
 
-fn push_frame(out: &mut Vec<u8>, kind: TraceKind, t: u64, entries: &[Entry]) -> Result<(), NoMemory>
-    ensures { OnOk result (out.new.items ≡ out.old.items ++ frame_text kind (watched_all entries.now) t (cond (t == 0) None (Some (lasts entries.now))) (nows entries.now)) }
+fn push_frame(
+    out: &mut Vec<u8>,
+    kind: TraceKind,
+    t: u64,
+    entries: &[Entry],
+    spots: &mut [Spot],
+    frame: &[Word],
+) -> Result<(), NoMemory>
+    ensures added { OnOk result (out.new.items ≡ out.old.items ++ frame_text kind (watched_from 0 entries.now spots.old) t (cond (t == 0) None (Some (numbers spots.old)))
+        (seen (watched_from 0 entries.now spots.old) (map (λ (w : Word). w.bits) frame.now))) }
+    ensures now { OnOk result (spots.new ≡ looked_all (map (λ (w : Word). w.bits) frame.now) spots.old) }
 {
     if t == 0 {
-        push_first(out, kind, t, entries)
+        push_first(out, kind, t, entries, spots, frame)
     } else {
-        push_later(out, kind, t, entries)
+        push_later(out, kind, t, entries, spots, frame)
     }
 }
 
@@ -78,25 +94,53 @@ fn push_opening(out: &mut Vec<u8>, kind: TraceKind, entries: &[Entry]) -> Result
     }
 }
 
-fn push_first(out: &mut Vec<u8>, kind: TraceKind, t: u64, entries: &[Entry]) -> Result<(), NoMemory>
-    ensures { OnOk result (out.new.items ≡ out.old.items ++ frame_text kind (watched_all entries.now) t None (nows entries.now)) }
+fn push_first(
+    out: &mut Vec<u8>,
+    kind: TraceKind,
+    t: u64,
+    entries: &[Entry],
+    spots: &mut [Spot],
+    frame: &[Word],
+) -> Result<(), NoMemory>
+    ensures added { OnOk result (out.new.items ≡ out.old.items ++ frame_text kind (watched_from 0 entries.now spots.old) t None
+        (seen (watched_from 0 entries.now spots.old) (map (λ (w : Word). w.bits) frame.now))) }
+    ensures now { OnOk result (spots.new ≡ looked_all (map (λ (w : Word). w.bits) frame.now) spots.old) }
 {
+    look(spots, frame);
     match kind {
-        TraceKind::Vcd => push_dump(out, t, entries),
-        TraceKind::Starts => push_starts(out, t, entries),
+        TraceKind::Vcd => push_dump(out, t, spots),
+        TraceKind::Starts => push_starts(out, t, entries, spots),
         TraceKind::Toggles => push_toggles(out, t, 0),
         TraceKind::Silent => Ok(()),
     }
 }
 
-fn push_later(out: &mut Vec<u8>, kind: TraceKind, t: u64, entries: &[Entry]) -> Result<(), NoMemory>
-    ensures { OnOk result (out.new.items ≡ out.old.items ++ frame_text kind (watched_all entries.now) t (Some (lasts entries.now)) (nows entries.now)) }
+fn push_later(
+    out: &mut Vec<u8>,
+    kind: TraceKind,
+    t: u64,
+    entries: &[Entry],
+    spots: &mut [Spot],
+    frame: &[Word],
+) -> Result<(), NoMemory>
+    ensures added { OnOk result (out.new.items ≡ out.old.items ++ frame_text kind (watched_from 0 entries.now spots.old) t (Some (numbers spots.old))
+        (seen (watched_from 0 entries.now spots.old) (map (λ (w : Word). w.bits) frame.now))) }
+    ensures now { OnOk result (spots.new ≡ looked_all (map (λ (w : Word). w.bits) frame.now) spots.old) }
 {
     match kind {
-        TraceKind::Vcd => push_change(out, t, entries),
-        TraceKind::Starts => push_starts(out, t, entries),
-        TraceKind::Toggles => push_toggles(out, t, toggled(entries)),
-        TraceKind::Silent => Ok(()),
+        TraceKind::Vcd => push_change(out, t, spots, frame),
+        TraceKind::Starts => {
+            look(spots, frame);
+            push_starts(out, t, entries, spots)
+        }
+        TraceKind::Toggles => {
+            let count = toggle(spots, frame);
+            push_toggles(out, t, count)
+        }
+        TraceKind::Silent => {
+            look(spots, frame);
+            Ok(())
+        }
     }
 }
 

@@ -1,8 +1,8 @@
 //! A probe of any kind that never fails but for lack of memory.
 
-use crate::entry::Entry;
+use crate::entry::{Entry, Spot};
 use crate::kind::kind_of;
-use crate::look::{entries_of, look};
+use crate::look::{entries_of, spots_of};
 use crate::texts::{send_closing, send_frame, send_opening};
 use safl_net::Net;
 use safl_word::{NoMemory, Word};
@@ -16,6 +16,7 @@ pub(crate) struct Tracer {
     begun: bool,
     signals: u32,
     entries: Vec<Entry>,
+    spots: Vec<Spot>,
     turn: u64,
     text: Vec<u8>,
 }
@@ -27,7 +28,7 @@ impl Model for Tracer {
 
     ghost use Rattle.safl_probe.specs.Entries.{told_of};
 
-    ghost view = { λ t. told_of t.kind t.begun t.signals t.entries.items t.turn };
+    ghost view = { λ t. told_of t.kind t.begun t.signals t.entries.items t.spots.items t.turn };
 }
 
 impl Tracer {
@@ -44,6 +45,7 @@ impl Tracer {
             begun: false,
             signals: 0,
             entries: Vec::new(alloc),
+            spots: Vec::new(alloc),
             turn: 0,
             text: Vec::new(alloc),
         }
@@ -63,10 +65,12 @@ impl Tracer {
     {
         let kind = kind_of(self.kind);
         let entries = entries_of(self.alloc, kind, net)?;
+        let spots = spots_of(self.alloc, &entries)?;
         send_opening(&mut self.text, kind, &entries, out)?;
         self.begun = true;
         self.signals = net.signals();
         self.entries = entries;
+        self.spots = spots;
         self.turn = 0;
         Ok(())
     }
@@ -85,8 +89,15 @@ impl Tracer {
         ensures told { OnOk result (self.new ≡ after_frame (map (λ (w : Word). w.bits) frame.now) self.old) }
         ensures kind { self.new.kind ≡ self.old.kind }
     {
-        look(&mut self.entries, frame);
-        send_frame(&mut self.text, kind_of(self.kind), t, &self.entries, out)?;
+        send_frame(
+            &mut self.text,
+            kind_of(self.kind),
+            t,
+            &self.entries,
+            &mut self.spots,
+            frame,
+            out,
+        )?;
         self.turn = t + 1;
         Ok(())
     }

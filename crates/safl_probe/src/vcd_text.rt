@@ -1,12 +1,15 @@
 //! The text of a value change dump.
 
-ghost use Rattle.std.specs.Prelude.{◌≡◌, ◌++◌, OnOk};
+ghost use Rattle.std.specs.Prelude.{◌≡◌, ◌++◌, map, slice_index, OnOk};
+ghost use Rattle.safl_word.specs.Words.{Word};
+ghost use Rattle.safl_probe.specs.Watching.{seen};
 ghost use Rattle.safl_probe.specs.Texts.{header, variable, variables, value, values, changed, changes, dump, timed};
-ghost use Rattle.safl_probe.specs.Entries.{watched_in, watched_all, lasts, nows};
+ghost use Rattle.safl_probe.specs.Entries.{watched_in, watched_all, nameless, numbers, looked, looked_all};
 
-use crate::entry::Entry;
+use crate::entry::{Entry, Spot};
+use crate::look::number_at;
 use crate::pieces::{push, push_code, push_time, push_value};
-use safl_word::{NoMemory, Raw, push_decimal};
+use safl_word::{NoMemory, Raw, Word, push_decimal};
 
 /// Appends the header.
 pub(crate) fn push_header(out: &mut Vec<u8>, entries: &[Entry]) -> Result<(), NoMemory>
@@ -39,39 +42,46 @@ fn push_variable(out: &mut Vec<u8>, i: usize, entry: &Entry) -> Result<(), NoMem
     push(out, b" $end\n")
 }
 
-/// Appends the first frame.
-pub(crate) fn push_dump(out: &mut Vec<u8>, t: u64, entries: &[Entry]) -> Result<(), NoMemory>
-    ensures { OnOk result (out.new.items ≡ out.old.items ++ dump t (watched_all entries.now) (nows entries.now)) }
+/// Appends the first frame, which the spots have seen.
+pub(crate) fn push_dump(out: &mut Vec<u8>, t: u64, spots: &[Spot]) -> Result<(), NoMemory>
+    ensures { OnOk result (out.new.items ≡ out.old.items ++ dump t (nameless spots.now) (numbers spots.now)) }
 {
     push_time(out, t)?;
     push(out, b"$dumpvars\n")?;
-    push_values(out, entries)?;
+    push_values(out, spots)?;
     push(out, b"$end\n")
 }
 
-fn push_values(out: &mut Vec<u8>, entries: &[Entry]) -> Result<(), NoMemory>
-    ensures { OnOk result (out.new.items ≡ out.old.items ++ values 0 (watched_all entries.now) (nows entries.now)) }
+fn push_values(out: &mut Vec<u8>, spots: &[Spot]) -> Result<(), NoMemory>
+    ensures { OnOk result (out.new.items ≡ out.old.items ++ values 0 (nameless spots.now) (numbers spots.now)) }
 {
-    'entries: for i in 0..entries.len() {
-        push_number(out, i, &entries[i])?;
+    'spots: for i in 0..spots.len() {
+        push_number(out, i, &spots[i])?;
     }
     Ok(())
 }
 
-fn push_number(out: &mut Vec<u8>, i: usize, entry: &Entry) -> Result<(), NoMemory>
-    ensures { OnOk result (out.new.items ≡ out.old.items ++ value i entry.now.width entry.now.number) }
+fn push_number(out: &mut Vec<u8>, i: usize, spot: &Spot) -> Result<(), NoMemory>
+    ensures { OnOk result (out.new.items ≡ out.old.items ++ value i spot.now.width spot.now.number) }
 {
-    push_value(out, i, entry.width, entry.number)
+    push_value(out, i, spot.width, spot.number)
 }
 
-/// Appends a later frame: its time and what changed, where something did.
-pub(crate) fn push_change(out: &mut Vec<u8>, t: u64, entries: &[Entry]) -> Result<(), NoMemory>
-    ensures { OnOk result (out.new.items ≡ out.old.items ++ timed t (changes 0 (watched_all entries.now) (lasts entries.now) (nows entries.now))) }
+/// Sees a later frame, and appends its time and what changed, where something did.
+pub(crate) fn push_change(
+    out: &mut Vec<u8>,
+    t: u64,
+    spots: &mut [Spot],
+    frame: &[Word],
+) -> Result<(), NoMemory>
+    ensures added { OnOk result (out.new.items ≡ out.old.items ++ timed t (changes 0 (nameless spots.old) (numbers spots.old)
+        (seen (nameless spots.old) (map (λ (w : Word). w.bits) frame.now)))) }
+    ensures now { OnOk result (spots.new ≡ looked_all (map (λ (w : Word). w.bits) frame.now) spots.old) }
 {
     let start = out.len();
     push_time(out, t)?;
     let timed = out.len();
-    push_changes(out, entries)?;
+    push_changes(out, spots, frame)?;
     if out.len() == timed {
         out.truncate(start);
         return Ok(());
@@ -79,20 +89,32 @@ pub(crate) fn push_change(out: &mut Vec<u8>, t: u64, entries: &[Entry]) -> Resul
     Ok(())
 }
 
-fn push_changes(out: &mut Vec<u8>, entries: &[Entry]) -> Result<(), NoMemory>
-    ensures { OnOk result (out.new.items ≡ out.old.items ++ changes 0 (watched_all entries.now) (lasts entries.now) (nows entries.now)) }
+fn push_changes(out: &mut Vec<u8>, spots: &mut [Spot], frame: &[Word]) -> Result<(), NoMemory>
+    ensures added { OnOk result (out.new.items ≡ out.old.items ++ changes 0 (nameless spots.old) (numbers spots.old)
+        (seen (nameless spots.old) (map (λ (w : Word). w.bits) frame.now))) }
+    ensures now { OnOk result (spots.new ≡ looked_all (map (λ (w : Word). w.bits) frame.now) spots.old) }
 {
-    'entries: for i in 0..entries.len() {
-        push_changed(out, i, &entries[i])?;
+    'spots: for i in 0..spots.len() {
+        push_changed(out, i, &mut spots[i], frame)?;
     }
     Ok(())
 }
 
-fn push_changed(out: &mut Vec<u8>, i: usize, entry: &Entry) -> Result<(), NoMemory>
-    ensures { OnOk result (out.new.items ≡ out.old.items ++ changed i entry.now.width entry.now.last entry.now.number) }
+// Sees a frame, and appends the number where it changed.
+#[inline(always)]
+fn push_changed(
+    out: &mut Vec<u8>,
+    i: usize,
+    spot: &mut Spot,
+    frame: &[Word],
+) -> Result<(), NoMemory>
+    ensures added { OnOk result (out.new.items ≡ out.old.items ++ changed i spot.old.width spot.old.number (slice_index (map (λ (w : Word). w.bits) frame.now) spot.old.signal)) }
+    ensures now { OnOk result (spot.new ≡ looked (map (λ (w : Word). w.bits) frame.now) spot.old) }
 {
-    if entry.last == entry.number {
+    let number = number_at(frame, spot.signal);
+    if number == spot.number {
         return Ok(());
     }
-    push_value(out, i, entry.width, entry.number)
+    spot.number = number;
+    push_value(out, i, spot.width, number)
 }

@@ -1,4 +1,4 @@
-use Rattle.std.proofs.Common.{◌≡◌, ℕ, List, map, length, slice_index, Vec, Global, Option, Result, Ok, Err, OnErr, refl, ap, subst, ◌∙◌}
+use Rattle.std.proofs.Common.{◌≡◌, ℕ, List, map, slice_index, Vec, Global, Option, Result, Ok, Err, OnErr, refl, sym, subst}
 use Rattle.std.proofs.lemmas.Result.{err_from_is_err_and}
 use Rattle.safl_word.specs.Words.{Word}
 use Rattle.safl_io.specs.Shelf.{Files}
@@ -13,6 +13,7 @@ use Rattle.safl_sim.specs.Words.{input_words, bit_word, zero_of}
 use Rattle.safl_sim.specs.declared.done.Done.{Done}
 use Rattle.safl_sim.proofs.Outcome.{outcome}
 use Rattle.safl_probe.specs.Probing.{ProbeState}
+use Rattle.safl_drive.specs.Rooms.{HasWidths}
 use Rattle.safl_drive.specs.Asked.{Asked, asked, probe_at}
 use Rattle.safl_drive.specs.Schedules.{IsSchedule}
 use Rattle.safl_drive.specs.Watching.{frames_of}
@@ -58,7 +59,7 @@ watch-requires-clause-ready g c = λ i name k.
     ready n (probe_at ps i) (probe_at qs i) (told_begun c.net-net.result.now n c.net-net.ensures (asked c.args.files.now) ps qs c.in_ok-tell_all.ensures.tells i name k)
 
 pub watch-requires-clause-room : goal.watch-requires-clause-room
-watch-requires-clause-room g c = ap (λ (v : Vec Word Global). length v.items) c.in_ok-tell_all.ensures.same_frame ∙ c.in_ok-room.ensures
+watch-requires-clause-room g c = subst (λ (v : Vec Word Global). HasWidths c.args.sim.now.net v.items) (sym c.in_ok-tell_all.ensures.same_frame) c.in_ok-room.ensures
 
 pub tell_all-requires-2-clause-can : goal.tell_all-requires-2-clause-can
 tell_all-requires-2-clause-can g c = λ i name k.

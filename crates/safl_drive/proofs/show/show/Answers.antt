@@ -1,4 +1,4 @@
-use Rattle.std.proofs.Common.{◌≡◌, ℕ, List, ◌++◌, map, take, drop, length, Option, Result, Ok, Err, OnOk, OnErr, refl, sym, ap, subst, ◌∙◌, arith}
+use Rattle.std.proofs.Common.{◌≡◌, ℕ, List, ◌++◌, map, take, drop, length, Vec, Global, Option, Result, Ok, Err, OnOk, OnErr, refl, sym, ap, subst, ◌∙◌, arith}
 use Rattle.std.proofs.lemmas.List.{append-nil, take_all, drop_all}
 use Rattle.safl_word.specs.Words.{Word}
 use Rattle.safl_io.specs.Told.{TellsOn}
@@ -7,6 +7,7 @@ use Rattle.safl_net.specs.Netlist.{Netlist}
 use Rattle.safl_net.specs.Valuations.{Valuation}
 use Rattle.safl_probe.specs.Texts.{Text}
 use Rattle.safl_probe.specs.Probing.{ProbeState, Tells, after_frame, cycle_text}
+use Rattle.safl_drive.specs.Rooms.{HasWidths}
 use Rattle.safl_drive.specs.Asked.{Asked, IsAsked, NoneAsked, AreApart, asked, probe_at}
 use Rattle.safl_drive.specs.Moments.{CanTell, text_at, state_at}
 use Rattle.safl_drive.specs.Growth.{AllGrow, Longer, LongerPart, Grown, GrownPart}
@@ -68,7 +69,7 @@ tell_all-requires-clause-can g c = λ i name k.
     let b = c.deref_mut.ensures.len in
     let d = ap (λ (l : List Word). length l) c.deref_mut.ensures.value in
     let back = back_is c.args.room.now.frame.len c.fill.new.frame c.args.room.now.frame.items (omega (arith, a, d)) (omega (arith, b, d)) in
-    can_show c.args.cycle _ c.args.sim.now.values (probe_at (map (λ p. (goal.Probe-dyn g (p.vtable, p.value)).state p.value) c.args.probes.now) i) (ap (map (λ (w : Word). w.bits)) back ∙ c.fill.ensures) (c.requires.can i name k)
+    can_show c.args.cycle _ c.args.sim.now.values (probe_at (map (λ p. (goal.Probe-dyn g (p.vtable, p.value)).state p.value) c.args.probes.now) i) (ap (map (λ (w : Word). w.bits)) back ∙ c.fill.ensures.values) (c.requires.can i name k)
 
 pub returns-clause-grown : goal.returns-clause-grown
 returns-clause-grown g c =
@@ -76,7 +77,7 @@ returns-clause-grown g c =
     let b = c.deref_mut.ensures.len in
     let d = ap (λ (l : List Word). length l) c.deref_mut.ensures.value in
     let back = back_is c.args.room.now.frame.len c.fill.new.frame c.args.room.now.frame.items (omega (arith, a, d)) (omega (arith, b, d)) in
-    on_ok c.tell_all.result _ _ (grown_of c.args.cycle c.net.result.now _ c.args.sim.now.values (asked c.args.files.now) _ (ap (map (λ (w : Word). w.bits)) back ∙ c.fill.ensures) _ _) c.tell_all.ensures.grown
+    on_ok c.tell_all.result _ _ (grown_of c.args.cycle c.net.result.now _ c.args.sim.now.values (asked c.args.files.now) _ (ap (map (λ (w : Word). w.bits)) back ∙ c.fill.ensures.values) _ _) c.tell_all.ensures.grown
 
 pub returns-clause-part : goal.returns-clause-part
 returns-clause-part g c =
@@ -84,7 +85,7 @@ returns-clause-part g c =
     let b = c.deref_mut.ensures.len in
     let d = ap (λ (l : List Word). length l) c.deref_mut.ensures.value in
     let back = back_is c.args.room.now.frame.len c.fill.new.frame c.args.room.now.frame.items (omega (arith, a, d)) (omega (arith, b, d)) in
-    on_err c.tell_all.result _ _ (part_of c.args.cycle c.net.result.now _ c.args.sim.now.values (asked c.args.files.now) _ (ap (map (λ (w : Word). w.bits)) back ∙ c.fill.ensures) _ _) c.tell_all.ensures.part
+    on_err c.tell_all.result _ _ (part_of c.args.cycle c.net.result.now _ c.args.sim.now.values (asked c.args.files.now) _ (ap (map (λ (w : Word). w.bits)) back ∙ c.fill.ensures.values) _ _) c.tell_all.ensures.part
 
 pub returns-clause-tells : goal.returns-clause-tells
 returns-clause-tells g c =
@@ -92,4 +93,15 @@ returns-clause-tells g c =
     let b = c.deref_mut.ensures.len in
     let d = ap (λ (l : List Word). length l) c.deref_mut.ensures.value in
     let back = back_is c.args.room.now.frame.len c.fill.new.frame c.args.room.now.frame.items (omega (arith, a, d)) (omega (arith, b, d)) in
-    on_ok c.tell_all.result _ _ (tells_of c.args.cycle c.net.result.now _ c.args.sim.now.values (asked c.args.files.now) _ (ap (map (λ (w : Word). w.bits)) back ∙ c.fill.ensures) _) c.tell_all.ensures.tells
+    on_ok c.tell_all.result _ _ (tells_of c.args.cycle c.net.result.now _ c.args.sim.now.values (asked c.args.files.now) _ (ap (map (λ (w : Word). w.bits)) back ∙ c.fill.ensures.values) _) c.tell_all.ensures.tells
+
+pub fill-requires-clause-frame : goal.fill-requires-clause-frame
+fill-requires-clause-frame g c = subst (HasWidths c.args.sim.now.net) (sym c.deref_mut.ensures.value) c.requires.room
+
+pub returns-clause-room : goal.returns-clause-room
+returns-clause-room g c =
+    let a = c.fill.auto.frame in
+    let b = c.deref_mut.ensures.len in
+    let d = ap (λ (l : List Word). length l) c.deref_mut.ensures.value in
+    let back = back_is c.args.room.now.frame.len c.fill.new.frame c.args.room.now.frame.items (omega (arith, a, d)) (omega (arith, b, d)) in
+    subst (λ (v : Vec Word Global). HasWidths c.args.sim.now.net v.items) (sym c.tell_all.ensures.same_frame) (subst (HasWidths c.args.sim.now.net) (sym back) c.fill.ensures.frame)

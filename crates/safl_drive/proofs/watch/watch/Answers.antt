@@ -4,6 +4,7 @@ use Rattle.safl_net.specs.Netlist.{Netlist}
 use Rattle.safl_net.specs.Valuations.{Valuation, next_state, signal_word}
 use Rattle.safl_sim.specs.Ticks.{IsOnly, words_of}
 use Rattle.safl_sim.proofs.Going.{ticks_only, long_more}
+use Rattle.safl_drive.specs.Rooms.{HasWidths}
 use Rattle.safl_drive.specs.Asked.{asked}
 use Rattle.safl_drive.proofs.Growing.{strays_none}
 use Rattle.safl_drive.proofs.Telling.{same_probes, reads_same, reads_then}
@@ -53,7 +54,7 @@ cycles-preserved g c =
           steady_more n (slice_index c.args.sim.now.state) c.args.schedule.now i.frames (slice_index c.cycles.sim.state) (slice_index c.tick.new.self.state) v i.steady only
           (not_one _ c.if-is_on.ensures.off (λ e. let z = c.if-is_on.ensures.on.1 e in cc)) (λ t. c.tick.ensures.state t ∙ ap (λ (m : Netlist). next_state m v t) i.net);
       shown = shown_more (asked c.args.files.now) _ i.frames v _ _ _ _ _ i.shown c.in_ok-show.ensures.tells c.in_ok-show.ensures.grown;
-      room = c.in_ok-show.ensures.room ∙ ap (λ (m : Netlist). length m.signals) (c.tick.ensures.net ∙ i.net);
+      room = subst (λ (m : Netlist). HasWidths m c.show.new.room.frame.items) (c.tick.ensures.net ∙ i.net) c.in_ok-show.ensures.room;
       long = c.show.auto.probes ∙ i.long;
       unasked = unasked_then (asked c.args.files.now) _ _ _ i.unasked c.in_ok-show.ensures.unasked;
       probes = same_then _ _ _ i.probes c.in_ok-show.ensures.probes;
@@ -135,3 +136,8 @@ show-requires-clause-can g c = λ j name k.
       turn_more c.args.sim.now.net i.frames _ _ c.cycles.cycle (c.requires.ready j name k) (i.shown.told j name k) i.count,
       omega (arith, b, f),
     )
+
+pub show-requires-clause-room : goal.show-requires-clause-room
+show-requires-clause-room g c =
+    let i = c.cycles.invariant in
+    subst (λ (m : Netlist). HasWidths m c.cycles.room.frame.items) (sym (c.tick.ensures.net ∙ i.net)) i.room

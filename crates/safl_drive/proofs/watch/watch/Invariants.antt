@@ -2,6 +2,7 @@ use Rattle.std.proofs.Common.{◌≡◌, List, map, length, slice_index, Option,
 use Rattle.safl_io.specs.Told.{TellsOn}
 use Rattle.safl_io.specs.Shelf.{Files}
 use Rattle.safl_net.specs.Valuations.{Valuation}
+use Rattle.safl_drive.specs.Rooms.{HasWidths}
 use Rattle.safl_drive.specs.Asked.{Asked, SameUnasked, asked}
 use Rattle.safl_drive.specs.Growth.{AllThere, NowThere}
 use Rattle.safl_drive.specs.Stopping.{SameProbes, SameReads}
@@ -21,7 +22,7 @@ invariant-cycles g l =
       count : length frames ≡ l.cycle;
       steady : IsSteady l.fn.sim.net (slice_index l.fn.sim.state) l.schedule frames (slice_index l.sim.state);
       shown : Shown frames names (map (λ p. (goal.Probe-dyn g (p.vtable, p.value)).state p.value) l.fn.probes) (map (λ p. (goal.Probe-dyn g (p.vtable, p.value)).state p.value) l.probes) x y;
-      room : length l.room.frame.items ≡ length l.fn.sim.net.signals;
+      room : HasWidths l.fn.sim.net l.room.frame.items;
       long : length l.probes ≡ length l.fn.probes;
       unasked : SameUnasked names l.fn.probes l.probes;
       probes : SameProbes (map (λ p. (goal.Probe-dyn g (p.vtable, p.value)).state p.value) l.fn.probes) (map (λ p. (goal.Probe-dyn g (p.vtable, p.value)).state p.value) l.probes);

@@ -4,4 +4,4 @@ use Rattle.safl_probe.proofs.tables.difference.Goals as goal
 
 pub returns-clause-most : goal.returns-clause-most
 returns-clause-most c =
-    ones-le 128 (bit_xor c.args.entry.now.last c.args.entry.now.number) (xor_lt 128 c.args.entry.now.last c.args.entry.now.number c.known-fits.fits c.known-fits2.fits)
+    ones-le 128 (bit_xor c.args.last c.args.number) (xor_lt 128 c.args.last c.args.number c.ranges.last.fits c.ranges.number.fits)

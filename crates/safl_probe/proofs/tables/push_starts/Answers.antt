@@ -1,17 +1,26 @@
-use Rattle.std.proofs.Common.{ℕ, List, ◌++◌, refl, string_bytes}
-use Rattle.safl_probe.specs.Texts.{starts, start}
-use Rattle.safl_probe.specs.Entries.{nows, watched_all}
+use Rattle.std.proofs.Common.{ℕ, List, ◌++◌, get_or, slice_get, refl}
+use Rattle.safl_probe.specs.Texts.{Text, starts, start}
+use Rattle.safl_probe.specs.Entries.{name_of, watched_from, numbers}
 use Rattle.safl_probe.specs.declared.entry.Entry.{Entry}
-use Rattle.safl_probe.proofs.Rest.{rest_more, rest_none, drop_or}
+use Rattle.safl_probe.specs.declared.entry.Spot.{Spot}
+use Rattle.safl_probe.proofs.Rest.{rest_more, rest_none}
+use Rattle.safl_probe.proofs.Spots.{no_spot, drop_get}
 use Rattle.safl_probe.proofs.tables.push_starts.Goals as goal
 
-pub entries-preserved : goal.entries-preserved
-entries-preserved c =
-    rest_more (λ (i : ℕ) (es : List Entry). starts c.args.t (watched_all es) (nows es)) (λ (i : ℕ) (e : Entry). start c.args.t (string_bytes e.name) e.number) (λ i. refl) (λ i e es. refl)
-    c.args.entries.now c.entries.i c.index-entries-i.result c.entries.out.items c.push_start.new.out.items (c.args.out.now.items ++ starts c.args.t (watched_all c.args.entries.now) (nows c.args.entries.now))
-    (drop_or c.args.entries.now c.entries.i c.index-entries-i.result c.entries-test.true c.index-entries-i.is) c.entries.invariant c.in_ok-push_start.ensures
+abbrev rest_of : ℕ → List Entry → ℕ → List Spot → Text
+rest_of t es i ss = starts t (watched_from i es ss) (numbers ss)
+
+abbrev piece_of : ℕ → List Entry → ℕ → Spot → Text
+piece_of t es i s = start t (name_of (slice_get es i)) s.number
+
+pub spots-preserved : goal.spots-preserved
+spots-preserved c =
+    rest_more (rest_of c.args.t c.args.entries.now) (piece_of c.args.t c.args.entries.now) (λ i. refl) (λ i s ss. refl)
+    c.args.spots.now c.spots.i (get_or c.args.spots.now c.spots.i no_spot) c.spots.out.items c.push_start.new.out.items
+    (c.args.out.now.items ++ rest_of c.args.t c.args.entries.now 0 c.args.spots.now)
+    (drop_get c.args.spots.now c.spots.i no_spot c.spots-test.true) c.spots.invariant c.in_ok-push_start.ensures
 
 pub returns : goal.returns
 returns c =
-    rest_none (λ (i : ℕ) (es : List Entry). starts c.args.t (watched_all es) (nows es)) (λ (i : ℕ) (e : Entry). start c.args.t (string_bytes e.name) e.number) (λ i. refl) (λ i e es. refl)
-    c.args.entries.now c.entries.i c.entries.out.items (c.args.out.now.items ++ starts c.args.t (watched_all c.args.entries.now) (nows c.args.entries.now)) c.entries-test.false c.entries.invariant
+    rest_none (rest_of c.args.t c.args.entries.now) (piece_of c.args.t c.args.entries.now) (λ i. refl) (λ i s ss. refl)
+    c.args.spots.now c.spots.i c.spots.out.items (c.args.out.now.items ++ rest_of c.args.t c.args.entries.now 0 c.args.spots.now) c.spots-test.false c.spots.invariant

@@ -1,7 +1,9 @@
 use Rattle.std.proofs.Common.{◌≡◌, ◌++◌, drop}
 use Rattle.safl_probe.specs.Texts.{starts}
-use Rattle.safl_probe.specs.Entries.{nows, watched_all}
+use Rattle.safl_probe.specs.Entries.{watched_from, numbers}
 use Rattle.safl_probe.proofs.tables.push_starts.Given as goal
 
-abbrev pub invariant-entries : goal.invariant-entries
-invariant-entries l = l.out.items ++ starts l.t (watched_all (drop l.i l.entries)) (nows (drop l.i l.entries)) ≡ l.fn.out.items ++ starts l.t (watched_all l.entries) (nows l.entries)
+abbrev pub invariant-spots : goal.invariant-spots
+invariant-spots l =
+    l.out.items ++ starts l.t (watched_from l.i l.entries (drop l.i l.spots)) (numbers (drop l.i l.spots))
+    ≡ l.fn.out.items ++ starts l.t (watched_from 0 l.entries l.spots) (numbers l.spots)

@@ -1,7 +1,16 @@
-use Rattle.std.proofs.Common.{◌≡◌, ◌++◌, drop}
+use Rattle.std.proofs.Common.{◌≡◌, ◌++◌, drop, map}
+use Rattle.safl_word.specs.Words.{Word}
+use Rattle.safl_probe.specs.Watching.{seen}
 use Rattle.safl_probe.specs.Texts.{changes}
-use Rattle.safl_probe.specs.Entries.{lasts, nows, watched_all}
+use Rattle.safl_probe.specs.Entries.{nameless, numbers}
+use Rattle.safl_probe.proofs.Spots.{looked_first}
 use Rattle.safl_probe.proofs.vcd_text.push_changes.Given as goal
 
-abbrev pub invariant-entries : goal.invariant-entries
-invariant-entries l = l.out.items ++ changes l.i (watched_all (drop l.i l.entries)) (lasts (drop l.i l.entries)) (nows (drop l.i l.entries)) ≡ l.fn.out.items ++ changes 0 (watched_all l.entries) (lasts l.entries) (nows l.entries)
+abbrev pub invariant-spots : goal.invariant-spots
+invariant-spots l =
+    let frame = map (λ (w : Word). w.bits) l.frame in
+    let rest = drop l.i l.initial.spots in record {
+      added : l.out.items ++ changes l.i (nameless rest) (numbers rest) (seen (nameless rest) frame)
+          ≡ l.fn.out.items ++ changes 0 (nameless l.initial.spots) (numbers l.initial.spots) (seen (nameless l.initial.spots) frame);
+      now : l.spots ≡ looked_first frame l.initial.spots l.i;
+    }

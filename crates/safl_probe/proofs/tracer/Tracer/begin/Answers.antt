@@ -1,0 +1,18 @@
+use Rattle.std.proofs.Common.{map, ap, ◌∙◌}
+use Rattle.safl_probe.specs.Watching.{watched_by}
+use Rattle.safl_probe.specs.Probing.{begun}
+use Rattle.safl_probe.specs.Entries.{spot_of}
+use Rattle.safl_probe.specs.declared.kind.TraceKind.{TraceKind}
+use Rattle.safl_probe.proofs.Told.{told_begun}
+use Rattle.safl_probe.proofs.tracer.Tracer.begin.Goals as goal
+
+pub returns-clause-told : goal.returns-clause-told
+returns-clause-told c =
+    let n = c.args.net.now in
+    let s = c.self.inside in
+    told_begun n s.kind s.begun c.signals-self-inside.result c.in_ok-entries.entries.items s.entries.items c.in_ok-spots.spots.items s.spots.items s.turn
+    c.signals-self-inside.ensures.count
+    (c.in_ok-entries.ensures ∙ ap (λ (k : TraceKind). watched_by k n) c.kind_of-kind.ensures)
+    (c.in_ok-spots.ensures ∙ ap (map spot_of) c.deref.ensures.value)
+    s.signals
+    ∙ ap (begun n) c.self.view_is
