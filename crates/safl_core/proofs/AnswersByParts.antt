@@ -45,11 +45,6 @@ both_not (Ready w) o e = absurd (some_none w (sym e))
 both_not (LoopTo h vs) o e = refl
 both_not NotYet o e = refl
 
-both_words : (q : Answer) (o : Option (List Word)) → both (ready_from (word_of q)) o ≡ both q o
-both_words (Ready w) o = refl
-both_words (LoopTo h vs) o = refl
-both_words NotYet o = refl
-
 -- a primitive and a site come to a word or to nothing yet, and a tail call to no word
 applied_word : (p : Primitive) (o : Option (List Word)) → ready_from (word_of (apply_to p o)) ≡ apply_to p o
 applied_word p None = refl
@@ -234,18 +229,9 @@ module _ (B : ℕ → Option Word) (E : List Word) where
   pub answers_two : (a b : Term) (v w : Word) → Some v ≡ word_of (answer B E a) → Some w ≡ word_of (answer B E b) → answers B E (Cons a (Cons b Nil)) ≡ Some (v ∷ w ∷ [])
   answers_two a b v w e f = answers_more B E (Cons b Nil) a v (Some (w ∷ [])) e (answers_one b w f)
 
-  -- what a primitive gives on one operand, and on two
-  pub applied_one : (p : Primitive) (a : Term) (x : Option Word) → x ≡ word_of (answer B E a) → word_of (apply_to p (both (ready_from x) (Some []))) ≡ word_of (apply_to p (answers B E (Cons a Nil)))
-  unfolding answer
-  applied_one p a x e = ap (λ o. word_of (apply_to p (both (ready_from o) (Some [])))) e ∙ ap (λ o. word_of (apply_to p o)) (both_words (answer B E a) (Some []))
-
-  pub applied_two : (p : Primitive) (a b : Term) (x y : Option Word) → x ≡ word_of (answer B E a) → y ≡ word_of (answer B E b) → word_of (apply_to p (both (ready_from x) (both (ready_from y) (Some [])))) ≡ word_of (apply_to p (answers B E (Cons a (Cons b Nil))))
-  unfolding answer
-  applied_two p a b x y e f =
-      ap (λ o. word_of (apply_to p (both (ready_from o) (both (ready_from y) (Some []))))) e
-      ∙ (ap (λ o. word_of (apply_to p (both (ready_from (word_of (answer B E a))) (both (ready_from o) (Some []))))) f
-      ∙ (ap (λ o. word_of (apply_to p (both (ready_from (word_of (answer B E a))) o))) (both_words (answer B E b) (Some []))
-      ∙ ap (λ o. word_of (apply_to p o)) (both_words (answer B E a) (both (answer B E b) (Some [])))))
+  -- the second of two operands is not ready
+  pub second_not : (a b : Term) (v : Word) → Some v ≡ word_of (answer B E a) → None ≡ word_of (answer B E b) → answers B E (Cons a (Cons b Nil)) ≡ None
+  second_not a b v e f = answers_more B E (Cons b Nil) a v None e (answers_not B E Nil b f)
 
 pub count_forest : (ts : List declared.Term) → count (shown_terms ts) ≡ length ts
 count_forest [] = refl

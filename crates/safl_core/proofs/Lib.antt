@@ -10,7 +10,6 @@ pub mod LawsOfKept
 pub mod EnabledByPlace
 mod Rows
 pub mod WalksByTurns
-pub mod SumsOfParts
 pub mod MembersAndSites
 pub mod SetsPutRight
 pub mod CallersLinked

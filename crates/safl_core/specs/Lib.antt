@@ -9,7 +9,6 @@ pub mod Listing
 pub mod Picking
 pub mod Walking
 pub mod States
-pub mod Numbers
 pub mod Spans
 pub mod Linking
 pub mod Marking

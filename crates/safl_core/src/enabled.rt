@@ -12,9 +12,9 @@ use crate::check::{self, Service, serving};
 use crate::concern::TwoUnits;
 use crate::event::Event;
 use crate::links::Links;
-use crate::number_set::NumberSet;
 use crate::spans::{members_end, own_sites};
 use crate::state::State;
+use safl_number_set::NumberSet;
 use safl_term::Checked;
 use std::alloc::{AllocError, Global};
 

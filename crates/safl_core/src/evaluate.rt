@@ -1,14 +1,14 @@
 //! Partial evaluation: what a running body comes to, and which calls it wants.
 
-ghost use Rattle.std.specs.Prelude.{◌≡◌, ◌+◌, ◌<◌, ◌≤◌, [], ◌∷◌, length, take, drop, cond, Some, None, IsSome};
+ghost use Rattle.std.specs.Prelude.{◌≡◌, ◌+◌, ◌<◌, ◌≤◌, [], ◌∷◌, length, take, drop, cond, Some, None};
 ghost use Rattle.safl_term.specs.Readiness.{answer, answers, apply_to, both, wanted, wanted_in, ready_from, word_of};
-ghost use Rattle.safl_term.specs.Sizes.{nodes, nodes_in};
+ghost use Rattle.safl_term.specs.Sizes.{nodes_in};
 ghost use Rattle.safl_term.specs.Terms.{Op};
 ghost use Rattle.safl_term.specs.Tree.{shown_term, shown_terms};
 ghost use Rattle.safl_word.specs.Primitives.{result_width};
 ghost use Rattle.safl_word.specs.Words.{Word as a_word};
 ghost use Rattle.safl_core.specs.Stages.{back_at};
-ghost use Rattle.safl_core.specs.Evaluating.{CanRun, CanRunAll, Unasked, UnaskedIn, Notes};
+ghost use Rattle.safl_core.specs.Evaluating.{CanEvaluate, CanRun, CanRunAll, UnaskedIn, Notes};
 
 use crate::answer::Answer;
 use crate::stage::Stage;
@@ -26,9 +26,7 @@ pub fn evaluate(
     t: &Term,
     told: &mut Answer,
 )
-    requires can { CanRun stages.now (length asks.old) (take slots env.old) (shown_term t.now) }
-    requires room { slots + nodes (shown_term t.now) ≤ length env.old }
-    requires unasked { Unasked asks.old (shown_term t.now) }
+    requires { CanEvaluate stages.now asks.old env.old slots (shown_term t.now) }
     ensures answer { told.new ≡ answer (back_at stages.now) (take slots env.old) (shown_term t.now) }
     ensures notes { Notes asks.old asks.new (wanted (back_at stages.now) (take slots env.old) (shown_term t.now)) }
 {
@@ -67,7 +65,6 @@ pub fn evaluate(
 }
 
 // The word that a term comes to, if it does. It notes in `asks` what `evaluate` does.
-#[cycle(value)]
 fn value(
     stages: &[Stage],
     asks: &mut [Want],
@@ -75,78 +72,113 @@ fn value(
     slots: usize,
     t: &Term,
 ) -> Option<Word>
-    requires can { CanRun stages.now (length asks.old) (take slots env.old) (shown_term t.now) }
-    requires room { slots + nodes (shown_term t.now) ≤ length env.old }
-    requires unasked { Unasked asks.old (shown_term t.now) }
+    requires { CanEvaluate stages.now asks.old env.old slots (shown_term t.now) }
     ensures word { result ≡ word_of (answer (back_at stages.now) (take slots env.old) (shown_term t.now)) }
     ensures notes { Notes asks.old asks.new (wanted (back_at stages.now) (take slots env.old) (shown_term t.now)) }
     ensures kept { take slots env.new ≡ take slots env.old }
 {
+    let mut word = blank();
+    if find(stages, asks, env, slots, t, &mut word) {
+        Some(word)
+    } else {
+        None
+    }
+}
+
+// A word that is about to be overwritten.
+fn blank() -> Word {
+    Word::from_parts(1, 0)
+}
+
+// Writes the word that a term comes to, if it does, to `word`, and says whether. Words are written in place, since a copy
+// of one costs more than most operators.
+#[cycle(find)]
+fn find(
+    stages: &[Stage],
+    asks: &mut [Want],
+    env: &mut [Word],
+    slots: usize,
+    t: &Term,
+    word: &mut Word,
+) -> bool
+    requires { CanEvaluate stages.now asks.old env.old slots (shown_term t.now) }
+    ensures word { cond result (Some word.new) None ≡ word_of (answer (back_at stages.now) (take slots env.old) (shown_term t.now)) }
+    ensures notes { Notes asks.old asks.new (wanted (back_at stages.now) (take slots env.old) (shown_term t.now)) }
+    ensures kept { take slots env.new ≡ take slots env.old }
+{
     match t {
-        Term::Const(word) => Some(*word),
-        Term::Var(slot) => Some(env[*slot as usize]),
-        Term::If(condition, a, b) => match value(stages, asks, env, slots, condition) {
-            Some(word) => {
+        Term::Const(number) => put(word, number),
+        Term::Var(slot) => put(word, &env[*slot as usize]),
+        Term::If(condition, a, b) => {
+            if find(stages, asks, env, slots, condition, word) {
                 if word.bits() == 1 {
-                    operand(stages, asks, env, slots, a)
+                    operand(stages, asks, env, slots, a, word)
                 } else {
-                    operand(stages, asks, env, slots, b)
+                    operand(stages, asks, env, slots, b, word)
                 }
+            } else {
+                false
             }
-            None => None,
-        },
+        }
         Term::Let(_, bound, body) => {
             let bound = bound.as_slice();
             if values(stages, asks, env, slots, slots, bound) {
-                value(stages, asks, env, slots + bound.len(), body)
+                find(stages, asks, env, slots + bound.len(), body, word)
             } else {
-                None
+                false
             }
         }
         Term::Op(p, ts) => {
             let operands = ts.as_slice();
-            applied(stages, asks, env, slots, *p, operands)
+            applied(stages, asks, env, slots, *p, operands, word)
         }
         Term::Call(_, k, ts) => {
             let args = ts.as_slice();
             if values(stages, asks, env, slots, slots, args) {
                 asks[*k as usize].ask(part(env, slots, args.len()));
             }
-            returned(stages, *k)
+            returned(stages, *k, word)
         }
         Term::Loop(_, ts) => {
             let passed = ts.as_slice();
             values(stages, asks, env, slots, slots, passed);
-            None
+            false
         }
     }
 }
 
-// The same as `value`, where constants and slots need no call.
-#[cycle(value)]
+// Writes a word that is found at once.
+fn put(word: &mut Word, found: &Word) -> bool
+    ensures { cond result (Some word.new) None ≡ Some found.now }
+{
+    *word = *found;
+    true
+}
+
+// The same as `find`, where constants and slots need no call.
+#[cycle(find)]
 fn operand(
     stages: &[Stage],
     asks: &mut [Want],
     env: &mut [Word],
     slots: usize,
     t: &Term,
-) -> Option<Word>
-    requires can { CanRun stages.now (length asks.old) (take slots env.old) (shown_term t.now) }
-    requires room { slots + nodes (shown_term t.now) ≤ length env.old }
-    requires unasked { Unasked asks.old (shown_term t.now) }
-    ensures word { result ≡ word_of (answer (back_at stages.now) (take slots env.old) (shown_term t.now)) }
+    word: &mut Word,
+) -> bool
+    requires { CanEvaluate stages.now asks.old env.old slots (shown_term t.now) }
+    ensures word { cond result (Some word.new) None ≡ word_of (answer (back_at stages.now) (take slots env.old) (shown_term t.now)) }
     ensures notes { Notes asks.old asks.new (wanted (back_at stages.now) (take slots env.old) (shown_term t.now)) }
     ensures kept { take slots env.new ≡ take slots env.old }
 {
     match t {
-        Term::Const(word) => Some(*word),
-        Term::Var(slot) => Some(env[*slot as usize]),
-        _ => value(stages, asks, env, slots, t),
+        Term::Const(number) => put(word, number),
+        Term::Var(slot) => put(word, &env[*slot as usize]),
+        _ => find(stages, asks, env, slots, t, word),
     }
 }
 
 // What a primitive gives on its operands, where they are ready. No word of theirs goes by way of `env`.
-#[cycle(value)]
+#[cycle(find)]
 fn applied(
     stages: &[Stage],
     asks: &mut [Want],
@@ -154,57 +186,49 @@ fn applied(
     slots: usize,
     p: Primitive,
     ts: &[Term],
-) -> Option<Word>
+    word: &mut Word,
+) -> bool
     requires can { CanRun stages.now (length asks.old) (take slots env.old) (Op p (shown_terms ts.now)) }
     requires room { slots + nodes_in (shown_terms ts.now) ≤ length env.old }
     requires unasked { UnaskedIn asks.old (shown_terms ts.now) }
-    ensures word { result ≡ word_of (apply_to p (answers (back_at stages.now) (take slots env.old) (shown_terms ts.now))) }
+    ensures word { cond result (Some word.new) None ≡ word_of (apply_to p (answers (back_at stages.now) (take slots env.old) (shown_terms ts.now))) }
     ensures notes { Notes asks.old asks.new (wanted_in (back_at stages.now) (take slots env.old) (shown_terms ts.now)) }
     ensures kept { take slots env.new ≡ take slots env.old }
 {
     match ts {
         [] => unreachable!(),
         [only] => {
-            let first = operand(stages, asks, env, slots, only);
-            on_one(p, first)
+            let mut words = [blank()];
+            let first = operand(stages, asks, env, slots, only, &mut words[0]);
+            if first {
+                *word = apply(p, &words);
+                true
+            } else {
+                false
+            }
         }
         [a, b] => {
-            let first = operand(stages, asks, env, slots, a);
-            let second = operand(stages, asks, env, slots, b);
-            on_two(p, first, second)
+            let mut words = [blank(), blank()];
+            let first = operand(stages, asks, env, slots, a, &mut words[0]);
+            let second = operand(stages, asks, env, slots, b, &mut words[1]);
+            if first {
+                if second {
+                    *word = apply(p, &words);
+                    true
+                } else {
+                    false
+                }
+            } else {
+                false
+            }
         }
         [_, _, _, ..] => unreachable!(),
     }
 }
 
-// What a primitive gives where its operand is ready.
-fn on_one(p: Primitive, first: Option<Word>) -> Option<Word>
-    requires { (v : a_word) → first ≡ Some v → IsSome (result_width p (v.width ∷ [])) }
-    ensures { result ≡ word_of (apply_to p (both (ready_from first) (Some []))) }
-{
-    match first {
-        Some(v) => Some(apply(p, &[v])),
-        None => None,
-    }
-}
-
-// What a primitive gives where both operands are ready.
-fn on_two(p: Primitive, first: Option<Word>, second: Option<Word>) -> Option<Word>
-    requires { (v w : a_word) → first ≡ Some v → second ≡ Some w → IsSome (result_width p (v.width ∷ w.width ∷ [])) }
-    ensures { result ≡ word_of (apply_to p (both (ready_from first) (both (ready_from second) (Some [])))) }
-{
-    match first {
-        Some(v) => match second {
-            Some(w) => Some(apply(p, &[v, w])),
-            None => None,
-        },
-        None => None,
-    }
-}
-
 // Puts what each term comes to into `env` from place `at` on, where all of them are ready. A term may overwrite what
 // stands from `slots` on, so each word is put there after those that follow it.
-#[cycle(value)]
+#[cycle(find)]
 fn values(
     stages: &[Stage],
     asks: &mut [Want],
@@ -225,14 +249,14 @@ fn values(
     let Some((first, rest)) = ts.split_first() else {
         return true;
     };
-    let word = operand(stages, asks, env, slots, first);
+    let mut word = blank();
+    let found = operand(stages, asks, env, slots, first, &mut word);
     let ready = values(stages, asks, env, slots, at + 1, rest);
-    match word {
-        Some(word) => {
-            env[at] = word;
-            ready
-        }
-        None => false,
+    if found {
+        env[at] = word;
+        ready
+    } else {
+        false
     }
 }
 
@@ -245,14 +269,14 @@ fn part(env: &[Word], at: usize, count: usize) -> &[Word]
 }
 
 // The word of a site, where it has returned.
-fn returned(stages: &[Stage], k: u32) -> Option<Word>
+fn returned(stages: &[Stage], k: u32, word: &mut Word) -> bool
     requires least { 1 ≤ k }
     requires within { k < length stages.now }
-    ensures { result ≡ back_at stages.now k }
+    ensures { cond result (Some word.new) None ≡ back_at stages.now k }
 {
-    match stages[k as usize] {
-        Stage::Unsent => None,
-        Stage::Sent => None,
-        Stage::Returned(word) => Some(word),
+    match &stages[k as usize] {
+        Stage::Unsent => false,
+        Stage::Sent => false,
+        Stage::Returned(back) => put(word, back),
     }
 }

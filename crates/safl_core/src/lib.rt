@@ -13,7 +13,6 @@ mod links;
 pub mod machine;
 mod make;
 mod mode;
-mod number_set;
 mod refresh;
 mod spans;
 mod stage;

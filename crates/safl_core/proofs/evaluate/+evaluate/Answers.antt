@@ -28,26 +28,16 @@ evaluate-requires t c =
     let shape = if_by (ap shown_term c.in-If.is) (ap shown_term c.deref.ensures) (ap shown_term c.deref-then-bits-eq1.ensures) refl in
     let size = ap nodes shape in
     let can = can_is refl refl shape c.requires.can in
-    let smaller : nodes (shown_term c.deref-then-bits-eq1.result.now) < nodes (shown_term c.args.t.now) = omega (arith, size) in (
-      search rules,
-      (
-        can_is (omega (arith, c.value.auto.asks)) (sym c.in-Some.ensures.kept) refl (may.can_then _ _ _ can),
-        (omega (arith, size, c.requires.room, c.value.auto.env), may.unasked_then _ _ _ can (unasked_is shape c.requires.unasked) c.in-Some.ensures.notes),
-      ),
-    )
+    let smaller : nodes (shown_term c.deref-then-bits-eq1.result.now) < nodes (shown_term c.args.t.now) = omega (arith, size) in
+    (search rules, record { can = can_is (omega (arith, c.value.auto.asks)) (sym c.in-Some.ensures.kept) refl (may.can_then _ _ _ can); room = omega (arith, size, c.requires.room, c.value.auto.env); unasked = may.unasked_then _ _ _ can (unasked_is shape c.requires.unasked) c.in-Some.ensures.notes })
 
 pub evaluate-requires-else-bits-eq1 : goal.evaluate-requires-else-bits-eq1
 evaluate-requires-else-bits-eq1 t c =
     let shape = if_by (ap shown_term c.in-If.is) (ap shown_term c.deref.ensures) refl (ap shown_term c.deref-else-bits-eq1.ensures) in
     let size = ap nodes shape in
     let can = can_is refl refl shape c.requires.can in
-    let smaller : nodes (shown_term c.deref-else-bits-eq1.result.now) < nodes (shown_term c.args.t.now) = omega (arith, size) in (
-      search rules,
-      (
-        can_is (omega (arith, c.value.auto.asks)) (sym c.in-Some.ensures.kept) refl (may.can_else _ _ _ can),
-        (omega (arith, size, c.requires.room, c.value.auto.env), may.unasked_else _ _ _ can (unasked_is shape c.requires.unasked) c.in-Some.ensures.notes),
-      ),
-    )
+    let smaller : nodes (shown_term c.deref-else-bits-eq1.result.now) < nodes (shown_term c.args.t.now) = omega (arith, size) in
+    (search rules, record { can = can_is (omega (arith, c.value.auto.asks)) (sym c.in-Some.ensures.kept) refl (may.can_else _ _ _ can); room = omega (arith, size, c.requires.room, c.value.auto.env); unasked = may.unasked_else _ _ _ can (unasked_is shape c.requires.unasked) c.in-Some.ensures.notes })
 
 pub returns-then-bits-eq1-clause-answer : goal.returns-then-bits-eq1-clause-answer
 returns-then-bits-eq1-clause-answer t c =
@@ -115,13 +105,8 @@ evaluate-requires-then-values t c =
     let count = forest_nodes c.as_slice-bound.result.now in
     let can = can_is refl refl shape c.requires.can in
     let env = step.slots_and c.values.new.env (take c.args.slots c.args.env.now) c.args.slots (length c.as_slice-bound.result.now) c.if-values.ensures.kept in
-    let smaller : nodes (shown_term c.deref-then-values.result.now) < nodes (shown_term c.args.t.now) = omega (arith, size) in (
-      search rules,
-      (
-        can_is (omega (arith, c.values.auto.asks)) (sym env) refl (may.can_body _ _ _ can c.if-values.ensures.words),
-        (omega (arith, size, count, c.requires.room, c.values.auto.env), may.unasked_body _ _ can (unasked_is shape c.requires.unasked) c.if-values.ensures.notes),
-      ),
-    )
+    let smaller : nodes (shown_term c.deref-then-values.result.now) < nodes (shown_term c.args.t.now) = omega (arith, size) in
+    (search rules, record { can = can_is (omega (arith, c.values.auto.asks)) (sym env) refl (may.can_body _ _ _ can c.if-values.ensures.words); room = omega (arith, size, count, c.requires.room, c.values.auto.env); unasked = may.unasked_body _ _ can (unasked_is shape c.requires.unasked) c.if-values.ensures.notes })
 
 pub returns-then-values-clause-answer : goal.returns-then-values-clause-answer
 returns-then-values-clause-answer t c =

@@ -1,10 +1,10 @@
 use Rattle.std.proofs.Common.{◌+◌, ◌*◌}
 use Rattle.safl_term.specs.Sizes.{nodes, nodes_in}
 use Rattle.safl_term.specs.Tree.{shown_term, shown_terms}
-use Rattle.safl_core.proofs.evaluate.+value.Given as goal
+use Rattle.safl_core.proofs.evaluate.+find.Given as goal
 
-abbrev pub decreases-value : goal.decreases-value
-decreases-value l = 3 * nodes (shown_term l.t.now)
+abbrev pub decreases-find : goal.decreases-find
+decreases-find l = 3 * nodes (shown_term l.t.now)
 
 abbrev pub decreases-operand : goal.decreases-operand
 decreases-operand l = 3 * nodes (shown_term l.t.now) + 1

@@ -1,7 +1,7 @@
 use Rattle.std.proofs.Common.{◌≡◌, ℕ, ◌*◌, ◌<◌, List, length, take, sym, ap, ◌∙◌, arith}
 use Rattle.std.specs.Prelude.{sum}
-use Rattle.safl_core.proofs.SumsOfParts.{are_few, sum_to}
-use Rattle.safl_core.proofs.number_set.NumberSet.nth.Goals as goal
+use Rattle.safl_number_set.proofs.SumsOfParts.{are_few, sum_to}
+use Rattle.safl_number_set.proofs.number_set.NumberSet.nth.Goals as goal
 
 pub find-top-requires-clause-passed : goal.find-top-requires-clause-passed
 find-top-requires-clause-passed c =

@@ -1,7 +1,7 @@
 use Rattle.std.proofs.Common.{ℕ, List, ap, ◌∙◌, arith}
 use Rattle.std.specs.Prelude.{sum}
-use Rattle.safl_core.proofs.SumsOfParts.{are_few}
-use Rattle.safl_core.proofs.number_set.NumberSet.len.Goals as goal
+use Rattle.safl_number_set.proofs.SumsOfParts.{are_few}
+use Rattle.safl_number_set.proofs.number_set.NumberSet.len.Goals as goal
 
 pub returns-clause-count : goal.returns-clause-count
 returns-clause-count c = c.self.invariant.total ∙ ap (λ (l : List ℕ). sum l) c.self.view_is

@@ -1,7 +1,7 @@
 use Rattle.std.proofs.Common.{◌≡◌, ℕ, ◌+◌, ◌/◌, List, replicate, sym, subst, arith}
-use Rattle.safl_core.specs.Numbers.{IsCounted}
-use Rattle.safl_core.proofs.SumsOfParts.{none_counted}
-use Rattle.safl_core.proofs.number_set.NumberSet.new.Goals as goal
+use Rattle.safl_number_set.specs.Numbers.{IsCounted}
+use Rattle.safl_number_set.proofs.SumsOfParts.{none_counted}
+use Rattle.safl_number_set.proofs.number_set.NumberSet.new.Goals as goal
 
 pub invariant_of-result : goal.invariant_of-result
 invariant_of-result c =

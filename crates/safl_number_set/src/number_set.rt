@@ -20,7 +20,7 @@ pub struct NumberSet {
 
 impl Model for NumberSet {
     ghost use Rattle.std.specs.Prelude.{List, ℕ};
-    ghost use Rattle.safl_core.specs.Numbers.{IsCounted};
+    ghost use Rattle.safl_number_set.specs.Numbers.{IsCounted};
 
     ghost Value = { List ℕ };
 

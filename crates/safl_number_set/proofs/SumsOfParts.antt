@@ -5,7 +5,7 @@ use Rattle.std.proofs.lemmas.Bool.{cases_eq}
 use Rattle.std.proofs.lemmas.List.{get_or-set_same, get_or-set_other, get_or-take, get_or-drop, take_all, take-take, take-set-le, drop-set-lt, drop-set-add, drop-take, length-take, length-drop, length-replicate}
 use Rattle.std.proofs.lemmas.List.Sums.{sum_by-cons, sum_by-set, sum_by_more, sum_by-take-drop, sum_by-take-le, get_or-le-sum_by}
 use Rattle.std.proofs.lemmas.List.Folds.{sum_by-replicate}
-use Rattle.safl_core.specs.Numbers.{AreSums, IsCounted}
+use Rattle.safl_number_set.specs.Numbers.{AreSums, IsCounted}
 
 abbrev same : ℕ → ℕ
 same x = x

@@ -1,7 +1,7 @@
 use Rattle.std.proofs.Common.{◌≡◌, ℕ, ◌+◌, ◌/◌, ◌<◌, List, length, get_or, sym, subst, arith}
 use Rattle.std.proofs.lemmas.List.{get_or_read}
-use Rattle.safl_core.proofs.SumsOfParts.{set_counted, are_few, block_few, top_few}
-use Rattle.safl_core.proofs.number_set.NumberSet.insert.Goals as goal
+use Rattle.safl_number_set.proofs.SumsOfParts.{set_counted, are_few, block_few, top_few}
+use Rattle.safl_number_set.proofs.number_set.NumberSet.insert.Goals as goal
 
 pub invariant_of-self : goal.invariant_of-self
 invariant_of-self c =

@@ -1,0 +1,6 @@
+//! Sets of numbers.
+#![tactic(auto)]
+
+pub mod number_set;
+
+pub use crate::number_set::NumberSet;
