@@ -21,7 +21,8 @@ use Rattle.safl_net.specs.Rules.{IsNetlist, CellFits}
 use Rattle.safl_sim.specs.declared.step.Action.{Action}
 use Rattle.safl_sim.specs.declared.step.Action.TheVariants.{Const, Choose, One, Two}
 use Rattle.safl_sim.specs.Halves.{low_half, high_half}
-use Rattle.safl_sim.specs.Steps.{word_of, HasLow, IsNarrow, Performs}
+use Rattle.safl_narrow.specs.Narrow.{word_of, HasLow}
+use Rattle.safl_sim.specs.Steps.{IsNarrow, Performs}
 
 none_on_nil : (p : Primitive) → result_width p [] ≡ None
 none_on_nil Add = refl

@@ -1,5 +1,4 @@
 pub mod Joining
-pub mod LowBits
 pub mod MarksByOne
 pub mod Actions
 pub mod Written

@@ -2,6 +2,7 @@
 use Rattle.std.specs.Prelude.{◌≡◌, ℕ, ◌+◌, ◌*◌, ◌<◌, ◌≤◌, ◌^◌, List, [], ◌∷◌, map, length, Option, None, Some, IsSome, true, bit_xor, slice_get, slice_index}
 use Rattle.safl_word.specs.Words.{Word, IsWord, pick}
 use Rattle.safl_word.specs.Primitives.{result_width, apply_prim}
+use Rattle.safl_narrow.specs.Narrow.{word_of, HasLow}
 use Rattle.safl_net.specs.declared.cell.Sig.{Sig}
 use Rattle.safl_net.specs.Netlist.{Netlist, Kind, Input, Reg, Wire, Cell, width_of}
 use Rattle.safl_net.specs.Valuations.{cell_word}
@@ -17,9 +18,6 @@ use Rattle.safl_sim.specs.Places.{inputs_of}
 use Rattle.safl_sim.specs.Marks.{marked, first_register}
 use Rattle.safl_sim.specs.Readers.{Lists, AreReaders, Holding, Shown}
 
-abbrev pub word_of : ℕ → ℕ → Word
-word_of width bits = record { width = width; bits = bits }
-
 -- what an action gives, where the signals have these numbers
 abbrev pub action_number : (ℕ → ℕ) → Action → ℕ
 action_number f (Const l h) = l + h * 2 ^ 64
@@ -33,11 +31,6 @@ Ready values (Const l h) = Unit {0}
 Ready values (Choose c a b turned) = (c < length values) × (a < length values) × (b < length values)
 Ready values (One p w a) = (a < length values) × IsWord (word_of w (slice_index values a)) × IsSome (result_width p (w ∷ []))
 Ready values (Two p w v a b) = (a < length values) × (b < length values) × IsWord (word_of w (slice_index values a)) × IsWord (word_of v (slice_index values b)) × IsSome (result_width p (w ∷ v ∷ []))
-
--- a width of at most 64 bits
-abbrev pub HasLow : Option ℕ → Type 0
-HasLow None = ⊥
-HasLow (Some w) = w ≤ 64
 
 -- what an action works on has at most 64 bits, and so has what it gives
 abbrev pub Low : List ℕ → Action → Type 0

@@ -6,7 +6,6 @@ pub mod done;
 pub mod inputs;
 pub mod laws;
 mod marks;
-mod narrow;
 mod near;
 mod numbers;
 mod parts;

@@ -11,8 +11,8 @@ ghost use Rattle.safl_net.specs.Stored.{cell_of};
 ghost use Rattle.safl_sim.specs.Halves.{low_half, high_half};
 ghost use Rattle.safl_sim.specs.Steps.{action_number, Ready, Low, Performs, IsNarrow};
 
-use crate::narrow::{LOW_MAX, greatest, narrow_one, narrow_two};
 use crate::numbers::{Numbers, from_halves, high_half, low_half};
+use safl_narrow::{LOW_MAX, greatest, narrow_one, narrow_two};
 use safl_net::{Cell, Net, Op, Sig};
 use safl_word::{Primitive, Raw, Word, apply};
 

@@ -1,7 +1,7 @@
 use Rattle.std.proofs.Common.{arith}
 use Rattle.std.proofs.lemmas.Bool.{lt-ltb}
-use Rattle.safl_sim.proofs.LowBits.{low_of_shifted}
-use Rattle.safl_sim.proofs.narrow.left_shift.Goals as goal
+use Rattle.safl_narrow.proofs.LowBits.{low_of_shifted}
+use Rattle.safl_narrow.proofs.narrow.left_shift.Goals as goal
 
 pub returns-then-b-from : goal.returns-then-b-from
 returns-then-b-from c =

@@ -3,7 +3,7 @@
 ghost use Rattle.std.specs.Prelude.{◌≡◌, ◌+◌, ◌-◌, ◌*◌, ◌/◌, ◌%◌, ◌^◌, ◌<◌, ◌≤◌, [], ◌∷◌, cond, nat_lt};
 ghost use Rattle.safl_word.specs.Words.{IsWord};
 ghost use Rattle.safl_word.specs.Primitives.{result_width, apply_prim, bit_of};
-ghost use Rattle.safl_sim.specs.Steps.{word_of, HasLow};
+ghost use Rattle.safl_narrow.specs.Narrow.{word_of, HasLow};
 
 use safl_word::Primitive;
 
