@@ -32,7 +32,8 @@ install: $(PROGRAM)
 	  $(INSTALL) -d $(to)/share/vim/vimfiles/$$part && \
 	  $(INSTALL) -m 644 editors/vim/$$part/safl.vim $(to)/share/vim/vimfiles/$$part/safl.vim || exit 1; \
 	done
-	$(INSTALL) -d $(to)/share/doc/safl/docs
+	$(INSTALL) -d $(to)/share/doc/safl/docs/tutorial
 	$(INSTALL) -m 644 README.md LICENSE $(to)/share/doc/safl
 	$(INSTALL) -m 644 docs/*.md $(to)/share/doc/safl/docs
+	$(INSTALL) -m 644 docs/tutorial/* $(to)/share/doc/safl/docs/tutorial
 	cp -R examples $(to)/share/doc/safl
