@@ -1,4 +1,4 @@
-//! Traces of nets, their files, and texts of bit-level circuits.
+//! Traces of nets, their files, bit-level circuits and their texts, and a sink over a writer.
 //!
 //! Tests are in a crate above the libraries, since a library with tests is proved twice.
 #![tactic(auto)]
@@ -6,6 +6,10 @@
 #[cfg(test)]
 mod aig_texts;
 #[cfg(test)]
+mod circuits;
+#[cfg(test)]
 mod files;
+#[cfg(test)]
+mod sinks;
 #[cfg(test)]
 mod traces;
