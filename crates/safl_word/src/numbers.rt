@@ -1,9 +1,8 @@
 //! Numbers in text.
 
-ghost use Rattle.std.specs.Prelude.{◌≡◌, ◌↔◌, ◌+◌, ◌*◌, ◌^◌, ◌<◌, ◌≤◌, ◌++◌, true, is_some, IsSome, IfSome, OnOk, OnErr, decimal, drop, length, map};
-ghost use Rattle.std.specs.Int.Digits.{digits_of};
+ghost use Rattle.std.specs.Prelude.{◌≡◌, ◌↔◌, ◌+◌, ◌*◌, ◌^◌, ◌<◌, ◌≤◌, ◌++◌, true, is_some, IsSome, IfSome, OnOk, OnErr, decimal};
 ghost use Rattle.safl_word.specs.declared.word.TheConstants.{ARGUMENT_MAX, DECIMAL_MAX, WIDTH_MAX};
-ghost use Rattle.safl_word.specs.Numerals.{digit, is_digit, value, IsBounded, binary};
+ghost use Rattle.safl_word.specs.Numerals.{digit, is_digit, value, IsBounded};
 
 use crate::bytes::{digit, is_digit};
 use crate::fault::NoMemory;
@@ -69,35 +68,4 @@ pub fn push_decimal(n: Raw, out: &mut Vec<u8>) -> Result<(), NoMemory>
 {
     out.extend_from_slice(Buffer::new().format(n).as_bytes())?;
     Ok(())
-}
-
-/// Appends the shortest binary digits of a number, and nothing where memory runs out.
-pub fn push_binary(n: Raw, out: &mut Vec<u8>) -> Result<(), NoMemory>
-    ensures ok { OnOk result (out.new.items ≡ out.old.items ++ binary n) }
-    ensures err { OnErr result (out.new.items ≡ out.old.items) }
-{
-    if n == 0 {
-        out.push(b'0')?;
-        return Ok(());
-    }
-    let mut text = [b'0'; Raw::BITS as usize];
-    let start = write_binary(n, &mut text);
-    out.extend_from_slice(&text[start..])?;
-    Ok(())
-}
-
-// Writes the binary digits of a number at the end of the text, and returns where they begin.
-fn write_binary(n: Raw, text: &mut [u8]) -> usize
-    requires { length text.old ≡ WIDTH_MAX }
-    ensures start { result ≤ WIDTH_MAX }
-    ensures written { drop result text.new ≡ map (λ d. 48 + d) (digits_of 2 n) }
-{
-    let mut start = text.len();
-    let mut rest = n;
-    while rest != 0 {
-        start -= 1;
-        text[start] = b'0' + (rest % 2) as u8;
-        rest /= 2;
-    }
-    start
 }
