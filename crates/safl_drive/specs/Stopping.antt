@@ -51,7 +51,7 @@ pub record SameProbes (old new : List ProbeState) : Type 0 where
   pub kinds : (i : ℕ) → (probe_at new i).kind ≡ (probe_at old i).kind
   pub faults : (i : ℕ) → (probe_at old i).faults ≤ (probe_at new i).faults
 
--- nothing was read, and no count of a shelf fell
+-- a shelf's count of failed reads is the same, and no other count of it fell
 pub record SameReads (old new : ShelfState) : Type 0 where
   pub reads : new.read_faults ≡ old.read_faults
   pub writes : old.write_faults ≤ new.write_faults

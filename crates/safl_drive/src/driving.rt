@@ -53,8 +53,9 @@ pub fn drive<S: Shelf>(
     ensures part { OnErr result ((vs : List Valuation) → IsRunOf sim.old.net args.now limit vs → AreApart (asked files.now) →
         TellsOn (AllGrow OldOrPart (asked files.now) (trace_at sim.old.net vs (map (λ p. state p) probes.old.items))) (S.told shelf.old).holds (S.told shelf.new).holds) }
 
-    // The list holds the same probes in order, and those that aren't asked are as they were.
+    // Each probe that isn't asked is as it was.
     ensures unasked { SameUnasked (asked files.now) probes.old.items probes.new.items }
+    // There are as many probes, of the same kinds in order, and none has fewer faults.
     ensures probes { SameProbes (map (λ p. state p) probes.old.items) (map (λ p. state p) probes.new.items) }
     ensures stopped { IfErr result (λ why. Stopped why (asked files.now) (map (λ p. state p) probes.old.items) (map (λ p. state p) probes.new.items) (S.told shelf.old)
         (S.told shelf.new)) }

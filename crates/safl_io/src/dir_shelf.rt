@@ -27,8 +27,8 @@ type KeptFiles<R> = Vec<KeptFile<<R as Files>::File, <R as Alloc>::A>, <R as All
 /// A shelf over the files of the system. A name is a path, which the system reads from the current folder.
 /// It tells nothing of what it holds. Each error that the system reports is a counted fault.
 ///
-/// The first files that are appended to stay open until they are created anew, an append fails, or the shelf is dropped.
-/// All bytes go to the system at once, so a read sees them.
+/// It keeps up to 8 files open that it has appended to, each until its name is created anew, an append to it fails, or the
+/// shelf is dropped. All bytes go to the system at once, so a read sees them.
 #[derive(Drop)]
 pub struct DirShelf<'a, R: Files + Alloc> {
     rt: &'a R,

@@ -39,7 +39,7 @@ pub fn run<S: Shelf, O: Sink, E: Sink>(
     ensures ends { Ends (task_of (kinds_of (map (λ p. state p) probes.old.items)) (command_of (map string_bytes words.now)))
         (outside (S.told shelf.old) (O.told out.old)) (outside (S.told shelf.new) (O.told out.new))
         (map (λ p. state p) probes.old.items) (map (λ p. state p) probes.new.items) (E.told err.old) (E.told err.new) result }
-    // At SourceRefused, Usage, ReadFault, VerilogRefused, BadArgs and TooLong no file has changed, and nothing was printed.
+    // At every status but Ok, NoResult, WriteFault, ProbeFault and NoMemory no file has changed, and nothing was printed.
     ensures keeps { KeepsAll result (outside (S.told shelf.old) (O.told out.old)) (outside (S.told shelf.new) (O.told out.new)) }
     // At every status each file that is no output is as it was.
     ensures others { KeepsOthers (task_of (kinds_of (map (λ p. state p) probes.old.items)) (command_of (map string_bytes words.now)))
@@ -57,8 +57,9 @@ pub fn run<S: Shelf, O: Sink, E: Sink>(
     ensures completes { Completes (task_of (kinds_of (map (λ p. state p) probes.old.items)) (command_of (map string_bytes words.now)))
         (outside (S.told shelf.old) (O.told out.old)) (outside (S.told shelf.new) (O.told out.new))
         (map (λ p. state p) probes.old.items) (map (λ p. state p) probes.new.items) result }
-    // The list holds the same probes in order, and those that are not asked are as they were.
+    // Each probe that is not asked is as it was.
     ensures unasked { SameUnasked (task_of (kinds_of (map (λ p. state p) probes.old.items)) (command_of (map string_bytes words.now))).asks probes.old.items probes.new.items }
+    // There are as many probes, of the same kinds in order, and none has fewer faults.
     ensures probes { SameProbes (map (λ p. state p) probes.old.items) (map (λ p. state p) probes.new.items) }
 {
     one_program_law();
