@@ -33,16 +33,18 @@ pub fn evaluate(
     match t {
         Term::Const(word) => told.settle(Some(*word)),
         Term::Var(slot) => told.settle(Some(env[*slot as usize])),
-        Term::If(condition, a, b) => match value(stages, asks, env, slots, condition) {
-            Some(word) => {
+        Term::If(condition, a, b) => {
+            let mut word = blank();
+            if find(stages, asks, env, slots, condition, &mut word) {
                 if word.bits() == 1 {
                     evaluate(stages, asks, env, slots, a, told)
                 } else {
                     evaluate(stages, asks, env, slots, b, told)
                 }
+            } else {
+                told.settle(None)
             }
-            None => told.settle(None),
-        },
+        }
         Term::Let(_, bound, body) => {
             let bound = bound.as_slice();
             if values(stages, asks, env, slots, slots, bound) {
@@ -51,8 +53,14 @@ pub fn evaluate(
                 told.settle(None)
             }
         }
-        Term::Op(_, _) => told.settle(value(stages, asks, env, slots, t)),
-        Term::Call(_, _, _) => told.settle(value(stages, asks, env, slots, t)),
+        Term::Op(_, _) | Term::Call(_, _, _) => {
+            let mut word = blank();
+            if find(stages, asks, env, slots, t, &mut word) {
+                told.settle(Some(word))
+            } else {
+                told.settle(None)
+            }
+        }
         Term::Loop(h, ts) => {
             let passed = ts.as_slice();
             if values(stages, asks, env, slots, slots, passed) {
@@ -61,27 +69,6 @@ pub fn evaluate(
                 told.settle(None)
             }
         }
-    }
-}
-
-// The word that a term comes to, if it does. It notes in `asks` what `evaluate` does.
-fn value(
-    stages: &[Stage],
-    asks: &mut [Want],
-    env: &mut [Word],
-    slots: usize,
-    t: &Term,
-) -> Option<Word>
-    requires { CanEvaluate stages.now asks.old env.old slots (shown_term t.now) }
-    ensures word { result ≡ word_of (answer (back_at stages.now) (take slots env.old) (shown_term t.now)) }
-    ensures notes { Notes asks.old asks.new (wanted (back_at stages.now) (take slots env.old) (shown_term t.now)) }
-    ensures kept { take slots env.new ≡ take slots env.old }
-{
-    let mut word = blank();
-    if find(stages, asks, env, slots, t, &mut word) {
-        Some(word)
-    } else {
-        None
     }
 }
 

@@ -1,4 +1,4 @@
-use Rattle.std.proofs.Common.{rules, ◌<◌, List, length, take, drop, Some, refl, sym, ap, ◌∙◌, arith}
+use Rattle.std.proofs.Common.{rules, ◌<◌, List, length, take, drop, Some, refl, sym, ap, ◌∙◌, arith, ⊎_elim}
 use Rattle.safl_word.specs.Words.{Word}
 use Rattle.safl_term.specs.Readiness.{answer, ready_from, Ready}
 use Rattle.safl_term.specs.Sizes.{nodes}
@@ -13,8 +13,8 @@ use Rattle.safl_core.proofs.evaluate.+evaluate.Goals as goal
 
 -- ---- conditions
 
-pub value-requires : goal.value-requires
-value-requires t c =
+pub find-requires : goal.find-requires
+find-requires t c =
     let shape = if_by (ap shown_term c.in-If.is) (ap shown_term c.deref.ensures) refl refl in
     let size = ap nodes shape in
     record {
@@ -29,7 +29,7 @@ evaluate-requires t c =
     let size = ap nodes shape in
     let can = can_is refl refl shape c.requires.can in
     let smaller : nodes (shown_term c.deref-then-bits-eq1.result.now) < nodes (shown_term c.args.t.now) = omega (arith, size) in
-    (search rules, record { can = can_is (omega (arith, c.value.auto.asks)) (sym c.in-Some.ensures.kept) refl (may.can_then _ _ _ can); room = omega (arith, size, c.requires.room, c.value.auto.env); unasked = may.unasked_then _ _ _ can (unasked_is shape c.requires.unasked) c.in-Some.ensures.notes })
+    (search rules, record { can = can_is (omega (arith, c.find.auto.asks)) (sym c.if-find.ensures.kept) refl (may.can_then _ _ _ can); room = omega (arith, size, c.requires.room, c.find.auto.env); unasked = may.unasked_then _ _ _ can (unasked_is shape c.requires.unasked) c.if-find.ensures.notes })
 
 pub evaluate-requires-else-bits-eq1 : goal.evaluate-requires-else-bits-eq1
 evaluate-requires-else-bits-eq1 t c =
@@ -37,51 +37,51 @@ evaluate-requires-else-bits-eq1 t c =
     let size = ap nodes shape in
     let can = can_is refl refl shape c.requires.can in
     let smaller : nodes (shown_term c.deref-else-bits-eq1.result.now) < nodes (shown_term c.args.t.now) = omega (arith, size) in
-    (search rules, record { can = can_is (omega (arith, c.value.auto.asks)) (sym c.in-Some.ensures.kept) refl (may.can_else _ _ _ can); room = omega (arith, size, c.requires.room, c.value.auto.env); unasked = may.unasked_else _ _ _ can (unasked_is shape c.requires.unasked) c.in-Some.ensures.notes })
+    (search rules, record { can = can_is (omega (arith, c.find.auto.asks)) (sym c.if-find.ensures.kept) refl (may.can_else _ _ _ can); room = omega (arith, size, c.requires.room, c.find.auto.env); unasked = may.unasked_else _ _ _ can (unasked_is shape c.requires.unasked) c.if-find.ensures.notes })
 
 pub returns-then-bits-eq1-clause-answer : goal.returns-then-bits-eq1-clause-answer
 returns-then-bits-eq1-clause-answer t c =
     let B = back_at c.args.stages.now in
     let E = take c.args.slots c.args.env.now in
     let shape = if_by (ap shown_term c.in-If.is) (ap shown_term c.deref.ensures) (ap shown_term c.deref-then-bits-eq1.ensures) refl in
-    c.evaluate.ensures.answer ∙ (answer_is B c.in-Some.ensures.kept refl
-    ∙ (step.answer_then B E (shown_term c.deref.result.now) _ _ c.in-Some.word c.in-Some.ensures.word (sym c.bits.ensures.value ∙ c.if-bits-eq1.true) ∙ ap (answer B E) (sym shape)))
+    c.evaluate.ensures.answer ∙ (answer_is B c.if-find.ensures.kept refl
+    ∙ (step.answer_then B E (shown_term c.deref.result.now) _ _ c.find.new.word c.if-find.ensures.word (sym c.bits.ensures.value ∙ c.if-bits-eq1.true) ∙ ap (answer B E) (sym shape)))
 
 pub returns-then-bits-eq1-clause-notes : goal.returns-then-bits-eq1-clause-notes
 returns-then-bits-eq1-clause-notes t c =
     let B = back_at c.args.stages.now in
     let E = take c.args.slots c.args.env.now in
     let shape = if_by (ap shown_term c.in-If.is) (ap shown_term c.deref.ensures) (ap shown_term c.deref-then-bits-eq1.ensures) refl in
-    notes_as B E shape (step.notes_then B E (shown_term c.deref.result.now) _ _ c.in-Some.word c.in-Some.ensures.word (sym c.bits.ensures.value ∙ c.if-bits-eq1.true) c.in-Some.ensures.notes (notes_is B c.in-Some.ensures.kept refl c.evaluate.ensures.notes))
+    notes_as B E shape (step.notes_then B E (shown_term c.deref.result.now) _ _ c.find.new.word c.if-find.ensures.word (sym c.bits.ensures.value ∙ c.if-bits-eq1.true) c.if-find.ensures.notes (notes_is B c.if-find.ensures.kept refl c.evaluate.ensures.notes))
 
 pub returns-else-bits-eq1-clause-answer : goal.returns-else-bits-eq1-clause-answer
 returns-else-bits-eq1-clause-answer t c =
     let B = back_at c.args.stages.now in
     let E = take c.args.slots c.args.env.now in
     let shape = if_by (ap shown_term c.in-If.is) (ap shown_term c.deref.ensures) refl (ap shown_term c.deref-else-bits-eq1.ensures) in
-    c.evaluate-else-bits-eq1.ensures.answer ∙ (answer_is B c.in-Some.ensures.kept refl
-    ∙ (step.answer_else B E (shown_term c.deref.result.now) _ _ c.in-Some.word c.in-Some.ensures.word (λ q. c.if-bits-eq1.false (c.bits.ensures.value ∙ q)) ∙ ap (answer B E) (sym shape)))
+    c.evaluate-else-bits-eq1.ensures.answer ∙ (answer_is B c.if-find.ensures.kept refl
+    ∙ (step.answer_else B E (shown_term c.deref.result.now) _ _ c.find.new.word c.if-find.ensures.word (λ q. c.if-bits-eq1.false (c.bits.ensures.value ∙ q)) ∙ ap (answer B E) (sym shape)))
 
 pub returns-else-bits-eq1-clause-notes : goal.returns-else-bits-eq1-clause-notes
 returns-else-bits-eq1-clause-notes t c =
     let B = back_at c.args.stages.now in
     let E = take c.args.slots c.args.env.now in
     let shape = if_by (ap shown_term c.in-If.is) (ap shown_term c.deref.ensures) refl (ap shown_term c.deref-else-bits-eq1.ensures) in
-    notes_as B E shape (step.notes_else B E (shown_term c.deref.result.now) _ _ c.in-Some.word c.in-Some.ensures.word (λ q. c.if-bits-eq1.false (c.bits.ensures.value ∙ q)) c.in-Some.ensures.notes (notes_is B c.in-Some.ensures.kept refl c.evaluate-else-bits-eq1.ensures.notes))
+    notes_as B E shape (step.notes_else B E (shown_term c.deref.result.now) _ _ c.find.new.word c.if-find.ensures.word (λ q. c.if-bits-eq1.false (c.bits.ensures.value ∙ q)) c.if-find.ensures.notes (notes_is B c.if-find.ensures.kept refl c.evaluate-else-bits-eq1.ensures.notes))
 
-pub returns-in-None-clause-answer : goal.returns-in-None-clause-answer
-returns-in-None-clause-answer t c =
+pub returns-else-find-clause-answer : goal.returns-else-find-clause-answer
+returns-else-find-clause-answer t c =
     let B = back_at c.args.stages.now in
     let E = take c.args.slots c.args.env.now in
     let shape = if_by (ap shown_term c.in-If.is) (ap shown_term c.deref.ensures) refl refl in
-    c.settle-in-None.ensures ∙ (step.answer_if_not B E (shown_term c.deref.result.now) _ _ c.in-None.ensures.word ∙ ap (answer B E) (sym shape))
+    c.settle-else-find.ensures ∙ (step.answer_if_not B E (shown_term c.deref.result.now) _ _ c.if-find.ensures.word ∙ ap (answer B E) (sym shape))
 
-pub returns-in-None-clause-notes : goal.returns-in-None-clause-notes
-returns-in-None-clause-notes t c =
+pub returns-else-find-clause-notes : goal.returns-else-find-clause-notes
+returns-else-find-clause-notes t c =
     let B = back_at c.args.stages.now in
     let E = take c.args.slots c.args.env.now in
     let shape = if_by (ap shown_term c.in-If.is) (ap shown_term c.deref.ensures) refl refl in
-    notes_as B E shape (step.notes_if_not B E (shown_term c.deref.result.now) _ _ c.in-None.ensures.word c.in-None.ensures.notes)
+    notes_as B E shape (step.notes_if_not B E (shown_term c.deref.result.now) _ _ c.if-find.ensures.word c.if-find.ensures.notes)
 
 -- ---- bindings
 
@@ -215,24 +215,24 @@ pub returns-in-Var-clause-notes : goal.returns-in-Var-clause-notes
 returns-in-Var-clause-notes t c =
     notes_as _ _ (ap shown_term c.in-Var.is) (step.notes_var _ _ _ c.in-Var.slot)
 
-pub value-requires-in-Op : goal.value-requires-in-Op
-value-requires-in-Op t c =
+pub find-requires-in-Op : goal.find-requires-in-Op
+find-requires-in-Op t c =
     record { can = c.requires.can; room = c.requires.room; unasked = c.requires.unasked }
 
-pub value-requires-in-Call : goal.value-requires-in-Call
-value-requires-in-Call t c =
-    record { can = c.requires.can; room = c.requires.room; unasked = c.requires.unasked }
-
-pub returns-in-Op-clause-answer : goal.returns-in-Op-clause-answer
-returns-in-Op-clause-answer t c =
+pub returns-then-find-2-clause-answer : goal.returns-then-find-2-clause-answer
+returns-then-find-2-clause-answer t c =
     let B = back_at c.args.stages.now in
     let E = take c.args.slots c.args.env.now in
-    let shape = ap shown_term c.in-Op.is ∙ shown_term-Op c.in-Op.field-0 c.in-Op.field-1 in
-    c.settle-in-Op.ensures ∙ (ap ready_from c.value-in-Op.ensures.word ∙ step.settled_op B E _ c.in-Op.field-0 shape)
+    c.settle-then-find-2.ensures ∙ (ap ready_from c.if-find-2.ensures.word ∙ ⊎_elim
+    (λ p. step.settled_op B E _ p.0 (ap shown_term p.2 ∙ shown_term-Op p.0 p.1))
+    (λ p. step.settled_call B E _ p.0 p.1 (ap shown_term p.3 ∙ shown_term-Call p.0 p.1 p.2))
+    c.in-Op.is)
 
-pub returns-in-Call-clause-answer : goal.returns-in-Call-clause-answer
-returns-in-Call-clause-answer t c =
+pub returns-else-find-2-clause-answer : goal.returns-else-find-2-clause-answer
+returns-else-find-2-clause-answer t c =
     let B = back_at c.args.stages.now in
     let E = take c.args.slots c.args.env.now in
-    let shape = ap shown_term c.in-Call.is ∙ shown_term-Call c.in-Call.field-0 c.in-Call.field-1 c.in-Call.field-2 in
-    c.settle-in-Call.ensures ∙ (ap ready_from c.value-in-Call.ensures.word ∙ step.settled_call B E _ c.in-Call.field-0 c.in-Call.field-1 shape)
+    c.settle-else-find-2.ensures ∙ (ap ready_from c.if-find-2.ensures.word ∙ ⊎_elim
+    (λ p. step.settled_op B E _ p.0 (ap shown_term p.2 ∙ shown_term-Op p.0 p.1))
+    (λ p. step.settled_call B E _ p.0 p.1 (ap shown_term p.3 ∙ shown_term-Call p.0 p.1 p.2))
+    c.in-Op.is)
