@@ -1,5 +1,5 @@
 -- The values while the marked steps run.
-use Rattle.std.proofs.Common.{◌≡◌, inl, inr, ℕ, ◌+◌, ◌*◌, ◌<◌, ◌≤◌, List, map, length, set, Some, slice_get, slice_index, refl, sym, ap, subst, ◌∙◌, arith}
+use Rattle.std.proofs.Common.{◌≡◌, inl, inr, ℕ, ◌+◌, ◌*◌, ◌<◌, ◌≤◌, List, map, length, set, Some, slice_get, slice_index, sym, ap, subst, ◌∙◌, arith}
 use Rattle.safl_net.specs.Netlist.{Signal, Wire, Cell}
 use Rattle.safl_net.specs.Valuations.{signal_word, cell_word}
 use Rattle.safl_net.specs.Making.{kind_at}

@@ -1,5 +1,5 @@
 -- Readers that are near, and marks that are held apart.
-use Rattle.std.proofs.Common.{◌≡◌, ◌⊎◌, inl, inr, ℕ, zero, suc, ◌+◌, ◌*◌, ◌/◌, ◌%◌, ◌^◌, ◌<◌, ◌≤◌, List, [], ◌∷◌, length, set, Some, slice_get, slice_index, refl, sym, ap, subst, ◌∙◌, arith}
+use Rattle.std.proofs.Common.{◌≡◌, ◌⊎◌, inl, inr, ℕ, zero, suc, ◌+◌, ◌*◌, ◌/◌, ◌%◌, ◌^◌, ◌<◌, ◌≤◌, List, [], ◌∷◌, ◌++◌, length, set, Some, slice_get, slice_index, refl, sym, ap, subst, ◌∙◌, arith}
 use Rattle.std.specs.Prelude.{max}
 use Rattle.std.specs.Int.{w64, bit_at, bit_not, trailing_zeros}
 use Rattle.std.specs.Int.RustNames.{bit_or}
@@ -7,12 +7,14 @@ use lib.Bits.{bit_and}
 use Rattle.std.proofs.lemmas.Nat.{or_comm}
 use Rattle.std.proofs.lemmas.Nat.Bits.{bit_at-zero, bit_at-lt, bit_at_or, bit_at_set_same, bit_at_set_other, same_from_bits}
 use Rattle.safl_net.specs.Netlist.{Netlist}
-use Rattle.safl_net.proofs.Naming.{within}
+use Rattle.safl_net.proofs.Naming.{pushed, within}
+use Rattle.safl_sim.specs.declared.step.Group.{Group}
 use Rattle.safl_sim.specs.declared.step.Near.{Near}
+use Rattle.safl_sim.specs.declared.step.Register.{Register}
 use Rattle.safl_sim.specs.declared.step.Step.{Step}
 use Rattle.safl_sim.specs.Marks.{marked, holding, HasNone, HasTaken}
 use Rattle.safl_sim.specs.Readers.{Reader, HasMarked, HasGiven}
-use Rattle.safl_sim.specs.Nears.{IsNear, NearOf, AreNearTo}
+use Rattle.safl_sim.specs.Nears.{IsNear, NearOf, AreNearTo, GroupOf}
 use Rattle.safl_sim.specs.Steps.{IsStep, AreSteps}
 use Rattle.safl_sim.proofs.Written.{same_or_not, lower_or_not, lower_or_same, index_here, set_length}
 use Rattle.safl_sim.proofs.MarksByOne.{written_same, written_other, none_in, take_has}
@@ -101,22 +103,24 @@ take_held_has marks w held x h is some fits =
 
 -- ---- the near readers of a step
 
-pub near_none : (readers : List ℕ) (from word : ℕ) → IsNear readers from from word (record { mask = 0; first = from })
+pub near_none : (readers : List ℕ) (from word : ℕ) → IsNear readers from from word (record { mask = 0; first = from; end = from })
 near_none readers from word = record {
   least = omega arith;
   most = omega arith;
+  last = refl;
   all = λ j k f t e. absurd (omega (arith, f, t));
   only = λ b h n. bit_at-zero b;
 }
 
-pub near_more : (readers : List ℕ) (from j k word m : ℕ) → IsNear readers from j word (record { mask = m; first = j }) → from ≤ j → slice_get readers j ≡ Some k → k / 64 ≡ word
-    → IsNear readers from (j + 1) word (record { mask = bit_or m (1 * 2 ^ (k % 64) % 2 ^ 64); first = j + 1 })
+pub near_more : (readers : List ℕ) (from j k word m : ℕ) → IsNear readers from j word (record { mask = m; first = j; end = j }) → from ≤ j → slice_get readers j ≡ Some k → k / 64 ≡ word
+    → IsNear readers from (j + 1) word (record { mask = bit_or m (1 * 2 ^ (k % 64) % 2 ^ 64); first = j + 1; end = j + 1 })
 near_more readers from j k word m w le e at =
     let low : k % 64 < 64 = omega arith in
     let x = bit_or m (1 * 2 ^ (k % 64) % 2 ^ 64) in
     record {
       least = omega (arith, le);
       most = omega arith;
+      last = refl;
       all = λ i q f t g. elim (lower_or_same i j t) [
         | inl l ↦
             let a = w.all i q f l g in
@@ -133,10 +137,11 @@ near_more readers from j k word m w le e at =
     }
 
 -- the others begin where the first one of another word stands
-pub near_to : (readers : List ℕ) (from j to word m : ℕ) → j ≤ to → IsNear readers from j word (record { mask = m; first = j }) → IsNear readers from to word (record { mask = m; first = j })
+pub near_to : (readers : List ℕ) (from j to word m : ℕ) → j ≤ to → IsNear readers from j word (record { mask = m; first = j; end = j }) → IsNear readers from to word (record { mask = m; first = j; end = to })
 near_to readers from j to word m le w = record {
   least = w.least;
   most = le;
+  last = refl;
   all = w.all;
   only = λ b h n. w.only b h (λ i f t. n i f (omega (arith, t, le)));
 }
@@ -252,3 +257,97 @@ module _ (steps : List Step) (starts readers : List ℕ) (s : Step) (i x : ℕ) 
         | inr q ↦ marked_apart marks' (i / 64) (bit_or held s.near.mask) k q ∙ stay k n ∙ sym (marked_apart marks (i / 64) held k q)
       ];
     }
+
+-- ---- a group of readers
+
+set_past : (xs : List ℕ) (w x : ℕ) → length xs ≤ w → set xs w x ≡ xs
+set_past [] w x h = refl
+set_past (y ∷ xs) zero x h = absurd (omega (arith, h))
+set_past (y ∷ xs) (suc w) x h = ap (λ l. y ∷ l) (set_past xs w x (omega (arith, h)))
+
+module _ (readers : List ℕ) (from to w : ℕ) (g : Near) (near : IsNear readers from to w g) (marks : List ℕ) where
+  group_grows : (k : ℕ) → marked marks k ≡ 1 → marked (holding marks w g.mask) k ≡ 1
+  group_grows k e = elim (same_or_not (k / 64) w) [
+    | inl q ↦ elim (lower_or_not w (length marks)) [
+      | inl h ↦ marked_holding marks w g.mask k h q ∙ one_left (marked marks k) (bit_at g.mask (k % 64)) e (bit_at-lt g.mask (k % 64))
+      | inr h ↦ ap (λ l. marked l k) (set_past marks w (bit_or (slice_index marks w) g.mask) h) ∙ e
+    ]
+    | inr q ↦ marked_apart marks w g.mask k q ∙ e
+  ]
+
+  group_others : (k : ℕ) → ((j : ℕ) → from ≤ j → j < to → ¬ (slice_get readers j ≡ Some k)) → marked (holding marks w g.mask) k ≡ marked marks k
+  group_others k n = elim (same_or_not (k / 64) w) [
+    | inl q ↦ elim (lower_or_not w (length marks)) [
+      | inl h ↦
+          marked_holding marks w g.mask k h q
+          ∙ none_right (marked marks k) (bit_at g.mask (k % 64)) (near.only (k % 64) (omega arith) (λ j f t e. n j f t (e ∙ ap Some (let r : w * 64 + k % 64 ≡ k = omega (arith, q) in r))))
+          (bit_at-lt (slice_index marks (k / 64)) (k % 64))
+      | inr h ↦ ap (λ l. marked l k) (set_past marks w (bit_or (slice_index marks w) g.mask) h)
+    ]
+    | inr q ↦ marked_apart marks w g.mask k q
+  ]
+
+  module _ (steps : List Step) (p : ℕ) (values marks' : List ℕ) (known : (j k : ℕ) → slice_get readers j ≡ Some k → k / 64 < length marks) (m : HasMarked steps readers g.first to p values (holding marks w g.mask) marks') where
+    -- its readers are marked, and so are the others
+    pub group_marked : HasMarked steps readers from to p values marks marks'
+    group_marked = record {
+      long = m.long ∙ holding_long marks w g.mask;
+      grows = λ k e. m.grows k (group_grows k e);
+      all = λ j k f t e. elim (lower_or_not j g.first) [
+        | inl l ↦
+            let a = near.all j k f l e in
+            let h : w < length marks = (let b = known j k e in let d = a.0 in omega (arith, b, d)) in
+            inl (m.grows k (marked_holding marks w g.mask k h a.0 ∙ one_right (marked marks k) (bit_at g.mask (k % 64)) a.1 (bit_at-lt (slice_index marks (k / 64)) (k % 64))))
+        | inr l ↦ m.all j k l t e
+      ];
+      others = λ k n. m.others k (λ j f t e. n j (let a = near.least in omega (arith, a, f)) t e) ∙ group_others k n;
+    }
+
+-- a word that is not there is left out
+pub past_marked : (steps : List Step) (readers : List ℕ) (from to w p : ℕ) (g : Near) (values marks marks' : List ℕ) → IsNear readers from to w g → length marks ≤ w → ((j k : ℕ) → slice_get readers j ≡ Some k → k / 64 < length marks)
+    → HasMarked steps readers g.first to p values marks marks' → HasMarked steps readers from to p values marks marks'
+past_marked steps readers from to w p g values marks marks' near h known m = group_marked readers from to w g near marks steps p values marks' known
+    (subst (λ l. HasMarked steps readers g.first to p values l marks') (sym (set_past marks w (bit_or (slice_index marks w) g.mask) h)) m)
+
+-- a place whose readers are marked, or that has its number already
+pub given_new : (steps : List Step) (starts readers : List ℕ) (p x : ℕ) (values marks marks' : List ℕ) → HasMarked steps readers (slice_index starts p) (slice_index starts (p + 1)) p (set values p x) marks marks'
+    → HasGiven steps starts readers p x values (set values p x) marks marks'
+given_new steps starts readers p x values marks marks' m = record {
+  is = refl;
+  long = m.long;
+  grows = m.grows;
+  told = λ k n r. m.all r.0 k r.1 r.2 r.3;
+  others = λ k n. m.others k (λ j f t e. n (j, f, t, e));
+}
+
+pub given_same : (steps : List Step) (starts readers : List ℕ) (p x : ℕ) (values marks : List ℕ) → slice_index values p ≡ x → HasGiven steps starts readers p x values (set values p x) marks marks
+given_same steps starts readers p x values marks e = record {
+  is = refl;
+  long = refl;
+  grows = λ k h. h;
+  told = λ k n r. absurd (n e);
+  others = λ k n. refl;
+}
+
+-- ---- a group for each register
+
+length_push : (xs : List Group) (x : Group) → length (xs ++ x ∷ []) ≡ length xs + 1
+length_push [] x = omega arith
+length_push (a ∷ xs) x = let e = length_push xs x in omega (arith, e)
+
+pub record GroupedTo (starts readers : List ℕ) (registers : List Register) (groups : List Group) (count : ℕ) : Type 0 where
+  pub long : length groups ≡ count
+  pub each : (k : ℕ) (r : Register) (g : Group) → slice_get registers k ≡ Some r → slice_get groups k ≡ Some g → GroupOf starts readers r g
+
+pub groups_more : (starts readers : List ℕ) (registers : List Register) (groups : List Group) (i : ℕ) (r : Register) (g : Group) → GroupedTo starts readers registers groups i → slice_get registers i ≡ Some r → GroupOf starts readers r g
+    → GroupedTo starts readers registers (groups ++ g ∷ []) (i + 1)
+groups_more starts readers registers groups i r g w at is = record {
+  long = (let a = length_push groups g in let b = w.long in omega (arith, a, b));
+  each = λ k s h e f. elim (pushed groups g h k f) [
+    | inl q ↦ w.each k s h e q
+    | inr q ↦
+        let same : Some s ≡ Some r = sym e ∙ ap (slice_get registers) (q.0 ∙ w.long) ∙ at in
+        let one : s ≡ r = cc in
+        subst (λ y. GroupOf starts readers s y) (sym q.1) (subst (λ y. GroupOf starts readers y g) (sym one) is)
+  ];
+}

@@ -1,13 +1,16 @@
 -- Readers that stand in the word of marks of the step that writes what they read.
-use Rattle.std.specs.Prelude.{◌≡◌, ℕ, ◌+◌, ◌*◌, ◌/◌, ◌%◌, ◌<◌, ◌≤◌, List, Some, slice_get, slice_index}
+use Rattle.std.specs.Prelude.{◌≡◌, ℕ, ◌+◌, ◌*◌, ◌/◌, ◌%◌, ◌<◌, ◌≤◌, List, length, Some, slice_get, slice_index}
 use Rattle.std.specs.Int.{bit_at}
 use Rattle.safl_sim.specs.declared.step.Near.{Near}
+use Rattle.safl_sim.specs.declared.step.Group.{Group}
+use Rattle.safl_sim.specs.declared.step.Register.{Register}
 use Rattle.safl_sim.specs.declared.step.Step.{Step}
 
 -- of a part of the readers, those before a number stand in the word, each has its bit in the mask, and no other bit is 1
 pub record IsNear (readers : List ℕ) (from to word : ℕ) (near : Near) : Type 0 where
   pub least : from ≤ near.first
   pub most : near.first ≤ to
+  pub last : near.end ≡ to
   pub all : (j k : ℕ) → from ≤ j → j < near.first → slice_get readers j ≡ Some k → (k / 64 ≡ word) × (bit_at near.mask (k % 64) ≡ 1)
   pub only : (b : ℕ) → b < 64 → ((j : ℕ) → from ≤ j → j < to → ¬ (slice_get readers j ≡ Some (word * 64 + b))) → bit_at near.mask b ≡ 0
 
@@ -21,3 +24,11 @@ AreNearTo starts readers count steps = (i : ℕ) (s : Step) → i < count → sl
 
 abbrev pub AreNear : List ℕ → List ℕ → List Step → Type 0
 AreNear starts readers steps = (i : ℕ) (s : Step) → slice_get steps i ≡ Some s → NearOf starts readers i s
+
+-- those of a register that stand in the word of its group, and a group for each register
+abbrev pub GroupOf : List ℕ → List ℕ → Register → Group → Type 0
+GroupOf starts readers r g = IsNear readers (slice_index starts r.signal.0) (slice_index starts (r.signal.0 + 1)) g.word g.near
+
+pub record AreGrouped (starts readers : List ℕ) (registers : List Register) (groups : List Group) : Type 0 where
+  pub long : length groups ≡ length registers
+  pub each : (k : ℕ) (r : Register) (g : Group) → slice_get registers k ≡ Some r → slice_get groups k ≡ Some g → GroupOf starts readers r g

@@ -1,6 +1,6 @@
 -- Steps that are prepared for evaluation.
-use Rattle.std.specs.Prelude.{◌≡◌, ℕ, ◌+◌, ◌*◌, ◌<◌, ◌≤◌, ◌^◌, List, [], ◌∷◌, map, length, Option, None, Some, IsSome, true, bit_xor, slice_get, slice_index}
-use Rattle.safl_word.specs.Words.{Word, IsWord, pick}
+use Rattle.std.specs.Prelude.{◌≡◌, ℕ, ◌+◌, ◌*◌, ◌<◌, ◌≤◌, ◌^◌, List, [], ◌∷◌, map, length, Some, IsSome, true, bit_xor, slice_get, slice_index}
+use Rattle.safl_word.specs.Words.{IsWord, pick}
 use Rattle.safl_word.specs.Primitives.{result_width, apply_prim}
 use Rattle.safl_narrow.specs.Narrow.{word_of, HasLow}
 use Rattle.safl_net.specs.declared.cell.Sig.{Sig}

@@ -1,13 +1,15 @@
-//! Readers that stand in the word of marks of the step that writes what they read.
+//! Readers that have their marks in one word: that of the step that writes what they read, or of a register's first reader.
 
-ghost use Rattle.std.specs.Prelude.{◌≡◌, ℕ, ◌+◌, ◌<◌, ◌≤◌, List, length, Some, slice_get, slice_index};
+ghost use Rattle.std.specs.Prelude.{◌≡◌, ℕ, ◌+◌, ◌<◌, ◌≤◌, List, length, Some, IfOk, slice_get, slice_index};
 ghost use Rattle.safl_net.specs.Netlist.{Netlist};
 ghost use Rattle.safl_sim.specs.declared.step.Step.{Step};
-ghost use Rattle.safl_sim.specs.Nears.{IsNear, AreNear};
+ghost use Rattle.safl_sim.specs.declared.step.Register.{Register};
+ghost use Rattle.safl_sim.specs.Nears.{IsNear, AreNear, AreGrouped};
 ghost use Rattle.safl_sim.specs.Readers.{Lists};
 ghost use Rattle.safl_sim.specs.Steps.{AreSteps};
 
-use crate::step::{Near, Step};
+use crate::step::{Group, Near, Register, Step};
+use std::alloc::{AllocError, Global};
 
 /// Notes in each step which readers of its wire are near.
 pub fn note_near(steps: &mut [Step], starts: &[u32], readers: &[u32])
@@ -33,9 +35,53 @@ fn near_of(readers: &[u32], from: u32, to: u32, word: usize) -> Near
     'readers: for j in from..to {
         let reader = readers[j as usize] as usize;
         if reader / 64 != word {
-            return Near { mask, first: j };
+            return Near {
+                mask,
+                first: j,
+                end: to,
+            };
         }
         mask |= 1u64 << (reader % 64);
     }
-    Near { mask, first: to }
+    Near {
+        mask,
+        first: to,
+        end: to,
+    }
+}
+
+/// A group of readers for each register.
+pub fn groups_of(
+    alloc: Global,
+    registers: &[Register],
+    starts: &[u32],
+    readers: &[u32],
+) -> Result<Vec<Group>, AllocError>
+    requires lists { (places : ℕ) × (words : ℕ) × Lists starts.now readers.now places words
+        × ((k : ℕ) (r : Register) → slice_get registers.now k ≡ Some r → r.signal.0 < places) }
+    ensures { IfOk result (λ v. AreGrouped starts.now readers.now registers.now v.items) }
+{
+    let mut groups = Vec::with_capacity(alloc, registers.len())?;
+    'registers: for i in 0..registers.len() {
+        let place = registers[i].signal.0 as usize;
+        groups.push(group_of(readers, starts[place], starts[place + 1]))?;
+    }
+    Ok(groups)
+}
+
+// Of a part of the readers, those that stand in the word of the first.
+fn group_of(readers: &[u32], from: u32, to: u32) -> Group
+    requires ordered { from ≤ to }
+    requires within { to ≤ length readers.now }
+    ensures { IsNear readers.now from to result.word result.near }
+{
+    let word = if from < to {
+        readers[from as usize] / 64
+    } else {
+        0
+    };
+    Group {
+        word,
+        near: near_of(readers, from, to, word as usize),
+    }
 }

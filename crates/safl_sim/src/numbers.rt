@@ -30,7 +30,7 @@ impl Model for Numbers {
 }
 
 impl Numbers {
-    ghost use Rattle.std.specs.Prelude.{◌≡◌, ◌<◌, ◌^◌, length, slice_index, slice_set, IfOk};
+    ghost use Rattle.std.specs.Prelude.{◌≡◌, ◌<◌, ◌^◌, length, slice_index, slice_set, IfOk, true, false};
 
     /// The numbers of a slice.
     pub fn new(alloc: Global, numbers: &[Raw]) -> Result<Numbers, AllocError>
@@ -59,6 +59,22 @@ impl Numbers {
         ensures { result ≡ slice_index self.now i }
     {
         self.low[i]
+    }
+
+    /// Whether the number at a place is 1. Its high half is read only if the low one is 1.
+    #[inline(always)]
+    pub fn is_one(&self, i: usize) -> bool
+        requires { i < length self.now }
+        ensures yes { result ≡ true → slice_index self.now i ≡ 1 }
+        ensures no { result ≡ false → ¬ (slice_index self.now i ≡ 1) }
+    {
+        if self.low[i] != 1 {
+            return false;
+        }
+        if self.high[i] != 0 {
+            return false;
+        }
+        true
     }
 
     /// How many places there are.

@@ -13,7 +13,7 @@ ghost use Rattle.safl_sim.specs.Steps.{IsStep, IsReg, AreSteps, AreRegisters};
 ghost use Rattle.safl_sim.specs.Cycles.{KeepsPlan};
 
 use crate::marks::{mark_range, word_count};
-use crate::near::note_near;
+use crate::near::{groups_of, note_near};
 use crate::numbers::Numbers;
 use crate::plan::Plan;
 use crate::step::{Near, Register, Step, action_of, is_narrow};
@@ -48,12 +48,14 @@ impl Parts {
         let table = table_of(alloc, net, ordered.wires(), kept)?;
         let mut steps = steps_of(alloc, net, &table.starts, ordered.wires())?;
         note_near(&mut steps, &table.starts, &table.readers);
+        let groups = groups_of(alloc, kept, &table.starts, &table.readers)?;
         let marks = all_marked(alloc, ordered.wires().len(), kept.len())?;
         let waiting = none_marked(alloc, kept.len())?;
         let plan = Plan {
             steps,
             inputs: inputs_of(alloc, net)?,
             registers,
+            groups,
             starts: table.starts,
             readers: table.readers,
         };
@@ -261,7 +263,11 @@ fn step_of(net: &Net, starts: &[u32], wire: Sig) -> Step
             wire,
             narrow: is_narrow(net, wire, cell),
             action: action_of(net, starts, cell),
-            near: Near { mask: 0, first: 0 },
+            near: Near {
+                mask: 0,
+                first: 0,
+                end: 0,
+            },
         },
         None => unreachable!(),
     }

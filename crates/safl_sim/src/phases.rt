@@ -1,14 +1,15 @@
 //! The phases of a cycle.
 
-ghost use Rattle.std.specs.Prelude.{◌≡◌, ℕ, ◌+◌, ◌*◌, ◌/◌, ◌<◌, ◌≤◌, ◌^◌, List, length, Some, slice_get, slice_set, slice_index, false, bit_or};
+ghost use Rattle.std.specs.Prelude.{◌≡◌, ℕ, ◌+◌, ◌*◌, ◌/◌, ◌<◌, ◌≤◌, ◌^◌, List, length, Some, slice_get, slice_set, slice_index, false, true, bit_or};
 ghost use Rattle.safl_net.specs.declared.cell.Sig.{Sig};
 ghost use Rattle.safl_net.specs.Netlist.{Netlist, Signal};
+ghost use Rattle.safl_sim.specs.declared.step.Group.{Group};
 ghost use Rattle.safl_sim.specs.declared.step.Register.{Register};
 ghost use Rattle.safl_order.specs.Order.{Order};
 ghost use Rattle.safl_sim.specs.Places.{AreInputs};
-ghost use Rattle.safl_sim.specs.Readers.{Lists, HasGiven, RegistersAway};
+ghost use Rattle.safl_sim.specs.Readers.{Lists, HasMarked, HasGiven, RegistersAway};
 ghost use Rattle.safl_sim.specs.Marks.{marked, holding, HasMark, first_register};
-ghost use Rattle.safl_sim.specs.Nears.{NearOf, AreNear};
+ghost use Rattle.safl_sim.specs.Nears.{NearOf, AreNear, GroupOf};
 ghost use Rattle.safl_sim.specs.Steps.{Waits, Goes, Runs, Ready, LowStep, action_number};
 ghost use Rattle.safl_sim.specs.Cycles.{KeepsPlan, Cycles};
 ghost use Rattle.safl_sim.specs.Writes.{HasPut, HasShown, Shows, KeepsOn, after_steps, AllReady};
@@ -16,8 +17,8 @@ ghost use Rattle.safl_sim.specs.Writes.{HasPut, HasShown, Shows, KeepsOn, after_
 use crate::marks::{clear, mark, mark_range, next_word, take, take_held, word_count};
 use crate::numbers::Numbers;
 use crate::plan::Plan;
-use crate::readers::mark_readers;
-use crate::step::{Register, Step, act, act_low};
+use crate::readers::{mark_group, mark_readers};
+use crate::step::{Group, Register, Step, act, act_low};
 use safl_net::Sig;
 use safl_word::{Raw, Word};
 
@@ -64,7 +65,7 @@ fn renew(values: &mut Numbers, place: usize, number: Raw) -> bool
     true
 }
 
-// The same where both numbers have at most 64 bits.
+// The same where both numbers have at most 64 bits. It has no jump that depends on the numbers.
 #[inline(always)]
 fn renew_low(values: &mut Numbers, place: usize, number: u64) -> bool
     requires within { place < length values.old }
@@ -72,11 +73,9 @@ fn renew_low(values: &mut Numbers, place: usize, number: u64) -> bool
     ensures is { values.new ≡ slice_set values.old place number }
     ensures new { result ≡ false → slice_index values.old place ≡ number }
 {
-    if values.get_low(place) == number {
-        return false;
-    }
+    let new = values.get_low(place) != number;
     values.set_low(place, number);
-    true
+    new
 }
 
 /// Writes the words to the places.
@@ -120,26 +119,21 @@ pub fn show(
     values: &mut Numbers,
     marks: &mut [u64],
     steps: &[Step],
-    starts: &[u32],
     readers: &[u32],
     register: Register,
+    group: Group,
     state: &[Raw],
 )
-    requires lists { Lists starts.now readers.now (length values.old) (length marks.old) }
+    requires group { (starts : List ℕ) × Lists starts readers.now (length values.old) (length marks.old) × GroupOf starts readers.now register group }
     requires within { register.signal.0 < length values.old }
     requires states { length state.now ≡ length values.old }
-    ensures { HasGiven steps.now starts.now readers.now register.signal.0 (slice_index state.now register.signal.0) values.old values.new marks.old marks.new }
+    ensures { (starts : List ℕ) → GroupOf starts readers.now register group
+        → HasGiven steps.now starts readers.now register.signal.0 (slice_index state.now register.signal.0) values.old values.new marks.old marks.new }
 {
     let place = register.signal.0;
-    give(
-        values,
-        marks,
-        steps,
-        starts,
-        readers,
-        place,
-        state[place as usize],
-    );
+    if renew(values, place as usize, state[place as usize]) {
+        mark_group(values, marks, steps, readers, place, group);
+    }
 }
 
 /// Shows the waiting registers of a word.
@@ -166,11 +160,19 @@ pub fn show_word(
 {
     let steps = plan.steps.as_slice();
     let registers = plan.registers.as_slice();
-    let starts = plan.starts.as_slice();
+    let groups = plan.groups.as_slice();
     let readers = plan.readers.as_slice();
     'registers: for _n in 0..64u32 {
         match take(waiting, word) {
-            Some(i) => show(values, marks, steps, starts, readers, registers[i], state),
+            Some(i) => show(
+                values,
+                marks,
+                steps,
+                readers,
+                registers[i],
+                groups[i],
+                state,
+            ),
             None => return,
         }
     }
@@ -330,13 +332,40 @@ pub fn evaluate(
         → HasGiven steps.now starts.now readers.now step.now.wire.0 (action_number (slice_index values.old) step.now.action) values.old values.new
         (holding marks.old (i / 64) held) (holding marks.new (i / 64) (bit_or held result)) }
 {
-    if !act_anew(values, step) {
-        return 0;
+    let new = act_anew(values, step);
+    mark_others(values, marks, steps, readers, step, new);
+    if new { step.near.mask } else { 0 }
+}
+
+// Marks the readers of a step's wire that stand in other words of marks, if its number is new. Most steps have none, so the
+// one jump seldom depends on the number.
+#[inline(always)]
+fn mark_others(
+    values: &Numbers,
+    marks: &mut [u64],
+    steps: &[Step],
+    readers: &[u32],
+    step: &Step,
+    new: bool,
+)
+    requires ordered { step.now.near.first ≤ step.now.near.end }
+    requires within { step.now.near.end ≤ length readers.now }
+    requires known { (j k : ℕ) → slice_get readers.now j ≡ Some k → k / 64 < length marks.old }
+    ensures marked { new ≡ true → HasMarked steps.now readers.now step.now.near.first step.now.near.end step.now.wire.0 values.now marks.old marks.new }
+    ensures same { new ≡ false → marks.new ≡ marks.old }
+{
+    let near = step.near;
+    if new && near.first < near.end {
+        mark_readers(
+            values,
+            marks,
+            steps,
+            readers,
+            step.wire.0,
+            near.first,
+            near.end,
+        );
     }
-    let place = step.wire.0;
-    let end = starts[place as usize + 1];
-    mark_readers(values, marks, steps, readers, place, step.near.first, end);
-    step.near.mask
 }
 
 /// Evaluates the marked steps of a word, and answers how many there were.

@@ -2,11 +2,12 @@
 
 ghost use Rattle.std.specs.Prelude.{◌≡◌, ℕ, ◌/◌, ◌<◌, ◌≤◌, length, Some, slice_get, slice_index, true};
 ghost use Rattle.safl_word.specs.Words.{pick};
+ghost use Rattle.safl_sim.specs.Nears.{IsNear};
 ghost use Rattle.safl_sim.specs.Readers.{Blind, HasMarked};
 
 use crate::marks::mark;
 use crate::numbers::Numbers;
-use crate::step::{Action, Step, choose};
+use crate::step::{Action, Group, Step};
 
 // Of so many readers and more, those that are blind to the place are sought. It is a matter of speed alone.
 const MANY: u32 = 8;
@@ -37,6 +38,30 @@ pub fn mark_readers(
     }
 }
 
+/// Marks a group of the readers of a place at once, and its others as `mark_readers` does.
+#[inline(always)]
+pub fn mark_group(
+    values: &Numbers,
+    marks: &mut [u64],
+    steps: &[Step],
+    readers: &[u32],
+    place: u32,
+    group: Group,
+)
+    requires group { (from : ℕ) × IsNear readers.now from group.near.end group.word group.near }
+    requires within { group.near.end ≤ length readers.now }
+    requires known { (j k : ℕ) → slice_get readers.now j ≡ Some k → k / 64 < length marks.old }
+    ensures { (from : ℕ) → IsNear readers.now from group.near.end group.word group.near
+        → HasMarked steps.now readers.now from group.near.end place values.now marks.old marks.new }
+{
+    let word = group.word as usize;
+    let near = group.near;
+    if word < marks.len() {
+        marks[word] |= near.mask;
+    }
+    mark_readers(values, marks, steps, readers, place, near.first, near.end);
+}
+
 // Whether a number is a step's that is blind to a place.
 #[inline(always)]
 fn is_blind(values: &Numbers, steps: &[Step], k: usize, place: u32) -> bool
@@ -60,9 +85,6 @@ fn is_unseen(values: &Numbers, c: u32, a: u32, b: u32, place: u32) -> bool
     if c == place || i >= values.count() {
         return false;
     }
-    let chosen = choose(values.get(i), a, b);
-    if chosen == place {
-        return false;
-    }
-    true
+    let chosen = if values.is_one(i) { a } else { b };
+    chosen != place
 }

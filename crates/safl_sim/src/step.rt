@@ -30,11 +30,20 @@ pub enum Action {
 }
 
 /// Which of the steps that read a step's wire stand in the step's own word of marks, by a bit for each, and where its
-/// other readers begin.
+/// other readers begin and end.
 #[derive(Clone, Copy)]
 pub struct Near {
     pub mask: u64,
     pub first: u32,
+    pub end: u32,
+}
+
+/// Those of a register's readers that have their marks in the word of its first reader, by a bit for each, and where its
+/// other readers begin and end.
+#[derive(Clone, Copy)]
+pub struct Group {
+    pub word: u32,
+    pub near: Near,
 }
 
 /// A wire, and what gives it its number. A narrow step has at most 64 bits in all that it works on and gives.

@@ -7,7 +7,7 @@ use Rattle.safl_sim.proofs.Nearing.{noted, steps_noted, wires_noted}
 use Rattle.safl_sim.proofs.near.note_near.Goals as goal
 
 abbrev none : Step
-none = record { wire = record { 0 = 0 }; narrow = false; action = Const 0 0; near = record { mask = 0; first = 0 } }
+none = record { wire = record { 0 = 0 }; narrow = false; action = Const 0 0; near = record { mask = 0; first = 0; end = 0 } }
 
 pub bounds-starts-place : goal.bounds-starts-place
 bounds-starts-place c =

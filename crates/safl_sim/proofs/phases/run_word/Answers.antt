@@ -13,7 +13,7 @@ use Rattle.safl_sim.proofs.MarkedSteps.{Takes, takes, taken_within, taken_from, 
 use Rattle.safl_sim.proofs.phases.run_word.Goals as goal
 
 abbrev none : Step
-none = record { wire = record { 0 = 0 }; narrow = false; action = Const 0 0; near = record { mask = 0; first = 0 } }
+none = record { wire = record { 0 = 0 }; narrow = false; action = Const 0 0; near = record { mask = 0; first = 0; end = 0 } }
 
 -- one turn
 turn : (o : Order) (all : List Step) (regs : List Register) (now starts readers start : List ℕ) (word n i : ℕ) (values marks marks' : List ℕ) → n < 64 → (word + 1) * 64 ≤ first_register (length all) → Runs o all regs now starts readers start (word * 64 + n) values marks → HasTaken marks marks' word i

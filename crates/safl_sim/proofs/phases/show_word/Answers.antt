@@ -1,7 +1,9 @@
 use Rattle.std.proofs.Common.{◌≡◌, ◌+◌, ◌*◌, ◌<◌, ℕ, List, Some, length, get_or, slice_get, slice_index, sym, ap, subst, ◌∙◌, arith}
 use Rattle.safl_sim.specs.declared.step.Step.{Step}
+use Rattle.safl_sim.specs.declared.step.Group.{Group}
 use Rattle.safl_sim.specs.declared.step.Register.{Register}
 use Rattle.safl_sim.specs.Marks.{HasTaken}
+use Rattle.safl_sim.specs.Nears.{GroupOf, AreGrouped}
 use Rattle.safl_sim.specs.Readers.{Lists, HasGiven}
 use Rattle.safl_sim.specs.Writes.{Shows}
 use Rattle.safl_sim.proofs.Written.{get_at, set_length}
@@ -12,6 +14,9 @@ use Rattle.safl_sim.proofs.phases.show_word.Goals as goal
 
 abbrev none : Register
 none = record { signal = record { 0 = 0 }; next = record { 0 = 0 } }
+
+abbrev no_group : Group
+no_group = record { word = 0; near = record { mask = 0; first = 0; end = 0 } }
 
 -- the register that is taken
 found : (regs regs' : List Register) (now : List ℕ) (place word i : ℕ) (start values waiting waiting' : List ℕ) → regs' ≡ regs → Shows regs now place start values waiting → HasTaken waiting waiting' word i
@@ -25,11 +30,32 @@ bounds-registers-i c =
     let r = c.requires.shows in
     (found c.args.plan.now.registers.items c.as_slice-registers.result.now c.args.state.now _ c.args.word c.in-Some.i r.0 c.registers.values c.registers.waiting c.take.new.marks c.as_slice-registers.ensures.value (c.registers.invariant.shows r.0 r.1) c.in-Some.ensures.some).0
 
-pub show-requires-clause-lists : goal.show-requires-clause-lists
-show-requires-clause-lists c =
-    subst (λ (l : List ℕ). Lists l c.as_slice-readers.result.now (length c.registers.values) (length c.registers.marks)) (sym c.as_slice-starts.ensures.value)
-    (subst (λ (l : List ℕ). Lists c.args.plan.now.starts.items l (length c.registers.values) (length c.registers.marks)) (sym c.as_slice-readers.ensures.value)
-    (lists_same c.args.plan.now.starts.items c.args.plan.now.readers.items _ _ _ _ c.registers.invariant.wide c.registers.invariant.long c.requires.lists))
+-- its group
+group : (starts readers : List ℕ) (regs regs' : List Register) (groups groups' : List Group) (i : ℕ) → regs' ≡ regs → groups' ≡ groups → AreGrouped starts readers regs groups → i < length regs' → slice_get regs i ≡ Some (get_or regs' i none)
+    → (i < length groups') × GroupOf starts readers (get_or regs' i none) (get_or groups' i no_group)
+group starts readers regs regs' groups groups' i e f w h at =
+    let long : i < length groups' = (let a = w.long in let b = ap length e in let d = ap length f in omega (arith, a, b, d, h)) in
+    (long, w.each i (get_or regs' i none) (get_or groups' i no_group) at (ap (λ l. slice_get l i) (sym f) ∙ get_at groups' i no_group long))
+
+pub bounds-groups-i : goal.bounds-groups-i
+bounds-groups-i c =
+    let r = c.requires.shows in
+    let f = found c.args.plan.now.registers.items c.as_slice-registers.result.now c.args.state.now _ c.args.word c.in-Some.i r.0 c.registers.values c.registers.waiting c.take.new.marks c.as_slice-registers.ensures.value (c.registers.invariant.shows r.0 r.1) c.in-Some.ensures.some in
+    (group c.args.plan.now.starts.items c.args.plan.now.readers.items c.args.plan.now.registers.items c.as_slice-registers.result.now c.args.plan.now.groups.items c.as_slice-groups.result.now c.in-Some.i c.as_slice-registers.ensures.value c.as_slice-groups.ensures.value c.args.plan.now.grouped f.0 f.1).0
+
+pub show-requires-clause-group : goal.show-requires-clause-group
+show-requires-clause-group c =
+    let r = c.requires.shows in
+    let f = found c.args.plan.now.registers.items c.as_slice-registers.result.now c.args.state.now _ c.args.word c.in-Some.i r.0 c.registers.values c.registers.waiting c.take.new.marks c.as_slice-registers.ensures.value (c.registers.invariant.shows r.0 r.1) c.in-Some.ensures.some in
+    let starts = c.args.plan.now.starts.items in
+    let own = get_or c.as_slice-registers.result.now c.in-Some.i none in
+    let its = get_or c.as_slice-groups.result.now c.in-Some.i no_group in
+    let g = (group starts c.args.plan.now.readers.items c.args.plan.now.registers.items c.as_slice-registers.result.now c.args.plan.now.groups.items c.as_slice-groups.result.now c.in-Some.i c.as_slice-registers.ensures.value c.as_slice-groups.ensures.value c.args.plan.now.grouped f.0 f.1).1 in (
+      starts,
+      subst (λ (l : List ℕ). Lists starts l (length c.registers.values) (length c.registers.marks)) (sym c.as_slice-readers.ensures.value)
+          (lists_same starts c.args.plan.now.readers.items _ _ _ _ c.registers.invariant.wide c.registers.invariant.long c.requires.lists),
+      subst (λ (l : List ℕ). GroupOf starts l own its) (sym c.as_slice-readers.ensures.value) g,
+    )
 
 pub show-requires-clause-within : goal.show-requires-clause-within
 show-requires-clause-within c =
@@ -45,16 +71,19 @@ registers-preserved c =
     let r = get_or c.as_slice-registers.result.now c.in-Some.i none in
     let f = found c.args.plan.now.registers.items c.as_slice-registers.result.now c.args.state.now _ c.args.word c.in-Some.i q.0 c.registers.values c.registers.waiting c.take.new.marks c.as_slice-registers.ensures.value (c.registers.invariant.shows q.0 q.1) c.in-Some.ensures.some in
     let inside : r.signal.0 < length c.registers.values = (let a = c.requires.within c.in-Some.i r f.1 in let b = c.registers.invariant.wide in omega (arith, a, b)) in
-    let g = subst (λ (l : List Step). HasGiven l c.args.plan.now.starts.items c.args.plan.now.readers.items r.signal.0 (slice_index c.args.state.now r.signal.0) c.registers.values c.show.new.values c.registers.marks c.show.new.marks) c.as_slice-steps.ensures.value
-    (subst (λ (l : List ℕ). HasGiven c.as_slice-steps.result.now l c.args.plan.now.readers.items r.signal.0 (slice_index c.args.state.now r.signal.0) c.registers.values c.show.new.values c.registers.marks c.show.new.marks) c.as_slice-starts.ensures.value
-    (subst (λ (l : List ℕ). HasGiven c.as_slice-steps.result.now c.as_slice-starts.result.now l r.signal.0 (slice_index c.args.state.now r.signal.0) c.registers.values c.show.new.values c.registers.marks c.show.new.marks) c.as_slice-readers.ensures.value c.show.ensures)) in
+    let starts = c.args.plan.now.starts.items in
+    let its = get_or c.as_slice-groups.result.now c.in-Some.i no_group in
+    let of = (group starts c.args.plan.now.readers.items c.args.plan.now.registers.items c.as_slice-registers.result.now c.args.plan.now.groups.items c.as_slice-groups.result.now c.in-Some.i c.as_slice-registers.ensures.value c.as_slice-groups.ensures.value c.args.plan.now.grouped f.0 f.1).1 in
+    let told = c.show.ensures starts (subst (λ (l : List ℕ). GroupOf starts l r its) (sym c.as_slice-readers.ensures.value) of) in
+    let g = subst (λ (l : List Step). HasGiven l starts c.args.plan.now.readers.items r.signal.0 (slice_index c.args.state.now r.signal.0) c.registers.values c.show.new.values c.registers.marks c.show.new.marks) c.as_slice-steps.ensures.value
+    (subst (λ (l : List ℕ). HasGiven c.as_slice-steps.result.now starts l r.signal.0 (slice_index c.args.state.now r.signal.0) c.registers.values c.show.new.values c.registers.marks c.show.new.marks) c.as_slice-readers.ensures.value told) in
     record {
-      wide = (let a = c.registers.invariant.wide in let b = ap length c.show.ensures.is in let d = set_length c.registers.values r.signal.0 (slice_index c.args.state.now r.signal.0) in omega (arith, a, b, d));
-      long = c.show.ensures.long ∙ c.registers.invariant.long;
+      wide = (let a = c.registers.invariant.wide in let b = ap length told.is in let d = set_length c.registers.values r.signal.0 (slice_index c.args.state.now r.signal.0) in omega (arith, a, b, d));
+      long = told.long ∙ c.registers.invariant.long;
       shows = λ start w.
           let before = c.registers.invariant.shows start w in
           let t = c.in-Some.ensures.some in
-          let after = shows_step c.args.plan.now.registers.items c.args.state.now (c.args.word * 64 + c.registers._n) c.args.word c.in-Some.i r start c.registers.values c.show.new.values c.registers.waiting c.take.new.marks before (omega arith) t f.1 inside c.show.ensures.is in
+          let after = shows_step c.args.plan.now.registers.items c.args.state.now (c.args.word * 64 + c.registers._n) c.args.word c.in-Some.i r start c.registers.values c.show.new.values c.registers.waiting c.take.new.marks before (omega arith) t f.1 inside told.is in
           let late = taken_after c.registers.waiting c.take.new.marks 0 (c.args.word * 64 + c.registers._n) c.args.word c.in-Some.i (λ k z h. before.below k h) (omega arith) (omega arith) t in
           shows_to c.args.plan.now.registers.items c.args.state.now (c.in-Some.i + 1) (c.args.word * 64 + (c.registers._n + 1)) start c.show.new.values c.take.new.marks after (λ k l. after.below k (omega (arith, late, l)));
       goes = λ n ws away. goes_step n ws c.args.plan.now.steps.items c.args.plan.now.registers.items c.args.state.now c.args.plan.now.starts.items c.args.plan.now.readers.items r.signal.0 _ c.args.values.now c.registers.values c.show.new.values c.args.marks.now c.registers.marks c.show.new.marks (c.registers.invariant.goes n ws away) (away c.in-Some.i r f.1) inside (λ state s e. state r.signal.0 s e) g;

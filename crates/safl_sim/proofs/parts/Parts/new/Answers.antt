@@ -97,7 +97,7 @@ returns-clause-keeps c =
     (let a = c.in_ok-waiting.ensures.long in let b = ap length kept in omega (arith, a, b))
     c.in_ok-waiting.ensures.none
     (c.in_ok-state.ensures ∙ ap resets e)
-    (c.in_ok-values.ensures ∙ c.deref-4.ensures.value ∙ c.in_ok-state.ensures ∙ ap resets e))
+    (c.in_ok-values.ensures ∙ c.deref-6.ensures.value ∙ c.in_ok-state.ensures ∙ ap resets e))
 
 pub note_near-requires : goal.note_near-requires
 note_near-requires c =
