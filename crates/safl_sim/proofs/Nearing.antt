@@ -64,71 +64,69 @@ set_set [] w x y = refl
 set_set (z ∷ xs) zero x y = refl
 set_set (z ∷ xs) (suc w) x y = ap (λ l. z ∷ l) (set_set xs w x y)
 
-marked_holding : (marks : List ℕ) (w held k : ℕ) → w < length marks → k / 64 ≡ w → marked (holding marks w held) k ≡ max (marked marks k) (bit_at held (k % 64))
-marked_holding marks w held k h e = written_same marks w (bit_or (slice_index marks w) held) k h e ∙ bit_at_or (slice_index marks w) held (k % 64) ∙ ap (λ y. max (bit_at (slice_index marks y) (k % 64)) (bit_at held (k % 64))) (sym e)
+marked_holding : (marks : List ℕ) (w held k : ℕ) → w < length marks → k / 64 ≡ w → marked (holding marks w held) k ≡ bit_at held (k % 64)
+marked_holding marks w held k h e = written_same marks w held k h e
 
 marked_apart : (marks : List ℕ) (w held k : ℕ) → ¬ (k / 64 ≡ w) → marked (holding marks w held) k ≡ marked marks k
-marked_apart marks w held k n = written_other marks w (bit_or (slice_index marks w) held) k n
+marked_apart marks w held k n = written_other marks w held k n
 
-pub holding_none : (marks : List ℕ) (w : ℕ) → holding marks w 0 ≡ marks
-holding_none marks w = ap (set marks w) (or_zero (slice_index marks w)) ∙ set_same marks w (slice_index marks w) refl
+pub holding_all : (marks : List ℕ) (w : ℕ) → holding marks w (slice_index marks w) ≡ marks
+holding_all marks w = set_same marks w (slice_index marks w) refl
 
--- where neither has a mark, none is held
-or_none : (a b : ℕ) → bit_or a b ≡ 0 → a ≡ 0
-or_none a b e = same_from_bits a 0 (λ i. (elim (bit_or_none a i) [
-  | inl z ↦ z
-  | inr z ↦ absurd (let p = one_left (bit_at a i) (bit_at b i) z (bit_at-lt b i) in let q = bit_at_or a b i in let r = ap (λ y. bit_at y i) e in let t = bit_at-zero i in omega (arith, p, q, r, t))
-]) ∙ sym (bit_at-zero i))
-
-pub none_held : (marks : List ℕ) (w held : ℕ) → bit_or (slice_index marks w) held ≡ 0 → marks ≡ holding marks w held
-none_held marks w held e = sym (ap (set marks w) e ∙ set_same marks w 0 (or_none (slice_index marks w) held e))
-
-pub no_marks : (marks : List ℕ) (w held : ℕ) → w < length marks → bit_or (slice_index marks w) held ≡ 0 → HasNone (holding marks w held) w
-no_marks marks w held h e = none_in (holding marks w held) w (index_here marks w (bit_or (slice_index marks w) held) h ∙ e)
+pub no_marks : (marks : List ℕ) (w : ℕ) → w < length marks → HasNone (holding marks w 0) w
+no_marks marks w h = none_in (holding marks w 0) w (index_here marks w 0 h)
 
 pub holding_long : (marks : List ℕ) (w held : ℕ) → length (holding marks w held) ≡ length marks
-holding_long marks w held = set_length marks w (bit_or (slice_index marks w) held)
+holding_long marks w held = set_length marks w held
 
-held_after : (marks : List ℕ) (w x y : ℕ) → w < length marks → set (set marks w x) w y ≡ holding (set marks w 0) w y
-held_after marks w x y h = set_set marks w x y ∙ sym (set_set marks w 0 (bit_or (slice_index (set marks w 0) w) y) ∙ ap (set marks w) (ap (λ z. bit_or z y) (index_here marks w 0 h) ∙ zero_or y))
-
-pub take_held_has : (marks : List ℕ) (w held x : ℕ) → w < length marks → x ≡ bit_or (slice_index marks w) held → 0 < x → x < 2 ^ 64
-    → HasTaken (holding marks w held) (holding (set marks w 0) w (bit_and x (bit_not w64 (1 * 2 ^ trailing_zeros w64 x % 2 ^ 64)))) w (w * 64 + trailing_zeros w64 x)
-take_held_has marks w held x h is some fits =
+pub take_held_has : (w x : ℕ) → 0 < x → x < 2 ^ 64 → (marks : List ℕ) → w < length marks
+    → HasTaken (holding marks w x) (holding marks w (bit_and x (bit_not w64 (1 * 2 ^ trailing_zeros w64 x % 2 ^ 64)))) w (w * 64 + trailing_zeros w64 x)
+take_held_has w x some fits marks h =
     let b = trailing_zeros w64 x in
     let y = bit_and x (bit_not w64 (1 * 2 ^ b % 2 ^ 64)) in
-    subst (λ l. HasTaken (set marks w l) (holding (set marks w 0) w y) w (w * 64 + b)) is
-    (subst (λ l. HasTaken (set marks w x) l w (w * 64 + b)) (held_after marks w x y h)
-    (take_has (set marks w x) w x (let a = set_length marks w x in omega (arith, a, h)) (index_here marks w x h) some fits))
+    subst (λ l. HasTaken (set marks w x) l w (w * 64 + b)) (set_set marks w x y)
+    (take_has (set marks w x) w x (let a = set_length marks w x in omega (arith, a, h)) (index_here marks w x h) some fits)
 
 -- ---- the near readers of a step
 
-pub near_none : (readers : List ℕ) (from word : ℕ) → IsNear readers from from word (record { mask = 0; first = from; end = from })
-near_none readers from word = record {
-  least = omega arith;
+pub record NearTo (readers : List ℕ) (from j to word mask first : ℕ) : Type 0 where
+  pub least : from ≤ first
+  pub most : first ≤ to
+  pub early : (i k : ℕ) → from ≤ i → i < j → i < first → slice_get readers i ≡ Some k → k / 64 ≡ word
+  pub all : (i k : ℕ) → from ≤ i → i < j → slice_get readers i ≡ Some k → k / 64 ≡ word → bit_at mask (k % 64) ≡ 1
+  pub only : (b : ℕ) → b < 64 → ((i : ℕ) → from ≤ i → i < j → ¬ (slice_get readers i ≡ Some (word * 64 + b))) → bit_at mask b ≡ 0
+
+pub near_none : (readers : List ℕ) (from to word : ℕ) → from ≤ to → NearTo readers from from to word 0 to
+near_none readers from to word le = record {
+  least = le;
   most = omega arith;
-  last = refl;
-  all = λ j k f t e. absurd (omega (arith, f, t));
+  early = λ i k f t l e. absurd (omega (arith, f, t));
+  all = λ i k f t e. absurd (omega (arith, f, t));
   only = λ b h n. bit_at-zero b;
 }
 
-pub near_more : (readers : List ℕ) (from j k word m : ℕ) → IsNear readers from j word (record { mask = m; first = j; end = j }) → from ≤ j → slice_get readers j ≡ Some k → k / 64 ≡ word
-    → IsNear readers from (j + 1) word (record { mask = bit_or m (1 * 2 ^ (k % 64) % 2 ^ 64); first = j + 1; end = j + 1 })
-near_more readers from j k word m w le e at =
+-- one more stands in the word
+pub near_more : (readers : List ℕ) (from j to k word m first : ℕ) → NearTo readers from j to word m first → from ≤ j → slice_get readers j ≡ Some k → k / 64 ≡ word
+    → NearTo readers from (j + 1) to word (bit_or m (1 * 2 ^ (k % 64) % 2 ^ 64)) first
+near_more readers from j to k word m first w le e at =
     let low : k % 64 < 64 = omega arith in
     let x = bit_or m (1 * 2 ^ (k % 64) % 2 ^ 64) in
     record {
-      least = omega (arith, le);
-      most = omega arith;
-      last = refl;
-      all = λ i q f t g. elim (lower_or_same i j t) [
-        | inl l ↦
-            let a = w.all i q f l g in
-            (a.0, elim (same_or_not (q % 64) (k % 64)) [ inl z ↦ ap (bit_at x) z ∙ bit_at_set_same w64 m (k % 64) low | inr z ↦ bit_at_set_other w64 m (k % 64) low (q % 64) z ∙ a.1 ])
+      least = w.least;
+      most = w.most;
+      early = λ i q f t l g. elim (lower_or_same i j t) [
+        | inl h ↦ w.early i q f h l g
         | inr z ↦
             let s : Some q ≡ Some k = sym g ∙ ap (slice_get readers) z ∙ e in
             let one : q ≡ k = cc in
-            (ap (λ y. y / 64) one ∙ at, ap (λ y. bit_at x (y % 64)) one ∙ bit_at_set_same w64 m (k % 64) low)
+            ap (λ y. y / 64) one ∙ at
+      ];
+      all = λ i q f t g same. elim (lower_or_same i j t) [
+        | inl h ↦ elim (same_or_not (q % 64) (k % 64)) [ inl z ↦ ap (bit_at x) z ∙ bit_at_set_same w64 m (k % 64) low | inr z ↦ bit_at_set_other w64 m (k % 64) low (q % 64) z ∙ w.all i q f h g same ]
+        | inr z ↦
+            let s : Some q ≡ Some k = sym g ∙ ap (slice_get readers) z ∙ e in
+            let one : q ≡ k = cc in
+            ap (λ y. bit_at x (y % 64)) one ∙ bit_at_set_same w64 m (k % 64) low
       ];
       only = λ b h n. elim (same_or_not b (k % 64)) [
         | inl z ↦ absurd (n j le (omega arith) (e ∙ ap Some (let r : k ≡ word * 64 + b = omega (arith, at, z) in r)))
@@ -136,14 +134,31 @@ near_more readers from j k word m w le e at =
       ];
     }
 
--- the others begin where the first one of another word stands
-pub near_to : (readers : List ℕ) (from j to word m : ℕ) → j ≤ to → IsNear readers from j word (record { mask = m; first = j; end = j }) → IsNear readers from to word (record { mask = m; first = j; end = to })
-near_to readers from j to word m le w = record {
+-- one more stands in another word: it is the first of the others, or one comes before it
+pub near_other : (readers : List ℕ) (from j to k word m first first' : ℕ) → NearTo readers from j to word m first → from ≤ first' → first' ≤ first → first' ≤ j → slice_get readers j ≡ Some k → ¬ (k / 64 ≡ word)
+    → NearTo readers from (j + 1) to word m first'
+near_other readers from j to k word m first first' w least lower before e away = record {
+  least = least;
+  most = (let a = w.most in omega (arith, a, lower));
+  early = λ i q f t l g. w.early i q f (omega (arith, l, before)) (omega (arith, l, lower)) g;
+  all = λ i q f t g same. elim (lower_or_same i j t) [
+    | inl h ↦ w.all i q f h g same
+    | inr z ↦
+        let s : Some q ≡ Some k = sym g ∙ ap (slice_get readers) z ∙ e in
+        let one : q ≡ k = cc in
+        absurd (away (ap (λ y. y / 64) (sym one) ∙ same))
+  ];
+  only = λ b h n. w.only b h (λ i f t. n i f (omega (arith, t)));
+}
+
+pub near_is : (readers : List ℕ) (from j to word m first : ℕ) → j ≡ to → NearTo readers from j to word m first → IsNear readers from to word (record { mask = m; first = first; end = to })
+near_is readers from j to word m first z w = record {
   least = w.least;
-  most = le;
+  most = w.most;
   last = refl;
-  all = w.all;
-  only = λ b h n. w.only b h (λ i f t. n i f (omega (arith, t, le)));
+  early = λ i k f t e. w.early i k f (let a = w.most in omega (arith, t, a, z)) t e;
+  all = λ i k f t e same. w.all i k f (omega (arith, t, z)) e same;
+  only = λ b h n. w.only b h (λ i f t e. n i f (omega (arith, t, z)) e);
 }
 
 pub noted : (starts readers : List ℕ) (i : ℕ) (steps : List Step) (s s' : Step) → slice_get steps i ≡ Some s → NearOf starts readers i s' → AreNearTo starts readers i steps → AreNearTo starts readers (i + 1) (set steps i s')
@@ -213,24 +228,16 @@ module _ (steps : List Step) (starts readers : List ℕ) (s : Step) (i x : ℕ) 
     bit : (k : ℕ) → bit_at (bit_or held s.near.mask) (k % 64) ≡ max (bit_at held (k % 64)) (bit_at s.near.mask (k % 64))
     bit k = bit_at_or held s.near.mask (k % 64)
 
-    marked_now : (k : ℕ) → marked marks' k ≡ 1 → marked (holding marks' (i / 64) (bit_or held s.near.mask)) k ≡ 1
-    marked_now k e = elim (same_or_not (k / 64) (i / 64)) [
-      | inl q ↦ marked_holding marks' (i / 64) (bit_or held s.near.mask) k inside' q ∙ one_left (marked marks' k) (bit_at (bit_or held s.near.mask) (k % 64)) e (bit_at-lt (bit_or held s.near.mask) (k % 64))
-      | inr q ↦ marked_apart marks' (i / 64) (bit_or held s.near.mask) k q ∙ e
-    ]
-
     held_now : (k : ℕ) → k / 64 ≡ (i / 64) → bit_at (bit_or held s.near.mask) (k % 64) ≡ 1 → marked (holding marks' (i / 64) (bit_or held s.near.mask)) k ≡ 1
-    held_now k q e = marked_holding marks' (i / 64) (bit_or held s.near.mask) k inside' q ∙ one_right (marked marks' k) (bit_at (bit_or held s.near.mask) (k % 64)) e (bit_at-lt (slice_index marks' (k / 64)) (k % 64))
+    held_now k q e = marked_holding marks' (i / 64) (bit_or held s.near.mask) k inside' q ∙ e
+
+    marked_now : (k : ℕ) → ¬ (k / 64 ≡ (i / 64)) → marked marks' k ≡ 1 → marked (holding marks' (i / 64) (bit_or held s.near.mask)) k ≡ 1
+    marked_now k q e = marked_apart marks' (i / 64) (bit_or held s.near.mask) k q ∙ e
 
     grow : (k : ℕ) → marked (holding marks (i / 64) held) k ≡ 1 → marked (holding marks' (i / 64) (bit_or held s.near.mask)) k ≡ 1
-    grow k e = elim (mark_or_none marks k) [
-      | inr z ↦ marked_now k (m.grows k z)
-      | inl z ↦ elim (same_or_not (k / 64) (i / 64)) [
-        | inl q ↦
-            let a : bit_at held (k % 64) ≡ 1 = sym (none_left (marked marks k) (bit_at held (k % 64)) z (bit_at-lt held (k % 64))) ∙ sym (marked_holding marks (i / 64) held k inside q) ∙ e in
-            held_now k q (bit k ∙ one_left (bit_at held (k % 64)) (bit_at s.near.mask (k % 64)) a (bit_at-lt s.near.mask (k % 64)))
-        | inr q ↦ absurd (let a = marked_apart marks (i / 64) held k q in omega (arith, a, z, e))
-      ]
+    grow k e = elim (same_or_not (k / 64) (i / 64)) [
+      | inl q ↦ held_now k q (bit k ∙ one_left (bit_at held (k % 64)) (bit_at s.near.mask (k % 64)) (sym (marked_holding marks (i / 64) held k inside q) ∙ e) (bit_at-lt s.near.mask (k % 64)))
+      | inr q ↦ marked_now k q (m.grows k (sym (marked_apart marks (i / 64) held k q) ∙ e))
     ]
 
     none_set : (k : ℕ) → k / 64 ≡ (i / 64) → ¬ (Reader starts readers s.wire.0 k) → bit_at s.near.mask (k % 64) ≡ 0
@@ -244,15 +251,17 @@ module _ (steps : List Step) (starts readers : List ℕ) (s : Step) (i x : ℕ) 
       is = refl;
       long = holding_long marks' (i / 64) (bit_or held s.near.mask) ∙ m.long ∙ sym (holding_long marks (i / 64) held);
       grows = grow;
-      told = λ k n r. elim (lower_or_not r.0 s.near.first) [
-        | inl l ↦ inl (let a = near.all r.0 k r.1 l r.3 in held_now k a.0 (bit k ∙ one_right (bit_at held (k % 64)) (bit_at s.near.mask (k % 64)) a.1 (bit_at-lt held (k % 64))))
-        | inr l ↦ elim (m.all r.0 k l r.2 r.3) [ inl z ↦ inl (marked_now k z) | inr u ↦ inr u ]
+      told = λ k n r. elim (same_or_not (k / 64) (i / 64)) [
+        | inl q ↦ inl (held_now k q (bit k ∙ one_right (bit_at held (k % 64)) (bit_at s.near.mask (k % 64)) (near.all r.0 k r.1 r.2 r.3 q) (bit_at-lt held (k % 64))))
+        | inr q ↦ elim (lower_or_not r.0 s.near.first) [
+          | inl l ↦ absurd (q (near.early r.0 k r.1 l r.3))
+          | inr l ↦ elim (m.all r.0 k l r.2 r.3) [ inl z ↦ inl (marked_now k q z) | inr u ↦ inr u ]
+        ]
       ];
       others = λ k n. elim (same_or_not (k / 64) (i / 64)) [
         | inl q ↦
             marked_holding marks' (i / 64) (bit_or held s.near.mask) k inside' q
-            ∙ ap (λ y. max y (bit_at (bit_or held s.near.mask) (k % 64))) (stay k n)
-            ∙ ap (max (marked marks k)) (bit k ∙ none_right (bit_at held (k % 64)) (bit_at s.near.mask (k % 64)) (none_set k q n) (bit_at-lt held (k % 64)))
+            ∙ bit k ∙ none_right (bit_at held (k % 64)) (bit_at s.near.mask (k % 64)) (none_set k q n) (bit_at-lt held (k % 64))
             ∙ sym (marked_holding marks (i / 64) held k inside q)
         | inr q ↦ marked_apart marks' (i / 64) (bit_or held s.near.mask) k q ∙ stay k n ∙ sym (marked_apart marks (i / 64) held k q)
       ];
@@ -265,39 +274,46 @@ set_past [] w x h = refl
 set_past (y ∷ xs) zero x h = absurd (omega (arith, h))
 set_past (y ∷ xs) (suc w) x h = ap (λ l. y ∷ l) (set_past xs w x (omega (arith, h)))
 
+-- the marks with more of them in a word
+abbrev joined : List ℕ → ℕ → ℕ → List ℕ
+joined marks w x = set marks w (bit_or (slice_index marks w) x)
+
+marked_joined : (marks : List ℕ) (w x k : ℕ) → w < length marks → k / 64 ≡ w → marked (joined marks w x) k ≡ max (marked marks k) (bit_at x (k % 64))
+marked_joined marks w x k h e = written_same marks w (bit_or (slice_index marks w) x) k h e ∙ bit_at_or (slice_index marks w) x (k % 64) ∙ ap (λ y. max (bit_at (slice_index marks y) (k % 64)) (bit_at x (k % 64))) (sym e)
+
 module _ (readers : List ℕ) (from to w : ℕ) (g : Near) (near : IsNear readers from to w g) (marks : List ℕ) where
-  group_grows : (k : ℕ) → marked marks k ≡ 1 → marked (holding marks w g.mask) k ≡ 1
+  group_grows : (k : ℕ) → marked marks k ≡ 1 → marked (joined marks w g.mask) k ≡ 1
   group_grows k e = elim (same_or_not (k / 64) w) [
     | inl q ↦ elim (lower_or_not w (length marks)) [
-      | inl h ↦ marked_holding marks w g.mask k h q ∙ one_left (marked marks k) (bit_at g.mask (k % 64)) e (bit_at-lt g.mask (k % 64))
+      | inl h ↦ marked_joined marks w g.mask k h q ∙ one_left (marked marks k) (bit_at g.mask (k % 64)) e (bit_at-lt g.mask (k % 64))
       | inr h ↦ ap (λ l. marked l k) (set_past marks w (bit_or (slice_index marks w) g.mask) h) ∙ e
     ]
-    | inr q ↦ marked_apart marks w g.mask k q ∙ e
+    | inr q ↦ written_other marks w (bit_or (slice_index marks w) g.mask) k q ∙ e
   ]
 
-  group_others : (k : ℕ) → ((j : ℕ) → from ≤ j → j < to → ¬ (slice_get readers j ≡ Some k)) → marked (holding marks w g.mask) k ≡ marked marks k
+  group_others : (k : ℕ) → ((j : ℕ) → from ≤ j → j < to → ¬ (slice_get readers j ≡ Some k)) → marked (joined marks w g.mask) k ≡ marked marks k
   group_others k n = elim (same_or_not (k / 64) w) [
     | inl q ↦ elim (lower_or_not w (length marks)) [
       | inl h ↦
-          marked_holding marks w g.mask k h q
+          marked_joined marks w g.mask k h q
           ∙ none_right (marked marks k) (bit_at g.mask (k % 64)) (near.only (k % 64) (omega arith) (λ j f t e. n j f t (e ∙ ap Some (let r : w * 64 + k % 64 ≡ k = omega (arith, q) in r))))
           (bit_at-lt (slice_index marks (k / 64)) (k % 64))
       | inr h ↦ ap (λ l. marked l k) (set_past marks w (bit_or (slice_index marks w) g.mask) h)
     ]
-    | inr q ↦ marked_apart marks w g.mask k q
+    | inr q ↦ written_other marks w (bit_or (slice_index marks w) g.mask) k q
   ]
 
-  module _ (steps : List Step) (p : ℕ) (values marks' : List ℕ) (known : (j k : ℕ) → slice_get readers j ≡ Some k → k / 64 < length marks) (m : HasMarked steps readers g.first to p values (holding marks w g.mask) marks') where
+  module _ (steps : List Step) (p : ℕ) (values marks' : List ℕ) (known : (j k : ℕ) → slice_get readers j ≡ Some k → k / 64 < length marks) (m : HasMarked steps readers g.first to p values (joined marks w g.mask) marks') where
     -- its readers are marked, and so are the others
     pub group_marked : HasMarked steps readers from to p values marks marks'
     group_marked = record {
-      long = m.long ∙ holding_long marks w g.mask;
+      long = m.long ∙ set_length marks w (bit_or (slice_index marks w) g.mask);
       grows = λ k e. m.grows k (group_grows k e);
       all = λ j k f t e. elim (lower_or_not j g.first) [
         | inl l ↦
-            let a = near.all j k f l e in
-            let h : w < length marks = (let b = known j k e in let d = a.0 in omega (arith, b, d)) in
-            inl (m.grows k (marked_holding marks w g.mask k h a.0 ∙ one_right (marked marks k) (bit_at g.mask (k % 64)) a.1 (bit_at-lt (slice_index marks (k / 64)) (k % 64))))
+            let a = near.early j k f l e in
+            let h : w < length marks = (let b = known j k e in omega (arith, a, b)) in
+            inl (m.grows k (marked_joined marks w g.mask k h a ∙ one_right (marked marks k) (bit_at g.mask (k % 64)) (near.all j k f t e a) (bit_at-lt (slice_index marks (k / 64)) (k % 64))))
         | inr l ↦ m.all j k l t e
       ];
       others = λ k n. m.others k (λ j f t e. n j (let a = near.least in omega (arith, a, f)) t e) ∙ group_others k n;

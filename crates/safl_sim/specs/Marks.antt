@@ -1,5 +1,5 @@
 -- Marks: bit i % 64 of word i / 64 is 1 where number i is marked.
-use Rattle.std.specs.Prelude.{◌≡◌, ℕ, ◌+◌, ◌*◌, ◌<◌, ◌≤◌, ◌/◌, ◌%◌, List, length, slice_set, slice_index, bit_or}
+use Rattle.std.specs.Prelude.{◌≡◌, ℕ, ◌+◌, ◌*◌, ◌<◌, ◌≤◌, ◌/◌, ◌%◌, List, length, slice_set, slice_index}
 use Rattle.std.specs.Int.{bit_at}
 
 abbrev pub marked : List ℕ → ℕ → ℕ
@@ -28,9 +28,9 @@ pub record HasTaken (old new : List ℕ) (w i : ℕ) : Type 0 where
   pub gone : marked new i ≡ 0
   pub others : (k : ℕ) → ¬ (k ≡ i) → marked new k ≡ marked old k
 
--- some marks of a word are held apart: the marks with these
+-- the marks of a word are held apart: the marks with these in their word
 abbrev pub holding : List ℕ → ℕ → ℕ → List ℕ
-holding marks w held = slice_set marks w (bit_or (slice_index marks w) held)
+holding marks w held = slice_set marks w held
 
 -- a range is marked
 pub record HasRange (from to : ℕ) (old new : List ℕ) : Type 0 where

@@ -6,12 +6,14 @@ use Rattle.safl_sim.specs.declared.step.Group.{Group}
 use Rattle.safl_sim.specs.declared.step.Register.{Register}
 use Rattle.safl_sim.specs.declared.step.Step.{Step}
 
--- of a part of the readers, those before a number stand in the word, each has its bit in the mask, and no other bit is 1
+-- of a part of the readers, those of the word have their bits in the mask, no other bit is 1, and those before a number are all
+-- of the word
 pub record IsNear (readers : List ℕ) (from to word : ℕ) (near : Near) : Type 0 where
   pub least : from ≤ near.first
   pub most : near.first ≤ to
   pub last : near.end ≡ to
-  pub all : (j k : ℕ) → from ≤ j → j < near.first → slice_get readers j ≡ Some k → (k / 64 ≡ word) × (bit_at near.mask (k % 64) ≡ 1)
+  pub early : (j k : ℕ) → from ≤ j → j < near.first → slice_get readers j ≡ Some k → k / 64 ≡ word
+  pub all : (j k : ℕ) → from ≤ j → j < to → slice_get readers j ≡ Some k → k / 64 ≡ word → bit_at near.mask (k % 64) ≡ 1
   pub only : (b : ℕ) → b < 64 → ((j : ℕ) → from ≤ j → j < to → ¬ (slice_get readers j ≡ Some (word * 64 + b))) → bit_at near.mask b ≡ 0
 
 -- those of the wire of step i

@@ -1,6 +1,6 @@
 //! Marks of steps and registers, a bit for each.
 
-ghost use Rattle.std.specs.Prelude.{◌≡◌, ℕ, ◌+◌, ◌*◌, ◌/◌, ◌<◌, ◌≤◌, ◌^◌, length, IfSome, IfNone};
+ghost use Rattle.std.specs.Prelude.{◌≡◌, ℕ, ◌+◌, ◌*◌, ◌/◌, ◌<◌, ◌≤◌, ◌^◌, List, length, IfSome, IfNone};
 ghost use Rattle.safl_sim.specs.Marks.{marked, holding, HasMark, HasTaken, HasNone, NoneBetween, HasRange};
 
 /// How many words have a bit for each of so many numbers.
@@ -46,24 +46,20 @@ pub struct Taken {
     pub left: u64,
 }
 
-/// Takes the first mark of a word away, where some of the word's marks are held apart, and hands out all others.
+/// Takes the first mark of a word away, of which all marks are held apart.
 #[inline(always)]
-pub fn take_held(marks: &mut [u64], word: usize, held: u64) -> Option<Taken>
-    requires within { word < length marks.old }
-    requires few { length marks.old ≤ 2 ^ 32 }
-    ensures none { IfNone result (HasNone (holding marks.old word held) word) }
-    ensures same { IfNone result (marks.new ≡ holding marks.old word held) }
-    ensures some { IfSome result (λ t. HasTaken (holding marks.old word held) (holding marks.new word t.left) word t.number) }
+pub fn take_held(word: usize, held: u64) -> Option<Taken>
+    requires few { word < 2 ^ 32 }
+    ensures none { IfNone result (held ≡ 0) }
+    ensures some { IfSome result (λ t. (marks : List ℕ) → word < length marks → HasTaken (holding marks word held) (holding marks word t.left) word t.number) }
 {
-    let left = marks[word] | held;
-    if left == 0 {
+    if held == 0 {
         None
     } else {
-        let bit = left.trailing_zeros();
-        marks[word] = 0;
+        let bit = held.trailing_zeros();
         Some(Taken {
             number: word * 64 + bit as usize,
-            left: left & !(1u64 << bit),
+            left: held & !(1u64 << bit),
         })
     }
 }

@@ -32,20 +32,18 @@ fn near_of(readers: &[u32], from: u32, to: u32, word: usize) -> Near
     ensures { IsNear readers.now from to word result }
 {
     let mut mask = 0;
+    let mut first = to;
     'readers: for j in from..to {
         let reader = readers[j as usize] as usize;
-        if reader / 64 != word {
-            return Near {
-                mask,
-                first: j,
-                end: to,
-            };
+        if reader / 64 == word {
+            mask |= 1u64 << (reader % 64);
+        } else if j < first {
+            first = j;
         }
-        mask |= 1u64 << (reader % 64);
     }
     Near {
         mask,
-        first: to,
+        first,
         end: to,
     }
 }

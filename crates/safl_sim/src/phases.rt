@@ -389,17 +389,20 @@ pub fn run_word(
     ensures runs { (o : Order) (regs : List Register) (held start : List ℕ) → Runs o steps.now regs held starts.now readers.now start (word * 64) values.old marks.old
         → Runs o steps.now regs held starts.now readers.now start ((word + 1) * 64) values.new marks.new }
 {
-    let mut held = 0;
+    let mut held = marks[word];
     'steps: for n in 0..64usize {
-        match take_held(marks, word, held) {
+        match take_held(word, held) {
             Some(taken) => {
                 let near = evaluate(values, marks, starts, readers, steps, &steps[taken.number]);
                 held = taken.left | near;
             }
-            None => return n,
+            None => {
+                marks[word] = 0;
+                return n;
+            }
         }
     }
-    marks[word] |= held;
+    marks[word] = held;
     64
 }
 

@@ -1,5 +1,5 @@
-use Rattle.safl_sim.specs.Nears.{IsNear}
+use Rattle.safl_sim.proofs.Nearing.{NearTo}
 use Rattle.safl_sim.proofs.near.near_of.Given as goal
 
 abbrev pub invariant-readers : goal.invariant-readers
-invariant-readers l = IsNear l.readers l.from l.j l.word (record { mask = l.mask; first = l.j; end = l.j })
+invariant-readers l = NearTo l.readers l.from l.j l.to l.word l.mask l.first

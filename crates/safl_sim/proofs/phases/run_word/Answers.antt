@@ -8,12 +8,15 @@ use Rattle.safl_sim.specs.Marks.{holding, HasTaken, first_register}
 use Rattle.safl_sim.specs.Readers.{Lists, HasGiven}
 use Rattle.safl_sim.specs.Steps.{action_number, Runs}
 use Rattle.safl_sim.proofs.Written.{get_at}
-use Rattle.safl_sim.proofs.Nearing.{holding_none, holding_long}
+use Rattle.safl_sim.proofs.Nearing.{holding_all, holding_long, no_marks}
 use Rattle.safl_sim.proofs.MarkedSteps.{Takes, takes, taken_within, taken_from, runs_to, none_left}
 use Rattle.safl_sim.proofs.phases.run_word.Goals as goal
 
 abbrev none : Step
 none = record { wire = record { 0 = 0 }; narrow = false; action = Const 0 0; near = record { mask = 0; first = 0; end = 0 } }
+
+inside : (word : ℕ) (marks marks' : List ℕ) → length marks' ≡ length marks → word < length marks → word < length marks'
+inside word marks marks' e h = omega (arith, e, h)
 
 -- one turn
 turn : (o : Order) (all : List Step) (regs : List Register) (now starts readers start : List ℕ) (word n i : ℕ) (values marks marks' : List ℕ) → n < 64 → (word + 1) * 64 ≤ first_register (length all) → Runs o all regs now starts readers start (word * 64 + n) values marks → HasTaken marks marks' word i
@@ -29,44 +32,46 @@ turn o all regs now starts readers start word n i values marks marks' h early w 
 pub bounds-steps-taken : goal.bounds-steps-taken
 bounds-steps-taken c =
     let r = c.requires.runs in
-    (turn r.0 c.args.steps.now r.1 r.2 c.args.starts.now c.args.readers.now r.3 c.args.word c.steps.n c.in-Some.taken.number c.steps.values (holding c.steps.marks c.args.word c.steps.held) (holding c.take_held.new.marks c.args.word c.in-Some.taken.left) c.steps-test.true c.requires.steps (c.steps.invariant.runs r.0 r.1 r.2 r.3 r.4) c.in-Some.ensures.some).0
+    (turn r.0 c.args.steps.now r.1 r.2 c.args.starts.now c.args.readers.now r.3 c.args.word c.steps.n c.in-Some.taken.number c.steps.values (holding c.steps.marks c.args.word c.steps.held) (holding c.steps.marks c.args.word c.in-Some.taken.left) c.steps-test.true c.requires.steps (c.steps.invariant.runs r.0 r.1 r.2 r.3 r.4) (c.in-Some.ensures.some c.steps.marks (inside c.args.word c.args.marks.now c.steps.marks c.steps.invariant.long c.requires.within))).0
 
 pub evaluate-near-requires-clause-within : goal.evaluate-near-requires-clause-within
 evaluate-near-requires-clause-within c =
     let r = c.requires.runs in
-    (turn r.0 c.args.steps.now r.1 r.2 c.args.starts.now c.args.readers.now r.3 c.args.word c.steps.n c.in-Some.taken.number c.steps.values (holding c.steps.marks c.args.word c.steps.held) (holding c.take_held.new.marks c.args.word c.in-Some.taken.left) c.steps-test.true c.requires.steps (c.steps.invariant.runs r.0 r.1 r.2 r.3 r.4) c.in-Some.ensures.some).2.wire
+    (turn r.0 c.args.steps.now r.1 r.2 c.args.starts.now c.args.readers.now r.3 c.args.word c.steps.n c.in-Some.taken.number c.steps.values (holding c.steps.marks c.args.word c.steps.held) (holding c.steps.marks c.args.word c.in-Some.taken.left) c.steps-test.true c.requires.steps (c.steps.invariant.runs r.0 r.1 r.2 r.3 r.4) (c.in-Some.ensures.some c.steps.marks (inside c.args.word c.args.marks.now c.steps.marks c.steps.invariant.long c.requires.within))).2.wire
 
 pub evaluate-near-requires-clause-lists : goal.evaluate-near-requires-clause-lists
 evaluate-near-requires-clause-lists c =
     let r = c.requires.runs in
-    subst (λ k. Lists c.args.starts.now c.args.readers.now (length c.steps.values) k) (holding_long c.take_held.new.marks c.args.word c.in-Some.taken.left) (turn r.0 c.args.steps.now r.1 r.2 c.args.starts.now c.args.readers.now r.3 c.args.word c.steps.n c.in-Some.taken.number c.steps.values (holding c.steps.marks c.args.word c.steps.held) (holding c.take_held.new.marks c.args.word c.in-Some.taken.left) c.steps-test.true c.requires.steps (c.steps.invariant.runs r.0 r.1 r.2 r.3 r.4) c.in-Some.ensures.some).2.lists
+    subst (λ k. Lists c.args.starts.now c.args.readers.now (length c.steps.values) k) (holding_long c.steps.marks c.args.word c.in-Some.taken.left) (turn r.0 c.args.steps.now r.1 r.2 c.args.starts.now c.args.readers.now r.3 c.args.word c.steps.n c.in-Some.taken.number c.steps.values (holding c.steps.marks c.args.word c.steps.held) (holding c.steps.marks c.args.word c.in-Some.taken.left) c.steps-test.true c.requires.steps (c.steps.invariant.runs r.0 r.1 r.2 r.3 r.4) (c.in-Some.ensures.some c.steps.marks (inside c.args.word c.args.marks.now c.steps.marks c.steps.invariant.long c.requires.within))).2.lists
 
 pub evaluate-near-requires-clause-ready : goal.evaluate-near-requires-clause-ready
 evaluate-near-requires-clause-ready c =
     let r = c.requires.runs in
-    (turn r.0 c.args.steps.now r.1 r.2 c.args.starts.now c.args.readers.now r.3 c.args.word c.steps.n c.in-Some.taken.number c.steps.values (holding c.steps.marks c.args.word c.steps.held) (holding c.take_held.new.marks c.args.word c.in-Some.taken.left) c.steps-test.true c.requires.steps (c.steps.invariant.runs r.0 r.1 r.2 r.3 r.4) c.in-Some.ensures.some).2.ready
+    (turn r.0 c.args.steps.now r.1 r.2 c.args.starts.now c.args.readers.now r.3 c.args.word c.steps.n c.in-Some.taken.number c.steps.values (holding c.steps.marks c.args.word c.steps.held) (holding c.steps.marks c.args.word c.in-Some.taken.left) c.steps-test.true c.requires.steps (c.steps.invariant.runs r.0 r.1 r.2 r.3 r.4) (c.in-Some.ensures.some c.steps.marks (inside c.args.word c.args.marks.now c.steps.marks c.steps.invariant.long c.requires.within))).2.ready
 
 pub evaluate-near-requires-clause-low : goal.evaluate-near-requires-clause-low
 evaluate-near-requires-clause-low c =
     let r = c.requires.runs in
-    (turn r.0 c.args.steps.now r.1 r.2 c.args.starts.now c.args.readers.now r.3 c.args.word c.steps.n c.in-Some.taken.number c.steps.values (holding c.steps.marks c.args.word c.steps.held) (holding c.take_held.new.marks c.args.word c.in-Some.taken.left) c.steps-test.true c.requires.steps (c.steps.invariant.runs r.0 r.1 r.2 r.3 r.4) c.in-Some.ensures.some).2.low
+    (turn r.0 c.args.steps.now r.1 r.2 c.args.starts.now c.args.readers.now r.3 c.args.word c.steps.n c.in-Some.taken.number c.steps.values (holding c.steps.marks c.args.word c.steps.held) (holding c.steps.marks c.args.word c.in-Some.taken.left) c.steps-test.true c.requires.steps (c.steps.invariant.runs r.0 r.1 r.2 r.3 r.4) (c.in-Some.ensures.some c.steps.marks (inside c.args.word c.args.marks.now c.steps.marks c.steps.invariant.long c.requires.within))).2.low
 
 pub evaluate-near-requires-clause-near : goal.evaluate-near-requires-clause-near
 evaluate-near-requires-clause-near c =
     let r = c.requires.runs in
     let i = c.in-Some.taken.number in
-    (i, c.requires.near i (get_or c.args.steps.now i none) (get_at c.args.steps.now i none (turn r.0 c.args.steps.now r.1 r.2 c.args.starts.now c.args.readers.now r.3 c.args.word c.steps.n c.in-Some.taken.number c.steps.values (holding c.steps.marks c.args.word c.steps.held) (holding c.take_held.new.marks c.args.word c.in-Some.taken.left) c.steps-test.true c.requires.steps (c.steps.invariant.runs r.0 r.1 r.2 r.3 r.4) c.in-Some.ensures.some).0))
+    (i, c.requires.near i (get_or c.args.steps.now i none) (get_at c.args.steps.now i none (turn r.0 c.args.steps.now r.1 r.2 c.args.starts.now c.args.readers.now r.3 c.args.word c.steps.n c.in-Some.taken.number c.steps.values (holding c.steps.marks c.args.word c.steps.held) (holding c.steps.marks c.args.word c.in-Some.taken.left) c.steps-test.true c.requires.steps (c.steps.invariant.runs r.0 r.1 r.2 r.3 r.4) (c.in-Some.ensures.some c.steps.marks (inside c.args.word c.args.marks.now c.steps.marks c.steps.invariant.long c.requires.within))).0))
 
 pub returns-in-None-clause-runs : goal.returns-in-None-clause-runs
 returns-in-None-clause-runs c = λ o regs now start w.
-    subst (λ l. Runs o c.args.steps.now regs now c.args.starts.now c.args.readers.now start ((c.args.word + 1) * 64) c.steps.values l) (sym c.in-None.ensures.same)
-    (none_left o c.args.steps.now regs now c.args.starts.now c.args.readers.now start (c.args.word * 64 + c.steps.n) c.args.word c.steps.values (holding c.steps.marks c.args.word c.steps.held) (c.steps.invariant.runs o regs now start w) (omega arith) c.in-None.ensures.none)
+    let word = c.args.word in
+    none_left o c.args.steps.now regs now c.args.starts.now c.args.readers.now start (word * 64 + c.steps.n) word c.steps.values (holding c.steps.marks word 0)
+    (subst (λ h. Runs o c.args.steps.now regs now c.args.starts.now c.args.readers.now start (word * 64 + c.steps.n) c.steps.values (holding c.steps.marks word h)) c.in-None.ensures.none (c.steps.invariant.runs o regs now start w))
+    (omega arith) (no_marks c.steps.marks word (inside c.args.word c.args.marks.now c.steps.marks c.steps.invariant.long c.requires.within))
 
 pub steps-init : goal.steps-init
 steps-init c = record {
   long = refl;
   runs = λ o regs now start w.
-      subst (λ l. Runs o c.args.steps.now regs now c.args.starts.now c.args.readers.now start (c.args.word * 64 + 0) c.args.values.now l) (sym (holding_none c.args.marks.now c.args.word))
+      subst (λ l. Runs o c.args.steps.now regs now c.args.starts.now c.args.readers.now start (c.args.word * 64 + 0) c.args.values.now l) (sym (holding_all c.args.marks.now c.args.word))
       (subst (λ k. Runs o c.args.steps.now regs now c.args.starts.now c.args.readers.now start k c.args.values.now c.args.marks.now) (let z : c.args.word * 64 ≡ c.args.word * 64 + 0 = omega arith in z) w);
 }
 
@@ -75,13 +80,13 @@ steps-preserved c =
     let i = c.in-Some.taken.number in
     let left = c.in-Some.taken.left in
     let step = get_or c.args.steps.now i none in
-    let within = c.in-Some.ensures.some.within in
+    let within = (c.in-Some.ensures.some c.steps.marks (inside c.args.word c.args.marks.now c.steps.marks c.steps.invariant.long c.requires.within)).within in
     record {
-      long = (let a = c.evaluate-near.auto.marks in let b = c.take_held.auto.marks in let d = c.steps.invariant.long in omega (arith, a, b, d));
+      long = (let a = c.evaluate-near.auto.marks in let d = c.steps.invariant.long in omega (arith, a, d));
       runs = λ o regs now start w.
-          let t = turn o c.args.steps.now regs now c.args.starts.now c.args.readers.now start c.args.word c.steps.n i c.steps.values (holding c.steps.marks c.args.word c.steps.held) (holding c.take_held.new.marks c.args.word left) c.steps-test.true c.requires.steps (c.steps.invariant.runs o regs now start w) c.in-Some.ensures.some in
-          let g = c.evaluate-near.ensures i left (let a = c.steps.invariant.long in let b = c.take_held.auto.marks in let d = c.requires.within in omega (arith, a, b, d, within)) (c.requires.near i step (get_at c.args.steps.now i none t.0)) in
-          let g' = subst (λ y. HasGiven c.args.steps.now c.args.starts.now c.args.readers.now step.wire.0 (action_number (slice_index c.steps.values) step.action) c.steps.values c.evaluate-near.new.values (holding c.take_held.new.marks y left) (holding c.evaluate-near.new.marks y (bit_or left c.evaluate-near.result))) within g in
+          let t = turn o c.args.steps.now regs now c.args.starts.now c.args.readers.now start c.args.word c.steps.n i c.steps.values (holding c.steps.marks c.args.word c.steps.held) (holding c.steps.marks c.args.word left) c.steps-test.true c.requires.steps (c.steps.invariant.runs o regs now start w) (c.in-Some.ensures.some c.steps.marks (inside c.args.word c.args.marks.now c.steps.marks c.steps.invariant.long c.requires.within)) in
+          let g = c.evaluate-near.ensures i left (let a = c.steps.invariant.long in let d = c.requires.within in omega (arith, a, d, within)) (c.requires.near i step (get_at c.args.steps.now i none t.0)) in
+          let g' = subst (λ y. HasGiven c.args.steps.now c.args.starts.now c.args.readers.now step.wire.0 (action_number (slice_index c.steps.values) step.action) c.steps.values c.evaluate-near.new.values (holding c.steps.marks y left) (holding c.evaluate-near.new.marks y (bit_or left c.evaluate-near.result))) within g in
           let after = t.2.next c.evaluate-near.new.values (holding c.evaluate-near.new.marks c.args.word (bit_or left c.evaluate-near.result)) g' in
           runs_to o c.args.steps.now regs now c.args.starts.now c.args.readers.now start (i + 1) (c.args.word * 64 + (c.steps.n + 1)) c.evaluate-near.new.values (holding c.evaluate-near.new.marks c.args.word (bit_or left c.evaluate-near.result)) after
           (λ k l. after.below k (let a = t.1 in omega (arith, a, l)));
