@@ -20,25 +20,6 @@ pub fn mark(marks: &mut [u64], i: usize)
     marks[i / 64] |= 1u64 << (i % 64);
 }
 
-/// Takes the first mark of a word away.
-#[inline(always)]
-pub fn take(marks: &mut [u64], word: usize) -> Option<usize>
-    requires within { word < length marks.old }
-    requires few { length marks.old ≤ 2 ^ 32 }
-    ensures none { IfNone result (HasNone marks.old word) }
-    ensures same { IfNone result (marks.new ≡ marks.old) }
-    ensures some { IfSome result (λ i. HasTaken marks.old marks.new word i) }
-{
-    let left = marks[word];
-    if left == 0 {
-        None
-    } else {
-        let bit = left.trailing_zeros();
-        marks[word] = left & !(1u64 << bit);
-        Some(word * 64 + bit as usize)
-    }
-}
-
 /// A number that was marked, and what of its word is left.
 #[derive(Clone, Copy)]
 pub struct Taken {

@@ -14,7 +14,7 @@ ghost use Rattle.safl_sim.specs.Steps.{Waits, Goes, Runs, Ready, LowStep, action
 ghost use Rattle.safl_sim.specs.Cycles.{KeepsPlan, Cycles};
 ghost use Rattle.safl_sim.specs.Writes.{HasPut, HasShown, Shows, KeepsOn, after_steps, AllReady};
 
-use crate::marks::{clear, mark, mark_range, next_word, take, take_held, word_count};
+use crate::marks::{clear, mark, mark_range, next_word, take_held, word_count};
 use crate::numbers::Numbers;
 use crate::plan::Plan;
 use crate::readers::{mark_group, mark_readers};
@@ -162,20 +162,29 @@ pub fn show_word(
     let registers = plan.registers.as_slice();
     let groups = plan.groups.as_slice();
     let readers = plan.readers.as_slice();
+    let mut held = waiting[word];
     'registers: for _n in 0..64u32 {
-        match take(waiting, word) {
-            Some(i) => show(
-                values,
-                marks,
-                steps,
-                readers,
-                registers[i],
-                groups[i],
-                state,
-            ),
-            None => return,
+        match take_held(word, held) {
+            Some(taken) => {
+                let i = taken.number;
+                held = taken.left;
+                show(
+                    values,
+                    marks,
+                    steps,
+                    readers,
+                    registers[i],
+                    groups[i],
+                    state,
+                );
+            }
+            None => {
+                waiting[word] = 0;
+                return;
+            }
         }
     }
+    waiting[word] = held;
 }
 
 /// Shows the registers that wait.
@@ -251,15 +260,21 @@ pub fn keep_word(
     ensures { (start was : List ℕ) → KeepsOn (first * 64) registers.now values.now (word * 64) start was state.old marks.old waiting.old
         → KeepsOn (first * 64) registers.now values.now ((word + 1) * 64) start was state.new marks.new waiting.new }
 {
+    let mut held = marks[word];
     'registers: for _n in 0..64u32 {
-        match take(marks, word) {
-            Some(i) => {
-                let k = i - first * 64;
+        match take_held(word, held) {
+            Some(taken) => {
+                let k = taken.number - first * 64;
+                held = taken.left;
                 keep(state, waiting, registers, values, k);
             }
-            None => return,
+            None => {
+                marks[word] = 0;
+                return;
+            }
         }
     }
+    marks[word] = held;
 }
 
 /// Keeps the numbers of the next signals as the state of the registers that are marked, and lets these wait.
