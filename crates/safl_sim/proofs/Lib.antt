@@ -9,6 +9,7 @@ pub mod Scenes
 pub mod MarkedSteps
 pub mod Nearing
 pub mod Cycle
+pub mod Chaining
 pub mod Tables
 pub mod Few
 pub mod Builds

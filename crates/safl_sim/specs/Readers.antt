@@ -1,6 +1,5 @@
 -- What reads each place, and numbers that are given to places.
-use Rattle.std.specs.Prelude.{◌≡◌, ◌⊎◌, ℕ, ◌+◌, ◌/◌, ◌<◌, ◌≤◌, List, Vec, map, length, Some, slice_get, slice_set, slice_index}
-use Rattle.std.specs.Global.{Global}
+use Rattle.std.specs.Prelude.{◌≡◌, ◌⊎◌, ℕ, ◌+◌, ◌/◌, ◌<◌, ◌≤◌, List, map, length, Some, slice_get, slice_set, slice_index}
 use Rattle.safl_word.specs.Words.{pick}
 use Rattle.safl_net.specs.Netlist.{Netlist, Wire, Cell}
 use Rattle.safl_net.specs.Valuations.{signal_word, cell_word}
@@ -89,32 +88,28 @@ pub record Holding (n : Netlist) (ws : List ℕ) (regs : List Register) (now val
 abbrev pub RegistersAway : List Register → List ℕ → Type 0
 RegistersAway regs ws = (k : ℕ) (r : Register) → slice_get regs k ≡ Some r → (i : ℕ) → ¬ (slice_get ws i ≡ Some r.signal.0)
 
--- the list of each place has the steps, of those before step k and of the first i operands of step k, that read it
-abbrev pub Among : ℕ → ℕ → ℕ → ℕ → Type 0
-Among k i j m = (j < k) ⊎ ((j ≡ k) × (m < i))
+-- number k reads place p: it is of a step that has p as an operand, or of a register that has p as its next signal
+abbrev pub Reads : Netlist → List ℕ → List Register → ℕ → ℕ → Type 0
+Reads n ws regs p k = ((s : ℕ) × (i : ℕ) × (slice_get ws k ≡ Some s) × (slice_get (operands_of n s) i ≡ Some p))
+    ⊎ ((i : ℕ) × (r : Register) × (k ≡ first_register (length ws) + i) × (slice_get regs i ≡ Some r) × (r.next.0 ≡ p))
 
-pub record AreLists (n : Netlist) (ws : List ℕ) (k i : ℕ) (lists : List (Vec ℕ Global)) : Type 0 where
-  pub all : (p j m s : ℕ) → Among k i j m → slice_get ws j ≡ Some s → slice_get (operands_of n s) m ≡ Some p
-      → (v : Vec ℕ Global) × (e : ℕ) × (slice_get lists p ≡ Some v) × (slice_get v.items e ≡ Some j)
-  pub only : (p e j : ℕ) (v : Vec ℕ Global) → slice_get lists p ≡ Some v → slice_get v.items e ≡ Some j
-      → (m : ℕ) × (s : ℕ) × Among k i j m × (slice_get ws j ≡ Some s) × (slice_get (operands_of n s) m ≡ Some p)
+-- number k is on list p
+abbrev pub On : List (List ℕ) → ℕ → ℕ → Type 0
+On lists p k = (v : List ℕ) × (e : ℕ) × (slice_get lists p ≡ Some v) × (slice_get v e ≡ Some k)
+
+-- of the numbers from k on, all that read a place are on its list, and of those of the step before them so many operands are;
+-- nothing else is on a list
+pub record AreLists (n : Netlist) (ws : List ℕ) (regs : List Register) (k i : ℕ) (lists : List (List ℕ)) : Type 0 where
+  pub all : (p j : ℕ) → k ≤ j → Reads n ws regs p j → On lists p j
+  pub own : (p j m s : ℕ) → j + 1 ≡ k → m < i → slice_get ws j ≡ Some s → slice_get (operands_of n s) m ≡ Some p → On lists p j
+  pub only : (p j : ℕ) → On lists p j → Reads n ws regs p j
 
 -- the first of the lists stand one after another
-pub record AreFlat (lists : List (Vec ℕ Global)) (starts readers : List ℕ) (count : ℕ) : Type 0 where
+pub record AreFlat (lists : List (List ℕ)) (starts readers : List ℕ) (count : ℕ) : Type 0 where
   pub long : length starts ≡ count + 1
   pub last : slice_index starts count ≡ length readers
   pub ordered : (p : ℕ) → p < count → slice_index starts p ≤ slice_index starts (p + 1)
   pub within : (p : ℕ) → p ≤ count → slice_index starts p ≤ length readers
-  pub all : (p e j : ℕ) (v : Vec ℕ Global) → p < count → slice_get lists p ≡ Some v → slice_get v.items e ≡ Some j → Reader starts readers p j
-  pub only : (p j : ℕ) → p < count → Reader starts readers p j → (v : Vec ℕ Global) × (e : ℕ) × (slice_get lists p ≡ Some v) × (slice_get v.items e ≡ Some j)
-  pub from : (j k : ℕ) → slice_get readers j ≡ Some k → (p : ℕ) × (v : Vec ℕ Global) × (e : ℕ) × (slice_get lists p ≡ Some v) × (slice_get v.items e ≡ Some k)
-
--- the list of each place has all steps that read it, and the first registers that have it as their next signal
-pub record AreAllLists (n : Netlist) (ws : List ℕ) (regs : List Register) (count : ℕ) (lists : List (Vec ℕ Global)) : Type 0 where
-  pub all : (p k i s : ℕ) → slice_get ws k ≡ Some s → slice_get (operands_of n s) i ≡ Some p
-      → (v : Vec ℕ Global) × (e : ℕ) × (slice_get lists p ≡ Some v) × (slice_get v.items e ≡ Some k)
-  pub nexts : (k : ℕ) (r : Register) → k < count → slice_get regs k ≡ Some r
-      → (v : Vec ℕ Global) × (e : ℕ) × (slice_get lists r.next.0 ≡ Some v) × (slice_get v.items e ≡ Some (first_register (length ws) + k))
-  pub only : (p e k : ℕ) (v : Vec ℕ Global) → slice_get lists p ≡ Some v → slice_get v.items e ≡ Some k → k < first_register (length ws)
-      → (s : ℕ) × (i : ℕ) × (slice_get ws k ≡ Some s) × (slice_get (operands_of n s) i ≡ Some p)
-  pub within : (p e k : ℕ) (v : Vec ℕ Global) → slice_get lists p ≡ Some v → slice_get v.items e ≡ Some k → k < first_register (length ws) + count
+  pub all : (p j : ℕ) → p < count → On lists p j → Reader starts readers p j
+  pub only : (p j : ℕ) → p < count → Reader starts readers p j → On lists p j
+  pub from : (j k : ℕ) → slice_get readers j ≡ Some k → (p : ℕ) × On lists p k

@@ -2,6 +2,7 @@
 #![tactic(auto)]
 
 pub mod arguments;
+mod chains;
 pub mod done;
 pub mod inputs;
 pub mod laws;
@@ -14,6 +15,7 @@ mod plan;
 mod readers;
 pub mod sim;
 mod step;
+mod table;
 
 pub use crate::arguments::argument_widths;
 pub use crate::done::{Done, run_until_done};

@@ -7,7 +7,7 @@ ghost use Rattle.safl_net.specs.Rules.{IsNetlist};
 ghost use Rattle.safl_net.specs.Making.{numbers, kind_at};
 ghost use Rattle.safl_order.specs.Order.{IsWire, IsOrder, operands_of};
 ghost use Rattle.safl_sim.specs.Marks.{marked, first_register};
-ghost use Rattle.safl_sim.specs.Readers.{Lists, AreReaders, Inside, AreLists, AreAllLists, AreFlat};
+ghost use Rattle.safl_sim.specs.Readers.{Inside};
 ghost use Rattle.safl_sim.specs.Places.{with_input, inputs_of, resets};
 ghost use Rattle.safl_sim.specs.Steps.{IsStep, IsReg, AreSteps, AreRegisters};
 ghost use Rattle.safl_sim.specs.Cycles.{KeepsPlan};
@@ -17,6 +17,7 @@ use crate::near::{groups_of, note_near};
 use crate::numbers::Numbers;
 use crate::plan::Plan;
 use crate::step::{Near, Register, Step, action_of, is_narrow};
+use crate::table::table_of;
 use safl_net::{Net, Sig, SigKind};
 use safl_order::Ordered;
 use safl_word::Raw;
@@ -114,123 +115,6 @@ fn mark_all(marks: &mut [u64], steps: usize, registers: usize)
     let first = words * 64;
     mark_range(marks, 0, steps);
     mark_range(marks, first, first + registers);
-}
-
-// What reads each place, place by place.
-#[derive(Drop)]
-struct Table {
-    starts: Vec<u32>,
-    readers: Vec<u32>,
-}
-
-fn table_of(
-    alloc: Global,
-    net: &Net,
-    wires: &[Sig],
-    registers: &[Register],
-) -> Result<Table, AllocError>
-    requires few { length wires.now < 2 ^ 32 }
-    requires some { length registers.now < 2 ^ 32 }
-    requires netlist { IsNetlist net.now }
-    requires order { IsOrder net.now (numbers wires.now) }
-    requires registers { AreRegisters net.now (length net.now.signals) registers.now }
-    ensures lists { IfOk result (λ t. Lists t.starts.items t.readers.items (length net.now.signals) ((first_register (length wires.now) + length registers.now + 63) / 64)) }
-    ensures readers { IfOk result (λ t. AreReaders net.now (numbers wires.now) registers.now t.starts.items t.readers.items) }
-{
-    let mut lists = lists_of(alloc, net, wires)?;
-    let words = word_count(wires.len());
-    push_nexts(&mut lists, registers, words * 64)?;
-    let table = flatten(alloc, &lists)?;
-    Ok(table)
-}
-
-// The steps that have a place as an operand, for each place.
-fn lists_of(alloc: Global, net: &Net, wires: &[Sig]) -> Result<Vec<Vec<u32>>, AllocError>
-    requires few { length wires.now < 2 ^ 32 }
-    requires netlist { IsNetlist net.now }
-    requires order { IsOrder net.now (numbers wires.now) }
-    ensures long { IfOk result (λ v. length v.items ≡ length net.now.signals) }
-    ensures lists { IfOk result (λ v. AreLists net.now (numbers wires.now) (length wires.now) 0 v.items) }
-{
-    let count = net.signals();
-    let mut lists = Vec::with_capacity(alloc, count as usize)?;
-    'places: for _p in 0..count {
-        lists.push(Vec::new(alloc))?;
-    }
-    'wires: for k in 0..wires.len() {
-        push_step(&mut lists, net, wires[k], k as u32)?;
-    }
-    Ok(lists)
-}
-
-fn push_step(lists: &mut [Vec<u32>], net: &Net, wire: Sig, k: u32) -> Result<(), AllocError>
-    requires netlist { IsNetlist net.now }
-    requires set { AllSet net.now }
-    requires wire { IsWire net.now wire.0 }
-    requires long { length lists.old ≡ length net.now.signals }
-    ensures long { length lists.new ≡ length lists.old }
-    ensures more { (ws : List ℕ) → slice_get ws k ≡ Some wire.0 → AreLists net.now ws k 0 lists.old → OnOk result (AreLists net.now ws (k + 1) 0 lists.new) }
-{
-    match net.cell(wire) {
-        Some(cell) => push_operands(lists, cell.operands.as_slice(), k),
-        None => unreachable!(),
-    }
-}
-
-fn push_operands(lists: &mut [Vec<u32>], operands: &[Sig], k: u32) -> Result<(), AllocError>
-    requires within { (i : ℕ) (t : Sig) → slice_get operands.now i ≡ Some t → t.0 < length lists.old }
-    ensures long { length lists.new ≡ length lists.old }
-    ensures more { (n : Netlist) (ws : List ℕ) (s : ℕ) → slice_get ws k ≡ Some s → operands_of n s ≡ numbers operands.now → AreLists n ws k 0 lists.old
-        → OnOk result (AreLists n ws (k + 1) 0 lists.new) }
-{
-    'operands: for i in 0..operands.len() {
-        lists[operands[i].0 as usize].push(k)?;
-    }
-    Ok(())
-}
-
-// Puts the marks of the registers, which begin with `first`, on the lists of their next signals.
-fn push_nexts(
-    lists: &mut [Vec<u32>],
-    registers: &[Register],
-    first: usize,
-) -> Result<(), AllocError>
-    requires few { first + length registers.now < 2 ^ 40 }
-    requires within { (k : ℕ) (r : Register) → slice_get registers.now k ≡ Some r → r.next.0 < length lists.old }
-    ensures long { length lists.new ≡ length lists.old }
-    ensures all { (n : Netlist) (ws : List ℕ) → first ≡ first_register (length ws) → AreAllLists n ws registers.now 0 lists.old
-        → OnOk result (AreAllLists n ws registers.now (length registers.now) lists.new) }
-{
-    'registers: for i in 0..registers.len() {
-        let mark = narrowed(first + i)?;
-        lists[registers[i].next.0 as usize].push(mark)?;
-    }
-    Ok(())
-}
-
-// The lists laid out one after another.
-fn flatten(alloc: Global, lists: &[Vec<u32>]) -> Result<Table, AllocError>
-    ensures { IfOk result (λ t. AreFlat lists.now t.starts.items t.readers.items (length lists.now)) }
-{
-    let mut starts = Vec::with_capacity(alloc, lists.len() + 1)?;
-    let mut readers = Vec::new(alloc);
-    starts.push(0)?;
-    'places: for p in 0..lists.len() {
-        readers.extend_from_slice(&lists[p])?;
-        let count = narrowed(readers.len())?;
-        starts.push(count)?;
-    }
-    Ok(Table { starts, readers })
-}
-
-// A number in 32 bits. Tables that had more would not fit into memory.
-fn narrowed(number: usize) -> Result<u32, AllocError>
-    ensures { IfOk result (λ k. k ≡ number) }
-{
-    if number > 0xFFFF_FFFF {
-        return Err(AllocError);
-    }
-    Ok(number as u32)
 }
 
 // The steps of wires, in their order.

@@ -7,7 +7,7 @@ use Rattle.safl_net.proofs.Naming.{within}
 use Rattle.safl_sim.proofs.InputsInOrder.{get_map}
 use Rattle.safl_sim.proofs.Builds.{cell_found}
 use Rattle.safl_sim.proofs.Scenes.{index_get}
-use Rattle.safl_sim.proofs.parts.push_step.Goals as goal
+use Rattle.safl_sim.proofs.table.push_step.Goals as goal
 
 pub push_operands-requires : goal.push_operands-requires
 push_operands-requires c = record {
@@ -22,6 +22,6 @@ push_operands-requires c = record {
 }
 
 pub returns-clause-more : goal.returns-clause-more
-returns-clause-more c = λ ws at w.
+returns-clause-more c = λ ws regs at w.
     let is = sym c.cell.ensures ∙ ap (λ x. maybe_cell (option_copied x)) c.in-Some.is in
-    c.push_operands.ensures.more c.args.net.now ws c.args.wire.0 at (ap operands_in is ∙ ap (λ (l : List Sig). numbers l) (sym c.as_slice.ensures.value)) w
+    c.push_operands.ensures.more c.args.net.now ws regs c.args.wire.0 at (ap operands_in is ∙ ap (λ (l : List Sig). numbers l) (sym c.as_slice.ensures.value)) w
