@@ -12,11 +12,13 @@ use Rattle.safl_net.proofs.Naming.{within}
 use Rattle.safl_net.proofs.OneValuation.{one_valuation}
 use Rattle.safl_order.specs.Order.{Order, IsWire}
 use Rattle.safl_order.proofs.Ends.{order_acyclic}
+use Rattle.safl_sim.specs.declared.step.Near.{Near}
 use Rattle.safl_sim.specs.declared.step.Step.{Step}
 use Rattle.safl_sim.specs.declared.step.Register.{Register}
 use Rattle.safl_sim.specs.Places.{inputs_of, AreInputs, HasWords}
 use Rattle.safl_sim.specs.Simulation.{Simulation, Ticks}
 use Rattle.safl_sim.specs.Marks.{marked, first_register}
+use Rattle.safl_sim.specs.Nears.{AreNear}
 use Rattle.safl_sim.specs.Readers.{Lists, Kept, Shown}
 use Rattle.safl_sim.specs.Steps.{IsReg, AreRegisters, Waits, Keeps, Runs, Goes}
 use Rattle.safl_sim.specs.declared.plan.Plan.{Plan}
@@ -67,6 +69,9 @@ next_in n regs count made w i r e =
     let b = next_at n r a.0 i a.1 in
     (subst (λ x. KindFits n b.0.width x) b.2 (made.signals r.signal.0 b.0 b.1).kind).1
 
+pub registers_known : (n : Netlist) (regs : List Register) (count : ℕ) → AreRegisters n count regs → (i : ℕ) (r : Register) → slice_get regs i ≡ Some r → r.signal.0 < length n.signals
+registers_known n regs count w i r e = let a = w.each i r e in let b = next_at n r a.0 i a.1 in within n.signals r.signal.0 b.0 b.1
+
 module _ (o : Order) (steps : List Step) (places : List Sig) (regs : List Register) (starts readers marks waiting now v0 : List ℕ) (k : Keeps o steps places regs starts readers marks waiting now v0) (given : List Word) (are : AreInputs o.net given) where
   -- what the calls of a cycle ask
   pub put_within : (i : ℕ) (s : Sig) → slice_get places i ≡ Some s → s.0 < length v0
@@ -79,7 +84,7 @@ module _ (o : Order) (steps : List Step) (places : List Sig) (regs : List Regist
   put_long = inputs_long o.net places given k.inputs are
 
   pub reg_within : (i : ℕ) (r : Register) → slice_get regs i ≡ Some r → r.signal.0 < length o.net.signals
-  reg_within i r e = let a = k.registers.each i r e in let b = next_at o.net r a.0 i a.1 in within o.net.signals r.signal.0 b.0 b.1
+  reg_within i r e = registers_known o.net regs (length o.net.signals) k.registers i r e
 
   pub next_within : (i : ℕ) (r : Register) → slice_get regs i ≡ Some r → r.next.0 < length o.net.signals
   next_within i r e = next_in o.net regs (length o.net.signals) k.made k.registers i r e
@@ -340,6 +345,28 @@ goes_through n ws steps steps' regs regs' now starts starts' readers readers' v1
     (subst (λ x. Goes n ws steps x now starts' readers' v1 v2 m1 m2) (sym c)
     (subst (λ x. Goes n ws steps regs now x readers' v1 v2 m1 m2) (sym s)
     (subst (λ x. Goes n ws steps regs now starts x v1 v2 m1 m2) (sym r) g)))
+
+pub runs_through : (o : Order) (steps steps' : List Step) (regs regs' : List Register) (now starts starts' readers readers' start : List ℕ) (place : ℕ) (v m : List ℕ) → steps' ≡ steps → regs' ≡ regs → starts' ≡ starts → readers' ≡ readers
+    → Runs o steps regs now starts readers start place v m → Runs o steps' regs' now starts' readers' start place v m
+runs_through o steps steps' regs regs' now starts starts' readers readers' start place v m a c s r w =
+    subst (λ x. Runs o x regs' now starts' readers' start place v m) (sym a)
+    (subst (λ x. Runs o steps x now starts' readers' start place v m) (sym c)
+    (subst (λ x. Runs o steps regs now x readers' start place v m) (sym s)
+    (subst (λ x. Runs o steps regs now starts x start place v m) (sym r) w)))
+
+pub ran_through : (o : Order) (steps steps' : List Step) (regs regs' : List Register) (now starts starts' readers readers' start : List ℕ) (v m : List ℕ) → steps' ≡ steps → regs' ≡ regs → starts' ≡ starts → readers' ≡ readers
+    → Runs o steps regs now starts readers start (first_register (length steps)) v m → Runs o steps' regs' now starts' readers' start (first_register (length steps')) v m
+ran_through o steps steps' regs regs' now starts starts' readers readers' start v m a c s r w =
+    runs_through o steps steps' regs regs' now starts starts' readers readers' start (first_register (length steps')) v m a c s r
+    (subst (λ (x : List Step). Runs o steps regs now starts readers start (first_register (length x)) v m) (sym a) w)
+
+pub near_through : (starts starts' readers readers' : List ℕ) (steps steps' : List Step) (nears nears' : List Near) → starts' ≡ starts → readers' ≡ readers → steps' ≡ steps → nears' ≡ nears
+    → AreNear starts readers steps nears → AreNear starts' readers' steps' nears'
+near_through starts starts' readers readers' steps steps' nears nears' s r a d w =
+    subst (λ x. AreNear x readers' steps' nears') (sym s)
+    (subst (λ x. AreNear starts x steps' nears') (sym r)
+    (subst (λ x. AreNear starts readers x nears') (sym a)
+    (subst (λ x. AreNear starts readers steps x) (sym d) w)))
 
 pub keeps_same : (o : Order) (steps : List Step) (places : List Sig) (regs : List Register) (starts readers marks marks' waiting waiting' now now' v v' : List ℕ) → marks' ≡ marks → waiting' ≡ waiting → now' ≡ now → v' ≡ v
     → Keeps o steps places regs starts readers marks waiting now v → Keeps o steps places regs starts readers marks' waiting' now' v'

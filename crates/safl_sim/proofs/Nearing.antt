@@ -14,7 +14,7 @@ use Rattle.safl_sim.specs.declared.step.Register.{Register}
 use Rattle.safl_sim.specs.declared.step.Step.{Step}
 use Rattle.safl_sim.specs.Marks.{marked, holding, HasNone, HasTaken}
 use Rattle.safl_sim.specs.Readers.{Reader, HasMarked, HasGiven}
-use Rattle.safl_sim.specs.Nears.{IsNear, NearOf, AreNearTo, GroupOf}
+use Rattle.safl_sim.specs.Nears.{IsNear, NearOf, GroupOf}
 use Rattle.safl_sim.specs.Steps.{IsStep, AreSteps}
 use Rattle.safl_sim.proofs.Written.{same_or_not, lower_or_not, lower_or_same, index_here, set_length}
 use Rattle.safl_sim.proofs.MarksByOne.{written_same, written_other, none_in, take_has}
@@ -161,42 +161,6 @@ near_is readers from j to word m first z w = record {
   only = λ b h n. w.only b h (λ i f t e. n i f (omega (arith, t, z)) e);
 }
 
-pub noted : (starts readers : List ℕ) (i : ℕ) (steps : List Step) (s s' : Step) → slice_get steps i ≡ Some s → NearOf starts readers i s' → AreNearTo starts readers i steps → AreNearTo starts readers (i + 1) (set steps i s')
-noted starts readers i steps s s' at near w k t h e = elim (lower_or_same k i h) [
-  | inl l ↦ w k t l (sym (get_set_other steps i k s' (λ z. omega (arith, z, l))) ∙ e)
-  | inr z ↦
-      let q : Some t ≡ Some s' = sym e ∙ ap (slice_get (set steps i s')) z ∙ get_set_same steps i s' (get_in steps i s at) in
-      let one : t ≡ s' = cc in
-      subst (λ y. NearOf starts readers y t) (sym z) (subst (λ y. NearOf starts readers i y) (sym one) near)
-]
-
-pub steps_noted : (n : Netlist) (ws : List ℕ) (steps : List Step) (i : ℕ) (s : Step) (near : Near) → slice_get steps i ≡ Some s → AreSteps n ws steps → AreSteps n ws (set steps i (record { wire = s.wire; narrow = s.narrow; action = s.action; near = near }))
-steps_noted n ws steps i s near at w =
-    let s' : Step = record { wire = s.wire; narrow = s.narrow; action = s.action; near = near } in
-    record {
-      long = set_long steps i s' ∙ w.long;
-      each = λ k p t f e. elim (same_or_not k i) [
-        | inl z ↦
-            let q : Some t ≡ Some s' = sym e ∙ ap (slice_get (set steps i s')) z ∙ get_set_same steps i s' (get_in steps i s at) in
-            let one : t ≡ s' = cc in
-            let is = w.each k p s f (ap (slice_get steps) z ∙ at) in
-            subst (λ y. IsStep n p y) (sym one) (record { wire = is.wire; cell = is.cell; is = is.is; performs = is.performs; narrow = is.narrow })
-        | inr z ↦ w.each k p t f (sym (get_set_other steps i k s' z) ∙ e)
-      ];
-    }
-
-pub wires_noted : (places : ℕ) (steps : List Step) (i : ℕ) (s : Step) (near : Near) → slice_get steps i ≡ Some s → ((k : ℕ) (t : Step) → slice_get steps k ≡ Some t → t.wire.0 < places)
-    → (k : ℕ) (t : Step) → slice_get (set steps i (record { wire = s.wire; narrow = s.narrow; action = s.action; near = near })) k ≡ Some t → t.wire.0 < places
-wires_noted places steps i s near at w k t e =
-    let s' : Step = record { wire = s.wire; narrow = s.narrow; action = s.action; near = near } in
-    elim (same_or_not k i) [
-      | inl z ↦
-          let q : Some t ≡ Some s' = sym e ∙ ap (slice_get (set steps i s')) z ∙ get_set_same steps i s' (get_in steps i s at) in
-          let one : t ≡ s' = cc in
-          subst (λ (y : Step). y.wire.0 < places) (sym one) (w i s at)
-      | inr z ↦ w k t (sym (get_set_other steps i k s' z) ∙ e)
-    ]
-
 pub steps_known : (n : Netlist) (ws : List ℕ) (steps : List Step) → AreSteps n ws steps → (i : ℕ) (s : Step) → slice_get steps i ≡ Some s → s.wire.0 < length n.signals
 steps_known n ws steps w i s e =
     let g = get_same ws i (let a = within steps i s e in let b = w.long in omega (arith, a, b)) in
@@ -220,50 +184,50 @@ module _ (steps : List Step) (starts readers : List ℕ) (s : Step) (i x : ℕ) 
   })
 
   -- or new: the readers are marked, or their bits are in the mask
-  module _ (marks' : List ℕ) (inside : (i / 64) < length marks) (near : NearOf starts readers i s) (m : HasMarked steps readers s.near.first (slice_index starts (s.wire.0 + 1)) s.wire.0 (set values s.wire.0 x) marks marks') where
+  module _ (g : Near) (marks' : List ℕ) (inside : (i / 64) < length marks) (near : NearOf starts readers i s g) (m : HasMarked steps readers g.first (slice_index starts (s.wire.0 + 1)) s.wire.0 (set values s.wire.0 x) marks marks') where
     inside' : (i / 64) < length marks'
     inside' = let a = m.long in omega (arith, a, inside)
 
     -- the bit of a reader among those held
-    bit : (k : ℕ) → bit_at (bit_or held s.near.mask) (k % 64) ≡ max (bit_at held (k % 64)) (bit_at s.near.mask (k % 64))
-    bit k = bit_at_or held s.near.mask (k % 64)
+    bit : (k : ℕ) → bit_at (bit_or held g.mask) (k % 64) ≡ max (bit_at held (k % 64)) (bit_at g.mask (k % 64))
+    bit k = bit_at_or held g.mask (k % 64)
 
-    held_now : (k : ℕ) → k / 64 ≡ (i / 64) → bit_at (bit_or held s.near.mask) (k % 64) ≡ 1 → marked (holding marks' (i / 64) (bit_or held s.near.mask)) k ≡ 1
-    held_now k q e = marked_holding marks' (i / 64) (bit_or held s.near.mask) k inside' q ∙ e
+    held_now : (k : ℕ) → k / 64 ≡ (i / 64) → bit_at (bit_or held g.mask) (k % 64) ≡ 1 → marked (holding marks' (i / 64) (bit_or held g.mask)) k ≡ 1
+    held_now k q e = marked_holding marks' (i / 64) (bit_or held g.mask) k inside' q ∙ e
 
-    marked_now : (k : ℕ) → ¬ (k / 64 ≡ (i / 64)) → marked marks' k ≡ 1 → marked (holding marks' (i / 64) (bit_or held s.near.mask)) k ≡ 1
-    marked_now k q e = marked_apart marks' (i / 64) (bit_or held s.near.mask) k q ∙ e
+    marked_now : (k : ℕ) → ¬ (k / 64 ≡ (i / 64)) → marked marks' k ≡ 1 → marked (holding marks' (i / 64) (bit_or held g.mask)) k ≡ 1
+    marked_now k q e = marked_apart marks' (i / 64) (bit_or held g.mask) k q ∙ e
 
-    grow : (k : ℕ) → marked (holding marks (i / 64) held) k ≡ 1 → marked (holding marks' (i / 64) (bit_or held s.near.mask)) k ≡ 1
+    grow : (k : ℕ) → marked (holding marks (i / 64) held) k ≡ 1 → marked (holding marks' (i / 64) (bit_or held g.mask)) k ≡ 1
     grow k e = elim (same_or_not (k / 64) (i / 64)) [
-      | inl q ↦ held_now k q (bit k ∙ one_left (bit_at held (k % 64)) (bit_at s.near.mask (k % 64)) (sym (marked_holding marks (i / 64) held k inside q) ∙ e) (bit_at-lt s.near.mask (k % 64)))
+      | inl q ↦ held_now k q (bit k ∙ one_left (bit_at held (k % 64)) (bit_at g.mask (k % 64)) (sym (marked_holding marks (i / 64) held k inside q) ∙ e) (bit_at-lt g.mask (k % 64)))
       | inr q ↦ marked_now k q (m.grows k (sym (marked_apart marks (i / 64) held k q) ∙ e))
     ]
 
-    none_set : (k : ℕ) → k / 64 ≡ (i / 64) → ¬ (Reader starts readers s.wire.0 k) → bit_at s.near.mask (k % 64) ≡ 0
+    none_set : (k : ℕ) → k / 64 ≡ (i / 64) → ¬ (Reader starts readers s.wire.0 k) → bit_at g.mask (k % 64) ≡ 0
     none_set k q n = near.only (k % 64) (omega arith) (λ j f t e. n (j, f, t, e ∙ ap Some (let r : i / 64 * 64 + k % 64 ≡ k = omega (arith, q) in r)))
 
     stay : (k : ℕ) → ¬ (Reader starts readers s.wire.0 k) → marked marks' k ≡ marked marks k
     stay k n = m.others k (λ j f t e. n (j, (let a = near.least in omega (arith, a, f)), t, e))
 
-    pub near_new : HasGiven steps starts readers s.wire.0 x values (set values s.wire.0 x) (holding marks (i / 64) held) (holding marks' (i / 64) (bit_or held s.near.mask))
+    pub near_new : HasGiven steps starts readers s.wire.0 x values (set values s.wire.0 x) (holding marks (i / 64) held) (holding marks' (i / 64) (bit_or held g.mask))
     near_new = record {
       is = refl;
-      long = holding_long marks' (i / 64) (bit_or held s.near.mask) ∙ m.long ∙ sym (holding_long marks (i / 64) held);
+      long = holding_long marks' (i / 64) (bit_or held g.mask) ∙ m.long ∙ sym (holding_long marks (i / 64) held);
       grows = grow;
       told = λ k n r. elim (same_or_not (k / 64) (i / 64)) [
-        | inl q ↦ inl (held_now k q (bit k ∙ one_right (bit_at held (k % 64)) (bit_at s.near.mask (k % 64)) (near.all r.0 k r.1 r.2 r.3 q) (bit_at-lt held (k % 64))))
-        | inr q ↦ elim (lower_or_not r.0 s.near.first) [
+        | inl q ↦ inl (held_now k q (bit k ∙ one_right (bit_at held (k % 64)) (bit_at g.mask (k % 64)) (near.all r.0 k r.1 r.2 r.3 q) (bit_at-lt held (k % 64))))
+        | inr q ↦ elim (lower_or_not r.0 g.first) [
           | inl l ↦ absurd (q (near.early r.0 k r.1 l r.3))
           | inr l ↦ elim (m.all r.0 k l r.2 r.3) [ inl z ↦ inl (marked_now k q z) | inr u ↦ inr u ]
         ]
       ];
       others = λ k n. elim (same_or_not (k / 64) (i / 64)) [
         | inl q ↦
-            marked_holding marks' (i / 64) (bit_or held s.near.mask) k inside' q
-            ∙ bit k ∙ none_right (bit_at held (k % 64)) (bit_at s.near.mask (k % 64)) (none_set k q n) (bit_at-lt held (k % 64))
+            marked_holding marks' (i / 64) (bit_or held g.mask) k inside' q
+            ∙ bit k ∙ none_right (bit_at held (k % 64)) (bit_at g.mask (k % 64)) (none_set k q n) (bit_at-lt held (k % 64))
             ∙ sym (marked_holding marks (i / 64) held k inside q)
-        | inr q ↦ marked_apart marks' (i / 64) (bit_or held s.near.mask) k q ∙ stay k n ∙ sym (marked_apart marks (i / 64) held k q)
+        | inr q ↦ marked_apart marks' (i / 64) (bit_or held g.mask) k q ∙ stay k n ∙ sym (marked_apart marks (i / 64) held k q)
       ];
     }
 
@@ -345,11 +309,29 @@ given_same steps starts readers p x values marks e = record {
   others = λ k n. refl;
 }
 
--- ---- a group for each register
+-- ---- near readers of each step, and a group for each register
 
-length_push : (xs : List Group) (x : Group) → length (xs ++ x ∷ []) ≡ length xs + 1
+length_push : {A : Type 0} (xs : List A) (x : A) → length (xs ++ x ∷ []) ≡ length xs + 1
 length_push [] x = omega arith
 length_push (a ∷ xs) x = let e = length_push xs x in omega (arith, e)
+
+pub record NearsTo (starts readers : List ℕ) (steps : List Step) (nears : List Near) (count : ℕ) : Type 0 where
+  pub long : length nears ≡ count
+  pub each : (k : ℕ) (s : Step) (g : Near) → slice_get steps k ≡ Some s → slice_get nears k ≡ Some g → NearOf starts readers k s g
+
+pub nears_more : (starts readers : List ℕ) (steps : List Step) (nears : List Near) (i : ℕ) (s : Step) (g : Near) → NearsTo starts readers steps nears i → slice_get steps i ≡ Some s → NearOf starts readers i s g
+    → NearsTo starts readers steps (nears ++ g ∷ []) (i + 1)
+nears_more starts readers steps nears i s g w at is = record {
+  long = (let a = length_push nears g in let b = w.long in omega (arith, a, b));
+  each = λ k t h e f. elim (pushed nears g h k f) [
+    | inl q ↦ w.each k t h e q
+    | inr q ↦
+        let here : k ≡ i = q.0 ∙ w.long in
+        let same : Some t ≡ Some s = sym e ∙ ap (slice_get steps) here ∙ at in
+        let one : t ≡ s = cc in
+        subst (λ y. NearOf starts readers k t y) (sym q.1) (subst (λ y. NearOf starts readers y t g) (sym here) (subst (λ y. NearOf starts readers i y g) (sym one) is))
+  ];
+}
 
 pub record GroupedTo (starts readers : List ℕ) (registers : List Register) (groups : List Group) (count : ℕ) : Type 0 where
   pub long : length groups ≡ count

@@ -16,16 +16,13 @@ pub record IsNear (readers : List ℕ) (from to word : ℕ) (near : Near) : Type
   pub all : (j k : ℕ) → from ≤ j → j < to → slice_get readers j ≡ Some k → k / 64 ≡ word → bit_at near.mask (k % 64) ≡ 1
   pub only : (b : ℕ) → b < 64 → ((j : ℕ) → from ≤ j → j < to → ¬ (slice_get readers j ≡ Some (word * 64 + b))) → bit_at near.mask b ≡ 0
 
--- those of the wire of step i
-abbrev pub NearOf : List ℕ → List ℕ → ℕ → Step → Type 0
-NearOf starts readers i s = IsNear readers (slice_index starts s.wire.0) (slice_index starts (s.wire.0 + 1)) (i / 64) s.near
+-- those of the wire of step i, and of each step
+abbrev pub NearOf : List ℕ → List ℕ → ℕ → Step → Near → Type 0
+NearOf starts readers i s near = IsNear readers (slice_index starts s.wire.0) (slice_index starts (s.wire.0 + 1)) (i / 64) near
 
--- for the first steps, and for all
-abbrev pub AreNearTo : List ℕ → List ℕ → ℕ → List Step → Type 0
-AreNearTo starts readers count steps = (i : ℕ) (s : Step) → i < count → slice_get steps i ≡ Some s → NearOf starts readers i s
-
-abbrev pub AreNear : List ℕ → List ℕ → List Step → Type 0
-AreNear starts readers steps = (i : ℕ) (s : Step) → slice_get steps i ≡ Some s → NearOf starts readers i s
+pub record AreNear (starts readers : List ℕ) (steps : List Step) (nears : List Near) : Type 0 where
+  pub long : length nears ≡ length steps
+  pub each : (i : ℕ) (s : Step) (near : Near) → slice_get steps i ≡ Some s → slice_get nears i ≡ Some near → NearOf starts readers i s near
 
 -- those of a register that stand in the word of its group, and a group for each register
 abbrev pub GroupOf : List ℕ → List ℕ → Register → Group → Type 0

@@ -1,28 +1,31 @@
 //! Readers that have their marks in one word: that of the step that writes what they read, or of a register's first reader.
 
 ghost use Rattle.std.specs.Prelude.{◌≡◌, ℕ, ◌+◌, ◌<◌, ◌≤◌, List, length, Some, IfOk, slice_get, slice_index};
-ghost use Rattle.safl_net.specs.Netlist.{Netlist};
 ghost use Rattle.safl_sim.specs.declared.step.Step.{Step};
 ghost use Rattle.safl_sim.specs.declared.step.Register.{Register};
 ghost use Rattle.safl_sim.specs.Nears.{IsNear, AreNear, AreGrouped};
 ghost use Rattle.safl_sim.specs.Readers.{Lists};
-ghost use Rattle.safl_sim.specs.Steps.{AreSteps};
 
 use crate::step::{Group, Near, Register, Step};
 use std::alloc::{AllocError, Global};
 
-/// Notes in each step which readers of its wire are near.
-pub fn note_near(steps: &mut [Step], starts: &[u32], readers: &[u32])
+/// The near readers of each step.
+pub fn nears_of(
+    alloc: Global,
+    steps: &[Step],
+    starts: &[u32],
+    readers: &[u32],
+) -> Result<Vec<Near>, AllocError>
     requires lists { (places : ℕ) × (words : ℕ) × Lists starts.now readers.now places words
-        × ((i : ℕ) (s : Step) → slice_get steps.old i ≡ Some s → s.wire.0 < places) }
-    ensures long { length steps.new ≡ length steps.old }
-    ensures steps { (n : Netlist) (ws : List ℕ) → AreSteps n ws steps.old → AreSteps n ws steps.new }
-    ensures near { AreNear starts.now readers.now steps.new }
+        × ((i : ℕ) (s : Step) → slice_get steps.now i ≡ Some s → s.wire.0 < places) }
+    ensures { IfOk result (λ v. AreNear starts.now readers.now steps.now v.items) }
 {
+    let mut nears = Vec::with_capacity(alloc, steps.len())?;
     'steps: for i in 0..steps.len() {
         let place = steps[i].wire.0 as usize;
-        steps[i].near = near_of(readers, starts[place], starts[place + 1], i / 64);
+        nears.push(near_of(readers, starts[place], starts[place + 1], i / 64))?;
     }
+    Ok(nears)
 }
 
 // Of a part of the readers, those that stand in a word.

@@ -13,10 +13,10 @@ ghost use Rattle.safl_sim.specs.Steps.{IsStep, IsReg, AreSteps, AreRegisters};
 ghost use Rattle.safl_sim.specs.Cycles.{KeepsPlan};
 
 use crate::marks::{mark_range, word_count};
-use crate::near::{groups_of, note_near};
+use crate::near::{groups_of, nears_of};
 use crate::numbers::Numbers;
 use crate::plan::Plan;
-use crate::step::{Near, Register, Step, action_of, is_narrow};
+use crate::step::{Register, Step, action_of, is_narrow};
 use crate::table::table_of;
 use safl_net::{Net, Sig, SigKind};
 use safl_order::Ordered;
@@ -47,13 +47,14 @@ impl Parts {
         let kept = registers.as_slice();
         // First the table: while it is made, it takes more than what stays of it.
         let table = table_of(alloc, net, ordered.wires(), kept)?;
-        let mut steps = steps_of(alloc, net, &table.starts, ordered.wires())?;
-        note_near(&mut steps, &table.starts, &table.readers);
+        let steps = steps_of(alloc, net, &table.starts, ordered.wires())?;
+        let nears = nears_of(alloc, &steps, &table.starts, &table.readers)?;
         let groups = groups_of(alloc, kept, &table.starts, &table.readers)?;
         let marks = all_marked(alloc, ordered.wires().len(), kept.len())?;
         let waiting = none_marked(alloc, kept.len())?;
         let plan = Plan {
             steps,
+            nears,
             inputs: inputs_of(alloc, net)?,
             registers,
             groups,
@@ -147,11 +148,6 @@ fn step_of(net: &Net, starts: &[u32], wire: Sig) -> Step
             wire,
             narrow: is_narrow(net, wire, cell),
             action: action_of(net, starts, cell),
-            near: Near {
-                mask: 0,
-                first: 0,
-                end: 0,
-            },
         },
         None => unreachable!(),
     }

@@ -4,6 +4,7 @@ ghost use Rattle.std.specs.Prelude.{◌≡◌, ℕ, ◌+◌, ◌*◌, ◌/◌, �
 ghost use Rattle.safl_net.specs.declared.cell.Sig.{Sig};
 ghost use Rattle.safl_net.specs.Netlist.{Netlist, Signal};
 ghost use Rattle.safl_sim.specs.declared.step.Group.{Group};
+ghost use Rattle.safl_sim.specs.declared.step.Near.{Near};
 ghost use Rattle.safl_sim.specs.declared.step.Register.{Register};
 ghost use Rattle.safl_order.specs.Order.{Order};
 ghost use Rattle.safl_sim.specs.Places.{AreInputs};
@@ -18,7 +19,7 @@ use crate::marks::{clear, mark, mark_range, next_word, take_held, word_count};
 use crate::numbers::Numbers;
 use crate::plan::Plan;
 use crate::readers::{mark_group, mark_readers};
-use crate::step::{Group, Register, Step, act, act_low};
+use crate::step::{Group, Near, Register, Step, act, act_low};
 use safl_net::Sig;
 use safl_word::{Raw, Word};
 
@@ -327,8 +328,8 @@ fn act_anew(values: &mut Numbers, step: &Step) -> bool
     }
 }
 
-/// Evaluates a step. Where its wire's number is new, it marks what reads the wire, but for the steps of the step's own
-/// word of marks: it answers which these are.
+/// Evaluates a step. Where its wire's number is new, it marks what reads the wire, but for the near readers: it answers
+/// which these are.
 #[inline(always)]
 pub fn evaluate(
     values: &mut Numbers,
@@ -337,50 +338,31 @@ pub fn evaluate(
     readers: &[u32],
     steps: &[Step],
     step: &Step,
+    near: Near,
 ) -> u64
     requires lists { Lists starts.now readers.now (length values.old) (length marks.old) }
     requires within { step.now.wire.0 < length values.old }
     requires ready { Ready values.old step.now.action }
     requires low { LowStep values.old step.now }
-    requires near { (i : ℕ) × NearOf starts.now readers.now i step.now }
-    ensures { (i held : ℕ) → i / 64 < length marks.old → NearOf starts.now readers.now i step.now
+    requires near { (i : ℕ) × NearOf starts.now readers.now i step.now near }
+    ensures { (i held : ℕ) → i / 64 < length marks.old → NearOf starts.now readers.now i step.now near
         → HasGiven steps.now starts.now readers.now step.now.wire.0 (action_number (slice_index values.old) step.now.action) values.old values.new
         (holding marks.old (i / 64) held) (holding marks.new (i / 64) (bit_or held result)) }
 {
     let new = act_anew(values, step);
-    mark_others(values, marks, steps, readers, step, new);
-    if new { step.near.mask } else { 0 }
-}
-
-// Marks the readers of a step's wire that stand in other words of marks, if its number is new. Most steps have none, so the
-// one jump seldom depends on the number.
-#[inline(always)]
-fn mark_others(
-    values: &Numbers,
-    marks: &mut [u64],
-    steps: &[Step],
-    readers: &[u32],
-    step: &Step,
-    new: bool,
-)
-    requires ordered { step.now.near.first ≤ step.now.near.end }
-    requires within { step.now.near.end ≤ length readers.now }
-    requires known { (j k : ℕ) → slice_get readers.now j ≡ Some k → k / 64 < length marks.old }
-    ensures marked { new ≡ true → HasMarked steps.now readers.now step.now.near.first step.now.near.end step.now.wire.0 values.now marks.old marks.new }
-    ensures same { new ≡ false → marks.new ≡ marks.old }
-{
-    let near = step.near;
-    if new && near.first < near.end {
-        mark_readers(
-            values,
-            marks,
-            steps,
-            readers,
-            step.wire.0,
-            near.first,
-            near.end,
-        );
+    if !new {
+        return 0;
     }
+    mark_readers(
+        values,
+        marks,
+        steps,
+        readers,
+        step.wire.0,
+        near.first,
+        near.end,
+    );
+    near.mask
 }
 
 /// Evaluates the marked steps of a word, and answers how many there were.
@@ -391,12 +373,13 @@ pub fn run_word(
     starts: &[u32],
     readers: &[u32],
     steps: &[Step],
+    nears: &[Near],
     word: usize,
 ) -> usize
     requires within { word < length marks.old }
     requires few { length marks.old ≤ 2 ^ 32 }
     requires steps { (word + 1) * 64 ≤ first_register (length steps.now) }
-    requires near { AreNear starts.now readers.now steps.now }
+    requires near { AreNear starts.now readers.now steps.now nears.now }
     requires runs { (o : Order) × (regs : List Register) × (held : List ℕ) × (start : List ℕ)
         × Runs o steps.now regs held starts.now readers.now start (word * 64) values.old marks.old }
     ensures count { result ≤ 64 }
@@ -408,7 +391,8 @@ pub fn run_word(
     'steps: for n in 0..64usize {
         match take_held(word, held) {
             Some(taken) => {
-                let near = evaluate(values, marks, starts, readers, steps, &steps[taken.number]);
+                let i = taken.number;
+                let near = evaluate(values, marks, starts, readers, steps, &steps[i], nears[i]);
                 held = taken.left | near;
             }
             None => {
@@ -428,9 +412,10 @@ pub fn run_marked(
     starts: &[u32],
     readers: &[u32],
     steps: &[Step],
+    nears: &[Near],
 ) -> usize
     requires few { length marks.old ≤ 2 ^ 32 }
-    requires near { AreNear starts.now readers.now steps.now }
+    requires near { AreNear starts.now readers.now steps.now nears.now }
     requires runs { (o : Order) × (regs : List Register) × (held : List ℕ) × (start : List ℕ)
         × Runs o steps.now regs held starts.now readers.now start 0 values.old marks.old }
     ensures long { length marks.new ≡ length marks.old }
@@ -444,7 +429,7 @@ pub fn run_marked(
         if w == end {
             return count;
         }
-        count += run_word(values, marks, starts, readers, steps, w);
+        count += run_word(values, marks, starts, readers, steps, nears, w);
         w = next_word(marks, w + 1, end);
     }
     count
@@ -479,33 +464,29 @@ fn write(values: &mut Numbers, step: &Step)
 }
 
 /// Evaluates all steps, and marks all registers, or the marked steps alone, and answers how many were marked.
-pub fn run_steps(
-    values: &mut Numbers,
-    marks: &mut [u64],
-    starts: &[u32],
-    readers: &[u32],
-    steps: &[Step],
-    registers: usize,
-    all: bool,
-) -> usize
+pub fn run_steps(values: &mut Numbers, marks: &mut [u64], plan: &Plan, all: bool) -> usize
     requires few { length marks.old ≤ 2 ^ 32 }
-    requires near { AreNear starts.now readers.now steps.now }
-    requires runs { (o : Order) × (regs : List Register) × (held : List ℕ) × (start : List ℕ)
-        × Runs o steps.now regs held starts.now readers.now start 0 values.old marks.old × (length regs ≡ registers) }
+    requires runs { (o : Order) × (held : List ℕ) × (start : List ℕ)
+        × Runs o plan.now.steps.items plan.now.registers.items held plan.now.starts.items plan.now.readers.items start 0 values.old marks.old }
     ensures long { length marks.new ≡ length marks.old }
-    ensures runs { (o : Order) (regs : List Register) (held start : List ℕ) → length regs ≡ registers
-        → Runs o steps.now regs held starts.now readers.now start 0 values.old marks.old
-        → Runs o steps.now regs held starts.now readers.now start (first_register (length steps.now)) values.new marks.new }
+    ensures runs { (o : Order) (held start : List ℕ)
+        → Runs o plan.now.steps.items plan.now.registers.items held plan.now.starts.items plan.now.readers.items start 0 values.old marks.old
+        → Runs o plan.now.steps.items plan.now.registers.items held plan.now.starts.items plan.now.readers.items start (first_register (length plan.now.steps.items)) values.new marks.new }
 {
+    let steps = plan.steps.as_slice();
+    let registers = plan.registers.as_slice();
     if all {
         let words = word_count(steps.len());
         let first = words * 64;
         run_all(values, steps);
         clear(marks);
-        mark_range(marks, first, first + registers);
+        mark_range(marks, first, first + registers.len());
         return 0;
     }
-    run_marked(values, marks, starts, readers, steps)
+    let starts = plan.starts.as_slice();
+    let readers = plan.readers.as_slice();
+    let nears = plan.nears.as_slice();
+    run_marked(values, marks, starts, readers, steps, nears)
 }
 
 /// A cycle. It evaluates all steps, or those that are marked, and answers how many were marked.
@@ -529,7 +510,7 @@ pub fn cycle(
     let readers = plan.readers.as_slice();
     put_words(values, marks, steps, starts, readers, inputs, words);
     show_registers(values, marks, waiting, plan, state);
-    let count = run_steps(values, marks, starts, readers, steps, registers.len(), all);
+    let count = run_steps(values, marks, plan, all);
     let first = word_count(steps.len());
     keep_registers(state, marks, waiting, registers, values, first);
     count

@@ -2,20 +2,21 @@
 
 ghost use Rattle.safl_sim.specs.Nears.{AreNear, AreGrouped};
 
-use crate::step::{Group, Register, Step};
+use crate::step::{Group, Near, Register, Step};
 use safl_net::Sig;
 
-/// The steps in an order of evaluation, the inputs, the registers with a group of their readers, and what reads each place. That of place `p` is
+/// The steps in an order of evaluation with their near readers, the inputs, the registers with a group of their readers, and what reads each place. That of place `p` is
 /// `readers[starts[p]..starts[p + 1]]`, by its mark: of steps that have it as an operand, and of registers that have it
 /// as their next signal.
 #[derive(Drop)]
 pub struct Plan {
     pub steps: Vec<Step>,
+    pub nears: Vec<Near>,
     pub inputs: Vec<Sig>,
     pub registers: Vec<Register>,
     pub groups: Vec<Group>,
     pub starts: Vec<u32>,
     pub readers: Vec<u32>,
-    pub ghost near: { AreNear starts.items readers.items steps.items },
+    pub ghost near: { AreNear starts.items readers.items steps.items nears.items },
     pub ghost grouped: { AreGrouped starts.items readers.items registers.items groups.items },
 }

@@ -52,7 +52,6 @@ pub struct Step {
     pub wire: Sig,
     pub narrow: bool,
     pub action: Action,
-    pub near: Near,
 }
 
 /// A register, and its next signal.

@@ -4,7 +4,7 @@ use Rattle.safl_sim.specs.Marks.{first_register}
 use Rattle.safl_sim.specs.Steps.{Waits}
 use Rattle.safl_sim.specs.Writes.{HasShown}
 use Rattle.safl_sim.proofs.Updates.{lists_same}
-use Rattle.safl_sim.proofs.Cycle.{plan_through, goes_through, put_within, put_once, put_long, put_lists, next_within, reg_within, one_next, waits_put, inputs_away, inputs_fit, registers_away, begins, keeps_start, keeps_after, ticks}
+use Rattle.safl_sim.proofs.Cycle.{plan_through, goes_through, runs_through, ran_through, put_within, put_once, put_long, put_lists, next_within, reg_within, one_next, waits_put, inputs_away, inputs_fit, registers_away, begins, keeps_start, keeps_after, ticks}
 use Rattle.safl_sim.proofs.phases.cycle.Goals as goal
 
 pub put_words-requires : goal.put_words-requires
@@ -45,15 +45,13 @@ run_steps-count-requires-clause-runs c =
     let kept = plan_through c.requires.0 c.args.plan.now.steps.items c.as_slice-steps.result.now c.args.plan.now.inputs.items c.as_slice-inputs.result.now c.args.plan.now.registers.items c.as_slice-registers.result.now c.args.plan.now.starts.items c.as_slice-starts.result.now c.args.plan.now.readers.items c.as_slice-readers.result.now
     c.args.marks.now c.args.waiting.now c.args.state.now c.args.values.now c.as_slice-steps.ensures.value c.as_slice-inputs.ensures.value c.as_slice-registers.ensures.value c.as_slice-starts.ensures.value c.as_slice-readers.ensures.value c.requires.1 in (
       c.requires.0,
-      c.as_slice-registers.result.now,
       c.args.state.now,
       c.show_registers.new.values,
-      begins c.requires.0 c.as_slice-steps.result.now c.as_slice-inputs.result.now c.as_slice-registers.result.now c.as_slice-starts.result.now c.as_slice-readers.result.now c.args.marks.now c.args.waiting.now c.args.state.now c.args.values.now kept c.args.words.now c.requires.2 c.put_words.new.values c.show_registers.new.values c.put_words.new.marks c.show_registers.new.marks
+      runs_through c.requires.0 c.as_slice-steps.result.now c.args.plan.now.steps.items c.as_slice-registers.result.now c.args.plan.now.registers.items c.args.state.now c.as_slice-starts.result.now c.args.plan.now.starts.items c.as_slice-readers.result.now c.args.plan.now.readers.items c.show_registers.new.values 0 c.show_registers.new.values c.show_registers.new.marks (sym c.as_slice-steps.ensures.value) (sym c.as_slice-registers.ensures.value) (sym c.as_slice-starts.ensures.value) (sym c.as_slice-readers.ensures.value) (begins c.requires.0 c.as_slice-steps.result.now c.as_slice-inputs.result.now c.as_slice-registers.result.now c.as_slice-starts.result.now c.as_slice-readers.result.now c.args.marks.now c.args.waiting.now c.args.state.now c.args.values.now kept c.args.words.now c.requires.2 c.put_words.new.values c.show_registers.new.values c.put_words.new.marks c.show_registers.new.marks
           c.put_words.ensures.put (subst (λ (x : List Register). HasShown x c.args.state.now (length x) c.put_words.new.values c.show_registers.new.values) (sym c.as_slice-registers.ensures.value) c.show_registers.ensures.shown) c.put_words.ensures.long c.show_registers.ensures.long
           (c.put_words.ensures.goes c.requires.0.net c.requires.0.wires c.as_slice-registers.result.now c.args.state.now (inputs_away c.requires.0 c.as_slice-steps.result.now c.as_slice-inputs.result.now c.as_slice-registers.result.now c.as_slice-starts.result.now c.as_slice-readers.result.now c.args.marks.now c.args.waiting.now c.args.state.now c.args.values.now kept c.args.words.now c.requires.2) (inputs_fit c.requires.0 c.as_slice-steps.result.now c.as_slice-inputs.result.now c.as_slice-registers.result.now c.as_slice-starts.result.now c.as_slice-readers.result.now c.args.marks.now c.args.waiting.now c.args.state.now c.args.values.now kept c.args.words.now c.requires.2 c.put_words.new.values c.put_words.ensures.put))
           (goes_through c.requires.0.net c.requires.0.wires c.args.plan.now.steps.items c.as_slice-steps.result.now c.args.plan.now.registers.items c.as_slice-registers.result.now c.args.state.now c.args.plan.now.starts.items c.as_slice-starts.result.now c.args.plan.now.readers.items c.as_slice-readers.result.now c.put_words.new.values c.show_registers.new.values c.put_words.new.marks c.show_registers.new.marks c.as_slice-steps.ensures.value c.as_slice-registers.ensures.value c.as_slice-starts.ensures.value c.as_slice-readers.ensures.value
-          (c.show_registers.ensures.goes c.requires.0.net c.requires.0.wires (registers_away c.requires.0 c.args.plan.now.steps.items c.args.plan.now.inputs.items c.args.plan.now.registers.items c.args.plan.now.starts.items c.args.plan.now.readers.items c.args.marks.now c.args.waiting.now c.args.state.now c.args.values.now c.requires.1 c.args.words.now c.requires.2))),
-      refl,
+          (c.show_registers.ensures.goes c.requires.0.net c.requires.0.wires (registers_away c.requires.0 c.args.plan.now.steps.items c.args.plan.now.inputs.items c.args.plan.now.registers.items c.args.plan.now.starts.items c.args.plan.now.readers.items c.args.marks.now c.args.waiting.now c.args.state.now c.args.values.now c.requires.1 c.args.words.now c.requires.2)))),
     )
 
 pub word_count-first-requires : goal.word_count-first-requires
@@ -104,7 +102,7 @@ keep_registers-requires-clause-next c = λ i q e.
     (c.put_words.ensures.goes c.requires.0.net c.requires.0.wires c.as_slice-registers.result.now c.args.state.now (inputs_away c.requires.0 c.as_slice-steps.result.now c.as_slice-inputs.result.now c.as_slice-registers.result.now c.as_slice-starts.result.now c.as_slice-readers.result.now c.args.marks.now c.args.waiting.now c.args.state.now c.args.values.now kept c.args.words.now c.requires.2) (inputs_fit c.requires.0 c.as_slice-steps.result.now c.as_slice-inputs.result.now c.as_slice-registers.result.now c.as_slice-starts.result.now c.as_slice-readers.result.now c.args.marks.now c.args.waiting.now c.args.state.now c.args.values.now kept c.args.words.now c.requires.2 c.put_words.new.values c.put_words.ensures.put))
     (goes_through c.requires.0.net c.requires.0.wires c.args.plan.now.steps.items c.as_slice-steps.result.now c.args.plan.now.registers.items c.as_slice-registers.result.now c.args.state.now c.args.plan.now.starts.items c.as_slice-starts.result.now c.args.plan.now.readers.items c.as_slice-readers.result.now c.put_words.new.values c.show_registers.new.values c.put_words.new.marks c.show_registers.new.marks c.as_slice-steps.ensures.value c.as_slice-registers.ensures.value c.as_slice-starts.ensures.value c.as_slice-readers.ensures.value
     (c.show_registers.ensures.goes c.requires.0.net c.requires.0.wires (registers_away c.requires.0 c.args.plan.now.steps.items c.args.plan.now.inputs.items c.args.plan.now.registers.items c.args.plan.now.starts.items c.args.plan.now.readers.items c.args.marks.now c.args.waiting.now c.args.state.now c.args.values.now c.requires.1 c.args.words.now c.requires.2))) in
-    let d = (c.run_steps-count.ensures.runs c.requires.0 c.as_slice-registers.result.now c.args.state.now c.show_registers.new.values refl begun).long in
+    let d = (ran_through c.requires.0 c.args.plan.now.steps.items c.as_slice-steps.result.now c.args.plan.now.registers.items c.as_slice-registers.result.now c.args.state.now c.args.plan.now.starts.items c.as_slice-starts.result.now c.args.plan.now.readers.items c.as_slice-readers.result.now c.show_registers.new.values c.run_steps-count.new.values c.run_steps-count.new.marks c.as_slice-steps.ensures.value c.as_slice-registers.ensures.value c.as_slice-starts.ensures.value c.as_slice-readers.ensures.value (c.run_steps-count.ensures.runs c.requires.0 c.args.state.now c.show_registers.new.values (runs_through c.requires.0 c.as_slice-steps.result.now c.args.plan.now.steps.items c.as_slice-registers.result.now c.args.plan.now.registers.items c.args.state.now c.as_slice-starts.result.now c.args.plan.now.starts.items c.as_slice-readers.result.now c.args.plan.now.readers.items c.show_registers.new.values 0 c.show_registers.new.values c.show_registers.new.marks (sym c.as_slice-steps.ensures.value) (sym c.as_slice-registers.ensures.value) (sym c.as_slice-starts.ensures.value) (sym c.as_slice-readers.ensures.value) begun))).long in
     omega (arith, a, d)
 
 pub keep_registers-requires-clause-one_next : goal.keep_registers-requires-clause-one_next
@@ -123,7 +121,7 @@ keep_registers-requires-clause-keeps c =
     (goes_through c.requires.0.net c.requires.0.wires c.args.plan.now.steps.items c.as_slice-steps.result.now c.args.plan.now.registers.items c.as_slice-registers.result.now c.args.state.now c.args.plan.now.starts.items c.as_slice-starts.result.now c.args.plan.now.readers.items c.as_slice-readers.result.now c.put_words.new.values c.show_registers.new.values c.put_words.new.marks c.show_registers.new.marks c.as_slice-steps.ensures.value c.as_slice-registers.ensures.value c.as_slice-starts.ensures.value c.as_slice-readers.ensures.value
     (c.show_registers.ensures.goes c.requires.0.net c.requires.0.wires (registers_away c.requires.0 c.args.plan.now.steps.items c.args.plan.now.inputs.items c.args.plan.now.registers.items c.args.plan.now.starts.items c.args.plan.now.readers.items c.args.marks.now c.args.waiting.now c.args.state.now c.args.values.now c.requires.1 c.args.words.now c.requires.2))) in
     let e1 : c.word_count-first.result * 64 ≡ first_register (length c.as_slice-steps.result.now) = (let a = c.word_count-first.ensures in omega (arith, a)) in
-    (c.args.state.now, c.run_steps-count.new.marks, keeps_start c.requires.0 c.as_slice-steps.result.now c.as_slice-inputs.result.now c.as_slice-registers.result.now c.as_slice-starts.result.now c.as_slice-readers.result.now c.args.marks.now c.args.waiting.now c.args.state.now c.args.values.now kept c.args.words.now c.requires.2 c.show_registers.new.values c.run_steps-count.new.values c.run_steps-count.new.marks c.show_registers.new.waiting (c.word_count-first.result * 64) e1 (c.run_steps-count.ensures.runs c.requires.0 c.as_slice-registers.result.now c.args.state.now c.show_registers.new.values refl begun) c.show_registers.ensures.none)
+    (c.args.state.now, c.run_steps-count.new.marks, keeps_start c.requires.0 c.as_slice-steps.result.now c.as_slice-inputs.result.now c.as_slice-registers.result.now c.as_slice-starts.result.now c.as_slice-readers.result.now c.args.marks.now c.args.waiting.now c.args.state.now c.args.values.now kept c.args.words.now c.requires.2 c.show_registers.new.values c.run_steps-count.new.values c.run_steps-count.new.marks c.show_registers.new.waiting (c.word_count-first.result * 64) e1 (ran_through c.requires.0 c.args.plan.now.steps.items c.as_slice-steps.result.now c.args.plan.now.registers.items c.as_slice-registers.result.now c.args.state.now c.args.plan.now.starts.items c.as_slice-starts.result.now c.args.plan.now.readers.items c.as_slice-readers.result.now c.show_registers.new.values c.run_steps-count.new.values c.run_steps-count.new.marks c.as_slice-steps.ensures.value c.as_slice-registers.ensures.value c.as_slice-starts.ensures.value c.as_slice-readers.ensures.value (c.run_steps-count.ensures.runs c.requires.0 c.args.state.now c.show_registers.new.values (runs_through c.requires.0 c.as_slice-steps.result.now c.args.plan.now.steps.items c.as_slice-registers.result.now c.args.plan.now.registers.items c.args.state.now c.as_slice-starts.result.now c.args.plan.now.starts.items c.as_slice-readers.result.now c.args.plan.now.readers.items c.show_registers.new.values 0 c.show_registers.new.values c.show_registers.new.marks (sym c.as_slice-steps.ensures.value) (sym c.as_slice-registers.ensures.value) (sym c.as_slice-starts.ensures.value) (sym c.as_slice-readers.ensures.value) begun))) c.show_registers.ensures.none)
 
 pub returns : goal.returns
 returns c = λ o k a.
@@ -134,7 +132,7 @@ returns c = λ o k a.
     (c.put_words.ensures.goes o.net o.wires c.as_slice-registers.result.now c.args.state.now (inputs_away o c.as_slice-steps.result.now c.as_slice-inputs.result.now c.as_slice-registers.result.now c.as_slice-starts.result.now c.as_slice-readers.result.now c.args.marks.now c.args.waiting.now c.args.state.now c.args.values.now kept c.args.words.now a) (inputs_fit o c.as_slice-steps.result.now c.as_slice-inputs.result.now c.as_slice-registers.result.now c.as_slice-starts.result.now c.as_slice-readers.result.now c.args.marks.now c.args.waiting.now c.args.state.now c.args.values.now kept c.args.words.now a c.put_words.new.values c.put_words.ensures.put))
     (goes_through o.net o.wires c.args.plan.now.steps.items c.as_slice-steps.result.now c.args.plan.now.registers.items c.as_slice-registers.result.now c.args.state.now c.args.plan.now.starts.items c.as_slice-starts.result.now c.args.plan.now.readers.items c.as_slice-readers.result.now c.put_words.new.values c.show_registers.new.values c.put_words.new.marks c.show_registers.new.marks c.as_slice-steps.ensures.value c.as_slice-registers.ensures.value c.as_slice-starts.ensures.value c.as_slice-readers.ensures.value
     (c.show_registers.ensures.goes o.net o.wires (registers_away o c.args.plan.now.steps.items c.args.plan.now.inputs.items c.args.plan.now.registers.items c.args.plan.now.starts.items c.args.plan.now.readers.items c.args.marks.now c.args.waiting.now c.args.state.now c.args.values.now k c.args.words.now a))) in
-    let ran = c.run_steps-count.ensures.runs o c.as_slice-registers.result.now c.args.state.now c.show_registers.new.values refl begun in
+    let ran = (ran_through o c.args.plan.now.steps.items c.as_slice-steps.result.now c.args.plan.now.registers.items c.as_slice-registers.result.now c.args.state.now c.args.plan.now.starts.items c.as_slice-starts.result.now c.args.plan.now.readers.items c.as_slice-readers.result.now c.show_registers.new.values c.run_steps-count.new.values c.run_steps-count.new.marks c.as_slice-steps.ensures.value c.as_slice-registers.ensures.value c.as_slice-starts.ensures.value c.as_slice-readers.ensures.value (c.run_steps-count.ensures.runs o c.args.state.now c.show_registers.new.values (runs_through o c.as_slice-steps.result.now c.args.plan.now.steps.items c.as_slice-registers.result.now c.args.plan.now.registers.items c.args.state.now c.as_slice-starts.result.now c.args.plan.now.starts.items c.as_slice-readers.result.now c.args.plan.now.readers.items c.show_registers.new.values 0 c.show_registers.new.values c.show_registers.new.marks (sym c.as_slice-steps.ensures.value) (sym c.as_slice-registers.ensures.value) (sym c.as_slice-starts.ensures.value) (sym c.as_slice-readers.ensures.value) begun))) in
     let e1 : c.word_count-first.result * 64 ≡ first_register (length c.as_slice-steps.result.now) = (let a = c.word_count-first.ensures in omega (arith, a)) in
     let l3 = c.run_steps-count.ensures.long ∙ c.show_registers.ensures.long ∙ c.put_words.ensures.long in
     let wide : length c.keep_registers.new.waiting ≡ length c.args.waiting.now = (let a = c.keep_registers.auto.waiting in let b = c.show_registers.auto.waiting in omega (arith, a, b)) in

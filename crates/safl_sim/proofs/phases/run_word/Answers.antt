@@ -1,10 +1,12 @@
 use Rattle.std.proofs.Common.{◌≡◌, ℕ, ◌+◌, ◌*◌, ◌<◌, ◌≤◌, List, length, slice_index, get_or, false, refl, sym, subst, arith}
 use Rattle.std.specs.Int.RustNames.{bit_or}
 use Rattle.safl_order.specs.Order.{Order}
+use Rattle.safl_sim.specs.declared.step.Near.{Near}
 use Rattle.safl_sim.specs.declared.step.Step.{Step}
 use Rattle.safl_sim.specs.declared.step.Register.{Register}
 use Rattle.safl_sim.specs.declared.step.Action.TheVariants.{Const}
 use Rattle.safl_sim.specs.Marks.{holding, HasTaken, first_register}
+use Rattle.safl_sim.specs.Nears.{NearOf, AreNear}
 use Rattle.safl_sim.specs.Readers.{Lists, HasGiven}
 use Rattle.safl_sim.specs.Steps.{action_number, Runs}
 use Rattle.safl_sim.proofs.Written.{get_at}
@@ -13,7 +15,10 @@ use Rattle.safl_sim.proofs.MarkedSteps.{Takes, takes, taken_within, taken_from, 
 use Rattle.safl_sim.proofs.phases.run_word.Goals as goal
 
 abbrev none : Step
-none = record { wire = record { 0 = 0 }; narrow = false; action = Const 0 0; near = record { mask = 0; first = 0; end = 0 } }
+none = record { wire = record { 0 = 0 }; narrow = false; action = Const 0 0 }
+
+abbrev no_near : Near
+no_near = record { mask = 0; first = 0; end = 0 }
 
 inside : (word : ℕ) (marks marks' : List ℕ) → length marks' ≡ length marks → word < length marks → word < length marks'
 inside word marks marks' e h = omega (arith, e, h)
@@ -29,8 +34,8 @@ turn o all regs now starts readers start word n i values marks marks' h early w 
       takes o all regs now starts readers start (word * 64 + n) word i values marks marks' w (omega (arith, h)) (omega arith) t early (get_or all i none) (get_at all i none a),
     )
 
-pub bounds-steps-taken : goal.bounds-steps-taken
-bounds-steps-taken c =
+pub bounds-steps-i : goal.bounds-steps-i
+bounds-steps-i c =
     let r = c.requires.runs in
     (turn r.0 c.args.steps.now r.1 r.2 c.args.starts.now c.args.readers.now r.3 c.args.word c.steps.n c.in-Some.taken.number c.steps.values (holding c.steps.marks c.args.word c.steps.held) (holding c.steps.marks c.args.word c.in-Some.taken.left) c.steps-test.true c.requires.steps (c.steps.invariant.runs r.0 r.1 r.2 r.3 r.4) (c.in-Some.ensures.some c.steps.marks (inside c.args.word c.args.marks.now c.steps.marks c.steps.invariant.long c.requires.within))).0
 
@@ -54,11 +59,22 @@ evaluate-near-requires-clause-low c =
     let r = c.requires.runs in
     (turn r.0 c.args.steps.now r.1 r.2 c.args.starts.now c.args.readers.now r.3 c.args.word c.steps.n c.in-Some.taken.number c.steps.values (holding c.steps.marks c.args.word c.steps.held) (holding c.steps.marks c.args.word c.in-Some.taken.left) c.steps-test.true c.requires.steps (c.steps.invariant.runs r.0 r.1 r.2 r.3 r.4) (c.in-Some.ensures.some c.steps.marks (inside c.args.word c.args.marks.now c.steps.marks c.steps.invariant.long c.requires.within))).2.low
 
+-- its near readers
+near : (starts readers : List ℕ) (all : List Step) (nears : List Near) (i : ℕ) → AreNear starts readers all nears → i < length all → (i < length nears) × NearOf starts readers i (get_or all i none) (get_or nears i no_near)
+near starts readers all nears i w h =
+    let long : i < length nears = (let a = w.long in omega (arith, a, h)) in
+    (long, w.each i (get_or all i none) (get_or nears i no_near) (get_at all i none h) (get_at nears i no_near long))
+
+pub bounds-nears-i : goal.bounds-nears-i
+bounds-nears-i c =
+    let r = c.requires.runs in
+    (near c.args.starts.now c.args.readers.now c.args.steps.now c.args.nears.now c.in-Some.taken.number c.requires.near (turn r.0 c.args.steps.now r.1 r.2 c.args.starts.now c.args.readers.now r.3 c.args.word c.steps.n c.in-Some.taken.number c.steps.values (holding c.steps.marks c.args.word c.steps.held) (holding c.steps.marks c.args.word c.in-Some.taken.left) c.steps-test.true c.requires.steps (c.steps.invariant.runs r.0 r.1 r.2 r.3 r.4) (c.in-Some.ensures.some c.steps.marks (inside c.args.word c.args.marks.now c.steps.marks c.steps.invariant.long c.requires.within))).0).0
+
 pub evaluate-near-requires-clause-near : goal.evaluate-near-requires-clause-near
 evaluate-near-requires-clause-near c =
     let r = c.requires.runs in
     let i = c.in-Some.taken.number in
-    (i, c.requires.near i (get_or c.args.steps.now i none) (get_at c.args.steps.now i none (turn r.0 c.args.steps.now r.1 r.2 c.args.starts.now c.args.readers.now r.3 c.args.word c.steps.n c.in-Some.taken.number c.steps.values (holding c.steps.marks c.args.word c.steps.held) (holding c.steps.marks c.args.word c.in-Some.taken.left) c.steps-test.true c.requires.steps (c.steps.invariant.runs r.0 r.1 r.2 r.3 r.4) (c.in-Some.ensures.some c.steps.marks (inside c.args.word c.args.marks.now c.steps.marks c.steps.invariant.long c.requires.within))).0))
+    (i, (near c.args.starts.now c.args.readers.now c.args.steps.now c.args.nears.now i c.requires.near (turn r.0 c.args.steps.now r.1 r.2 c.args.starts.now c.args.readers.now r.3 c.args.word c.steps.n c.in-Some.taken.number c.steps.values (holding c.steps.marks c.args.word c.steps.held) (holding c.steps.marks c.args.word c.in-Some.taken.left) c.steps-test.true c.requires.steps (c.steps.invariant.runs r.0 r.1 r.2 r.3 r.4) (c.in-Some.ensures.some c.steps.marks (inside c.args.word c.args.marks.now c.steps.marks c.steps.invariant.long c.requires.within))).0).1)
 
 pub returns-in-None-clause-runs : goal.returns-in-None-clause-runs
 returns-in-None-clause-runs c = λ o regs now start w.
@@ -85,7 +101,7 @@ steps-preserved c =
       long = (let a = c.evaluate-near.auto.marks in let d = c.steps.invariant.long in omega (arith, a, d));
       runs = λ o regs now start w.
           let t = turn o c.args.steps.now regs now c.args.starts.now c.args.readers.now start c.args.word c.steps.n i c.steps.values (holding c.steps.marks c.args.word c.steps.held) (holding c.steps.marks c.args.word left) c.steps-test.true c.requires.steps (c.steps.invariant.runs o regs now start w) (c.in-Some.ensures.some c.steps.marks (inside c.args.word c.args.marks.now c.steps.marks c.steps.invariant.long c.requires.within)) in
-          let g = c.evaluate-near.ensures i left (let a = c.steps.invariant.long in let d = c.requires.within in omega (arith, a, d, within)) (c.requires.near i step (get_at c.args.steps.now i none t.0)) in
+          let g = c.evaluate-near.ensures i left (let a = c.steps.invariant.long in let d = c.requires.within in omega (arith, a, d, within)) (near c.args.starts.now c.args.readers.now c.args.steps.now c.args.nears.now i c.requires.near t.0).1 in
           let g' = subst (λ y. HasGiven c.args.steps.now c.args.starts.now c.args.readers.now step.wire.0 (action_number (slice_index c.steps.values) step.action) c.steps.values c.evaluate-near.new.values (holding c.steps.marks y left) (holding c.evaluate-near.new.marks y (bit_or left c.evaluate-near.result))) within g in
           let after = t.2.next c.evaluate-near.new.values (holding c.evaluate-near.new.marks c.args.word (bit_or left c.evaluate-near.result)) g' in
           runs_to o c.args.steps.now regs now c.args.starts.now c.args.readers.now start (i + 1) (c.args.word * 64 + (c.steps.n + 1)) c.evaluate-near.new.values (holding c.evaluate-near.new.marks c.args.word (bit_or left c.evaluate-near.result)) after

@@ -8,11 +8,11 @@ use Rattle.safl_sim.specs.declared.step.Register.{Register}
 use Rattle.safl_sim.specs.declared.step.Step.{Step}
 use Rattle.safl_sim.specs.Marks.{marked, first_register}
 use Rattle.safl_sim.specs.Readers.{Lists, AreReaders, Inside}
-use Rattle.safl_sim.specs.Steps.{AreSteps, AreRegisters, Keeps}
+use Rattle.safl_sim.specs.Steps.{AreSteps, AreRegisters}
 use Rattle.safl_sim.proofs.Builds.{keeps_new, numbers_length}
+use Rattle.safl_sim.proofs.Cycle.{registers_known}
 use Rattle.safl_sim.proofs.Few.{few_wires}
 use Rattle.safl_sim.proofs.Nearing.{steps_known}
-use Rattle.std.proofs.lemmas.List.{with_items_is}
 use Rattle.safl_sim.proofs.parts.Parts.new.Goals as goal
 
 pub all_marked-requires-clause-few : goal.all_marked-requires-clause-few
@@ -72,14 +72,11 @@ returns-clause-keeps c =
     let readers = c.in_ok-table.table.readers.items in
     let marks = c.in_ok-marks.marks.items in
     let waiting = c.in_ok-waiting.waiting.items in
-    let noted = with_items_is c.in_ok-steps.steps c.note_near.new.steps (let a = c.note_near.ensures.long in let b = c.deref_mut.ensures.len in let d = c.in_ok-steps.steps.ok.0 in omega (arith, a, b, d)) in
-    subst (λ (l : List Step). Keeps o l c.in_ok-inputs_of.field-0.items regs starts readers marks waiting c.in_ok-state.state.items c.in_ok-values.values) (sym noted)
-    (keeps_new o c.note_near.new.steps c.in_ok-inputs_of.field-0.items regs starts readers marks waiting c.in_ok-state.state.items c.in_ok-values.values
+    keeps_new o c.in_ok-steps.steps.items c.in_ok-inputs_of.field-0.items regs starts readers marks waiting c.in_ok-state.state.items c.in_ok-values.values
     made
     c.wires-2.ensures.order
-    (c.note_near.ensures.steps o.net o.wires (subst (λ (l : List Step). AreSteps o.net o.wires l) (sym c.deref_mut.ensures.value)
     (subst (λ (x : List ℕ). AreSteps o.net x c.in_ok-steps.steps.items) c.wires-2.ensures.wires
-    (subst (λ (m : Netlist). AreSteps m ws c.in_ok-steps.steps.items) e c.in_ok-steps.ensures))))
+    (subst (λ (m : Netlist). AreSteps m ws c.in_ok-steps.steps.items) e c.in_ok-steps.ensures))
     (c.in_ok-inputs_of.ensures ∙ ap inputs_of e)
     (subst (λ (m : Netlist). AreRegisters m (length m.signals) regs) e c.in_ok-registers.ensures)
     (subst (λ (k : ℕ). Lists starts readers (length o.net.signals) ((first_register k + length regs + 63) / 64)) many3
@@ -97,18 +94,34 @@ returns-clause-keeps c =
     (let a = c.in_ok-waiting.ensures.long in let b = ap length kept in omega (arith, a, b))
     c.in_ok-waiting.ensures.none
     (c.in_ok-state.ensures ∙ ap resets e)
-    (c.in_ok-values.ensures ∙ c.deref-6.ensures.value ∙ c.in_ok-state.ensures ∙ ap resets e))
+    (c.in_ok-values.ensures ∙ c.deref-7.ensures.value ∙ c.in_ok-state.ensures ∙ ap resets e)
 
-pub note_near-requires : goal.note_near-requires
-note_near-requires c =
+pub nears_of-requires : goal.nears_of-requires
+nears_of-requires c =
     let places = length c.net-net.result.now.signals in
     let words = (first_register (length c.wires.result.now) + length c.as_slice-kept.result.now + 63) / 64 in
     record {
       lists = (
         places,
         words,
-        subst (λ (l : List ℕ). Lists l c.deref-3.result.now places words) (sym c.deref-2.ensures.value)
-            (subst (λ (l : List ℕ). Lists c.in_ok-table.table.starts.items l places words) (sym c.deref-3.ensures.value) c.in_ok-table.ensures.lists),
-        λ i s e. steps_known c.net-net.result.now (numbers c.wires-2.result.now) c.in_ok-steps.steps.items c.in_ok-steps.ensures i s (ap (λ (l : List Step). slice_get l i) (sym c.deref_mut.ensures.value) ∙ e),
+        subst (λ (l : List ℕ). Lists l c.deref-4.result.now places words) (sym c.deref-3.ensures.value)
+            (subst (λ (l : List ℕ). Lists c.in_ok-table.table.starts.items l places words) (sym c.deref-4.ensures.value) c.in_ok-table.ensures.lists),
+        λ i s e. steps_known c.net-net.result.now (numbers c.wires-2.result.now) c.in_ok-steps.steps.items c.in_ok-steps.ensures i s (ap (λ (l : List Step). slice_get l i) (sym c.deref-2.ensures.value) ∙ e),
+      );
+    }
+
+pub groups_of-requires : goal.groups_of-requires
+groups_of-requires c =
+    let n = c.net-net.result.now in
+    let places = length n.signals in
+    let words = (first_register (length c.wires.result.now) + length c.as_slice-kept.result.now + 63) / 64 in
+    let kept = subst (λ (l : List Register). AreRegisters n places l) (sym c.as_slice-kept.ensures.value) c.in_ok-registers.ensures in
+    record {
+      lists = (
+        places,
+        words,
+        subst (λ (l : List ℕ). Lists l c.deref-6.result.now places words) (sym c.deref-5.ensures.value)
+            (subst (λ (l : List ℕ). Lists c.in_ok-table.table.starts.items l places words) (sym c.deref-6.ensures.value) c.in_ok-table.ensures.lists),
+        registers_known n c.as_slice-kept.result.now places kept,
       );
     }
