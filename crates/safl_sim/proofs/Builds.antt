@@ -1,5 +1,5 @@
 -- The parts of a simulator are what it keeps.
-use Rattle.std.proofs.Common.{◌≡◌, inl, inr, ℕ, zero, suc, ◌+◌, ◌/◌, ◌<◌, ◌≤◌, ◌^◌, List, [], ◌∷◌, ◌++◌, map, length, take, drop, get_or, Option, Some, None, slice_get, slice_index, refl, sym, ap, subst, ◌∙◌, arith, append_assoc}
+use Rattle.std.proofs.Common.{◌≡◌, ◌⊎◌, inl, inr, ℕ, zero, suc, ◌+◌, ◌/◌, ◌<◌, ◌≤◌, ◌^◌, List, [], ◌∷◌, ◌++◌, map, length, take, drop, get_or, Option, Some, None, slice_get, slice_index, refl, sym, ap, subst, ◌∙◌, arith, append_assoc}
 use Rattle.std.proofs.lemmas.Nat.{pow_pos}
 use Rattle.std.proofs.lemmas.List.{append-nil}
 use Rattle.safl_net.specs.declared.cell.Sig.{Sig}
@@ -17,8 +17,10 @@ use Rattle.safl_sim.specs.Marks.{marked, first_register}
 use Rattle.safl_sim.specs.Readers.{Lists, AreReaders, Inside}
 use Rattle.safl_sim.proofs.MarksByOne.{none_in}
 use Rattle.safl_sim.specs.Places.{with_input, inputs_from, inputs_of, resets}
+use Rattle.safl_sim.specs.States.{placed, AreReset}
 use Rattle.safl_sim.specs.Steps.{IsReg, IsStep, AreSteps, AreRegisters, Keeps}
-use Rattle.safl_sim.proofs.Written.{lower_or_same}
+use Rattle.safl_sim.proofs.Placing.{placed_long, placed_rest, placed_at}
+use Rattle.safl_sim.proofs.Written.{lower_or_same, lower_or_not, index_past}
 
 -- a cell that a net shows fits its wire
 pub cell_found : (n : Netlist) (s : ℕ) (c : Cell) → IsNetlist n → cell_in (kind_at n s) ≡ Some c → (width : ℕ) × CellFits n width c
@@ -120,6 +122,20 @@ registers_more n regs i r w e f = record {
     | inr q ↦ (length regs, r, end regs r, e ∙ sym q)
   ];
   few = (let a = w.few in let b = length_push regs r in omega (arith, a, b));
+  below = λ k q g. elim (pushed regs r q k g) [
+    | inl h ↦ (let a = w.below k q h in omega (arith, a))
+    | inr h ↦ (let a = ap (λ (y : Register). y.signal.0) h.1 in omega (arith, a, e))
+  ];
+  once = λ j k p q g h z. elim (pushed regs r p j g) [
+    | inl u ↦ elim (pushed regs r q k h) [
+      | inl v ↦ w.once j k p q u v z
+      | inr v ↦ absurd (let a = w.below j p u in let b = ap (λ (y : Register). y.signal.0) v.1 in omega (arith, a, b, e, z))
+    ]
+    | inr u ↦ elim (pushed regs r q k h) [
+      | inl v ↦ absurd (let a = w.below k q v in let b = ap (λ (y : Register). y.signal.0) u.1 in omega (arith, a, b, e, z))
+      | inr v ↦ u.0 ∙ sym v.0
+    ]
+  ];
 }
   where
     front : (xs ys : List Register) (k : ℕ) (x : Register) → slice_get xs k ≡ Some x → slice_get (xs ++ ys) k ≡ Some x
@@ -136,6 +152,8 @@ registers_same n regs i w away = record {
   each = w.each;
   all = λ s h is. elim (lower_or_same s i h) [ inl l ↦ w.all s l is | inr q ↦ absurd (away (subst (λ y. IsReg (kind_at n y)) q is)) ];
   few = (let a = w.few in omega (arith, a));
+  below = λ k q g. (let a = w.below k q g in omega (arith, a));
+  once = w.once;
 }
 
 take_push : (gs : List Signal) (i : ℕ) (g : Signal) → slice_get gs i ≡ Some g → take (i + 1) gs ≡ take i gs ++ g ∷ []
@@ -178,6 +196,59 @@ not_reg_reset (Wire cell) h = refl
 
 pub resets_fit : (n : Netlist) → IsNetlist n → FitWidths n (slice_index (resets n))
 resets_fit n made s g e = subst (λ x. x < 2 ^ g.width) (sym (reset_at n.signals s ∙ ap kind_reset (ap kind_in e))) (kind_reset_fits n g.width g.kind (made.signals s g e).kind)
+
+reg_or_not : (k : Kind) → IsReg k ⊎ (¬ (IsReg k))
+reg_or_not Input = inr (λ h. h)
+reg_or_not (Reg init next) = inl tt
+reg_or_not (Wire cell) = inr (λ h. h)
+
+same_lists : (xs ys : List ℕ) → length xs ≡ length ys → ((s : ℕ) → slice_index xs s ≡ slice_index ys s) → xs ≡ ys
+same_lists [] [] e f = refl
+same_lists [] (y ∷ ys) e f = absurd (omega (arith, e))
+same_lists (x ∷ xs) [] e f = absurd (omega (arith, e))
+same_lists (x ∷ xs) (y ∷ ys) e f = ap (λ z. z ∷ xs) (f 0) ∙ ap (λ l. y ∷ l) (same_lists xs ys (omega (arith, e)) (λ s. f (suc s)))
+
+pub placed_resets : (n : Netlist) (regs : List Register) (numbers : List ℕ) → AreRegisters n (length n.signals) regs → AreReset n regs (length regs) numbers → placed (length n.signals) regs numbers ≡ resets n
+placed_resets n regs numbers w a = same_lists now (resets n) (placed_long (length n.signals) regs numbers ∙ sym (resets_long n.signals)) at
+  where
+    now : List ℕ
+    now = placed (length n.signals) regs numbers
+
+    at : (s : ℕ) → slice_index now s ≡ slice_index (resets n) s
+    at s = elim (reg_or_not (kind_at n s)) [
+      | inl is ↦ elim (lower_or_not s (length n.signals)) [
+        | inl h ↦
+            let b = w.all s h is in
+            ap (slice_index now) (sym b.3) ∙ placed_at (length n.signals) regs numbers w.once w.below a.long b.0 b.1 b.2
+            ∙ a.each b.0 b.1 (within regs b.0 b.1 b.2) b.2 ∙ ap (λ x. kind_reset (kind_at n x)) b.3 ∙ sym (reset_at n.signals s)
+        | inr h ↦ index_past now s (let b = placed_long (length n.signals) regs numbers in omega (arith, b, h)) ∙ sym (index_past (resets n) s (let b = resets_long n.signals in omega (arith, b, h)))
+      ]
+      | inr away ↦
+          placed_rest (length n.signals) regs numbers s (λ k r e z. away (subst IsReg (sym (w.each k r e).1 ∙ ap (kind_at n) z) tt))
+          ∙ sym (reset_at n.signals s ∙ not_reg_reset (kind_at n s) away)
+    ]
+
+-- one more register has its number at reset
+index_pushed : (xs : List ℕ) (x k : ℕ) → k < length xs → slice_index (xs ++ x ∷ []) k ≡ slice_index xs k
+index_pushed [] x k h = absurd (omega (arith, h))
+index_pushed (y ∷ xs) x zero h = refl
+index_pushed (y ∷ xs) x (suc k) h = index_pushed xs x k (omega (arith, h))
+
+index_last : (xs : List ℕ) (x : ℕ) → slice_index (xs ++ x ∷ []) (length xs) ≡ x
+index_last [] x = refl
+index_last (y ∷ xs) x = index_last xs x
+
+pub reset_more : (n : Netlist) (regs : List Register) (numbers : List ℕ) (i x : ℕ) (r : Register) → AreReset n regs i numbers → slice_get regs i ≡ Some r → x ≡ kind_reset (kind_at n r.signal.0) → AreReset n regs (i + 1) (numbers ++ x ∷ [])
+reset_more n regs numbers i x r w at is = record {
+  long = (let a = length_push numbers x in let b = w.long in omega (arith, a, b));
+  each = λ k q h e. elim (lower_or_same k i h) [
+    | inl l ↦ index_pushed numbers x k (let a = w.long in omega (arith, a, l)) ∙ w.each k q l e
+    | inr z ↦
+        let same : Some r ≡ Some q = sym at ∙ ap (slice_get regs) (sym z) ∙ e in
+        let one : r ≡ q = cc in
+        ap (slice_index (numbers ++ x ∷ [])) (z ∙ sym w.long) ∙ index_last numbers x ∙ is ∙ ap (λ (y : Register). kind_reset (kind_at n y.signal.0)) one
+  ];
+}
 
 pub keeps_new : (o : Order) (steps : List Step) (places : List Sig) (regs : List Register) (starts readers marks waiting state values : List ℕ) → IsNetlist o.net → IsOrder o.net o.wires → AreSteps o.net o.wires steps → numbers places ≡ inputs_of o.net
     → AreRegisters o.net (length o.net.signals) regs → Lists starts readers (length o.net.signals) ((first_register (length o.wires) + length regs + 63) / 64) → AreReaders o.net o.wires regs starts readers

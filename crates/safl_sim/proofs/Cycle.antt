@@ -22,7 +22,7 @@ use Rattle.safl_sim.specs.Nears.{AreNear}
 use Rattle.safl_sim.specs.Readers.{Lists, Kept, Shown}
 use Rattle.safl_sim.specs.Steps.{IsReg, AreRegisters, Waits, Keeps, Runs, Goes}
 use Rattle.safl_sim.specs.declared.plan.Plan.{Plan}
-use Rattle.safl_sim.specs.Cycles.{KeepsPlan, Cycles}
+use Rattle.safl_sim.specs.Cycles.{KeepsStates, Cycles}
 use Rattle.safl_sim.specs.Writes.{HasPut, HasShown, HasKept, KeepsOn}
 use Rattle.safl_sim.proofs.Registers.{all_kept, was_unmarked}
 use Rattle.safl_sim.proofs.InputsInOrder.{inputs_are, inputs_long, map_get, get_map, maps_agree, length_map}
@@ -368,22 +368,22 @@ near_through starts starts' readers readers' steps steps' nears nears' s r a d w
     (subst (λ x. AreNear starts readers x nears') (sym a)
     (subst (λ x. AreNear starts readers steps x) (sym d) w)))
 
-pub keeps_same : (o : Order) (steps : List Step) (places : List Sig) (regs : List Register) (starts readers marks marks' waiting waiting' now now' v v' : List ℕ) → marks' ≡ marks → waiting' ≡ waiting → now' ≡ now → v' ≡ v
-    → Keeps o steps places regs starts readers marks waiting now v → Keeps o steps places regs starts readers marks' waiting' now' v'
-keeps_same o steps places regs starts readers marks marks' waiting waiting' now now' v v' m w a b k =
-    subst (λ x. Keeps o steps places regs starts readers x waiting' now' v') (sym m)
-    (subst (λ x. Keeps o steps places regs starts readers marks x now' v') (sym w)
-    (subst (λ x. Keeps o steps places regs starts readers marks waiting x v') (sym a)
-    (subst (λ x. Keeps o steps places regs starts readers marks waiting now x) (sym b) k)))
-
 -- and the marks, the state and the values
+pub states_same : (o : Order) (p : Plan) (marks marks' waiting waiting' numbers numbers' v v' : List ℕ) → marks' ≡ marks → waiting' ≡ waiting → numbers' ≡ numbers → v' ≡ v
+    → KeepsStates o p marks waiting numbers v → KeepsStates o p marks' waiting' numbers' v'
+states_same o p marks marks' waiting waiting' numbers numbers' v v' m w a b k =
+    subst (λ x. KeepsStates o p x waiting' numbers' v') (sym m)
+    (subst (λ x. KeepsStates o p marks x numbers' v') (sym w)
+    (subst (λ x. KeepsStates o p marks waiting x v') (sym a)
+    (subst (λ x. KeepsStates o p marks waiting numbers x) (sym b) k)))
+
 pub cycle_through : (o : Order) (p : Plan) (marks marks' waiting waiting' : List ℕ) (given : List Word) (now now' v v' mark wait next after : List ℕ) → marks' ≡ marks → waiting' ≡ waiting → now' ≡ now → v' ≡ v
-    → ((o : Order) → KeepsPlan o p marks' waiting' now' v' → AreInputs o.net given → Cycles o p given now' v' mark wait next after)
-    → KeepsPlan o p marks waiting now v → AreInputs o.net given → Cycles o p given now v mark wait next after
+    → ((o : Order) → KeepsStates o p marks' waiting' now' v' → AreInputs o.net given → Cycles o p given now' v' mark wait next after)
+    → KeepsStates o p marks waiting now v → AreInputs o.net given → Cycles o p given now v mark wait next after
 cycle_through o p marks marks' waiting waiting' given now now' v v' mark wait next after m w d e f k are =
     subst (λ x. Cycles o p given x v mark wait next after) d
     (subst (λ x. Cycles o p given now' x mark wait next after) e
-    (f o (keeps_same o p.steps.items p.inputs.items p.registers.items p.starts.items p.readers.items marks marks' waiting waiting' now now' v v' m w d e k) are))
+    (f o (states_same o p marks marks' waiting waiting' now now' v v' m w d e k) are))
 
 pub ticks_same : (n : Netlist) (old : Simulation) (now v next next' after after' : List ℕ) (given : List Word) → record { net = n; state = now; values = v } ≡ old → next' ≡ next → after' ≡ after
     → Ticks (record { net = n; state = now; values = v }) (record { net = n; state = next; values = after }) given → Ticks old (record { net = n; state = next'; values = after' }) given

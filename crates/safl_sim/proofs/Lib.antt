@@ -8,6 +8,7 @@ pub mod Registers
 pub mod Scenes
 pub mod MarkedSteps
 pub mod Nearing
+mod Placing
 pub mod Cycle
 pub mod Chaining
 pub mod Tables

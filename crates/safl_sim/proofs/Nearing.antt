@@ -59,7 +59,7 @@ zero_or x = or_comm 0 x ∙ or_zero x
 
 -- ---- marks that are held apart
 
-set_set : (xs : List ℕ) (w x y : ℕ) → set (set xs w x) w y ≡ set xs w y
+pub set_set : (xs : List ℕ) (w x y : ℕ) → set (set xs w x) w y ≡ set xs w y
 set_set [] w x y = refl
 set_set (z ∷ xs) zero x y = refl
 set_set (z ∷ xs) (suc w) x y = ap (λ l. z ∷ l) (set_set xs w x y)

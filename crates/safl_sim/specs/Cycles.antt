@@ -1,16 +1,26 @@
 -- A cycle of a simulator.
-use Rattle.std.specs.Prelude.{ℕ, List}
+use Rattle.std.specs.Prelude.{◌≡◌, ℕ, List, length}
 use Rattle.safl_word.specs.Words.{Word}
 use Rattle.safl_order.specs.Order.{Order}
 use Rattle.safl_sim.specs.declared.plan.Plan.{Plan}
 use Rattle.safl_sim.specs.Simulation.{Ticks}
+use Rattle.safl_sim.specs.States.{placed}
 use Rattle.safl_sim.specs.Steps.{Keeps}
 
 -- what a simulator keeps, by its plan
 abbrev pub KeepsPlan : Order → Plan → List ℕ → List ℕ → List ℕ → List ℕ → Type 0
 KeepsPlan o p marks waiting now shown = Keeps o p.steps.items p.inputs.items p.registers.items p.starts.items p.readers.items marks waiting now shown
 
+-- the state by place of registers that have these numbers
+abbrev pub state_of : Order → Plan → List ℕ → List ℕ
+state_of o p numbers = placed (length o.net.signals) p.registers.items numbers
+
+-- the same, with a number for each register
+pub record KeepsStates (o : Order) (p : Plan) (marks waiting numbers shown : List ℕ) : Type 0 where
+  pub long : length numbers ≡ length p.registers.items
+  pub keeps : KeepsPlan o p marks waiting (state_of o p numbers) shown
+
 -- the simulator keeps what it keeps, and goes on by a cycle
-pub record Cycles (o : Order) (p : Plan) (given : List Word) (now shown marks waiting next after : List ℕ) : Type 0 where
-  pub keeps : KeepsPlan o p marks waiting next after
-  pub ticks : Ticks (record { net = o.net; state = now; values = shown }) (record { net = o.net; state = next; values = after }) given
+pub record Cycles (o : Order) (p : Plan) (given : List Word) (numbers shown marks waiting next after : List ℕ) : Type 0 where
+  pub keeps : KeepsStates o p marks waiting next after
+  pub ticks : Ticks (record { net = o.net; state = state_of o p numbers; values = shown }) (record { net = o.net; state = state_of o p next; values = after }) given

@@ -5,6 +5,7 @@ pub mod Marks
 pub mod Readers
 pub mod Chains
 pub mod Nears
+pub mod States
 pub mod Steps
 pub mod Writes
 pub mod Cycles

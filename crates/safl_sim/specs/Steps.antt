@@ -17,6 +17,7 @@ use Rattle.safl_sim.specs.declared.step.Register.{Register}
 use Rattle.safl_sim.specs.Places.{inputs_of}
 use Rattle.safl_sim.specs.Marks.{marked, first_register}
 use Rattle.safl_sim.specs.Readers.{Lists, AreReaders, Holding, Shown}
+use Rattle.safl_sim.specs.States.{AreOnce}
 
 -- what an action gives, where the signals have these numbers
 abbrev pub action_number : (ℕ → ℕ) → Action → ℕ
@@ -76,6 +77,8 @@ pub record AreRegisters (n : Netlist) (count : ℕ) (registers : List Register) 
   pub each : (k : ℕ) (r : Register) → slice_get registers k ≡ Some r → (init : ℕ) × (kind_at n r.signal.0 ≡ Reg init (Some r.next.0))
   pub all : (s : ℕ) → s < count → IsReg (kind_at n s) → (k : ℕ) × (r : Register) × (slice_get registers k ≡ Some r) × (r.signal.0 ≡ s)
   pub few : length registers ≤ count
+  pub below : (k : ℕ) (r : Register) → slice_get registers k ≡ Some r → r.signal.0 < count
+  pub once : AreOnce registers
 
 -- where numbers are given to places that are no wires, they go on to fit, and what holds goes on to hold
 abbrev pub Goes : Netlist → List ℕ → List Step → List Register → List ℕ → List ℕ → List ℕ → List ℕ → List ℕ → List ℕ → List ℕ → Type 0

@@ -9,8 +9,9 @@ ghost use Rattle.safl_order.specs.Order.{IsWire, IsOrder, operands_of};
 ghost use Rattle.safl_sim.specs.Marks.{marked, first_register};
 ghost use Rattle.safl_sim.specs.Readers.{Inside};
 ghost use Rattle.safl_sim.specs.Places.{with_input, inputs_of, resets};
+ghost use Rattle.safl_sim.specs.States.{AreReset};
 ghost use Rattle.safl_sim.specs.Steps.{IsStep, IsReg, AreSteps, AreRegisters};
-ghost use Rattle.safl_sim.specs.Cycles.{KeepsPlan};
+ghost use Rattle.safl_sim.specs.Cycles.{state_of, KeepsStates};
 
 use crate::marks::{mark_range, word_count};
 use crate::near::{groups_of, nears_of};
@@ -22,6 +23,7 @@ use safl_net::{Net, Sig, SigKind};
 use safl_order::Ordered;
 use safl_word::Raw;
 use std::alloc::{AllocError, Global};
+use std::mem::drop;
 
 /// The parts of a simulator: its plan, the marks of steps and registers, the registers that wait to be shown, their
 /// state, and the number of each signal.
@@ -37,12 +39,16 @@ pub struct Parts {
 impl Parts {
     /// The parts at reset.
     pub fn new(alloc: Global, ordered: &Ordered) -> Result<Parts, AllocError>
-        ensures keeps { IfOk result (λ p. KeepsPlan ordered.now p.plan p.marks.items p.waiting.items p.state.items p.values) }
-        ensures state { IfOk result (λ p. p.state.items ≡ resets ordered.now.net) }
+        ensures keeps { IfOk result (λ p. KeepsStates ordered.now p.plan p.marks.items p.waiting.items p.state.items p.values) }
+        ensures state { IfOk result (λ p. state_of ordered.now p.plan p.state.items ≡ resets ordered.now.net) }
         ensures values { IfOk result (λ p. p.values ≡ resets ordered.now.net) }
     {
         let net = ordered.net();
         let _count = net.signals();
+        let numbers = resets(alloc, net)?;
+        let values = Numbers::new(alloc, &numbers)?;
+        // The other parts need the memory.
+        drop(numbers);
         let registers = registers_of(alloc, net)?;
         let kept = registers.as_slice();
         // First the table: while it is made, it takes more than what stays of it.
@@ -52,6 +58,7 @@ impl Parts {
         let groups = groups_of(alloc, kept, &table.starts, &table.readers)?;
         let marks = all_marked(alloc, ordered.wires().len(), kept.len())?;
         let waiting = none_marked(alloc, kept.len())?;
+        let state = states_of(alloc, net, kept)?;
         let plan = Plan {
             steps,
             nears,
@@ -61,8 +68,6 @@ impl Parts {
             starts: table.starts,
             readers: table.readers,
         };
-        let state = resets(alloc, net)?;
-        let values = Numbers::new(alloc, &state)?;
         Ok(Parts {
             plan,
             marks,
@@ -216,6 +221,18 @@ fn register_of(net: &Net, signal: Sig) -> Option<Register>
         },
         _ => None,
     }
+}
+
+// The number of each register at reset.
+fn states_of(alloc: Global, net: &Net, registers: &[Register]) -> Result<Vec<Raw>, AllocError>
+    requires { (k : ℕ) (r : Register) → slice_get registers.now k ≡ Some r → r.signal.0 < length net.now.signals }
+    ensures { IfOk result (λ v. AreReset net.now registers.now (length registers.now) v.items) }
+{
+    let mut numbers = Vec::with_capacity(alloc, registers.len())?;
+    'registers: for i in 0..registers.len() {
+        numbers.push(reset(net, registers[i].signal))?;
+    }
+    Ok(numbers)
 }
 
 // Each register's number at reset, and 0 for all else.

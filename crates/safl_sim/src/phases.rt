@@ -12,7 +12,8 @@ ghost use Rattle.safl_sim.specs.Readers.{Lists, HasMarked, HasGiven, RegistersAw
 ghost use Rattle.safl_sim.specs.Marks.{marked, holding, HasMark, first_register};
 ghost use Rattle.safl_sim.specs.Nears.{NearOf, AreNear, GroupOf};
 ghost use Rattle.safl_sim.specs.Steps.{Waits, Goes, Runs, Ready, LowStep, action_number};
-ghost use Rattle.safl_sim.specs.Cycles.{KeepsPlan, Cycles};
+ghost use Rattle.safl_sim.specs.Cycles.{KeepsStates, Cycles};
+ghost use Rattle.safl_sim.specs.States.{placed, AreAt, AreOnce};
 ghost use Rattle.safl_sim.specs.Writes.{HasPut, HasShown, Shows, KeepsOn, after_steps, AllReady};
 
 use crate::marks::{clear, mark, mark_range, next_word, take_held, word_count};
@@ -114,7 +115,7 @@ pub fn put_words(
     }
 }
 
-/// Shows the state of a register.
+/// Shows a number as that of a register.
 #[inline(always)]
 pub fn show(
     values: &mut Numbers,
@@ -123,16 +124,15 @@ pub fn show(
     readers: &[u32],
     register: Register,
     group: Group,
-    state: &[Raw],
+    number: Raw,
 )
     requires group { (starts : List ℕ) × Lists starts readers.now (length values.old) (length marks.old) × GroupOf starts readers.now register group }
     requires within { register.signal.0 < length values.old }
-    requires states { length state.now ≡ length values.old }
     ensures { (starts : List ℕ) → GroupOf starts readers.now register group
-        → HasGiven steps.now starts readers.now register.signal.0 (slice_index state.now register.signal.0) values.old values.new marks.old marks.new }
+        → HasGiven steps.now starts readers.now register.signal.0 number values.old values.new marks.old marks.new }
 {
     let place = register.signal.0;
-    if renew(values, place as usize, state[place as usize]) {
+    if renew(values, place as usize, number) {
         mark_group(values, marks, steps, readers, place, group);
     }
 }
@@ -151,13 +151,12 @@ pub fn show_word(
     requires few { length waiting.old ≤ 2 ^ 32 }
     requires lists { Lists plan.now.starts.items plan.now.readers.items (length values.old) (length marks.old) }
     requires within { (k : ℕ) (r : Register) → slice_get plan.now.registers.items k ≡ Some r → r.signal.0 < length values.old }
-    requires states { length state.now ≡ length values.old }
-    requires shows { (start : List ℕ) × Shows plan.now.registers.items state.now (word * 64) start values.old waiting.old }
+    requires shows { (now : List ℕ) × (start : List ℕ) × AreAt plan.now.registers.items state.now now × Shows plan.now.registers.items now (word * 64) start values.old waiting.old }
     ensures long { length marks.new ≡ length marks.old }
-    ensures shows { (start : List ℕ) → Shows plan.now.registers.items state.now (word * 64) start values.old waiting.old
-        → Shows plan.now.registers.items state.now ((word + 1) * 64) start values.new waiting.new }
-    ensures goes { (n : Netlist) (ws : List ℕ) → RegistersAway plan.now.registers.items ws
-        → Goes n ws plan.now.steps.items plan.now.registers.items state.now plan.now.starts.items plan.now.readers.items values.old values.new marks.old marks.new }
+    ensures shows { (now start : List ℕ) → AreAt plan.now.registers.items state.now now → Shows plan.now.registers.items now (word * 64) start values.old waiting.old
+        → Shows plan.now.registers.items now ((word + 1) * 64) start values.new waiting.new }
+    ensures goes { (n : Netlist) (ws now : List ℕ) → RegistersAway plan.now.registers.items ws → AreAt plan.now.registers.items state.now now
+        → Goes n ws plan.now.steps.items plan.now.registers.items now plan.now.starts.items plan.now.readers.items values.old values.new marks.old marks.new }
 {
     let steps = plan.steps.as_slice();
     let registers = plan.registers.as_slice();
@@ -176,7 +175,7 @@ pub fn show_word(
                     readers,
                     registers[i],
                     groups[i],
-                    state,
+                    state[i],
                 );
             }
             None => {
@@ -198,13 +197,13 @@ pub fn show_registers(
 )
     requires lists { Lists plan.now.starts.items plan.now.readers.items (length values.old) (length marks.old) }
     requires within { (k : ℕ) (r : Register) → slice_get plan.now.registers.items k ≡ Some r → r.signal.0 < length values.old }
-    requires states { length state.now ≡ length values.old }
-    requires waits { Waits plan.now.registers.items state.now values.old waiting.old }
+    requires waits { (now : List ℕ) × AreAt plan.now.registers.items state.now now × Waits plan.now.registers.items now values.old waiting.old }
     ensures long { length marks.new ≡ length marks.old }
     ensures none { (k : ℕ) → marked waiting.new k ≡ 0 }
-    ensures shown { HasShown plan.now.registers.items state.now (length plan.now.registers.items) values.old values.new }
-    ensures goes { (n : Netlist) (ws : List ℕ) → RegistersAway plan.now.registers.items ws
-        → Goes n ws plan.now.steps.items plan.now.registers.items state.now plan.now.starts.items plan.now.readers.items values.old values.new marks.old marks.new }
+    ensures shown { (now : List ℕ) → AreAt plan.now.registers.items state.now now → Waits plan.now.registers.items now values.old waiting.old
+        → HasShown plan.now.registers.items now (length plan.now.registers.items) values.old values.new }
+    ensures goes { (n : Netlist) (ws now : List ℕ) → RegistersAway plan.now.registers.items ws → AreAt plan.now.registers.items state.now now
+        → Goes n ws plan.now.steps.items plan.now.registers.items now plan.now.starts.items plan.now.readers.items values.old values.new marks.old marks.new }
 {
     let end = waiting.len();
     let mut w = next_word(waiting, 0, end);
@@ -228,13 +227,12 @@ pub fn keep(
 )
     requires known { k < length registers.now }
     requires room { k / 64 < length waiting.old }
-    requires within { (k : ℕ) (r : Register) → slice_get registers.now k ≡ Some r → r.signal.0 < length state.old }
+    requires states { length state.old ≡ length registers.now }
     requires next { (k : ℕ) (r : Register) → slice_get registers.now k ≡ Some r → r.next.0 < length values.now }
-    ensures state { (r : Register) → slice_get registers.now k ≡ Some r → state.new ≡ slice_set state.old r.signal.0 (slice_index values.now r.next.0) }
+    ensures state { (r : Register) → slice_get registers.now k ≡ Some r → state.new ≡ slice_set state.old k (slice_index values.now r.next.0) }
     ensures waits { HasMark waiting.old waiting.new k }
 {
-    let register = registers[k];
-    state[register.signal.0 as usize] = values.get(register.next.0 as usize);
+    state[k] = values.get(registers[k].next.0 as usize);
     mark(waiting, k);
 }
 
@@ -253,13 +251,13 @@ pub fn keep_word(
     requires word { word < length marks.old }
     requires few { length marks.old ≤ 2 ^ 32 }
     requires room { length registers.now ≤ length waiting.old * 64 }
-    requires within { (k : ℕ) (r : Register) → slice_get registers.now k ≡ Some r → r.signal.0 < length state.old }
+    requires states { length state.old ≡ length registers.now }
+    requires within { (k : ℕ) (r : Register) → slice_get registers.now k ≡ Some r → r.signal.0 < length values.now }
     requires next { (k : ℕ) (r : Register) → slice_get registers.now k ≡ Some r → r.next.0 < length values.now }
-    requires one_next { (i j : ℕ) (r q : Register) → slice_get registers.now i ≡ Some r → slice_get registers.now j ≡ Some q
-        → r.signal.0 ≡ q.signal.0 → r.next.0 ≡ q.next.0 }
-    requires keeps { (start was : List ℕ) × KeepsOn (first * 64) registers.now values.now (word * 64) start was state.old marks.old waiting.old }
-    ensures { (start was : List ℕ) → KeepsOn (first * 64) registers.now values.now (word * 64) start was state.old marks.old waiting.old
-        → KeepsOn (first * 64) registers.now values.now ((word + 1) * 64) start was state.new marks.new waiting.new }
+    requires once { AreOnce registers.now }
+    requires keeps { (start was : List ℕ) × KeepsOn (first * 64) registers.now values.now (word * 64) start was (placed (length values.now) registers.now state.old) marks.old waiting.old }
+    ensures { (start was : List ℕ) → KeepsOn (first * 64) registers.now values.now (word * 64) start was (placed (length values.now) registers.now state.old) marks.old waiting.old
+        → KeepsOn (first * 64) registers.now values.now ((word + 1) * 64) start was (placed (length values.now) registers.now state.new) marks.new waiting.new }
 {
     let mut held = marks[word];
     'registers: for _n in 0..64u32 {
@@ -290,13 +288,13 @@ pub fn keep_registers(
     requires first { first ≤ length marks.old }
     requires few { length marks.old ≤ 2 ^ 32 }
     requires room { length registers.now ≤ length waiting.old * 64 }
-    requires within { (k : ℕ) (r : Register) → slice_get registers.now k ≡ Some r → r.signal.0 < length state.old }
+    requires states { length state.old ≡ length registers.now }
+    requires within { (k : ℕ) (r : Register) → slice_get registers.now k ≡ Some r → r.signal.0 < length values.now }
     requires next { (k : ℕ) (r : Register) → slice_get registers.now k ≡ Some r → r.next.0 < length values.now }
-    requires one_next { (i j : ℕ) (r q : Register) → slice_get registers.now i ≡ Some r → slice_get registers.now j ≡ Some q
-        → r.signal.0 ≡ q.signal.0 → r.next.0 ≡ q.next.0 }
-    requires keeps { (start was : List ℕ) × KeepsOn (first * 64) registers.now values.now (first * 64) start was state.old marks.old waiting.old }
-    ensures { (start was : List ℕ) → KeepsOn (first * 64) registers.now values.now (first * 64) start was state.old marks.old waiting.old
-        → KeepsOn (first * 64) registers.now values.now (length marks.new * 64) start was state.new marks.new waiting.new }
+    requires once { AreOnce registers.now }
+    requires keeps { (start was : List ℕ) × KeepsOn (first * 64) registers.now values.now (first * 64) start was (placed (length values.now) registers.now state.old) marks.old waiting.old }
+    ensures { (start was : List ℕ) → KeepsOn (first * 64) registers.now values.now (first * 64) start was (placed (length values.now) registers.now state.old) marks.old waiting.old
+        → KeepsOn (first * 64) registers.now values.now (length marks.new * 64) start was (placed (length values.now) registers.now state.new) marks.new waiting.new }
 {
     let end = marks.len();
     let mut w = next_word(marks, first, end);
@@ -499,8 +497,8 @@ pub fn cycle(
     words: &[Word],
     all: bool,
 ) -> usize
-    requires { (o : Order) × KeepsPlan o plan.now marks.old waiting.old state.old values.old × AreInputs o.net words.now }
-    ensures { (o : Order) → KeepsPlan o plan.now marks.old waiting.old state.old values.old → AreInputs o.net words.now
+    requires { (o : Order) × KeepsStates o plan.now marks.old waiting.old state.old values.old × AreInputs o.net words.now }
+    ensures { (o : Order) → KeepsStates o plan.now marks.old waiting.old state.old values.old → AreInputs o.net words.now
         → Cycles o plan.now words.now state.old values.old marks.new waiting.new state.new values.new }
 {
     let steps = plan.steps.as_slice();

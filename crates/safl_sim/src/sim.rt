@@ -21,6 +21,7 @@ pub struct Sim {
     marks: Vec<u64>,
     waiting: Vec<u64>,
     dense_ticks: u8,
+    // by register
     state: Vec<Raw>,
     values: Numbers,
 }
@@ -30,11 +31,11 @@ impl Model for Sim {
 
     ghost Value = { Simulation };
 
-    ghost use Rattle.safl_sim.specs.Cycles.{KeepsPlan};
+    ghost use Rattle.safl_sim.specs.Cycles.{state_of, KeepsStates};
 
-    ghost view = { λ s. record { net = s.ordered.net; state = s.state.items; values = s.values } };
+    ghost view = { λ s. record { net = s.ordered.net; state = state_of s.ordered s.plan s.state.items; values = s.values } };
 
-    ghost invariant = { λ s. KeepsPlan s.ordered s.plan s.marks.items s.waiting.items s.state.items s.values };
+    ghost invariant = { λ s. KeepsStates s.ordered s.plan s.marks.items s.waiting.items s.state.items s.values };
 }
 
 impl Sim {

@@ -11,4 +11,4 @@ returns-clause-state c = λ r e.
     let here = get_at c.args.registers.now c.args.k none c.requires.known in
     let same : Some (get_or c.args.registers.now c.args.k none) ≡ Some r = sym here ∙ e in
     let one : get_or c.args.registers.now c.args.k none ≡ r = cc in
-    ap (λ (x : ℕ). set c.args.state.now (get_or c.args.registers.now c.args.k none).signal.0 x) c.get.ensures ∙ ap (λ (q : Register). set c.args.state.now q.signal.0 (slice_index c.args.values.now q.next.0)) one
+    ap (λ (x : ℕ). set c.args.state.now c.args.k x) c.get.ensures ∙ ap (λ (q : Register). set c.args.state.now c.args.k (slice_index c.args.values.now q.next.0)) one

@@ -1,10 +1,11 @@
-use Rattle.std.proofs.Common.{◌+◌, ◌*◌, refl, subst, arith}
+use Rattle.std.proofs.Common.{◌+◌, ◌*◌, length, refl, subst, ◌∙◌, arith}
+use Rattle.safl_sim.specs.States.{placed}
 use Rattle.safl_sim.specs.Writes.{KeepsOn}
 use Rattle.safl_sim.proofs.Registers.{keeps_skip}
 use Rattle.safl_sim.proofs.phases.keep_registers.Goals as goal
 
-pub keep_word-requires-clause-within : goal.keep_word-requires-clause-within
-keep_word-requires-clause-within c = λ k r e. (let a = c.requires.within k r e in let b = c.words.invariant.state in omega (arith, a, b))
+pub keep_word-requires-clause-states : goal.keep_word-requires-clause-states
+keep_word-requires-clause-states c = c.words.invariant.state ∙ c.requires.states
 
 pub keep_word-requires-clause-keeps : goal.keep_word-requires-clause-keeps
 keep_word-requires-clause-keeps c = let r = c.requires.keeps in (r.0, r.1, c.words.invariant.keeps r.0 r.1 r.2)
@@ -16,7 +17,7 @@ words-init c = record {
   state = refl;
   marks = refl;
   waiting = refl;
-  keeps = λ start was w. keeps_skip (c.args.first * 64) c.args.registers.now c.args.values.now c.args.first c.next_word-w.result start was c.args.state.now c.args.marks.now c.args.waiting.now w c.next_word-w.ensures.none;
+  keeps = λ start was w. keeps_skip (c.args.first * 64) c.args.registers.now c.args.values.now c.args.first c.next_word-w.result start was (placed (length c.args.values.now) c.args.registers.now c.args.state.now) c.args.marks.now c.args.waiting.now w c.next_word-w.ensures.none;
 }
 
 pub words-preserved : goal.words-preserved
@@ -26,18 +27,18 @@ words-preserved c = record {
   state = (let a = c.words.invariant.state in let b = c.keep_word.auto.state in omega (arith, a, b));
   marks = (let a = c.words.invariant.marks in let b = c.keep_word.auto.marks in omega (arith, a, b));
   waiting = (let a = c.words.invariant.waiting in let b = c.keep_word.auto.waiting in omega (arith, a, b));
-  keeps = λ start was w. keeps_skip (c.args.first * 64) c.args.registers.now c.args.values.now (c.words.w + 1) c.next_word-w-in-words.result start was c.keep_word.new.state c.keep_word.new.marks c.keep_word.new.waiting
+  keeps = λ start was w. keeps_skip (c.args.first * 64) c.args.registers.now c.args.values.now (c.words.w + 1) c.next_word-w-in-words.result start was (placed (length c.args.values.now) c.args.registers.now c.keep_word.new.state) c.keep_word.new.marks c.keep_word.new.waiting
       (c.keep_word.ensures start was (c.words.invariant.keeps start was w)) c.next_word-w-in-words.ensures.none;
 }
 
 pub returns : goal.returns
 returns c = λ start was w.
-    subst (λ k. KeepsOn (c.args.first * 64) c.args.registers.now c.args.values.now (k * 64) start was c.words.state c.words.marks c.words.waiting)
+    subst (λ k. KeepsOn (c.args.first * 64) c.args.registers.now c.args.values.now (k * 64) start was (placed (length c.args.values.now) c.args.registers.now c.words.state) c.words.marks c.words.waiting)
     (let a = c.words-test.false in let b = c.words.auto._n-end in let d = c.words.invariant.marks in let e = c.requires.first in let f = c.words.invariant.least in let g = c.words.invariant.most in omega (arith, a, b, d, e, f, g))
     (c.words.invariant.keeps start was w)
 
 pub returns-then-w-end : goal.returns-then-w-end
 returns-then-w-end c = λ start was w.
-    subst (λ k. KeepsOn (c.args.first * 64) c.args.registers.now c.args.values.now (k * 64) start was c.words.state c.words.marks c.words.waiting)
+    subst (λ k. KeepsOn (c.args.first * 64) c.args.registers.now c.args.values.now (k * 64) start was (placed (length c.args.values.now) c.args.registers.now c.words.state) c.words.marks c.words.waiting)
     (let a = c.if-w-end.true in let b = c.words.invariant.marks in omega (arith, a, b))
     (c.words.invariant.keeps start was w)

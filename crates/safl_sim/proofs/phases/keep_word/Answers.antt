@@ -1,10 +1,12 @@
-use Rattle.std.proofs.Common.{◌≡◌, ◌+◌, ◌-◌, ◌*◌, ◌<◌, ◌≤◌, ℕ, List, Some, length, get_or, slice_get, refl, sym, subst, ◌∙◌, arith}
+use Rattle.std.proofs.Common.{◌≡◌, ◌+◌, ◌-◌, ◌*◌, ◌<◌, ◌≤◌, ℕ, List, Some, length, get_or, slice_get, slice_index, refl, sym, ap, subst, ◌∙◌, arith}
 use Rattle.safl_sim.specs.declared.step.Register.{Register}
 use Rattle.safl_sim.specs.Marks.{holding, HasTaken}
+use Rattle.safl_sim.specs.States.{placed}
 use Rattle.safl_sim.specs.Writes.{KeepsOn}
 use Rattle.safl_sim.proofs.Written.{get_at}
 use Rattle.safl_sim.proofs.MarksByOne.{taken_after}
 use Rattle.safl_sim.proofs.Nearing.{holding_all, no_marks}
+use Rattle.safl_sim.proofs.Placing.{placed_long, placed_set, next_once}
 use Rattle.safl_sim.proofs.Registers.{keeps_to, keeps_none, keeps_step}
 use Rattle.safl_sim.proofs.phases.keep_word.Goals as goal
 
@@ -26,34 +28,35 @@ found first regs values place word i start was now marks marks' waiting early w 
 pub overflow_sub-k : goal.overflow_sub-k
 overflow_sub-k c =
     let r = c.requires.keeps in
-    (found (c.args.first * 64) c.args.registers.now c.args.values.now _ c.args.word c.in-Some.taken.number r.0 r.1 c.registers.state (holding c.registers.marks c.args.word c.registers.held) (holding c.registers.marks c.args.word c.in-Some.taken.left) c.registers.waiting (let a = c.requires.after in omega (arith, a)) (c.registers.invariant.keeps r.0 r.1 r.2) (c.in-Some.ensures.some c.registers.marks (inside c.args.word c.args.marks.now c.registers.marks c.registers.invariant.room c.requires.word))).0
+    (found (c.args.first * 64) c.args.registers.now c.args.values.now _ c.args.word c.in-Some.taken.number r.0 r.1 (placed (length c.args.values.now) c.args.registers.now c.registers.state) (holding c.registers.marks c.args.word c.registers.held) (holding c.registers.marks c.args.word c.in-Some.taken.left) c.registers.waiting (let a = c.requires.after in omega (arith, a)) (c.registers.invariant.keeps r.0 r.1 r.2) (c.in-Some.ensures.some c.registers.marks (inside c.args.word c.args.marks.now c.registers.marks c.registers.invariant.room c.requires.word))).0
 
 pub keep-requires-clause-known : goal.keep-requires-clause-known
 keep-requires-clause-known c =
     let r = c.requires.keeps in
-    (found (c.args.first * 64) c.args.registers.now c.args.values.now _ c.args.word c.in-Some.taken.number r.0 r.1 c.registers.state (holding c.registers.marks c.args.word c.registers.held) (holding c.registers.marks c.args.word c.in-Some.taken.left) c.registers.waiting (let a = c.requires.after in omega (arith, a)) (c.registers.invariant.keeps r.0 r.1 r.2) (c.in-Some.ensures.some c.registers.marks (inside c.args.word c.args.marks.now c.registers.marks c.registers.invariant.room c.requires.word))).1
+    (found (c.args.first * 64) c.args.registers.now c.args.values.now _ c.args.word c.in-Some.taken.number r.0 r.1 (placed (length c.args.values.now) c.args.registers.now c.registers.state) (holding c.registers.marks c.args.word c.registers.held) (holding c.registers.marks c.args.word c.in-Some.taken.left) c.registers.waiting (let a = c.requires.after in omega (arith, a)) (c.registers.invariant.keeps r.0 r.1 r.2) (c.in-Some.ensures.some c.registers.marks (inside c.args.word c.args.marks.now c.registers.marks c.registers.invariant.room c.requires.word))).1
 
 pub keep-requires-clause-room : goal.keep-requires-clause-room
 keep-requires-clause-room c =
     let r = c.requires.keeps in
-    let a = (found (c.args.first * 64) c.args.registers.now c.args.values.now _ c.args.word c.in-Some.taken.number r.0 r.1 c.registers.state (holding c.registers.marks c.args.word c.registers.held) (holding c.registers.marks c.args.word c.in-Some.taken.left) c.registers.waiting (let a = c.requires.after in omega (arith, a)) (c.registers.invariant.keeps r.0 r.1 r.2) (c.in-Some.ensures.some c.registers.marks (inside c.args.word c.args.marks.now c.registers.marks c.registers.invariant.room c.requires.word))).1 in
+    let a = (found (c.args.first * 64) c.args.registers.now c.args.values.now _ c.args.word c.in-Some.taken.number r.0 r.1 (placed (length c.args.values.now) c.args.registers.now c.registers.state) (holding c.registers.marks c.args.word c.registers.held) (holding c.registers.marks c.args.word c.in-Some.taken.left) c.registers.waiting (let a = c.requires.after in omega (arith, a)) (c.registers.invariant.keeps r.0 r.1 r.2) (c.in-Some.ensures.some c.registers.marks (inside c.args.word c.args.marks.now c.registers.marks c.registers.invariant.room c.requires.word))).1 in
     let b = c.requires.room in
     let d = c.registers.invariant.waiting in
     omega (arith, a, b, d)
 
-pub keep-requires-clause-within : goal.keep-requires-clause-within
-keep-requires-clause-within c = λ k r e. (let a = c.requires.within k r e in let b = c.registers.invariant.state in omega (arith, a, b))
+pub keep-requires-clause-states : goal.keep-requires-clause-states
+keep-requires-clause-states c = c.registers.invariant.state ∙ c.requires.states
 
 pub registers-preserved : goal.registers-preserved
 registers-preserved c =
     let q = c.requires.keeps in
     let early : c.args.first * 64 ≤ c.args.word * 64 = (let a = c.requires.after in omega (arith, a)) in
     let t = c.in-Some.ensures.some c.registers.marks (inside c.args.word c.args.marks.now c.registers.marks c.registers.invariant.room c.requires.word) in
-    let f = found (c.args.first * 64) c.args.registers.now c.args.values.now _ c.args.word c.in-Some.taken.number q.0 q.1 c.registers.state (holding c.registers.marks c.args.word c.registers.held) (holding c.registers.marks c.args.word c.in-Some.taken.left) c.registers.waiting early (c.registers.invariant.keeps q.0 q.1 q.2) t in
+    let f = found (c.args.first * 64) c.args.registers.now c.args.values.now _ c.args.word c.in-Some.taken.number q.0 q.1 (placed (length c.args.values.now) c.args.registers.now c.registers.state) (holding c.registers.marks c.args.word c.registers.held) (holding c.registers.marks c.args.word c.in-Some.taken.left) c.registers.waiting early (c.registers.invariant.keeps q.0 q.1 q.2) t in
     let k = c.in-Some.taken.number - c.args.first * 64 in
     let r = get_or c.args.registers.now k none in
     let here : slice_get c.args.registers.now k ≡ Some r = get_at c.args.registers.now k none f.1 in
-    let known : r.signal.0 < length c.registers.state = (let a = c.requires.within k r here in let b = c.registers.invariant.state in omega (arith, a, b)) in
+    let long = c.registers.invariant.state ∙ c.requires.states in
+    let known : r.signal.0 < length (placed (length c.args.values.now) c.args.registers.now c.registers.state) = (let a = c.requires.within k r here in let b = placed_long (length c.args.values.now) c.args.registers.now c.registers.state in omega (arith, a, b)) in
     let taken = subst (λ i. HasTaken (holding c.registers.marks c.args.word c.registers.held) (holding c.registers.marks c.args.word c.in-Some.taken.left) c.args.word i) (sym f.2) t in
     record {
       room = c.registers.invariant.room;
@@ -61,9 +64,9 @@ registers-preserved c =
       waiting = c.keep.ensures.waits.long ∙ c.registers.invariant.waiting;
       keeps = λ start was w.
           let before = c.registers.invariant.keeps start was w in
-          let after = keeps_step (c.args.first * 64) c.args.registers.now c.args.values.now (c.args.word * 64 + c.registers._n) c.args.word k r start was c.registers.state c.keep.new.state (holding c.registers.marks c.args.word c.registers.held) (holding c.registers.marks c.args.word c.in-Some.taken.left) c.registers.waiting c.keep.new.waiting before early (omega arith) taken here known c.requires.one_next (c.keep.ensures.state r here) c.keep.ensures.waits in
+          let after = keeps_step (c.args.first * 64) c.args.registers.now c.args.values.now (c.args.word * 64 + c.registers._n) c.args.word k r start was (placed (length c.args.values.now) c.args.registers.now c.registers.state) (placed (length c.args.values.now) c.args.registers.now c.keep.new.state) (holding c.registers.marks c.args.word c.registers.held) (holding c.registers.marks c.args.word c.in-Some.taken.left) c.registers.waiting c.keep.new.waiting before early (omega arith) taken here known (next_once c.args.registers.now c.requires.once) (ap (placed (length c.args.values.now) c.args.registers.now) (c.keep.ensures.state r here) ∙ placed_set (length c.args.values.now) c.args.registers.now c.registers.state k r (slice_index c.args.values.now r.next.0) c.requires.once long here) c.keep.ensures.waits in
           let late = taken_after (holding c.registers.marks c.args.word c.registers.held) (holding c.registers.marks c.args.word c.in-Some.taken.left) (c.args.first * 64) (c.args.word * 64 + c.registers._n) c.args.word c.in-Some.taken.number before.below early (omega arith) t in
-          keeps_to (c.args.first * 64) c.args.registers.now c.args.values.now (c.args.first * 64 + k + 1) (c.args.word * 64 + (c.registers._n + 1)) start was c.keep.new.state (holding c.registers.marks c.args.word c.in-Some.taken.left) c.keep.new.waiting after
+          keeps_to (c.args.first * 64) c.args.registers.now c.args.values.now (c.args.first * 64 + k + 1) (c.args.word * 64 + (c.registers._n + 1)) start was (placed (length c.args.values.now) c.args.registers.now c.keep.new.state) (holding c.registers.marks c.args.word c.in-Some.taken.left) c.keep.new.waiting after
           (λ j z l. after.below j z (let e = f.2 in omega (arith, late, l, e)));
     }
 
@@ -73,18 +76,18 @@ registers-init c = record {
   waiting = refl;
   room = refl;
   keeps = λ start was w.
-      subst (λ l. KeepsOn (c.args.first * 64) c.args.registers.now c.args.values.now (c.args.word * 64 + 0) start was c.args.state.now l c.args.waiting.now) (sym (holding_all c.args.marks.now c.args.word))
-      (subst (λ k. KeepsOn (c.args.first * 64) c.args.registers.now c.args.values.now k start was c.args.state.now c.args.marks.now c.args.waiting.now) (let z : c.args.word * 64 ≡ c.args.word * 64 + 0 = omega arith in z) w);
+      subst (λ l. KeepsOn (c.args.first * 64) c.args.registers.now c.args.values.now (c.args.word * 64 + 0) start was (placed (length c.args.values.now) c.args.registers.now c.args.state.now) l c.args.waiting.now) (sym (holding_all c.args.marks.now c.args.word))
+      (subst (λ k. KeepsOn (c.args.first * 64) c.args.registers.now c.args.values.now k start was (placed (length c.args.values.now) c.args.registers.now c.args.state.now) c.args.marks.now c.args.waiting.now) (let z : c.args.word * 64 ≡ c.args.word * 64 + 0 = omega arith in z) w);
 }
 
 pub returns-in-None : goal.returns-in-None
 returns-in-None c = λ start was w.
-    keeps_none (c.args.first * 64) c.args.registers.now c.args.values.now (c.args.word * 64 + c.registers._n) c.args.word start was c.registers.state (holding c.registers.marks c.args.word 0) c.registers.waiting
-    (subst (λ h. KeepsOn (c.args.first * 64) c.args.registers.now c.args.values.now (c.args.word * 64 + c.registers._n) start was c.registers.state (holding c.registers.marks c.args.word h) c.registers.waiting) c.in-None.ensures.none (c.registers.invariant.keeps start was w))
+    keeps_none (c.args.first * 64) c.args.registers.now c.args.values.now (c.args.word * 64 + c.registers._n) c.args.word start was (placed (length c.args.values.now) c.args.registers.now c.registers.state) (holding c.registers.marks c.args.word 0) c.registers.waiting
+    (subst (λ h. KeepsOn (c.args.first * 64) c.args.registers.now c.args.values.now (c.args.word * 64 + c.registers._n) start was (placed (length c.args.values.now) c.args.registers.now c.registers.state) (holding c.registers.marks c.args.word h) c.registers.waiting) c.in-None.ensures.none (c.registers.invariant.keeps start was w))
     (omega arith) (no_marks c.registers.marks c.args.word (inside c.args.word c.args.marks.now c.registers.marks c.registers.invariant.room c.requires.word))
 
 pub returns : goal.returns
 returns c = λ start was w.
-    subst (λ k. KeepsOn (c.args.first * 64) c.args.registers.now c.args.values.now k start was c.registers.state (holding c.registers.marks c.args.word c.registers.held) c.registers.waiting)
+    subst (λ k. KeepsOn (c.args.first * 64) c.args.registers.now c.args.values.now k start was (placed (length c.args.values.now) c.args.registers.now c.registers.state) (holding c.registers.marks c.args.word c.registers.held) c.registers.waiting)
     (let a = c.registers-test.false in let b = c.registers.auto._n-end in omega (arith, a, b))
     (c.registers.invariant.keeps start was w)

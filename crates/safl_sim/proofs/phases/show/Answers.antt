@@ -8,7 +8,7 @@ pub returns-then-renew : goal.returns-then-renew
 returns-then-renew c = λ starts of.
     let readers = c.args.readers.now in
     let p = c.args.register.signal.0 in
-    let x = slice_index c.args.state.now p in
+    let x = c.args.number in
     let g = c.args.group in
     let old = c.args.values.now in
     let own = subst (λ to. IsNear readers (slice_index starts p) to g.word g.near) (sym of.last) of in

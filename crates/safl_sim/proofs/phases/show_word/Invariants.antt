@@ -2,6 +2,7 @@ use Rattle.std.proofs.Common.{◌≡◌, ℕ, ◌+◌, ◌*◌, List, length}
 use Rattle.safl_net.specs.Netlist.{Netlist}
 use Rattle.safl_sim.specs.Marks.{holding}
 use Rattle.safl_sim.specs.Readers.{RegistersAway}
+use Rattle.safl_sim.specs.States.{AreAt}
 use Rattle.safl_sim.specs.Steps.{Goes}
 use Rattle.safl_sim.specs.Writes.{Shows}
 use Rattle.safl_sim.proofs.phases.show_word.Given as goal
@@ -11,6 +12,6 @@ invariant-registers l = record {
   wide : length l.values ≡ length l.initial.values;
   room : length l.waiting ≡ length l.initial.waiting;
   long : length l.marks ≡ length l.initial.marks;
-  shows : (start : List ℕ) → Shows l.plan.registers.items l.state (l.word * 64) start l.initial.values l.initial.waiting → Shows l.plan.registers.items l.state (l.word * 64 + l._n) start l.values (holding l.waiting l.word l.held);
-  goes : (n : Netlist) (ws : List ℕ) → RegistersAway l.plan.registers.items ws → Goes n ws l.plan.steps.items l.plan.registers.items l.state l.plan.starts.items l.plan.readers.items l.initial.values l.values l.initial.marks l.marks;
+  shows : (now start : List ℕ) → AreAt l.plan.registers.items l.state now → Shows l.plan.registers.items now (l.word * 64) start l.initial.values l.initial.waiting → Shows l.plan.registers.items now (l.word * 64 + l._n) start l.values (holding l.waiting l.word l.held);
+  goes : (n : Netlist) (ws now : List ℕ) → RegistersAway l.plan.registers.items ws → AreAt l.plan.registers.items l.state now → Goes n ws l.plan.steps.items l.plan.registers.items now l.plan.starts.items l.plan.readers.items l.initial.values l.values l.initial.marks l.marks;
 }

@@ -8,8 +8,9 @@ use Rattle.safl_sim.specs.declared.step.Register.{Register}
 use Rattle.safl_sim.specs.declared.step.Step.{Step}
 use Rattle.safl_sim.specs.Marks.{marked, first_register}
 use Rattle.safl_sim.specs.Readers.{Lists, AreReaders, Inside}
+use Rattle.safl_sim.specs.States.{placed, AreReset}
 use Rattle.safl_sim.specs.Steps.{AreSteps, AreRegisters}
-use Rattle.safl_sim.proofs.Builds.{keeps_new, numbers_length}
+use Rattle.safl_sim.proofs.Builds.{keeps_new, placed_resets, numbers_length}
 use Rattle.safl_sim.proofs.Cycle.{registers_known}
 use Rattle.safl_sim.proofs.Few.{few_wires}
 use Rattle.safl_sim.proofs.Nearing.{steps_known}
@@ -72,29 +73,53 @@ returns-clause-keeps c =
     let readers = c.in_ok-table.table.readers.items in
     let marks = c.in_ok-marks.marks.items in
     let waiting = c.in_ok-waiting.waiting.items in
-    keeps_new o c.in_ok-steps.steps.items c.in_ok-inputs_of.field-0.items regs starts readers marks waiting c.in_ok-state.state.items c.in_ok-values.values
-    made
-    c.wires-2.ensures.order
-    (subst (λ (x : List ℕ). AreSteps o.net x c.in_ok-steps.steps.items) c.wires-2.ensures.wires
-    (subst (λ (m : Netlist). AreSteps m ws c.in_ok-steps.steps.items) e c.in_ok-steps.ensures))
-    (c.in_ok-inputs_of.ensures ∙ ap inputs_of e)
-    (subst (λ (m : Netlist). AreRegisters m (length m.signals) regs) e c.in_ok-registers.ensures)
-    (subst (λ (k : ℕ). Lists starts readers (length o.net.signals) ((first_register k + length regs + 63) / 64)) many3
-    (subst (λ (l : List Register). Lists starts readers (length o.net.signals) ((first_register (length c.wires.result.now) + length l + 63) / 64)) kept
-    (subst (λ (m : Netlist). Lists starts readers (length m.signals) ((first_register (length c.wires.result.now) + length c.as_slice-kept.result.now + 63) / 64)) e c.in_ok-table.ensures.lists)))
-    (subst (λ (x : List ℕ). AreReaders o.net x regs starts readers) c.wires.ensures.wires
-    (subst (λ (l : List Register). AreReaders o.net (numbers c.wires.result.now) l starts readers) kept
-    (subst (λ (m : Netlist). AreReaders m (numbers c.wires.result.now) c.as_slice-kept.result.now starts readers) e c.in_ok-table.ensures.readers)))
-    (let a = c.in_ok-marks.ensures.long in let b = ap length kept in omega (arith, a, b, many))
-    (few_wires o.net o.wires made c.wires-2.ensures.order)
-    (let a = c.in_ok-registers.ensures.few in let b = c.signals-count.ensures.netlist.few in omega (arith, a, b))
-    (subst (λ (k : ℕ). Inside k (length regs) marks) many (subst (λ (l : List Register). Inside (length c.wires-3.result.now) (length l) marks) kept c.in_ok-marks.ensures.inside))
-    (λ k h. c.in_ok-marks.ensures.step k (omega (arith, h, many)))
-    (λ k h. subst (λ (x : ℕ). marked marks (first_register x + k) ≡ 1) many (c.in_ok-marks.ensures.register k (let b = ap length kept in omega (arith, h, b))))
-    (let a = c.in_ok-waiting.ensures.long in let b = ap length kept in omega (arith, a, b))
-    c.in_ok-waiting.ensures.none
-    (c.in_ok-state.ensures ∙ ap resets e)
-    (c.in_ok-values.ensures ∙ c.deref-7.ensures.value ∙ c.in_ok-state.ensures ∙ ap resets e)
+    let states = c.in_ok-state.state.items in
+    let are = subst (λ (m : Netlist). AreRegisters m (length m.signals) regs) e c.in_ok-registers.ensures in
+    let reset = subst (λ (l : List Register). AreReset o.net l (length l) states) kept (subst (λ (m : Netlist). AreReset m c.as_slice-kept.result.now (length c.as_slice-kept.result.now) states) e c.in_ok-state.ensures) in
+    record {
+      long = reset.long;
+      keeps = keeps_new o c.in_ok-steps.steps.items c.in_ok-inputs_of.field-0.items regs starts readers marks waiting (placed (length o.net.signals) regs states) c.in_ok-values.values
+          made
+          c.wires-2.ensures.order
+          (subst (λ (x : List ℕ). AreSteps o.net x c.in_ok-steps.steps.items) c.wires-2.ensures.wires
+          (subst (λ (m : Netlist). AreSteps m ws c.in_ok-steps.steps.items) e c.in_ok-steps.ensures))
+          (c.in_ok-inputs_of.ensures ∙ ap inputs_of e)
+          (subst (λ (m : Netlist). AreRegisters m (length m.signals) regs) e c.in_ok-registers.ensures)
+          (subst (λ (k : ℕ). Lists starts readers (length o.net.signals) ((first_register k + length regs + 63) / 64)) many3
+          (subst (λ (l : List Register). Lists starts readers (length o.net.signals) ((first_register (length c.wires.result.now) + length l + 63) / 64)) kept
+          (subst (λ (m : Netlist). Lists starts readers (length m.signals) ((first_register (length c.wires.result.now) + length c.as_slice-kept.result.now + 63) / 64)) e c.in_ok-table.ensures.lists)))
+          (subst (λ (x : List ℕ). AreReaders o.net x regs starts readers) c.wires.ensures.wires
+          (subst (λ (l : List Register). AreReaders o.net (numbers c.wires.result.now) l starts readers) kept
+          (subst (λ (m : Netlist). AreReaders m (numbers c.wires.result.now) c.as_slice-kept.result.now starts readers) e c.in_ok-table.ensures.readers)))
+          (let a = c.in_ok-marks.ensures.long in let b = ap length kept in omega (arith, a, b, many))
+          (few_wires o.net o.wires made c.wires-2.ensures.order)
+          (let a = c.in_ok-registers.ensures.few in let b = c.signals-count.ensures.netlist.few in omega (arith, a, b))
+          (subst (λ (k : ℕ). Inside k (length regs) marks) many (subst (λ (l : List Register). Inside (length c.wires-3.result.now) (length l) marks) kept c.in_ok-marks.ensures.inside))
+          (λ k h. c.in_ok-marks.ensures.step k (omega (arith, h, many)))
+          (λ k h. subst (λ (x : ℕ). marked marks (first_register x + k) ≡ 1) many (c.in_ok-marks.ensures.register k (let b = ap length kept in omega (arith, h, b))))
+          (let a = c.in_ok-waiting.ensures.long in let b = ap length kept in omega (arith, a, b))
+          c.in_ok-waiting.ensures.none
+          (placed_resets o.net regs states are reset)
+          (c.in_ok-values.ensures ∙ c.deref.ensures.value ∙ c.in_ok-numbers.ensures ∙ ap resets e);
+    }
+
+pub returns-clause-state : goal.returns-clause-state
+returns-clause-state c =
+    let o = c.args.ordered.now in
+    let e = c.net-net.ensures.net in
+    let regs = c.in_ok-registers.registers.items in
+    let kept = c.as_slice-kept.ensures.value in
+    let states = c.in_ok-state.state.items in
+    let are = subst (λ (m : Netlist). AreRegisters m (length m.signals) regs) e c.in_ok-registers.ensures in
+    let reset = subst (λ (l : List Register). AreReset o.net l (length l) states) kept (subst (λ (m : Netlist). AreReset m c.as_slice-kept.result.now (length c.as_slice-kept.result.now) states) e c.in_ok-state.ensures) in
+    placed_resets o.net regs states are reset
+
+pub states_of-requires : goal.states_of-requires
+states_of-requires c =
+    let n = c.net-net.result.now in
+    let places = length n.signals in
+    let kept = subst (λ (l : List Register). AreRegisters n places l) (sym c.as_slice-kept.ensures.value) c.in_ok-registers.ensures in
+    registers_known n c.as_slice-kept.result.now places kept
 
 pub nears_of-requires : goal.nears_of-requires
 nears_of-requires c =
@@ -104,9 +129,9 @@ nears_of-requires c =
       lists = (
         places,
         words,
-        subst (λ (l : List ℕ). Lists l c.deref-4.result.now places words) (sym c.deref-3.ensures.value)
-            (subst (λ (l : List ℕ). Lists c.in_ok-table.table.starts.items l places words) (sym c.deref-4.ensures.value) c.in_ok-table.ensures.lists),
-        λ i s e. steps_known c.net-net.result.now (numbers c.wires-2.result.now) c.in_ok-steps.steps.items c.in_ok-steps.ensures i s (ap (λ (l : List Step). slice_get l i) (sym c.deref-2.ensures.value) ∙ e),
+        subst (λ (l : List ℕ). Lists l c.deref-5.result.now places words) (sym c.deref-4.ensures.value)
+            (subst (λ (l : List ℕ). Lists c.in_ok-table.table.starts.items l places words) (sym c.deref-5.ensures.value) c.in_ok-table.ensures.lists),
+        λ i s e. steps_known c.net-net.result.now (numbers c.wires-2.result.now) c.in_ok-steps.steps.items c.in_ok-steps.ensures i s (ap (λ (l : List Step). slice_get l i) (sym c.deref-3.ensures.value) ∙ e),
       );
     }
 
@@ -120,8 +145,8 @@ groups_of-requires c =
       lists = (
         places,
         words,
-        subst (λ (l : List ℕ). Lists l c.deref-6.result.now places words) (sym c.deref-5.ensures.value)
-            (subst (λ (l : List ℕ). Lists c.in_ok-table.table.starts.items l places words) (sym c.deref-6.ensures.value) c.in_ok-table.ensures.lists),
+        subst (λ (l : List ℕ). Lists l c.deref-7.result.now places words) (sym c.deref-6.ensures.value)
+            (subst (λ (l : List ℕ). Lists c.in_ok-table.table.starts.items l places words) (sym c.deref-7.ensures.value) c.in_ok-table.ensures.lists),
         registers_known n c.as_slice-kept.result.now places kept,
       );
     }

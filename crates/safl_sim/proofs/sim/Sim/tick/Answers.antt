@@ -1,8 +1,9 @@
-use Rattle.std.proofs.Common.{refl, sym, subst, arith}
+use Rattle.std.proofs.Common.{refl, sym, ap, subst, arith}
 use Rattle.std.proofs.lemmas.List.{with_items_is}
+use Rattle.safl_sim.specs.Cycles.{state_of}
 use Rattle.safl_sim.specs.Places.{AreInputs}
 use Rattle.safl_sim.specs.Simulation.{Simulation}
-use Rattle.safl_sim.proofs.Cycle.{cycle_through, keeps_same, ticks_same}
+use Rattle.safl_sim.proofs.Cycle.{cycle_through, states_same, ticks_same}
 use Rattle.safl_sim.proofs.sim.Sim.tick.Goals as goal
 
 pub invariant_of-self : goal.invariant_of-self
@@ -11,10 +12,10 @@ invariant_of-self c =
     let are : AreInputs s.ordered.net c.args.inputs.now = subst (λ (x : Simulation). AreInputs x.net c.args.inputs.now) (sym c.self.view_is) c.requires in
     let t = cycle_through s.ordered s.plan s.marks.items _ s.waiting.items _ c.args.inputs.now s.state.items _ s.values s.values c.cycle-count.new.marks c.cycle-count.new.waiting c.cycle-count.new.state c.cycle-count.new.values
     c.deref_mut-2.ensures.value c.deref_mut-3.ensures.value c.deref_mut.ensures.value refl c.cycle-count.ensures c.self.invariant are in
-    keeps_same s.ordered s.plan.steps.items s.plan.inputs.items s.plan.registers.items s.plan.starts.items s.plan.readers.items c.cycle-count.new.marks _ c.cycle-count.new.waiting _ c.cycle-count.new.state _ c.cycle-count.new.values c.cycle-count.new.values
+    states_same s.ordered s.plan c.cycle-count.new.marks _ c.cycle-count.new.waiting _ c.cycle-count.new.state _ c.cycle-count.new.values c.cycle-count.new.values
     (with_items_is s.marks c.cycle-count.new.marks (let a = c.cycle-count.auto.marks in let b = c.deref_mut-2.ensures.len in let d = s.marks.ok.0 in omega (arith, a, b, d)))
     (with_items_is s.waiting c.cycle-count.new.waiting (let a = c.cycle-count.auto.waiting in let b = c.deref_mut-3.ensures.len in let d = s.waiting.ok.0 in omega (arith, a, b, d)))
-    (with_items_is s.state c.cycle-count.new.state (let a = t.keeps.state_long in let b = c.self.invariant.state_long in let d = s.state.ok.0 in omega (arith, a, b, d)))
+    (with_items_is s.state c.cycle-count.new.state (let a = t.keeps.long in let b = c.self.invariant.long in let d = s.state.ok.0 in omega (arith, a, b, d)))
     refl
     t.keeps
 
@@ -24,7 +25,7 @@ returns c =
     let are : AreInputs s.ordered.net c.args.inputs.now = subst (λ (x : Simulation). AreInputs x.net c.args.inputs.now) (sym c.self.view_is) c.requires in
     let t = cycle_through s.ordered s.plan s.marks.items _ s.waiting.items _ c.args.inputs.now s.state.items _ s.values s.values c.cycle-count.new.marks c.cycle-count.new.waiting c.cycle-count.new.state c.cycle-count.new.values
     c.deref_mut-2.ensures.value c.deref_mut-3.ensures.value c.deref_mut.ensures.value refl c.cycle-count.ensures c.self.invariant are in
-    ticks_same s.ordered.net c.args.self.now s.state.items s.values c.cycle-count.new.state _ c.cycle-count.new.values c.cycle-count.new.values c.args.inputs.now c.self.view_is
-    (with_items_is s.state c.cycle-count.new.state (let a = t.keeps.state_long in let b = c.self.invariant.state_long in let d = s.state.ok.0 in omega (arith, a, b, d)))
+    ticks_same s.ordered.net c.args.self.now (state_of s.ordered s.plan s.state.items) s.values (state_of s.ordered s.plan c.cycle-count.new.state) _ c.cycle-count.new.values c.cycle-count.new.values c.args.inputs.now c.self.view_is
+    (ap (state_of s.ordered s.plan) (with_items_is s.state c.cycle-count.new.state (let a = t.keeps.long in let b = c.self.invariant.long in let d = s.state.ok.0 in omega (arith, a, b, d))))
     refl
     t.ticks

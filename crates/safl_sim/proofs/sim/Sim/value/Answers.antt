@@ -12,14 +12,14 @@ from_parts-requires c =
     let net : s.ordered.net ≡ c.args.self.now.net = ap (λ (x : Simulation). x.net) c.self.view_is in
     let here : c.args.s.0 < length s.ordered.net.signals = (let a = ap (λ (n : Netlist). length n.signals) net in let b = c.requires in omega (arith, a, b)) in
     subst (λ (x : ℕ). IsWord (word_of c.width.result x)) (sym c.get.ensures)
-    (signal_word s.ordered.net s.values c.args.s.0 c.width.result c.self.invariant.made c.self.invariant.values here
+    (signal_word s.ordered.net s.values c.args.s.0 c.width.result c.self.invariant.keeps.made c.self.invariant.keeps.values here
     (c.width.ensures ∙ ap (λ (n : Netlist). width_of n c.args.s.0) c.net.ensures.net))
 
 pub get-requires : goal.get-requires
 get-requires c =
     let s = c.self.inside in
     let net : s.ordered.net ≡ c.args.self.now.net = ap (λ (x : Simulation). x.net) c.self.view_is in
-    let a = c.self.invariant.long in
+    let a = c.self.invariant.keeps.long in
     let b = ap (λ (n : Netlist). length n.signals) net in
     let d = c.requires in
     omega (arith, a, b, d)

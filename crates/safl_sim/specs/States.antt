@@ -1,0 +1,26 @@
+-- The states of the registers, by register and by place.
+use Rattle.std.specs.Prelude.{◌≡◌, ℕ, ◌<◌, List, [], ◌∷◌, length, replicate, Some, slice_get, slice_set, slice_index}
+use Rattle.safl_net.specs.Netlist.{Netlist}
+use Rattle.safl_net.specs.Valuations.{kind_reset}
+use Rattle.safl_net.specs.Making.{kind_at}
+use Rattle.safl_sim.specs.declared.step.Register.{Register}
+
+-- the numbers of the registers at their places, and 0 at all others
+abbrev pub placed : ℕ → List Register → List ℕ → List ℕ
+placed count [] numbers = replicate count 0
+placed count (r ∷ rs) [] = replicate count 0
+placed count (r ∷ rs) (x ∷ xs) = slice_set (placed count rs xs) r.signal.0 x
+
+-- a number for each register, which is at its place too
+pub record AreAt (regs : List Register) (numbers now : List ℕ) : Type 0 where
+  pub long : length numbers ≡ length regs
+  pub each : (k : ℕ) (r : Register) → slice_get regs k ≡ Some r → slice_index now r.signal.0 ≡ slice_index numbers k
+
+-- no two registers have one place
+abbrev pub AreOnce : List Register → Type 0
+AreOnce regs = (i j : ℕ) (r q : Register) → slice_get regs i ≡ Some r → slice_get regs j ≡ Some q → r.signal.0 ≡ q.signal.0 → i ≡ j
+
+-- the first of the registers have their number at reset
+pub record AreReset (n : Netlist) (regs : List Register) (count : ℕ) (numbers : List ℕ) : Type 0 where
+  pub long : length numbers ≡ count
+  pub each : (k : ℕ) (r : Register) → k < count → slice_get regs k ≡ Some r → slice_index numbers k ≡ kind_reset (kind_at n r.signal.0)
