@@ -23,23 +23,29 @@ pub const DECIMAL_MAX: usize = 20;
 /// The most digits of an argument, which is a decimal number below 2 to the 128th.
 pub const ARGUMENT_MAX: usize = 39;
 
-/// A word: its width, from 1 to `WIDTH_MAX`, and a number below 2 to that width.
+// 2 to the 64th.
+const RADIX: Raw = 0x1_0000_0000_0000_0000;
+
+/// A word: its width, from 1 to `WIDTH_MAX`, and a number below 2 to that width. The number is held in two halves, as
+/// one of 128 bits would have to be aligned to 16 bytes, also in what holds a word.
 #[derive(Clone, Copy, Debug, PartialEq, Eq)]
 pub struct Word {
     width: u8,
-    bits: Raw,
+    low: u64,
+    high: u64,
 }
 
 impl Model for Word {
+    ghost use Rattle.std.specs.Prelude.{◌+◌, ◌*◌, ◌/◌, ◌%◌, ◌<◌, ◌^◌};
     ghost use Rattle.safl_word.specs.Words.{Word, IsWord};
 
     ghost Value = { Word };
 
-    ghost view = { λ w. record { width = w.width; bits = w.bits } };
+    ghost view = { λ w. record { width = w.width; bits = w.low + w.high * 2 ^ 64 } };
 
-    ghost invariant = { λ w. IsWord (record { width = w.width; bits = w.bits }) };
+    ghost invariant = { λ w. IsWord (record { width = w.width; bits = w.low + w.high * 2 ^ 64 }) × (w.low < 2 ^ 64) };
 
-    ghost inverse = { λ v. record { width = v.width; bits = v.bits } };
+    ghost inverse = { λ v. record { width = v.width; low = v.bits % 2 ^ 64; high = v.bits / 2 ^ 64 } };
 }
 
 impl Word {
@@ -57,7 +63,7 @@ impl Word {
         if width < WIDTH_MAX && bits >> width != 0 {
             return None;
         }
-        Some(Word { width, bits })
+        Some(Word::from_parts(width, bits))
     }
 
     /// The width, in bits.
@@ -73,7 +79,7 @@ impl Word {
         ensures value { result ≡ self.now.bits }
         ensures word { IsWord self.now }
     {
-        self.bits
+        Raw::from(self.high) * RADIX + Raw::from(self.low)
     }
 
     /// The word of this width and this number, which fits it.
@@ -81,7 +87,11 @@ impl Word {
         requires { IsWord (record { width = width; bits = bits }) }
         ensures { result ≡ record { width = width; bits = bits } }
     {
-        Word { width, bits }
+        Word {
+            width,
+            low: (bits % RADIX) as u64,
+            high: (bits / RADIX) as u64,
+        }
     }
 
     /// The word of this width, from 1 to `WIDTH_MAX`, whose number is the remainder of a number modulo 2 to the width.
@@ -90,10 +100,7 @@ impl Word {
         requires bounded { width ≤ max_width }
         ensures { result ≡ record { width = width; bits = number % 2 ^ width } }
     {
-        Word {
-            width,
-            bits: number & greatest(width),
-        }
+        Word::from_parts(width, number & greatest(width))
     }
 }
 
