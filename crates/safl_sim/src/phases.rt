@@ -151,7 +151,8 @@ pub fn show_word(
     requires few { length waiting.old ≤ 2 ^ 32 }
     requires lists { Lists plan.now.starts.items plan.now.readers.items (length values.old) (length marks.old) }
     requires within { (k : ℕ) (r : Register) → slice_get plan.now.registers.items k ≡ Some r → r.signal.0 < length values.old }
-    requires shows { (now : List ℕ) × (start : List ℕ) × AreAt plan.now.registers.items state.now now × Shows plan.now.registers.items now (word * 64) start values.old waiting.old }
+    requires shows { (now : List ℕ) × (start : List ℕ) × AreAt plan.now.registers.items state.now now
+        × Shows plan.now.registers.items now (word * 64) start values.old waiting.old }
     ensures long { length marks.new ≡ length marks.old }
     ensures shows { (now start : List ℕ) → AreAt plan.now.registers.items state.now now → Shows plan.now.registers.items now (word * 64) start values.old waiting.old
         → Shows plan.now.registers.items now ((word + 1) * 64) start values.new waiting.new }
@@ -255,7 +256,8 @@ pub fn keep_word(
     requires within { (k : ℕ) (r : Register) → slice_get registers.now k ≡ Some r → r.signal.0 < length values.now }
     requires next { (k : ℕ) (r : Register) → slice_get registers.now k ≡ Some r → r.next.0 < length values.now }
     requires once { AreOnce registers.now }
-    requires keeps { (start was : List ℕ) × KeepsOn (first * 64) registers.now values.now (word * 64) start was (placed (length values.now) registers.now state.old) marks.old waiting.old }
+    requires keeps { (start was : List ℕ)
+        × KeepsOn (first * 64) registers.now values.now (word * 64) start was (placed (length values.now) registers.now state.old) marks.old waiting.old }
     ensures { (start was : List ℕ) → KeepsOn (first * 64) registers.now values.now (word * 64) start was (placed (length values.now) registers.now state.old) marks.old waiting.old
         → KeepsOn (first * 64) registers.now values.now ((word + 1) * 64) start was (placed (length values.now) registers.now state.new) marks.new waiting.new }
 {
@@ -292,7 +294,8 @@ pub fn keep_registers(
     requires within { (k : ℕ) (r : Register) → slice_get registers.now k ≡ Some r → r.signal.0 < length values.now }
     requires next { (k : ℕ) (r : Register) → slice_get registers.now k ≡ Some r → r.next.0 < length values.now }
     requires once { AreOnce registers.now }
-    requires keeps { (start was : List ℕ) × KeepsOn (first * 64) registers.now values.now (first * 64) start was (placed (length values.now) registers.now state.old) marks.old waiting.old }
+    requires keeps { (start was : List ℕ)
+        × KeepsOn (first * 64) registers.now values.now (first * 64) start was (placed (length values.now) registers.now state.old) marks.old waiting.old }
     ensures { (start was : List ℕ) → KeepsOn (first * 64) registers.now values.now (first * 64) start was (placed (length values.now) registers.now state.old) marks.old waiting.old
         → KeepsOn (first * 64) registers.now values.now (length marks.new * 64) start was (placed (length values.now) registers.now state.new) marks.new waiting.new }
 {
@@ -469,7 +472,8 @@ pub fn run_steps(values: &mut Numbers, marks: &mut [u64], plan: &Plan, all: bool
     ensures long { length marks.new ≡ length marks.old }
     ensures runs { (o : Order) (held start : List ℕ)
         → Runs o plan.now.steps.items plan.now.registers.items held plan.now.starts.items plan.now.readers.items start 0 values.old marks.old
-        → Runs o plan.now.steps.items plan.now.registers.items held plan.now.starts.items plan.now.readers.items start (first_register (length plan.now.steps.items)) values.new marks.new }
+        → Runs o plan.now.steps.items plan.now.registers.items held plan.now.starts.items plan.now.readers.items start
+        (first_register (length plan.now.steps.items)) values.new marks.new }
 {
     let steps = plan.steps.as_slice();
     let registers = plan.registers.as_slice();
