@@ -1,5 +1,6 @@
 #!/usr/bin/env python3
 """Prints how long a run of `rt ci` took by crate, as a Markdown table: times.py LOG [HH:MM:SS]
+With --kinds in place of a time it prints one line instead: after how many seconds all work of each kind was done.
 
 Each line of LOG begins with the time at which it was written, `HH:MM:SS `. Minutes are counted from the given time, or from
 the first line. A crate's lines come when its check has ended, so a row has the minutes from the beginning of the run until
@@ -63,12 +64,25 @@ def row(crate, events):
     return f"| {crate} | {proved} | {cell(events, 'tests', 'tests failed')} | {mutations} |"
 
 
+def kinds_line(crates, last):
+    """After how many seconds the last crate was proved, the last tests were, and all was done, mutations and runs of programs included."""
+    def latest(kind):
+        return max((events[kind][0] for events in crates.values() if kind in events), default=0)
+
+    tried = sum(int(events["mutations"][1]) for events in crates.values() if "mutations" in events)
+    return f"crates proved after {latest('proved')} s, their tests after {latest('tests')} s, {tried} mutations and all runs after {last[0]} s"
+
+
 def main():
     if len(sys.argv) not in (2, 3):
         sys.exit(__doc__)
-    start = seconds_of(*sys.argv[2].split(":")) if len(sys.argv) == 3 else None
+    kinds = sys.argv[2:] == ["--kinds"]
+    start = seconds_of(*sys.argv[2].split(":")) if len(sys.argv) == 3 and not kinds else None
     with open(sys.argv[1], encoding="utf-8", errors="replace") as log:
         crates, last = times_of(stamped(log, start))
+    if kinds:
+        print(kinds_line(crates, last))
+        return
     print("| crate | proved after | its tests after | mutations |")
     print("|---|---|---|---|")
     for crate, events in crates.items():
