@@ -8,20 +8,25 @@ use Rattle.safl_net.proofs.Naming.{within}
 use Rattle.safl_order.specs.declared.walk.Mark.{Mark}
 use Rattle.safl_order.specs.declared.walk.Mark.TheVariants.{Open}
 use Rattle.safl_order.specs.declared.walk.Frame.{Frame}
-use Rattle.safl_order.specs.Order.{Leads, IsLoop}
+use Rattle.safl_order.specs.Order.{operands_of, Reads, Leads, IsLoop}
 use Rattle.safl_order.specs.Walk.{Walks, Looks, IsOpenLoop, IsTurned}
+use Rattle.safl_order.proofs.Places.{from_reverse}
 
 abbrev wires_of : List Frame → List ℕ
 wires_of fs = map (λ (f : Frame). f.wire.0) fs
+
+-- a frame looks at operands of its wire
+looks_reads : (n : Netlist) (f : Frame) (t : ℕ) → Looks n f t → Reads n f.wire.0 t
+looks_reads n f t l = from_reverse (operands_of n f.wire.0) f.next t l
 
 leads_frames : (n : Netlist) (fs : List Frame) (t : ℕ)
     → ((k : ℕ) (f g : Frame) → slice_get fs k ≡ Some f → slice_get fs (suc k) ≡ Some g → Looks n f g.wire.0)
     → ((k : ℕ) (f : Frame) → slice_get fs k ≡ Some f → suc k ≡ length fs → Looks n f t)
     → Leads n (wires_of fs) t
 leads_frames n [] t path last = tt
-leads_frames n (f ∷ []) t path last = (f.next, last 0 f refl refl)
+leads_frames n (f ∷ []) t path last = looks_reads n f t (last 0 f refl refl)
 leads_frames n (f ∷ (g ∷ fs)) t path last = (
-  (f.next, path 0 f g refl refl),
+  looks_reads n f g.wire.0 (path 0 f g refl refl),
   leads_frames n (g ∷ fs) t (λ k a b e h. path (suc k) a b e h) (λ k a e h. last (suc k) a e (ap suc h)),
 )
 

@@ -2,7 +2,7 @@
 use Rattle.std.proofs.Common.{◌≡◌, inl, inr, ℕ, zero, suc, ◌+◌, ◌-◌, ◌<◌, ◌≤◌, ◌^◌, List, [], ◌∷◌, ◌++◌, length, set, take, get_or, Option, Some, None, Result, Ok, Err, OnOk, IfErr, slice_get, refl, sym, ap, subst, ◌∙◌, arith}
 use Rattle.safl_net.specs.declared.cell.Sig.{Sig}
 use Rattle.safl_net.specs.Netlist.{Netlist, Signal, Kind, Input, Reg, Wire}
-use Rattle.safl_net.specs.Making.{kind_in, cell_in}
+use Rattle.safl_net.specs.Making.{kind_at, kind_in, cell_in, next_in}
 use Rattle.safl_net.specs.Rules.{IsNetlist, KindFits}
 use Rattle.safl_net.proofs.Naming.{within}
 use Rattle.safl_order.specs.declared.walk.Mark.{Mark}
@@ -11,8 +11,8 @@ use Rattle.safl_order.specs.declared.walk.Frame.{Frame}
 use Rattle.safl_order.specs.declared.walk.Stop.{Stop}
 use Rattle.safl_order.specs.declared.walk.Stop.TheVariants.{NoMemory}
 use Rattle.safl_order.specs.Order.{operands_of, IsWire}
-use Rattle.safl_order.specs.Walk.{Walks, Looks, LooksAt, DoneBelow, Goes, IsTop, IsStop, IsOpenLoop, AllDone, work}
-use Rattle.safl_order.proofs.Places.{get_some, set_here}
+use Rattle.safl_order.specs.Walk.{Walks, Looks, LooksAt, looked_at, DoneBelow, Goes, IsTop, IsStop, IsOpenLoop, AllDone, work}
+use Rattle.safl_order.proofs.Places.{get_some, set_here, from_reverse}
 use Rattle.safl_order.proofs.Steps.{walks_open, less_open, walks_pass, less_pass, walks_close, less_close, goes_none, goes_set, lower_or_same}
 
 -- what is read at a place
@@ -78,7 +78,7 @@ moves_open n d d' m m' s s' t (Err x) w wire new looks e f g h = record {
 
 -- a wire that is done
 pub moves_close : (n : Netlist) (d d' : List Sig) (m m' : List Mark) (s s' : List Frame) (f : Frame) (last : ℕ) (r : Result (Unit {0}) Stop) → Walks n d m s → slice_get s last ≡ Some f → suc last ≡ length s
-    → slice_get (operands_of n f.wire.0) f.next ≡ None → f.next < 4
+    → slice_get (looked_at n f.wire.0) f.next ≡ None → f.next < 4
     → OnOk r (d' ≡ d ++ f.wire ∷ []) → OnOk r (m' ≡ set m f.wire.0 (Done (length d))) → OnOk r (s' ≡ take last s)
     → IfErr r (λ e. (e ≡ NoMemory) × (d' ≡ d) × (m' ≡ m) × (s' ≡ s))
     → Moves n d m s d' m' s' r
@@ -142,6 +142,24 @@ operand_in n s i t w e = by (slice_get n.signals s) refl e
     by : (o : Option Signal) → slice_get n.signals s ≡ o → slice_get (Rattle.safl_order.specs.Order.operands_in (cell_in (kind_in o))) i ≡ Some t → t < length n.signals
     by None q h = absurd (cc)
     by (Some g) q h = on g.width g.kind (w.signals s g q).kind h
+
+-- so is one that a frame looks at
+pub look_in : (n : Netlist) (f : Frame) (t : ℕ) → IsNetlist n → Looks n f t → t < length n.signals
+look_in n f t w l = let r = from_reverse (operands_of n f.wire.0) f.next t l in operand_in n f.wire.0 r.0 t w r.1
+
+-- a next signal is one of the net
+pub next_known : (n : Netlist) → IsNetlist n → (s t : ℕ) → next_in (kind_at n s) ≡ Some t → t < length n.signals
+next_known n made s t e = by (slice_get n.signals s) refl e
+  where
+    on : (width : ℕ) (k : Kind) → KindFits n width k → next_in k ≡ Some t → t < length n.signals
+    on width Input f h = absurd (cc)
+    on width (Wire cell) f h = absurd (cc)
+    on width (Reg init None) f h = absurd (cc)
+    on width (Reg init (Some m)) f h = let q : m ≡ t = cc in subst (λ x. x < length n.signals) q f.1
+
+    by : (o : Option Signal) → slice_get n.signals s ≡ o → next_in (kind_in o) ≡ Some t → t < length n.signals
+    by None q h = absurd (cc)
+    by (Some g) q h = on g.width g.kind (made.signals s g q).kind h
 
 pub number_some : (o : Option Sig) (t : Sig) (p : Option ℕ) → o ≡ Some t → Rattle.safl_net.specs.Stored.number_of o ≡ p → p ≡ Some t.0
 number_some o t p e f = sym f ∙ ap Rattle.safl_net.specs.Stored.number_of e

@@ -1,5 +1,8 @@
--- Places of lists that are written or grow.
-use Rattle.std.proofs.Common.{◌≡◌, ℕ, zero, suc, ◌+◌, ◌-◌, ◌<◌, ◌≤◌, List, [], ◌∷◌, ◌++◌, length, set, take, Some, None, ◌⊎◌, inl, inr, slice_get, refl, ap, arith}
+-- Places of lists that are written, grow or are reversed.
+use Rattle.std.proofs.Common.{◌≡◌, ℕ, zero, suc, ◌+◌, ◌-◌, ◌<◌, ◌≤◌, List, [], ◌∷◌, ◌++◌, length, reverse, get_or, set, take, Some, None, ◌⊎◌, inl, inr, slice_get, refl, sym, ap, ◌∙◌, arith}
+use Rattle.std.proofs.lemmas.List.{length-reverse, get_or-reverse}
+use Rattle.std.proofs.lemmas.Option.{slice_get-get_or}
+use Rattle.safl_net.proofs.Naming.{within}
 use Rattle.safl_order.specs.declared.walk.Mark.{Mark}
 use Rattle.safl_order.specs.declared.walk.Frame.{Frame}
 use Rattle.safl_order.specs.Walk.{one_unseen, unseen, stack_work}
@@ -76,3 +79,26 @@ split_last [] k x e h = absurd (cc)
 split_last (a ∷ []) zero x e h = let q : a ≡ x = cc in ap (λ y. y ∷ []) q
 split_last (a ∷ (b ∷ xs)) zero x e h = absurd (omega (arith, h))
 split_last (a ∷ xs) (suc k) x e h = ap (λ l. a ∷ l) (split_last xs k x e (omega (arith, h)))
+
+-- a list that is reversed has at i what it had as far from its end
+pub get_reverse : {A : Type 0} (xs : List A) (i j : ℕ) → suc (i + j) ≡ length xs → slice_get (reverse xs) i ≡ slice_get xs j
+get_reverse [] i j h = absurd (omega (arith, h))
+get_reverse (x ∷ xs) i j h =
+    let all = x ∷ xs in
+    let long = length-reverse all in
+    slice_get-get_or (reverse all) i x (omega (arith, long, h)) ∙ ap Some (get_or-reverse all i x (omega (arith, h)) ∙ ap (λ k. get_or all k x) (let e : length all - 1 - i ≡ j = omega (arith, h) in e))
+    ∙ sym (slice_get-get_or all j x (omega (arith, h)))
+
+-- what stands in a reversed list stands in the list, and the other way round
+pub from_reverse : {A : Type 0} (xs : List A) (i : ℕ) (y : A) → slice_get (reverse xs) i ≡ Some y → (j : ℕ) × (slice_get xs j ≡ Some y)
+from_reverse xs i y e =
+    let a = within (reverse xs) i y e in
+    let b = length-reverse xs in
+    let j = length xs - 1 - i in
+    (j, sym (get_reverse xs i j (omega (arith, a, b))) ∙ e)
+
+pub to_reverse : {A : Type 0} (xs : List A) (j : ℕ) (y : A) → slice_get xs j ≡ Some y → (i : ℕ) × (slice_get (reverse xs) i ≡ Some y)
+to_reverse xs j y e =
+    let a = within xs j y e in
+    let i = length xs - 1 - j in
+    (i, get_reverse xs i j (omega (arith, a)) ∙ e)

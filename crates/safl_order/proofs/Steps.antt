@@ -8,8 +8,8 @@ use Rattle.safl_order.specs.declared.walk.Mark.{Mark}
 use Rattle.safl_order.specs.declared.walk.Mark.TheVariants.{Unseen, Open, Done}
 use Rattle.safl_order.specs.declared.walk.Frame.{Frame}
 use Rattle.safl_order.specs.Order.{operands_of, IsWire}
-use Rattle.safl_order.specs.Walk.{Walks, FrameFits, Looks, DoneBelow, Goes, IsTop, one_unseen, unseen, stack_work, work}
-use Rattle.safl_order.proofs.Places.{set_cases, set_other, set_here, set_length, get_front, get_end, get_some, past_end, length_push, unseen_set, stack_push, stack_set, split_last}
+use Rattle.safl_order.specs.Walk.{Walks, FrameFits, Looks, looked_at, DoneBelow, Goes, IsTop, one_unseen, unseen, stack_work, work}
+use Rattle.safl_order.proofs.Places.{set_cases, set_other, set_here, set_length, get_front, get_end, get_some, past_end, length_push, unseen_set, stack_push, stack_set, split_last, to_reverse}
 
 -- a mark that is not done
 abbrev NotDone : Mark → Type 0
@@ -145,7 +145,7 @@ walks_pass n done marks stack f t w top looks few past =
       frames = λ k g e. elim (set_cases stack p (passed f) k g e) [
         | inl q ↦ subst (λ y. FrameFits n marks (length done) y) (sym q.1) (record {
           wire = old.wire;
-          within = let a = within (operands_of n f.wire.0) f.next t looks in omega (arith, a);
+          within = let a = within (looked_at n f.wire.0) f.next t looks in omega (arith, a);
           few = omega (arith, few);
           past = λ i u h o v. by_place i u h o v (λ l. old.past i u l o v);
         })
@@ -161,11 +161,11 @@ walks_pass n done marks stack f t w top looks few past =
       ];
     }
   where
-    by_place : (i u : ℕ) → i < f.next + 1 → slice_get (operands_of n f.wire.0) i ≡ Some u → IsWire n u → (i < f.next → DoneBelow marks (length done) u) → DoneBelow marks (length done) u
+    by_place : (i u : ℕ) → i < f.next + 1 → slice_get (looked_at n f.wire.0) i ≡ Some u → IsWire n u → (i < f.next → DoneBelow marks (length done) u) → DoneBelow marks (length done) u
     by_place i u h o v below = elim (lower_or_same i f.next h) [
       | inl l ↦ below l
       | inr e ↦
-          let same : Some u ≡ Some t = sym o ∙ ap (slice_get (operands_of n f.wire.0)) e ∙ looks in
+          let same : Some u ≡ Some t = sym o ∙ ap (slice_get (looked_at n f.wire.0)) e ∙ looks in
           let one : u ≡ t = cc in
           subst (λ y. DoneBelow marks (length done) y) (sym one) (past (subst (λ y. IsWire n y) one v))
     ]
@@ -174,7 +174,7 @@ pub less_pass : (marks : List Mark) (stack : List Frame) (f : Frame) (k : ℕ) �
 less_pass marks stack f k e h = let a = stack_set stack k f (passed f) e in omega (arith, a, h)
 
 -- the wire on top is done
-pub walks_close : (n : Netlist) (done : List Sig) (marks : List Mark) (stack : List Frame) (f : Frame) → Walks n done marks stack → (top : IsTop stack f) → slice_get (operands_of n f.wire.0) f.next ≡ None
+pub walks_close : (n : Netlist) (done : List Sig) (marks : List Mark) (stack : List Frame) (f : Frame) → Walks n done marks stack → (top : IsTop stack f) → slice_get (looked_at n f.wire.0) f.next ≡ None
     → Walks n (done ++ f.wire ∷ []) (set marks f.wire.0 (Done (length done))) (take top.place stack)
 walks_close n done marks stack f w top none =
     let p = top.place in
@@ -219,9 +219,10 @@ walks_close n done marks stack f w top none =
         | inl q ↦ below_kept marks f.wire.0 x (Open p) i u here tt (w.before i s k u q o v)
         | inr q ↦
             let o' : slice_get (operands_of n f.wire.0) k ≡ Some u = ap (λ (y : Sig). slice_get (operands_of n y.0) k) (sym q.1) ∙ o in
-            let a = within (operands_of n f.wire.0) k u o' in
-            let b = past_end (operands_of n f.wire.0) f.next none in
-            let d = (w.frames p f top.at).past k u (omega (arith, a, b)) o' v in
+            let look = to_reverse (operands_of n f.wire.0) k u o' in
+            let a = within (looked_at n f.wire.0) look.0 u look.1 in
+            let b = past_end (looked_at n f.wire.0) f.next none in
+            let d = (w.frames p f top.at).past look.0 u (omega (arith, a, b)) look.1 v in
             subst (λ j. DoneBelow (set marks f.wire.0 x) j u) (sym q.0) (below_kept marks f.wire.0 x (Open p) (length done) u here tt d)
       ];
       frames = λ k g e. frame_kept n marks f.wire.0 x (Open p) (length done) (length (done ++ f.wire ∷ [])) g (let a = length_push done f.wire in omega (arith, a)) here tt (w.frames k g (front k g e));

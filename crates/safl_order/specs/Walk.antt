@@ -1,5 +1,5 @@
 -- A walk from wires to their operands, deepest first.
-use Rattle.std.specs.Prelude.{◌≡◌, ℕ, suc, ◌+◌, ◌-◌, ◌*◌, ◌<◌, ◌≤◌, List, [], ◌∷◌, ◌++◌, map, length, take, drop, Some, slice_get}
+use Rattle.std.specs.Prelude.{◌≡◌, ℕ, suc, ◌+◌, ◌-◌, ◌*◌, ◌<◌, ◌≤◌, List, [], ◌∷◌, ◌++◌, map, reverse, length, take, drop, Some, slice_get}
 use Rattle.safl_net.specs.declared.cell.Sig.{Sig}
 use Rattle.safl_net.specs.Netlist.{Netlist}
 use Rattle.safl_net.specs.Rules.{IsNetlist}
@@ -24,16 +24,20 @@ unseen (m ∷ ms) = one_unseen m + unseen ms
 abbrev pub DoneBelow : List Mark → ℕ → ℕ → Type 0
 DoneBelow marks i t = (j : ℕ) × (j < i) × (slice_get marks t ≡ Some (Done j))
 
+-- the operands of a wire as the walk looks at them: from the last to the first
+abbrev pub looked_at : Netlist → ℕ → List ℕ
+looked_at n s = reverse (operands_of n s)
+
 -- the next operand of a frame
 abbrev pub Looks : Netlist → Frame → ℕ → Type 0
-Looks n f t = slice_get (operands_of n f.wire.0) f.next ≡ Some t
+Looks n f t = slice_get (looked_at n f.wire.0) f.next ≡ Some t
 
--- a wire whose operands before the next one are done where they are wires
+-- a wire whose operands that were looked at before the next one are done where they are wires
 pub record FrameFits (n : Netlist) (marks : List Mark) (count : ℕ) (f : Frame) : Type 0 where
   pub wire : IsWire n f.wire.0
-  pub within : f.next ≤ length (operands_of n f.wire.0)
+  pub within : f.next ≤ length (looked_at n f.wire.0)
   pub few : f.next ≤ 3
-  pub past : (i t : ℕ) → i < f.next → slice_get (operands_of n f.wire.0) i ≡ Some t → IsWire n t → DoneBelow marks count t
+  pub past : (i t : ℕ) → i < f.next → slice_get (looked_at n f.wire.0) i ≡ Some t → IsWire n t → DoneBelow marks count t
 
 -- the marks say where wires stand among those done and on the stack, and each wire on the stack looks at the next
 pub record Walks (n : Netlist) (done : List Sig) (marks : List Mark) (stack : List Frame) : Type 0 where

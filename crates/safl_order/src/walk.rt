@@ -1,10 +1,11 @@
-//! A walk from wires to their operands, deepest first, on a stack of its own.
+//! A walk from wires to their operands, deepest first, on a stack of its own. It looks at the operands of a wire from
+//! the last to the first: so what changes together in a simulation stands nearer together in the order.
 
 ghost use Rattle.std.specs.Prelude.{◌≡◌, ℕ, ◌+◌, ◌-◌, ◌<◌, ◌≤◌, ◌^◌, [], ◌∷◌, ◌++◌, map, length, take, drop, Some, None, IfOk, IfErr, OnOk, IfSome, slice_get, slice_set, vec_len};
 ghost use Rattle.safl_net.specs.Stored.{number_of};
 ghost use Rattle.safl_order.specs.declared.walk.Frame.{Frame};
-ghost use Rattle.safl_order.specs.Order.{IsWire, operands_of};
-ghost use Rattle.safl_order.specs.Walk.{Walks, Looks, LooksAt, AllDone, Goes, IsTop, IsStop, IsTurned, work};
+ghost use Rattle.safl_order.specs.Order.{IsWire};
+ghost use Rattle.safl_order.specs.Walk.{Walks, Looks, LooksAt, looked_at, AllDone, Goes, IsTop, IsStop, IsTurned, work};
 
 use safl_net::{Net, Sig, SigKind};
 use std::alloc::{AllocError, Global};
@@ -18,7 +19,7 @@ pub enum Mark {
     Done(u32),
 }
 
-/// A wire on the stack, and how many of its operands are done.
+/// A wire on the stack, and how many of its operands are done, the last ones first.
 #[derive(Clone, Copy)]
 pub struct Frame {
     pub wire: Sig,
@@ -54,7 +55,8 @@ impl Walk {
         })
     }
 
-    /// Walks from each wire.
+    /// Walks from each wire, and from what each register needs first: so what a register needs stands together, as much
+    /// as it can.
     pub fn run(&mut self, net: &Net) -> Result<(), Stop>
         requires walks { Walks net.now self.old.wires.items self.old.marks.items self.old.stack.items }
         requires empty { self.old.stack.items ≡ [] }
@@ -62,10 +64,43 @@ impl Walk {
         ensures done { OnOk result (AllDone net.now self.new.marks.items (length net.now.signals)) }
         ensures stop { IfErr result (IsStop net.now self.new.stack.items) }
     {
+        self.run_registers(net)?;
         'signals: for i in 0..net.signals() {
             self.visit(net, Sig(i))?;
         }
         Ok(())
+    }
+
+    // Walks from the next signal of each register.
+    fn run_registers(&mut self, net: &Net) -> Result<(), Stop>
+        requires walks { Walks net.now self.old.wires.items self.old.marks.items self.old.stack.items }
+        requires empty { self.old.stack.items ≡ [] }
+        ensures walks { Walks net.now self.new.wires.items self.new.marks.items self.new.stack.items }
+        ensures empty { OnOk result (self.new.stack.items ≡ []) }
+        ensures stop { IfErr result (IsStop net.now self.new.stack.items) }
+    {
+        'signals: for i in 0..net.signals() {
+            self.visit_next(net, Sig(i))?;
+        }
+        Ok(())
+    }
+
+    // Walks from the next signal of a register; from any other signal it does not walk.
+    fn visit_next(&mut self, net: &Net, s: Sig) -> Result<(), Stop>
+        requires walks { Walks net.now self.old.wires.items self.old.marks.items self.old.stack.items }
+        requires empty { self.old.stack.items ≡ [] }
+        requires known { s.0 < length net.now.signals }
+        ensures walks { Walks net.now self.new.wires.items self.new.marks.items self.new.stack.items }
+        ensures empty { OnOk result (self.new.stack.items ≡ []) }
+        ensures stop { IfErr result (IsStop net.now self.new.stack.items) }
+    {
+        match net.kind(s) {
+            SigKind::Reg => match net.next(s) {
+                Some(next) => self.visit(net, next),
+                None => Ok(()),
+            },
+            _ => Ok(()),
+        }
     }
 
     /// The wires on the stack from that place on, beginning at the least and going round.
@@ -214,15 +249,22 @@ impl Walk {
     }
 }
 
-// An operand of a wire.
+// The operand of a wire that the walk looks at after `index` others: the last one is looked at first.
 fn operand(net: &Net, wire: Sig, index: usize) -> Option<Sig>
     requires wire { IsWire net.now wire.0 }
     requires known { wire.0 < length net.now.signals }
-    ensures operand { number_of result ≡ slice_get (operands_of net.now wire.0) index }
+    ensures operand { number_of result ≡ slice_get (looked_at net.now wire.0) index }
     ensures few { IfSome result (λ t. index < 3) }
 {
     match net.cell(wire) {
-        Some(cell) => cell.operands.as_slice().get(index).copied(),
+        Some(cell) => {
+            let operands = cell.operands.as_slice();
+            if index < operands.len() {
+                Some(operands[operands.len() - 1 - index])
+            } else {
+                None
+            }
+        }
         None => None,
     }
 }

@@ -1,6 +1,6 @@
 use Rattle.std.proofs.Common.{◌≡◌, suc, ◌-◌, length, Some, arith, slice_get, vec_len}
 use Rattle.safl_order.specs.declared.walk.Frame.{Frame}
-use Rattle.safl_order.proofs.Moves.{last_read, moves_close, operand_in, number_some, number_none, frame_in, frame_few}
+use Rattle.safl_order.proofs.Moves.{last_read, moves_close, look_in, number_some, number_none, frame_in, frame_few}
 use Rattle.safl_order.proofs.walk.Walk.step.Goals as goal
 
 pub operand-requires-clause-known : goal.operand-requires-clause-known
@@ -15,7 +15,7 @@ operand-requires-clause-known c =
 
 pub look-requires-clause-known : goal.look-requires-clause-known
 look-requires-clause-known c =
-    operand_in c.args.net.now c.index-top.result.now.wire.0 c.index-top.result.now.next c.in-Some.t.0 c.requires.walks.made (number_some c.operand.result c.in-Some.t _ c.in-Some.is c.operand.ensures.operand)
+    look_in c.args.net.now c.index-top.result.now c.in-Some.t.0 c.requires.walks.made (number_some c.operand.result c.in-Some.t _ c.in-Some.is c.operand.ensures.operand)
 
 pub close-requires-clause-known : goal.close-requires-clause-known
 close-requires-clause-known c =
