@@ -12,13 +12,11 @@ use Rattle.safl_net.proofs.Naming.{within}
 use Rattle.safl_net.proofs.OneValuation.{one_valuation}
 use Rattle.safl_order.specs.Order.{Order, IsWire}
 use Rattle.safl_order.proofs.Ends.{order_acyclic}
-use Rattle.safl_sim.specs.declared.step.Near.{Near}
 use Rattle.safl_sim.specs.declared.step.Step.{Step}
 use Rattle.safl_sim.specs.declared.step.Register.{Register}
 use Rattle.safl_sim.specs.Places.{inputs_of, AreInputs, HasWords}
 use Rattle.safl_sim.specs.Simulation.{Simulation, Ticks}
 use Rattle.safl_sim.specs.Marks.{marked, first_register}
-use Rattle.safl_sim.specs.Nears.{AreNear}
 use Rattle.safl_sim.specs.Readers.{Lists, Kept, Shown}
 use Rattle.safl_sim.specs.Steps.{IsReg, AreRegisters, Waits, Keeps, Runs, Goes}
 use Rattle.safl_sim.specs.declared.plan.Plan.{Plan}
@@ -359,14 +357,6 @@ pub ran_through : (o : Order) (steps steps' : List Step) (regs regs' : List Regi
 ran_through o steps steps' regs regs' now starts starts' readers readers' start v m a c s r w =
     runs_through o steps steps' regs regs' now starts starts' readers readers' start (first_register (length steps')) v m a c s r
     (subst (λ (x : List Step). Runs o steps regs now starts readers start (first_register (length x)) v m) (sym a) w)
-
-pub near_through : (starts starts' readers readers' : List ℕ) (steps steps' : List Step) (nears nears' : List Near) → starts' ≡ starts → readers' ≡ readers → steps' ≡ steps → nears' ≡ nears
-    → AreNear starts readers steps nears → AreNear starts' readers' steps' nears'
-near_through starts starts' readers readers' steps steps' nears nears' s r a d w =
-    subst (λ x. AreNear x readers' steps' nears') (sym s)
-    (subst (λ x. AreNear starts x steps' nears') (sym r)
-    (subst (λ x. AreNear starts readers x nears') (sym a)
-    (subst (λ x. AreNear starts readers steps x) (sym d) w)))
 
 -- and the marks, the state and the values
 pub states_same : (o : Order) (p : Plan) (marks marks' waiting waiting' numbers numbers' v v' : List ℕ) → marks' ≡ marks → waiting' ≡ waiting → numbers' ≡ numbers → v' ≡ v

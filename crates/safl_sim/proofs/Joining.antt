@@ -29,10 +29,6 @@ pub joined_of : (ns : List ℕ) → joined (map low_half ns) (map high_half ns) 
 joined_of [] = refl
 joined_of (n ∷ ns) = ap (λ l. (n % 2 ^ 64 + n / 2 ^ 64 * 2 ^ 64) ∷ l) (joined_of ns) ∙ ap (λ x. x ∷ ns) (let r : n % 2 ^ 64 + n / 2 ^ 64 * 2 ^ 64 ≡ n = omega arith in r)
 
-pub halves_length : (ns : List ℕ) → length (map low_half ns) ≡ length (map high_half ns)
-halves_length [] = refl
-halves_length (n ∷ ns) = ap suc (halves_length ns)
-
 -- a number below 2 to the 64th has no high half
 pub no_high : (ls hs : List ℕ) (i : ℕ) → length ls ≡ length hs → i < length ls → slice_index (joined ls hs) i < 2 ^ 64 → slice_index hs i ≡ 0
 no_high ls hs i e h lt = let a = joined_index ls hs i e h in omega (arith, a, lt)

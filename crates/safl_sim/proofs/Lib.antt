@@ -2,6 +2,7 @@ pub mod Joining
 pub mod MarksByOne
 pub mod Actions
 pub mod Written
+pub mod Covering
 pub mod InputsInOrder
 pub mod Updates
 pub mod Registers
@@ -12,6 +13,7 @@ mod Placing
 pub mod Cycle
 pub mod Chaining
 pub mod Tables
+pub mod Guarding
 pub mod Few
 pub mod Builds
 pub mod Names

@@ -160,9 +160,9 @@ or_none a b h = (
 )
 
 -- four words
-pub four_none : (marks : List ℕ) (w a b c d : ℕ) → slice_index marks w ≡ a → slice_index marks (w + 1) ≡ b → slice_index marks (w + 2) ≡ c → slice_index marks (w + 3) ≡ d → bit_or (bit_or (bit_or a b) c) d ≡ 0 → NoneBetween marks w (w + 4)
+four_none : (marks : List ℕ) (w a b c d : ℕ) → slice_index marks w ≡ a → slice_index marks (w + 1) ≡ b → slice_index marks (w + 2) ≡ c → slice_index marks (w + 3) ≡ d → ((i : ℕ) → bit_at (bit_or (bit_or (bit_or a b) c) d) i ≡ 0) → NoneBetween marks w (w + 4)
 four_none marks w a b c d ea eb ec ed e v f l k q =
-    let x = or_none (bit_or (bit_or a b) c) d (λ i. ap (λ y. bit_at y i) e ∙ bit_at-zero i) in
+    let x = or_none (bit_or (bit_or a b) c) d e in
     let y = or_none (bit_or a b) c x.0 in
     let z = or_none a b y.0 in
     let at : (u n : ℕ) → v ≡ u → slice_index marks u ≡ n → ((i : ℕ) → bit_at n i ≡ 0) → marked marks k ≡ 0 = λ u n s t none.
@@ -177,3 +177,19 @@ four_none marks w a b c d ea eb ec ed e v f l k q =
         ]
       ]
     ]
+
+-- eight words
+pub eight_none : (marks : List ℕ) (w : ℕ) →
+    bit_or
+    (bit_or (bit_or (bit_or (slice_index marks w) (slice_index marks (w + 1))) (slice_index marks (w + 2))) (slice_index marks (w + 3)))
+    (bit_or (bit_or (bit_or (slice_index marks (w + 4)) (slice_index marks (w + 5))) (slice_index marks (w + 6))) (slice_index marks (w + 7))) ≡ 0
+    → NoneBetween marks w (w + 8)
+eight_none marks w e =
+    let x = or_none _ _ (λ i. ap (λ y. bit_at y i) e ∙ bit_at-zero i) in
+    let one : w + 4 + 1 ≡ w + 5 = omega arith in
+    let two : w + 4 + 2 ≡ w + 6 = omega arith in
+    let three : w + 4 + 3 ≡ w + 7 = omega arith in
+    let all : w + 4 + 4 ≡ w + 8 = omega arith in
+    between_more marks w (w + 4) (w + 8)
+    (four_none marks w _ _ _ _ refl refl refl refl x.0)
+    (subst (λ z. NoneBetween marks (w + 4) z) all (four_none marks (w + 4) _ _ _ _ refl (ap (slice_index marks) one) (ap (slice_index marks) two) (ap (slice_index marks) three) x.1))

@@ -15,10 +15,9 @@ use Rattle.safl_sim.specs.declared.step.Step.{Step}
 use Rattle.safl_sim.specs.Marks.{marked, holding, HasNone, HasTaken}
 use Rattle.safl_sim.specs.Readers.{Reader, HasMarked, HasGiven}
 use Rattle.safl_sim.specs.Nears.{IsNear, NearOf, GroupOf}
-use Rattle.safl_sim.specs.Steps.{IsStep, AreSteps}
+use Rattle.safl_sim.specs.Steps.{AreSteps}
 use Rattle.safl_sim.proofs.Written.{same_or_not, lower_or_not, lower_or_same, index_here, set_length}
 use Rattle.safl_sim.proofs.MarksByOne.{written_same, written_other, none_in, take_has}
-use Rattle.safl_sim.proofs.Tables.{get_set_same, get_set_other, get_in, set_long}
 use Rattle.safl_sim.proofs.Updates.{set_same}
 use Rattle.safl_sim.proofs.Scenes.{wire_at, get_same}
 

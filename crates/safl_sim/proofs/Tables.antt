@@ -1,7 +1,7 @@
 -- The lists of the readers of places.
 use Rattle.std.proofs.Common.{◌≡◌, ◌⊎◌, inl, inr, ℕ, zero, suc, ◌+◌, ◌/◌, ◌<◌, ◌≤◌, List, [], ◌∷◌, ◌++◌, length, set, Some, slice_get, slice_index, refl, sym, ap, subst, ◌∙◌, arith}
 use Rattle.safl_net.specs.Netlist.{Netlist}
-use Rattle.safl_net.proofs.Naming.{pushed, within}
+use Rattle.safl_net.proofs.Naming.{within}
 use Rattle.safl_order.specs.Order.{operands_of}
 use Rattle.safl_sim.specs.Readers.{Lists, Reader, AreReaders, Reads, On, AreLists, AreFlat}
 use Rattle.safl_sim.specs.declared.step.Register.{Register}

@@ -9,6 +9,7 @@ use Rattle.safl_net.specs.Making.{kind_at, cell_in}
 use Rattle.safl_net.proofs.OneValuation.{map_same}
 use Rattle.safl_net.proofs.Naming.{within}
 use Rattle.safl_order.specs.Order.{IsOrder, operands_of, operands_in}
+use Rattle.safl_order.proofs.Places.{get_some}
 use Rattle.safl_sim.specs.declared.step.Action.{Action}
 use Rattle.safl_sim.specs.declared.step.Action.TheVariants.{Const, Choose, One, Two}
 use Rattle.safl_sim.specs.declared.step.Step.{Step}
@@ -93,7 +94,9 @@ given_stays n ws steps regs starts readers p x values values' marks marks' r are
         let read : slice_get (operands_of n t) f.0 ≡ Some p = ap (λ y. slice_get (operands_in (cell_in y)) f.0) kind ∙ f.1 in
         elim (g.told k q (r.all p k f.0 t at read)) [
           | inl a ↦ absurd (omega (arith, a, none))
-          | inr u ↦ agrees_blind n values p x t d u.0 (are.each k t u.0 at u.1) kind ne fits (subst (λ l. FitWidths n (slice_index l)) g.is fits') (subst (λ l. IsBlind (slice_index l) p u.0.action) g.is u.2) e
+          | inr u ↦
+              let s = get_some steps k u.0 in
+              agrees_blind n values p x t d s.0 (are.each k t s.0 at s.1) kind ne fits (subst (λ l. FitWidths n (slice_index l)) g.is fits') (subst (λ l. IsBlind (slice_index l) p s.0.action) g.is (u.1 s.0 s.1)) e
         ]
     | inr away ↦ agrees_apart n values p x t d ne away e
   ]
@@ -111,7 +114,7 @@ given_kept n ws steps regs now starts readers p x values values' marks marks' r 
         | inl y ↦ ap (λ l. slice_index l q.next.0) (set_same values p x y)
         | inr y ↦ absurd (elim (g.told (first_register (length ws) + k) y (subst (λ u. Reader starts readers u (first_register (length ws) + k)) z (r.nexts k q e))) [
           | inl a ↦ omega (arith, a, none)
-          | inr u ↦ let a = within steps (first_register (length ws) + k) u.0 u.1 in omega (arith, a, long)
+          | inr u ↦ let a = u.0 in omega (arith, a, long)
         ])
       ]
       | inr z ↦ index_other values p x q.next.0 z

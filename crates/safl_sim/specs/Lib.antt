@@ -3,6 +3,7 @@ pub mod Simulation
 pub mod Halves
 pub mod Marks
 pub mod Readers
+pub mod Guards
 pub mod Chains
 pub mod Nears
 pub mod States

@@ -32,6 +32,10 @@ pub record HasTaken (old new : List ℕ) (w i : ℕ) : Type 0 where
 abbrev pub holding : List ℕ → ℕ → ℕ → List ℕ
 holding marks w held = slice_set marks w held
 
+-- beside words of marks, each word that is not 0 has its own mark
+abbrev pub Covers : List ℕ → List ℕ → Type 0
+Covers filled words = (length words ≤ length filled * 64) × ((w : ℕ) → ¬ (slice_index words w ≡ 0) → marked filled w ≡ 1)
+
 -- a range is marked
 pub record HasRange (from to : ℕ) (old new : List ℕ) : Type 0 where
   pub long : length new ≡ length old

@@ -16,9 +16,13 @@ pub record IsNear (readers : List ℕ) (from to word : ℕ) (near : Near) : Type
   pub all : (j k : ℕ) → from ≤ j → j < to → slice_get readers j ≡ Some k → k / 64 ≡ word → bit_at near.mask (k % 64) ≡ 1
   pub only : (b : ℕ) → b < 64 → ((j : ℕ) → from ≤ j → j < to → ¬ (slice_get readers j ≡ Some (word * 64 + b))) → bit_at near.mask b ≡ 0
 
+-- those of place p
+abbrev pub NearAt : List ℕ → List ℕ → ℕ → ℕ → Near → Type 0
+NearAt starts readers p word near = IsNear readers (slice_index starts p) (slice_index starts (p + 1)) word near
+
 -- those of the wire of step i, and of each step
 abbrev pub NearOf : List ℕ → List ℕ → ℕ → Step → Near → Type 0
-NearOf starts readers i s near = IsNear readers (slice_index starts s.wire.0) (slice_index starts (s.wire.0 + 1)) (i / 64) near
+NearOf starts readers i s near = NearAt starts readers s.wire.0 (i / 64) near
 
 pub record AreNear (starts readers : List ℕ) (steps : List Step) (nears : List Near) : Type 0 where
   pub long : length nears ≡ length steps
@@ -26,7 +30,7 @@ pub record AreNear (starts readers : List ℕ) (steps : List Step) (nears : List
 
 -- those of a register that stand in the word of its group, and a group for each register
 abbrev pub GroupOf : List ℕ → List ℕ → Register → Group → Type 0
-GroupOf starts readers r g = IsNear readers (slice_index starts r.signal.0) (slice_index starts (r.signal.0 + 1)) g.word g.near
+GroupOf starts readers r g = NearAt starts readers r.signal.0 g.word g.near
 
 pub record AreGrouped (starts readers : List ℕ) (registers : List Register) (groups : List Group) : Type 0 where
   pub long : length groups ≡ length registers

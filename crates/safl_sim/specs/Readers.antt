@@ -22,6 +22,10 @@ pub record Lists (starts readers : List ℕ) (places words : ℕ) : Type 0 where
 abbrev pub Reader : List ℕ → List ℕ → ℕ → ℕ → Type 0
 Reader starts readers p k = (j : ℕ) × (slice_index starts p ≤ j) × (j < slice_index starts (p + 1)) × (slice_get readers j ≡ Some k)
 
+-- numbers from one up to another are a part of the list of place p
+abbrev pub IsPart : List ℕ → ℕ → ℕ → ℕ → Type 0
+IsPart starts p from to = (p + 1 < length starts) × (slice_index starts p ≤ from) × (to ≤ slice_index starts (p + 1))
+
 -- the steps of the wires that have a place as an operand are on its list, and the registers that have it as their next signal, and nothing else
 pub record AreReaders (n : Netlist) (ws : List ℕ) (regs : List Register) (starts readers : List ℕ) : Type 0 where
   pub all : (p k i s : ℕ) → slice_get ws k ≡ Some s → slice_get (operands_of n s) i ≡ Some p → Reader starts readers p k
@@ -37,9 +41,9 @@ IsBlind f p (Choose c a b turned) = ¬ (c ≡ p) × ¬ (pick (f c) a b ≡ p)
 IsBlind f p (One q w a) = ⊥
 IsBlind f p (Two q w v a b) = ⊥
 
--- step k is such a choice
+-- number k is of a step, which is such a choice
 abbrev pub Blind : List Step → List ℕ → ℕ → ℕ → Type 0
-Blind steps values p k = (s : Step) × (slice_get steps k ≡ Some s) × IsBlind (slice_index values) p s.action
+Blind steps values p k = (k < length steps) × ((s : Step) → slice_get steps k ≡ Some s → IsBlind (slice_index values) p s.action)
 
 -- what is on a part of the readers of a place is marked, or blind to the place
 pub record HasMarked (steps : List Step) (readers : List ℕ) (from to p : ℕ) (values old new : List ℕ) : Type 0 where

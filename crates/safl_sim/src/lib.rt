@@ -4,6 +4,7 @@
 pub mod arguments;
 mod chains;
 pub mod done;
+mod guards;
 pub mod inputs;
 pub mod laws;
 mod marks;

@@ -1,7 +1,10 @@
 //! Marks of steps and registers, a bit for each.
 
-ghost use Rattle.std.specs.Prelude.{◌≡◌, ℕ, ◌+◌, ◌*◌, ◌/◌, ◌<◌, ◌≤◌, ◌^◌, List, length, IfSome, IfNone};
-ghost use Rattle.safl_sim.specs.Marks.{marked, holding, HasMark, HasTaken, HasNone, NoneBetween, HasRange};
+ghost use Rattle.std.specs.Prelude.{◌≡◌, ℕ, ◌+◌, ◌/◌, ◌<◌, ◌≤◌, ◌^◌, List, length, IfSome, IfNone};
+ghost use Rattle.safl_sim.specs.Marks.{holding, HasTaken};
+
+use std::alloc::{AllocError, Global};
+use std::marker::Model;
 
 /// How many words have a bit for each of so many numbers.
 pub fn word_count(count: usize) -> usize
@@ -9,15 +12,6 @@ pub fn word_count(count: usize) -> usize
     ensures { result ≡ (count + 63) / 64 }
 {
     (count + 63) / 64
-}
-
-/// Marks a number.
-#[inline(always)]
-pub fn mark(marks: &mut [u64], i: usize)
-    requires { i / 64 < length marks.old }
-    ensures { HasMark marks.old marks.new i }
-{
-    marks[i / 64] |= 1u64 << (i % 64);
 }
 
 /// A number that was marked, and what of its word is left.
@@ -45,60 +39,128 @@ pub fn take_held(word: usize, held: u64) -> Option<Taken>
     }
 }
 
-/// The first word that has a mark, of those from a word up to an end; or the end.
-#[inline(always)]
-pub fn next_word(marks: &[u64], from: usize, end: usize) -> usize
-    requires ordered { from ≤ end }
-    requires within { end ≤ length marks.now }
-    ensures least { from ≤ result }
-    ensures most { result ≤ end }
-    ensures none { NoneBetween marks.now from result }
-{
-    let begun = skip_blocks(marks, from, end);
-    'words: for w in begun..end {
-        if marks[w] != 0 {
-            return w;
+/// Marks of numbers, a bit for each, in words of 64; and beside them a bit for each word, which is 1 if the word is not 0. So a
+/// search for marks looks at 64 words at a time.
+#[derive(Drop)]
+pub struct Marks {
+    words: Vec<u64>,
+    filled: Vec<u64>,
+}
+
+impl Model for Marks {
+    ghost use Rattle.std.specs.Prelude.{List, ℕ};
+    ghost use Rattle.safl_sim.specs.Marks.{Covers};
+
+    ghost Value = { List ℕ };
+
+    ghost view = { λ m. m.words.items };
+
+    ghost invariant = { λ m. Covers m.filled.items m.words.items };
+}
+
+impl Marks {
+    ghost use Rattle.std.specs.Prelude.{◌≡◌, ℕ, ◌+◌, ◌*◌, ◌/◌, ◌<◌, ◌≤◌, ◌^◌, length, slice_index, slice_set, IfOk};
+    ghost use Rattle.safl_sim.specs.Marks.{marked, HasMark, NoneBetween, HasRange};
+
+    /// So many words, in which no number is marked.
+    pub fn new(alloc: Global, count: usize) -> Result<Marks, AllocError>
+        requires { count < 2 ^ 40 }
+        ensures long { IfOk result (λ m. length m ≡ count) }
+        ensures none { IfOk result (λ m. (w : ℕ) → slice_index m w ≡ 0) }
+    {
+        Ok(Marks {
+            words: vec![in alloc; 0; count]?,
+            filled: vec![in alloc; 0; word_count(count)]?,
+        })
+    }
+
+    /// How many words there are.
+    #[inline(always)]
+    pub fn count(&self) -> usize
+        ensures { result ≡ length self.now }
+    {
+        self.words.len()
+    }
+
+    /// The marks of a word.
+    #[inline(always)]
+    pub fn get(&self, word: usize) -> u64
+        requires { word < length self.now }
+        ensures { result ≡ slice_index self.now word }
+    {
+        self.words[word]
+    }
+
+    /// Writes the marks of a word.
+    #[inline(always)]
+    pub fn put(&mut self, word: usize, marks: u64)
+        requires { word < length self.old }
+        ensures { self.new ≡ slice_set self.old word marks }
+    {
+        let before = self.words[word];
+        self.words[word] = marks;
+        if marks == 0 {
+            self.filled[word / 64] &= !(1u64 << (word % 64));
+        } else if before == 0 {
+            self.filled[word / 64] |= 1u64 << (word % 64);
         }
     }
-    end
-}
 
-// The word after so many blocks of four without a mark.
-#[inline(always)]
-fn skip_blocks(marks: &[u64], from: usize, end: usize) -> usize
-    requires ordered { from ≤ end }
-    requires within { end ≤ length marks.now }
-    ensures least { from ≤ result }
-    ensures most { result ≤ end }
-    ensures none { NoneBetween marks.now from result }
-{
-    let mut w = from;
-    'fours: for _n in 0..(end - from) / 4 {
-        let common = marks[w] | marks[w + 1] | marks[w + 2] | marks[w + 3];
-        if common != 0 {
-            return w;
+    /// Marks a number.
+    #[inline(always)]
+    pub fn mark(&mut self, i: usize)
+        requires { i / 64 < length self.old }
+        ensures { HasMark self.old self.new i }
+    {
+        let word = i / 64;
+        let marks = self.words[word] | 1u64 << (i % 64);
+        self.put(word, marks);
+    }
+
+    /// The first word that has a mark, of those from a word up to an end; or the end.
+    #[inline(always)]
+    pub fn next(&self, from: usize, end: usize) -> usize
+        requires ordered { from ≤ end }
+        requires within { end ≤ length self.now }
+        ensures least { from ≤ result }
+        ensures most { result ≤ end }
+        ensures none { NoneBetween self.now from result }
+    {
+        if from == end {
+            return end;
         }
-        w += 4;
+        let begun = from / 64;
+        let left = self.filled[begun] >> (from % 64);
+        if left != 0 {
+            return end.min(from + left.trailing_zeros() as usize);
+        }
+        'groups: for b in begun + 1..word_count(end) {
+            let block = self.filled[b];
+            if block != 0 {
+                return end.min(b * 64 + block.trailing_zeros() as usize);
+            }
+        }
+        end
     }
-    w
-}
 
-/// Marks a range of numbers.
-pub fn mark_range(marks: &mut [u64], from: usize, to: usize)
-    requires ordered { from ≤ to }
-    requires room { to ≤ length marks.old * 64 }
-    ensures { HasRange from to marks.old marks.new }
-{
-    'numbers: for i in from..to {
-        mark(marks, i);
+    /// Marks a range of numbers.
+    pub fn mark_range(&mut self, from: usize, to: usize)
+        requires ordered { from ≤ to }
+        requires room { to ≤ length self.old * 64 }
+        ensures { HasRange from to self.old self.new }
+    {
+        'numbers: for i in from..to {
+            self.mark(i);
+        }
     }
-}
 
-/// Takes all marks away.
-pub fn clear(marks: &mut [u64])
-    ensures { (k : ℕ) → marked marks.new k ≡ 0 }
-{
-    'words: for w in 0..marks.len() {
-        marks[w] = 0;
+    /// Takes all marks away.
+    pub fn clear(&mut self)
+        ensures long { length self.new ≡ length self.old }
+        ensures none { (k : ℕ) → marked self.new k ≡ 0 }
+    {
+        'words: for w in 0..self.words.len() {
+            self.put(w, 0);
+        }
     }
 }

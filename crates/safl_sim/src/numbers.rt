@@ -36,10 +36,13 @@ impl Numbers {
     pub fn new(alloc: Global, numbers: &[Raw]) -> Result<Numbers, AllocError>
         ensures { IfOk result (λ n. n ≡ numbers.now) }
     {
-        Ok(Numbers {
-            low: low_halves(alloc, numbers)?,
-            high: high_halves(alloc, numbers)?,
-        })
+        let mut low = Vec::with_capacity(alloc, numbers.len())?;
+        let mut high = Vec::with_capacity(alloc, numbers.len())?;
+        'numbers: for number in numbers {
+            low.push(low_half(*number))?;
+            high.push(high_half(*number))?;
+        }
+        Ok(Numbers { low, high })
     }
 
     /// The number at a place.
@@ -61,13 +64,15 @@ impl Numbers {
         self.low[i]
     }
 
-    /// Whether the number at a place is 1. Its high half is read only if the low one is 1.
+    /// Whether there is such a place and its number is 1. Its high half is read only if the low one is 1.
     #[inline(always)]
     pub fn is_one(&self, i: usize) -> bool
-        requires { i < length self.now }
         ensures yes { result ≡ true → slice_index self.now i ≡ 1 }
         ensures no { result ≡ false → ¬ (slice_index self.now i ≡ 1) }
     {
+        if i >= self.low.len() {
+            return false;
+        }
         if self.low[i] != 1 {
             return false;
         }
@@ -75,14 +80,6 @@ impl Numbers {
             return false;
         }
         true
-    }
-
-    /// How many places there are.
-    #[inline(always)]
-    pub fn count(&self) -> usize
-        ensures { result ≡ length self.now }
-    {
-        self.low.len()
     }
 
     /// Writes a number to a place.
@@ -104,26 +101,6 @@ impl Numbers {
     {
         self.low[i] = number;
     }
-}
-
-fn low_halves(alloc: Global, numbers: &[Raw]) -> Result<Vec<u64>, AllocError>
-    ensures { IfOk result (λ v. v.items ≡ map low_half numbers.now) }
-{
-    let mut halves = Vec::with_capacity(alloc, numbers.len())?;
-    'numbers: for number in numbers {
-        halves.push(low_half(*number))?;
-    }
-    Ok(halves)
-}
-
-fn high_halves(alloc: Global, numbers: &[Raw]) -> Result<Vec<u64>, AllocError>
-    ensures { IfOk result (λ v. v.items ≡ map high_half numbers.now) }
-{
-    let mut halves = Vec::with_capacity(alloc, numbers.len())?;
-    'numbers: for number in numbers {
-        halves.push(high_half(*number))?;
-    }
-    Ok(halves)
 }
 
 /// The number of two halves.

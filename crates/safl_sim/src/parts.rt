@@ -13,7 +13,8 @@ ghost use Rattle.safl_sim.specs.States.{AreReset};
 ghost use Rattle.safl_sim.specs.Steps.{IsStep, IsReg, AreSteps, AreRegisters};
 ghost use Rattle.safl_sim.specs.Cycles.{state_of, KeepsStates};
 
-use crate::marks::{mark_range, word_count};
+use crate::guards::guards_of;
+use crate::marks::{Marks, word_count};
 use crate::near::{groups_of, nears_of};
 use crate::numbers::Numbers;
 use crate::plan::Plan;
@@ -30,8 +31,8 @@ use std::mem::drop;
 #[derive(Drop)]
 pub struct Parts {
     pub plan: Plan,
-    pub marks: Vec<u64>,
-    pub waiting: Vec<u64>,
+    pub marks: Marks,
+    pub waiting: Marks,
     pub state: Vec<Raw>,
     pub values: Numbers,
 }
@@ -39,7 +40,7 @@ pub struct Parts {
 impl Parts {
     /// The parts at reset.
     pub fn new(alloc: Global, ordered: &Ordered) -> Result<Parts, AllocError>
-        ensures keeps { IfOk result (λ p. KeepsStates ordered.now p.plan p.marks.items p.waiting.items p.state.items p.values) }
+        ensures keeps { IfOk result (λ p. KeepsStates ordered.now p.plan p.marks p.waiting p.state.items p.values) }
         ensures state { IfOk result (λ p. state_of ordered.now p.plan p.state.items ≡ resets ordered.now.net) }
         ensures values { IfOk result (λ p. p.values ≡ resets ordered.now.net) }
     {
@@ -56,8 +57,9 @@ impl Parts {
         let steps = steps_of(alloc, net, &table.starts, ordered.wires())?;
         let nears = nears_of(alloc, &steps, &table.starts, &table.readers)?;
         let groups = groups_of(alloc, kept, &table.starts, &table.readers)?;
+        let guards = guards_of(alloc, &steps, &table.starts, &table.readers)?;
         let marks = all_marked(alloc, ordered.wires().len(), kept.len())?;
-        let waiting = none_marked(alloc, kept.len())?;
+        let waiting = Marks::new(alloc, word_count(kept.len()))?;
         let state = states_of(alloc, net, kept)?;
         let plan = Plan {
             steps,
@@ -67,6 +69,7 @@ impl Parts {
             groups,
             starts: table.starts,
             readers: table.readers,
+            guards,
         };
         Ok(Parts {
             plan,
@@ -78,49 +81,20 @@ impl Parts {
     }
 }
 
-// Marks of so many numbers, none of them there.
-fn none_marked(alloc: Global, count: usize) -> Result<Vec<u64>, AllocError>
-    requires { count < 2 ^ 40 }
-    ensures long { IfOk result (λ v. length v.items ≡ (count + 63) / 64) }
-    ensures none { IfOk result (λ v. (k : ℕ) → slice_index v.items k ≡ 0) }
-{
-    let words = word_count(count);
-    let mut marks = Vec::with_capacity(alloc, words)?;
-    'words: for _w in 0..words {
-        marks.push(0)?;
-    }
-    Ok(marks)
-}
-
 // Marks of so many steps and registers, all of them there.
-fn all_marked(alloc: Global, steps: usize, registers: usize) -> Result<Vec<u64>, AllocError>
+fn all_marked(alloc: Global, steps: usize, registers: usize) -> Result<Marks, AllocError>
     requires few { steps < 2 ^ 32 }
     requires some { registers < 2 ^ 32 }
-    ensures long { IfOk result (λ v. length v.items ≡ (first_register steps + registers + 63) / 64) }
-    ensures inside { IfOk result (λ v. Inside steps registers v.items) }
-    ensures step { IfOk result (λ v. (k : ℕ) → k < steps → marked v.items k ≡ 1) }
-    ensures register { IfOk result (λ v. (k : ℕ) → k < registers → marked v.items (first_register steps + k) ≡ 1) }
+    ensures long { IfOk result (λ m. length m ≡ (first_register steps + registers + 63) / 64) }
+    ensures inside { IfOk result (λ m. Inside steps registers m) }
+    ensures step { IfOk result (λ m. (k : ℕ) → k < steps → marked m k ≡ 1) }
+    ensures register { IfOk result (λ m. (k : ℕ) → k < registers → marked m (first_register steps + k) ≡ 1) }
 {
-    let words = word_count(steps);
-    let mut marks = none_marked(alloc, words * 64 + registers)?;
-    mark_all(&mut marks, steps, registers);
+    let first = word_count(steps) * 64;
+    let mut marks = Marks::new(alloc, word_count(first + registers))?;
+    marks.mark_range(0, steps);
+    marks.mark_range(first, first + registers);
     Ok(marks)
-}
-
-fn mark_all(marks: &mut [u64], steps: usize, registers: usize)
-    requires few { steps < 2 ^ 32 }
-    requires some { registers < 2 ^ 32 }
-    requires room { first_register steps + registers ≤ length marks.old * 64 }
-    requires none { (k : ℕ) → slice_index marks.old k ≡ 0 }
-    ensures long { length marks.new ≡ length marks.old }
-    ensures inside { Inside steps registers marks.new }
-    ensures step { (k : ℕ) → k < steps → marked marks.new k ≡ 1 }
-    ensures register { (k : ℕ) → k < registers → marked marks.new (first_register steps + k) ≡ 1 }
-{
-    let words = word_count(steps);
-    let first = words * 64;
-    mark_range(marks, 0, steps);
-    mark_range(marks, first, first + registers);
 }
 
 // The steps of wires, in their order.

@@ -16,7 +16,7 @@ ghost use Rattle.safl_sim.specs.Cycles.{KeepsStates, Cycles};
 ghost use Rattle.safl_sim.specs.States.{placed, AreAt, AreOnce};
 ghost use Rattle.safl_sim.specs.Writes.{HasPut, HasShown, Shows, KeepsOn, after_steps, AllReady};
 
-use crate::marks::{clear, mark, mark_range, next_word, take_held, word_count};
+use crate::marks::{Marks, take_held, word_count};
 use crate::numbers::Numbers;
 use crate::plan::Plan;
 use crate::readers::{mark_group, mark_readers};
@@ -26,30 +26,14 @@ use safl_word::{Raw, Word};
 
 /// Gives a place its number, and marks its readers where that is new.
 #[inline(always)]
-pub fn give(
-    values: &mut Numbers,
-    marks: &mut [u64],
-    steps: &[Step],
-    starts: &[u32],
-    readers: &[u32],
-    place: u32,
-    number: Raw,
-)
-    requires lists { Lists starts.now readers.now (length values.old) (length marks.old) }
+pub fn give(values: &mut Numbers, marks: &mut Marks, plan: &Plan, place: u32, number: Raw)
+    requires lists { Lists plan.now.starts.items plan.now.readers.items (length values.old) (length marks.old) }
     requires within { place < length values.old }
-    ensures { HasGiven steps.now starts.now readers.now place number values.old values.new marks.old marks.new }
+    ensures { HasGiven plan.now.steps.items plan.now.starts.items plan.now.readers.items place number values.old values.new marks.old marks.new }
 {
     let i = place as usize;
     if renew(values, i, number) {
-        mark_readers(
-            values,
-            marks,
-            steps,
-            readers,
-            place,
-            starts[i],
-            starts[i + 1],
-        );
+        mark_readers(values, marks, plan, plan.starts[i], plan.starts[i + 1]);
     }
 }
 
@@ -80,38 +64,22 @@ fn renew_low(values: &mut Numbers, place: usize, number: u64) -> bool
     new
 }
 
-/// Writes the words to the places.
-pub fn put_words(
-    values: &mut Numbers,
-    marks: &mut [u64],
-    steps: &[Step],
-    starts: &[u32],
-    readers: &[u32],
-    places: &[Sig],
-    words: &[Word],
-)
-    requires lists { Lists starts.now readers.now (length values.old) (length marks.old) }
-    requires long { length places.now ≡ length words.now }
-    requires within { (k : ℕ) (s : Sig) → slice_get places.now k ≡ Some s → s.0 < length values.old }
-    requires once { (i j : ℕ) (s t : Sig) → slice_get places.now i ≡ Some s → slice_get places.now j ≡ Some t → s.0 ≡ t.0 → i ≡ j }
-    ensures put { HasPut places.now words.now (length places.now) values.old values.new }
+/// Writes the words to the inputs.
+pub fn put_words(values: &mut Numbers, marks: &mut Marks, plan: &Plan, words: &[Word])
+    requires lists { Lists plan.now.starts.items plan.now.readers.items (length values.old) (length marks.old) }
+    requires long { length plan.now.inputs.items ≡ length words.now }
+    requires within { (k : ℕ) (s : Sig) → slice_get plan.now.inputs.items k ≡ Some s → s.0 < length values.old }
+    requires once { (i j : ℕ) (s t : Sig) → slice_get plan.now.inputs.items i ≡ Some s → slice_get plan.now.inputs.items j ≡ Some t → s.0 ≡ t.0 → i ≡ j }
+    ensures put { HasPut plan.now.inputs.items words.now (length plan.now.inputs.items) values.old values.new }
     ensures long { length marks.new ≡ length marks.old }
     ensures goes { (n : Netlist) (ws : List ℕ) (regs : List Register) (held : List ℕ)
-        → ((k : ℕ) (s : Sig) → slice_get places.now k ≡ Some s → (i : ℕ) → ¬ (slice_get ws i ≡ Some s.0))
-        → ((k : ℕ) (s : Sig) (w : Word) (g : Signal) → slice_get places.now k ≡ Some s → slice_get words.now k ≡ Some w
+        → ((k : ℕ) (s : Sig) → slice_get plan.now.inputs.items k ≡ Some s → (i : ℕ) → ¬ (slice_get ws i ≡ Some s.0))
+        → ((k : ℕ) (s : Sig) (w : Word) (g : Signal) → slice_get plan.now.inputs.items k ≡ Some s → slice_get words.now k ≡ Some w
         → slice_get n.signals s.0 ≡ Some g → w.bits < 2 ^ g.width)
-        → Goes n ws steps.now regs held starts.now readers.now values.old values.new marks.old marks.new }
+        → Goes n ws plan.now.steps.items regs held plan.now.starts.items plan.now.readers.items values.old values.new marks.old marks.new }
 {
-    'words: for i in 0..places.len() {
-        give(
-            values,
-            marks,
-            steps,
-            starts,
-            readers,
-            places[i].0,
-            words[i].bits(),
-        );
+    'words: for i in 0..words.len() {
+        give(values, marks, plan, plan.inputs[i].0, words[i].bits());
     }
 }
 
@@ -119,21 +87,19 @@ pub fn put_words(
 #[inline(always)]
 pub fn show(
     values: &mut Numbers,
-    marks: &mut [u64],
-    steps: &[Step],
-    readers: &[u32],
+    marks: &mut Marks,
+    plan: &Plan,
     register: Register,
     group: Group,
     number: Raw,
 )
-    requires group { (starts : List ℕ) × Lists starts readers.now (length values.old) (length marks.old) × GroupOf starts readers.now register group }
+    requires lists { Lists plan.now.starts.items plan.now.readers.items (length values.old) (length marks.old) }
+    requires group { GroupOf plan.now.starts.items plan.now.readers.items register group }
     requires within { register.signal.0 < length values.old }
-    ensures { (starts : List ℕ) → GroupOf starts readers.now register group
-        → HasGiven steps.now starts readers.now register.signal.0 number values.old values.new marks.old marks.new }
+    ensures { HasGiven plan.now.steps.items plan.now.starts.items plan.now.readers.items register.signal.0 number values.old values.new marks.old marks.new }
 {
-    let place = register.signal.0;
-    if renew(values, place as usize, number) {
-        mark_group(values, marks, steps, readers, place, group);
+    if renew(values, register.signal.0 as usize, number) {
+        mark_group(values, marks, plan, group);
     }
 }
 
@@ -141,8 +107,8 @@ pub fn show(
 #[inline(always)]
 pub fn show_word(
     values: &mut Numbers,
-    marks: &mut [u64],
-    waiting: &mut [u64],
+    marks: &mut Marks,
+    waiting: &mut Marks,
     plan: &Plan,
     state: &[Raw],
     word: usize,
@@ -154,16 +120,13 @@ pub fn show_word(
     requires shows { (now : List ℕ) × (start : List ℕ) × AreAt plan.now.registers.items state.now now
         × Shows plan.now.registers.items now (word * 64) start values.old waiting.old }
     ensures long { length marks.new ≡ length marks.old }
+    ensures room { length waiting.new ≡ length waiting.old }
     ensures shows { (now start : List ℕ) → AreAt plan.now.registers.items state.now now → Shows plan.now.registers.items now (word * 64) start values.old waiting.old
         → Shows plan.now.registers.items now ((word + 1) * 64) start values.new waiting.new }
     ensures goes { (n : Netlist) (ws now : List ℕ) → RegistersAway plan.now.registers.items ws → AreAt plan.now.registers.items state.now now
         → Goes n ws plan.now.steps.items plan.now.registers.items now plan.now.starts.items plan.now.readers.items values.old values.new marks.old marks.new }
 {
-    let steps = plan.steps.as_slice();
-    let registers = plan.registers.as_slice();
-    let groups = plan.groups.as_slice();
-    let readers = plan.readers.as_slice();
-    let mut held = waiting[word];
+    let mut held = waiting.get(word);
     'registers: for _n in 0..64u32 {
         match take_held(word, held) {
             Some(taken) => {
@@ -172,27 +135,26 @@ pub fn show_word(
                 show(
                     values,
                     marks,
-                    steps,
-                    readers,
-                    registers[i],
-                    groups[i],
+                    plan,
+                    plan.registers[i],
+                    plan.groups[i],
                     state[i],
                 );
             }
             None => {
-                waiting[word] = 0;
+                waiting.put(word, 0);
                 return;
             }
         }
     }
-    waiting[word] = held;
+    waiting.put(word, held);
 }
 
 /// Shows the registers that wait.
 pub fn show_registers(
     values: &mut Numbers,
-    marks: &mut [u64],
-    waiting: &mut [u64],
+    marks: &mut Marks,
+    waiting: &mut Marks,
     plan: &Plan,
     state: &[Raw],
 )
@@ -200,20 +162,21 @@ pub fn show_registers(
     requires within { (k : ℕ) (r : Register) → slice_get plan.now.registers.items k ≡ Some r → r.signal.0 < length values.old }
     requires waits { (now : List ℕ) × AreAt plan.now.registers.items state.now now × Waits plan.now.registers.items now values.old waiting.old }
     ensures long { length marks.new ≡ length marks.old }
+    ensures room { length waiting.new ≡ length waiting.old }
     ensures none { (k : ℕ) → marked waiting.new k ≡ 0 }
     ensures shown { (now : List ℕ) → AreAt plan.now.registers.items state.now now → Waits plan.now.registers.items now values.old waiting.old
         → HasShown plan.now.registers.items now (length plan.now.registers.items) values.old values.new }
     ensures goes { (n : Netlist) (ws now : List ℕ) → RegistersAway plan.now.registers.items ws → AreAt plan.now.registers.items state.now now
         → Goes n ws plan.now.steps.items plan.now.registers.items now plan.now.starts.items plan.now.readers.items values.old values.new marks.old marks.new }
 {
-    let end = waiting.len();
-    let mut w = next_word(waiting, 0, end);
+    let end = waiting.count();
+    let mut w = waiting.next(0, end);
     'words: for _n in 0..end {
         if w == end {
             return;
         }
         show_word(values, marks, waiting, plan, state, w);
-        w = next_word(waiting, w + 1, end);
+        w = waiting.next(w + 1, end);
     }
 }
 
@@ -221,7 +184,7 @@ pub fn show_registers(
 #[inline(always)]
 pub fn keep(
     state: &mut [Raw],
-    waiting: &mut [u64],
+    waiting: &mut Marks,
     registers: &[Register],
     values: &Numbers,
     k: usize,
@@ -234,15 +197,15 @@ pub fn keep(
     ensures waits { HasMark waiting.old waiting.new k }
 {
     state[k] = values.get(registers[k].next.0 as usize);
-    mark(waiting, k);
+    waiting.mark(k);
 }
 
 /// Keeps the marked registers of a word of marks. The marks of registers begin with a word of their own.
 #[inline(always)]
 pub fn keep_word(
     state: &mut [Raw],
-    marks: &mut [u64],
-    waiting: &mut [u64],
+    marks: &mut Marks,
+    waiting: &mut Marks,
     registers: &[Register],
     values: &Numbers,
     first: usize,
@@ -258,10 +221,13 @@ pub fn keep_word(
     requires once { AreOnce registers.now }
     requires keeps { (start was : List ℕ)
         × KeepsOn (first * 64) registers.now values.now (word * 64) start was (placed (length values.now) registers.now state.old) marks.old waiting.old }
-    ensures { (start was : List ℕ) → KeepsOn (first * 64) registers.now values.now (word * 64) start was (placed (length values.now) registers.now state.old) marks.old waiting.old
+    ensures long { length marks.new ≡ length marks.old }
+    ensures room { length waiting.new ≡ length waiting.old }
+    ensures keeps { (start was : List ℕ)
+        → KeepsOn (first * 64) registers.now values.now (word * 64) start was (placed (length values.now) registers.now state.old) marks.old waiting.old
         → KeepsOn (first * 64) registers.now values.now ((word + 1) * 64) start was (placed (length values.now) registers.now state.new) marks.new waiting.new }
 {
-    let mut held = marks[word];
+    let mut held = marks.get(word);
     'registers: for _n in 0..64u32 {
         match take_held(word, held) {
             Some(taken) => {
@@ -270,19 +236,19 @@ pub fn keep_word(
                 keep(state, waiting, registers, values, k);
             }
             None => {
-                marks[word] = 0;
+                marks.put(word, 0);
                 return;
             }
         }
     }
-    marks[word] = held;
+    marks.put(word, held);
 }
 
 /// Keeps the numbers of the next signals as the state of the registers that are marked, and lets these wait.
 pub fn keep_registers(
     state: &mut [Raw],
-    marks: &mut [u64],
-    waiting: &mut [u64],
+    marks: &mut Marks,
+    waiting: &mut Marks,
     registers: &[Register],
     values: &Numbers,
     first: usize,
@@ -296,17 +262,20 @@ pub fn keep_registers(
     requires once { AreOnce registers.now }
     requires keeps { (start was : List ℕ)
         × KeepsOn (first * 64) registers.now values.now (first * 64) start was (placed (length values.now) registers.now state.old) marks.old waiting.old }
-    ensures { (start was : List ℕ) → KeepsOn (first * 64) registers.now values.now (first * 64) start was (placed (length values.now) registers.now state.old) marks.old waiting.old
+    ensures long { length marks.new ≡ length marks.old }
+    ensures room { length waiting.new ≡ length waiting.old }
+    ensures keeps { (start was : List ℕ)
+        → KeepsOn (first * 64) registers.now values.now (first * 64) start was (placed (length values.now) registers.now state.old) marks.old waiting.old
         → KeepsOn (first * 64) registers.now values.now (length marks.new * 64) start was (placed (length values.now) registers.now state.new) marks.new waiting.new }
 {
-    let end = marks.len();
-    let mut w = next_word(marks, first, end);
+    let end = marks.count();
+    let mut w = marks.next(first, end);
     'words: for _n in first..end {
         if w == end {
             return;
         }
         keep_word(state, marks, waiting, registers, values, first, w);
-        w = next_word(marks, w + 1, end);
+        w = marks.next(w + 1, end);
     }
 }
 
@@ -324,9 +293,20 @@ fn act_anew(values: &mut Numbers, step: &Step) -> bool
         let number = act_low(&step.action, values);
         renew_low(values, place, number)
     } else {
-        let number = act(&step.action, values);
-        renew(values, place, number)
+        act_wide(values, step)
     }
+}
+
+// The same where there may be more than 64 bits. It stands apart, so that the loop over narrow steps keeps what it needs in registers.
+#[inline(never)]
+fn act_wide(values: &mut Numbers, step: &Step) -> bool
+    requires within { step.now.wire.0 < length values.old }
+    requires ready { Ready values.old step.now.action }
+    ensures is { values.new ≡ slice_set values.old step.now.wire.0 (action_number (slice_index values.old) step.now.action) }
+    ensures new { result ≡ false → slice_index values.old step.now.wire.0 ≡ action_number (slice_index values.old) step.now.action }
+{
+    let number = act(&step.action, values);
+    renew(values, step.wire.0 as usize, number)
 }
 
 /// Evaluates a step. Where its wire's number is new, it marks what reads the wire, but for the near readers: it answers
@@ -334,104 +314,80 @@ fn act_anew(values: &mut Numbers, step: &Step) -> bool
 #[inline(always)]
 pub fn evaluate(
     values: &mut Numbers,
-    marks: &mut [u64],
-    starts: &[u32],
-    readers: &[u32],
-    steps: &[Step],
+    marks: &mut Marks,
+    plan: &Plan,
     step: &Step,
     near: Near,
 ) -> u64
-    requires lists { Lists starts.now readers.now (length values.old) (length marks.old) }
+    requires lists { Lists plan.now.starts.items plan.now.readers.items (length values.old) (length marks.old) }
     requires within { step.now.wire.0 < length values.old }
     requires ready { Ready values.old step.now.action }
     requires low { LowStep values.old step.now }
-    requires near { (i : ℕ) × NearOf starts.now readers.now i step.now near }
-    ensures { (i held : ℕ) → i / 64 < length marks.old → NearOf starts.now readers.now i step.now near
-        → HasGiven steps.now starts.now readers.now step.now.wire.0 (action_number (slice_index values.old) step.now.action) values.old values.new
+    requires near { (i : ℕ) × NearOf plan.now.starts.items plan.now.readers.items i step.now near }
+    ensures long { length marks.new ≡ length marks.old }
+    ensures given { (i held : ℕ) → i / 64 < length marks.old → NearOf plan.now.starts.items plan.now.readers.items i step.now near
+        → HasGiven plan.now.steps.items plan.now.starts.items plan.now.readers.items step.now.wire.0 (action_number (slice_index values.old) step.now.action) values.old values.new
         (holding marks.old (i / 64) held) (holding marks.new (i / 64) (bit_or held result)) }
 {
     let new = act_anew(values, step);
     if !new {
         return 0;
     }
-    mark_readers(
-        values,
-        marks,
-        steps,
-        readers,
-        step.wire.0,
-        near.first,
-        near.end,
-    );
+    mark_readers(values, marks, plan, near.first, near.end);
     near.mask
 }
 
 /// Evaluates the marked steps of a word, and answers how many there were.
 #[inline(always)]
-pub fn run_word(
-    values: &mut Numbers,
-    marks: &mut [u64],
-    starts: &[u32],
-    readers: &[u32],
-    steps: &[Step],
-    nears: &[Near],
-    word: usize,
-) -> usize
+pub fn run_word(values: &mut Numbers, marks: &mut Marks, plan: &Plan, word: usize) -> usize
     requires within { word < length marks.old }
     requires few { length marks.old ≤ 2 ^ 32 }
-    requires steps { (word + 1) * 64 ≤ first_register (length steps.now) }
-    requires near { AreNear starts.now readers.now steps.now nears.now }
+    requires steps { (word + 1) * 64 ≤ first_register (length plan.now.steps.items) }
     requires runs { (o : Order) × (regs : List Register) × (held : List ℕ) × (start : List ℕ)
-        × Runs o steps.now regs held starts.now readers.now start (word * 64) values.old marks.old }
+        × Runs o plan.now.steps.items regs held plan.now.starts.items plan.now.readers.items start (word * 64) values.old marks.old }
     ensures count { result ≤ 64 }
     ensures long { length marks.new ≡ length marks.old }
-    ensures runs { (o : Order) (regs : List Register) (held start : List ℕ) → Runs o steps.now regs held starts.now readers.now start (word * 64) values.old marks.old
-        → Runs o steps.now regs held starts.now readers.now start ((word + 1) * 64) values.new marks.new }
+    ensures runs { (o : Order) (regs : List Register) (held start : List ℕ)
+        → Runs o plan.now.steps.items regs held plan.now.starts.items plan.now.readers.items start (word * 64) values.old marks.old
+        → Runs o plan.now.steps.items regs held plan.now.starts.items plan.now.readers.items start ((word + 1) * 64) values.new marks.new }
 {
-    let mut held = marks[word];
+    let mut held = marks.get(word);
     'steps: for n in 0..64usize {
         match take_held(word, held) {
             Some(taken) => {
                 let i = taken.number;
-                let near = evaluate(values, marks, starts, readers, steps, &steps[i], nears[i]);
+                let near = evaluate(values, marks, plan, &plan.steps[i], plan.nears[i]);
                 held = taken.left | near;
             }
             None => {
-                marks[word] = 0;
+                marks.put(word, 0);
                 return n;
             }
         }
     }
-    marks[word] = held;
+    marks.put(word, held);
     64
 }
 
 /// Evaluates the marked steps in turn, and answers how many there were.
-pub fn run_marked(
-    values: &mut Numbers,
-    marks: &mut [u64],
-    starts: &[u32],
-    readers: &[u32],
-    steps: &[Step],
-    nears: &[Near],
-) -> usize
+pub fn run_marked(values: &mut Numbers, marks: &mut Marks, plan: &Plan) -> usize
     requires few { length marks.old ≤ 2 ^ 32 }
-    requires near { AreNear starts.now readers.now steps.now nears.now }
     requires runs { (o : Order) × (regs : List Register) × (held : List ℕ) × (start : List ℕ)
-        × Runs o steps.now regs held starts.now readers.now start 0 values.old marks.old }
+        × Runs o plan.now.steps.items regs held plan.now.starts.items plan.now.readers.items start 0 values.old marks.old }
     ensures long { length marks.new ≡ length marks.old }
-    ensures runs { (o : Order) (regs : List Register) (held start : List ℕ) → Runs o steps.now regs held starts.now readers.now start 0 values.old marks.old
-        → Runs o steps.now regs held starts.now readers.now start (first_register (length steps.now)) values.new marks.new }
+    ensures runs { (o : Order) (regs : List Register) (held start : List ℕ)
+        → Runs o plan.now.steps.items regs held plan.now.starts.items plan.now.readers.items start 0 values.old marks.old
+        → Runs o plan.now.steps.items regs held plan.now.starts.items plan.now.readers.items start (first_register (length plan.now.steps.items)) values.new marks.new }
 {
     let mut count = 0;
-    let end = word_count(steps.len());
-    let mut w = next_word(marks, 0, end);
+    let end = word_count(plan.steps.len());
+    let mut w = marks.next(0, end);
     'words: for _n in 0..end {
         if w == end {
             return count;
         }
-        count += run_word(values, marks, starts, readers, steps, nears, w);
-        w = next_word(marks, w + 1, end);
+        count += run_word(values, marks, plan, w);
+        w = marks.next(w + 1, end);
     }
     count
 }
@@ -465,7 +421,7 @@ fn write(values: &mut Numbers, step: &Step)
 }
 
 /// Evaluates all steps, and marks all registers, or the marked steps alone, and answers how many were marked.
-pub fn run_steps(values: &mut Numbers, marks: &mut [u64], plan: &Plan, all: bool) -> usize
+pub fn run_steps(values: &mut Numbers, marks: &mut Marks, plan: &Plan, all: bool) -> usize
     requires few { length marks.old ≤ 2 ^ 32 }
     requires runs { (o : Order) × (held : List ℕ) × (start : List ℕ)
         × Runs o plan.now.steps.items plan.now.registers.items held plan.now.starts.items plan.now.readers.items start 0 values.old marks.old }
@@ -475,28 +431,23 @@ pub fn run_steps(values: &mut Numbers, marks: &mut [u64], plan: &Plan, all: bool
         → Runs o plan.now.steps.items plan.now.registers.items held plan.now.starts.items plan.now.readers.items start
         (first_register (length plan.now.steps.items)) values.new marks.new }
 {
-    let steps = plan.steps.as_slice();
-    let registers = plan.registers.as_slice();
     if all {
-        let words = word_count(steps.len());
+        let words = word_count(plan.steps.len());
         let first = words * 64;
-        run_all(values, steps);
-        clear(marks);
-        mark_range(marks, first, first + registers.len());
+        run_all(values, plan.steps.as_slice());
+        marks.clear();
+        marks.mark_range(first, first + plan.registers.len());
         return 0;
     }
-    let starts = plan.starts.as_slice();
-    let readers = plan.readers.as_slice();
-    let nears = plan.nears.as_slice();
-    run_marked(values, marks, starts, readers, steps, nears)
+    run_marked(values, marks, plan)
 }
 
 /// A cycle. It evaluates all steps, or those that are marked, and answers how many were marked.
 pub fn cycle(
     values: &mut Numbers,
     state: &mut [Raw],
-    marks: &mut [u64],
-    waiting: &mut [u64],
+    marks: &mut Marks,
+    waiting: &mut Marks,
     plan: &Plan,
     words: &[Word],
     all: bool,
@@ -505,15 +456,11 @@ pub fn cycle(
     ensures { (o : Order) → KeepsStates o plan.now marks.old waiting.old state.old values.old → AreInputs o.net words.now
         → Cycles o plan.now words.now state.old values.old marks.new waiting.new state.new values.new }
 {
-    let steps = plan.steps.as_slice();
-    let inputs = plan.inputs.as_slice();
     let registers = plan.registers.as_slice();
-    let starts = plan.starts.as_slice();
-    let readers = plan.readers.as_slice();
-    put_words(values, marks, steps, starts, readers, inputs, words);
+    put_words(values, marks, plan, words);
     show_registers(values, marks, waiting, plan, state);
     let count = run_steps(values, marks, plan, all);
-    let first = word_count(steps.len());
+    let first = word_count(plan.steps.len());
     keep_registers(state, marks, waiting, registers, values, first);
     count
 }

@@ -1,90 +1,75 @@
 //! Which readers of a place are marked where its number is new.
 
-ghost use Rattle.std.specs.Prelude.{◌≡◌, ℕ, ◌/◌, ◌<◌, ◌≤◌, length, Some, slice_get, slice_index, true};
-ghost use Rattle.safl_word.specs.Words.{pick};
-ghost use Rattle.safl_sim.specs.Nears.{IsNear};
-ghost use Rattle.safl_sim.specs.Readers.{Blind, HasMarked};
+ghost use Rattle.std.specs.Prelude.{◌≡◌, ℕ, ◌+◌, ◌/◌, ◌<◌, ◌≤◌, length, Some, slice_get, slice_index, false};
+ghost use Rattle.safl_sim.specs.Guards.{Unseen};
+ghost use Rattle.safl_sim.specs.Nears.{NearAt};
+ghost use Rattle.safl_sim.specs.Readers.{IsPart, HasMarked};
 
-use crate::marks::mark;
+use crate::marks::Marks;
 use crate::numbers::Numbers;
-use crate::step::{Action, Group, Step};
+use crate::plan::Plan;
+use crate::step::{Group, Guard};
 
 // Of so many readers and more, those that are blind to the place are sought. It is a matter of speed alone.
 const MANY: u32 = 8;
 
-/// Marks what stands on a part of the readers of a place, but where they are many, no step that is blind to the place.
+/// Marks a part of the readers of a place, but where they are many, no step that is blind to the place.
 #[inline(always)]
-pub fn mark_readers(
-    values: &Numbers,
-    marks: &mut [u64],
-    steps: &[Step],
-    readers: &[u32],
-    place: u32,
-    from: u32,
-    to: u32,
-)
+pub fn mark_readers(values: &Numbers, marks: &mut Marks, plan: &Plan, from: u32, to: u32)
     requires ordered { from ≤ to }
-    requires within { to ≤ length readers.now }
-    requires known { (j k : ℕ) → slice_get readers.now j ≡ Some k → k / 64 < length marks.old }
-    ensures { HasMarked steps.now readers.now from to place values.now marks.old marks.new }
+    requires within { to ≤ length plan.now.readers.items }
+    requires known { (j k : ℕ) → slice_get plan.now.readers.items j ≡ Some k → k / 64 < length marks.old }
+    ensures { (p : ℕ) → IsPart plan.now.starts.items p from to → HasMarked plan.now.steps.items plan.now.readers.items from to p values.now marks.old marks.new }
 {
-    let many = to - from >= MANY;
+    if to - from >= MANY {
+        mark_seeing(values, marks, plan, from, to);
+        return;
+    }
     'readers: for j in from..to {
-        let k = readers[j as usize] as usize;
-        if many && is_blind(values, steps, k, place) {
-            continue;
+        marks.mark(plan.readers[j as usize] as usize);
+    }
+}
+
+// The same, but no step that is blind to the place. It stands apart, as few places have many readers.
+#[inline(never)]
+fn mark_seeing(values: &Numbers, marks: &mut Marks, plan: &Plan, from: u32, to: u32)
+    requires ordered { from ≤ to }
+    requires within { to ≤ length plan.now.readers.items }
+    requires known { (j k : ℕ) → slice_get plan.now.readers.items j ≡ Some k → k / 64 < length marks.old }
+    ensures { (p : ℕ) → IsPart plan.now.starts.items p from to → HasMarked plan.now.steps.items plan.now.readers.items from to p values.now marks.old marks.new }
+{
+    'readers: for j in from..to {
+        if sees(values, plan.guards[j as usize]) {
+            marks.mark(plan.readers[j as usize] as usize);
         }
-        mark(marks, k);
+    }
+}
+
+// Whether a guard lets a reader look.
+#[inline(always)]
+fn sees(values: &Numbers, guard: Guard) -> bool
+    ensures { result ≡ false → Unseen (slice_index values.now) guard }
+{
+    match guard {
+        Guard::Always => true,
+        Guard::If(c) => values.is_one(c as usize),
+        Guard::Unless(c) => !values.is_one(c as usize),
     }
 }
 
 /// Marks a group of the readers of a place at once, and its others as `mark_readers` does.
 #[inline(always)]
-pub fn mark_group(
-    values: &Numbers,
-    marks: &mut [u64],
-    steps: &[Step],
-    readers: &[u32],
-    place: u32,
-    group: Group,
-)
-    requires group { (from : ℕ) × IsNear readers.now from group.near.end group.word group.near }
-    requires within { group.near.end ≤ length readers.now }
-    requires known { (j k : ℕ) → slice_get readers.now j ≡ Some k → k / 64 < length marks.old }
-    ensures { (from : ℕ) → IsNear readers.now from group.near.end group.word group.near
-        → HasMarked steps.now readers.now from group.near.end place values.now marks.old marks.new }
+pub fn mark_group(values: &Numbers, marks: &mut Marks, plan: &Plan, group: Group)
+    requires group { (p : ℕ) × (p + 1 < length plan.now.starts.items) × NearAt plan.now.starts.items plan.now.readers.items p group.word group.near }
+    requires within { group.near.end ≤ length plan.now.readers.items }
+    requires known { (j k : ℕ) → slice_get plan.now.readers.items j ≡ Some k → k / 64 < length marks.old }
+    ensures { (p : ℕ) → p + 1 < length plan.now.starts.items → NearAt plan.now.starts.items plan.now.readers.items p group.word group.near
+        → HasMarked plan.now.steps.items plan.now.readers.items (slice_index plan.now.starts.items p) (slice_index plan.now.starts.items (p + 1)) p values.now marks.old marks.new }
 {
     let word = group.word as usize;
     let near = group.near;
-    if word < marks.len() {
-        marks[word] |= near.mask;
+    if word < marks.count() {
+        marks.put(word, marks.get(word) | near.mask);
     }
-    mark_readers(values, marks, steps, readers, place, near.first, near.end);
-}
-
-// Whether a number is a step's that is blind to a place.
-#[inline(always)]
-fn is_blind(values: &Numbers, steps: &[Step], k: usize, place: u32) -> bool
-    ensures { result ≡ true → Blind steps.now values.now place k }
-{
-    match steps.get(k) {
-        Some(step) => match step.action {
-            Action::Choose(c, a, b, _) => is_unseen(values, c, a, b, place),
-            _ => false,
-        },
-        None => false,
-    }
-}
-
-// Whether a place is neither the condition of a choice nor what it chooses.
-#[inline(always)]
-fn is_unseen(values: &Numbers, c: u32, a: u32, b: u32, place: u32) -> bool
-    ensures { result ≡ true → ¬ (c ≡ place) × ¬ (pick (slice_index values.now c) a b ≡ place) }
-{
-    let i = c as usize;
-    if c == place || i >= values.count() {
-        return false;
-    }
-    let chosen = if values.is_one(i) { a } else { b };
-    chosen != place
+    mark_readers(values, marks, plan, near.first, near.end);
 }

@@ -1,5 +1,6 @@
 //! A simulator.
 
+use crate::marks::Marks;
 use crate::numbers::Numbers;
 use crate::parts::Parts;
 use crate::phases::cycle;
@@ -18,8 +19,8 @@ const DENSE_TICKS: u8 = 15;
 pub struct Sim {
     ordered: Ordered,
     plan: Plan,
-    marks: Vec<u64>,
-    waiting: Vec<u64>,
+    marks: Marks,
+    waiting: Marks,
     dense_ticks: u8,
     // by register
     state: Vec<Raw>,
@@ -35,7 +36,7 @@ impl Model for Sim {
 
     ghost view = { λ s. record { net = s.ordered.net; state = state_of s.ordered s.plan s.state.items; values = s.values } };
 
-    ghost invariant = { λ s. KeepsStates s.ordered s.plan s.marks.items s.waiting.items s.state.items s.values };
+    ghost invariant = { λ s. KeepsStates s.ordered s.plan s.marks s.waiting s.state.items s.values };
 }
 
 impl Sim {

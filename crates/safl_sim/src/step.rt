@@ -46,6 +46,15 @@ pub struct Group {
     pub near: Near,
 }
 
+/// When a reader of a place looks at it: always, or only if the number at a place is 1, or only if it is not. Any other
+/// time it is blind to the place.
+#[derive(Clone, Copy)]
+pub enum Guard {
+    Always,
+    If(u32),
+    Unless(u32),
+}
+
 /// A wire, and what gives it its number. A narrow step has at most 64 bits in all that it works on and gives.
 #[derive(Clone, Copy)]
 pub struct Step {
@@ -208,17 +217,11 @@ pub fn is_narrow(net: &Net, wire: Sig, cell: &Cell) -> bool
     requires fits { (width : ℕ) × CellFits net.now width (cell_of cell.now) }
     ensures { result ≡ true → IsNarrow net.now wire.0 (cell_of cell.now) }
 {
-    are_narrow(net, cell.operands.as_slice()) && net.width(wire) <= LOW_MAX
-}
-
-fn are_narrow(net: &Net, signals: &[Sig]) -> bool
-    requires { (i : ℕ) (t : Sig) → slice_get signals.now i ≡ Some t → t.0 < length net.now.signals }
-    ensures { result ≡ true → (i : ℕ) (t : Sig) → slice_get signals.now i ≡ Some t → width_of net.now t.0 ≤ 64 }
-{
-    'signals: for i in 0..signals.len() {
-        if net.width(signals[i]) > LOW_MAX {
+    let operands = cell.operands.as_slice();
+    'signals: for i in 0..operands.len() {
+        if net.width(operands[i]) > LOW_MAX {
             return false;
         }
     }
-    true
+    net.width(wire) <= LOW_MAX
 }

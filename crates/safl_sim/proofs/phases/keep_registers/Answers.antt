@@ -12,33 +12,33 @@ keep_word-requires-clause-keeps c = let r = c.requires.keeps in (r.0, r.1, c.wor
 
 pub words-init : goal.words-init
 words-init c = record {
-  least = c.next_word-w.ensures.least;
-  most = c.next_word-w.ensures.most;
+  least = c.next-w.ensures.least;
+  most = c.next-w.ensures.most;
   state = refl;
   marks = refl;
   waiting = refl;
-  keeps = λ start was w. keeps_skip (c.args.first * 64) c.args.registers.now c.args.values.now c.args.first c.next_word-w.result start was (placed (length c.args.values.now) c.args.registers.now c.args.state.now) c.args.marks.now c.args.waiting.now w c.next_word-w.ensures.none;
+  keeps = λ start was w. keeps_skip (c.args.first * 64) c.args.registers.now c.args.values.now c.args.first c.next-w.result start was (placed (length c.args.values.now) c.args.registers.now c.args.state.now) c.args.marks.now c.args.waiting.now w c.next-w.ensures.none;
 }
 
 pub words-preserved : goal.words-preserved
 words-preserved c = record {
-  least = (let a = c.next_word-w-in-words.ensures.least in let b = c.words.invariant.least in omega (arith, a, b));
-  most = c.next_word-w-in-words.ensures.most;
+  least = (let a = c.next-w-in-words.ensures.least in let b = c.words.invariant.least in omega (arith, a, b));
+  most = c.next-w-in-words.ensures.most;
   state = (let a = c.words.invariant.state in let b = c.keep_word.auto.state in omega (arith, a, b));
-  marks = (let a = c.words.invariant.marks in let b = c.keep_word.auto.marks in omega (arith, a, b));
-  waiting = (let a = c.words.invariant.waiting in let b = c.keep_word.auto.waiting in omega (arith, a, b));
-  keeps = λ start was w. keeps_skip (c.args.first * 64) c.args.registers.now c.args.values.now (c.words.w + 1) c.next_word-w-in-words.result start was (placed (length c.args.values.now) c.args.registers.now c.keep_word.new.state) c.keep_word.new.marks c.keep_word.new.waiting
-      (c.keep_word.ensures start was (c.words.invariant.keeps start was w)) c.next_word-w-in-words.ensures.none;
+  marks = c.keep_word.ensures.long ∙ c.words.invariant.marks;
+  waiting = c.keep_word.ensures.room ∙ c.words.invariant.waiting;
+  keeps = λ start was w. keeps_skip (c.args.first * 64) c.args.registers.now c.args.values.now (c.words.w + 1) c.next-w-in-words.result start was (placed (length c.args.values.now) c.args.registers.now c.keep_word.new.state) c.keep_word.new.marks c.keep_word.new.waiting
+      (c.keep_word.ensures.keeps start was (c.words.invariant.keeps start was w)) c.next-w-in-words.ensures.none;
 }
 
-pub returns : goal.returns
-returns c = λ start was w.
+pub returns-clause-keeps : goal.returns-clause-keeps
+returns-clause-keeps c = λ start was w.
     subst (λ k. KeepsOn (c.args.first * 64) c.args.registers.now c.args.values.now (k * 64) start was (placed (length c.args.values.now) c.args.registers.now c.words.state) c.words.marks c.words.waiting)
     (let a = c.words-test.false in let b = c.words.auto._n-end in let d = c.words.invariant.marks in let e = c.requires.first in let f = c.words.invariant.least in let g = c.words.invariant.most in omega (arith, a, b, d, e, f, g))
     (c.words.invariant.keeps start was w)
 
-pub returns-then-w-end : goal.returns-then-w-end
-returns-then-w-end c = λ start was w.
+pub returns-then-w-end-clause-keeps : goal.returns-then-w-end-clause-keeps
+returns-then-w-end-clause-keeps c = λ start was w.
     subst (λ k. KeepsOn (c.args.first * 64) c.args.registers.now c.args.values.now (k * 64) start was (placed (length c.args.values.now) c.args.registers.now c.words.state) c.words.marks c.words.waiting)
     (let a = c.if-w-end.true in let b = c.words.invariant.marks in omega (arith, a, b))
     (c.words.invariant.keeps start was w)

@@ -5,7 +5,7 @@ use Rattle.safl_sim.specs.States.{placed}
 use Rattle.safl_sim.specs.Writes.{KeepsOn}
 use Rattle.safl_sim.proofs.Written.{get_at}
 use Rattle.safl_sim.proofs.MarksByOne.{taken_after}
-use Rattle.safl_sim.proofs.Nearing.{holding_all, no_marks}
+use Rattle.safl_sim.proofs.Nearing.{holding_all, holding_long, no_marks}
 use Rattle.safl_sim.proofs.Placing.{placed_long, placed_set, next_once}
 use Rattle.safl_sim.proofs.Registers.{keeps_to, keeps_none, keeps_step}
 use Rattle.safl_sim.proofs.phases.keep_word.Goals as goal
@@ -76,18 +76,27 @@ registers-init c = record {
   waiting = refl;
   room = refl;
   keeps = λ start was w.
-      subst (λ l. KeepsOn (c.args.first * 64) c.args.registers.now c.args.values.now (c.args.word * 64 + 0) start was (placed (length c.args.values.now) c.args.registers.now c.args.state.now) l c.args.waiting.now) (sym (holding_all c.args.marks.now c.args.word))
-      (subst (λ k. KeepsOn (c.args.first * 64) c.args.registers.now c.args.values.now k start was (placed (length c.args.values.now) c.args.registers.now c.args.state.now) c.args.marks.now c.args.waiting.now) (let z : c.args.word * 64 ≡ c.args.word * 64 + 0 = omega arith in z) w);
+      subst (λ h. KeepsOn (c.args.first * 64) c.args.registers.now c.args.values.now (c.args.word * 64 + 0) start was (placed (length c.args.values.now) c.args.registers.now c.args.state.now) (holding c.args.marks.now c.args.word h) c.args.waiting.now) (sym c.get-held.ensures)
+      (subst (λ l. KeepsOn (c.args.first * 64) c.args.registers.now c.args.values.now (c.args.word * 64 + 0) start was (placed (length c.args.values.now) c.args.registers.now c.args.state.now) l c.args.waiting.now) (sym (holding_all c.args.marks.now c.args.word))
+      (subst (λ k. KeepsOn (c.args.first * 64) c.args.registers.now c.args.values.now k start was (placed (length c.args.values.now) c.args.registers.now c.args.state.now) c.args.marks.now c.args.waiting.now) (let z : c.args.word * 64 ≡ c.args.word * 64 + 0 = omega arith in z) w));
 }
 
-pub returns-in-None : goal.returns-in-None
-returns-in-None c = λ start was w.
-    keeps_none (c.args.first * 64) c.args.registers.now c.args.values.now (c.args.word * 64 + c.registers._n) c.args.word start was (placed (length c.args.values.now) c.args.registers.now c.registers.state) (holding c.registers.marks c.args.word 0) c.registers.waiting
-    (subst (λ h. KeepsOn (c.args.first * 64) c.args.registers.now c.args.values.now (c.args.word * 64 + c.registers._n) start was (placed (length c.args.values.now) c.args.registers.now c.registers.state) (holding c.registers.marks c.args.word h) c.registers.waiting) c.in-None.ensures.none (c.registers.invariant.keeps start was w))
-    (omega arith) (no_marks c.registers.marks c.args.word (inside c.args.word c.args.marks.now c.registers.marks c.registers.invariant.room c.requires.word))
+pub returns-in-None-clause-long : goal.returns-in-None-clause-long
+returns-in-None-clause-long c = ap length c.put.ensures ∙ holding_long c.registers.marks c.args.word 0 ∙ c.registers.invariant.room
 
-pub returns : goal.returns
-returns c = λ start was w.
-    subst (λ k. KeepsOn (c.args.first * 64) c.args.registers.now c.args.values.now k start was (placed (length c.args.values.now) c.args.registers.now c.registers.state) (holding c.registers.marks c.args.word c.registers.held) c.registers.waiting)
+pub returns-in-None-clause-keeps : goal.returns-in-None-clause-keeps
+returns-in-None-clause-keeps c = λ start was w.
+    subst (λ l. KeepsOn (c.args.first * 64) c.args.registers.now c.args.values.now ((c.args.word + 1) * 64) start was (placed (length c.args.values.now) c.args.registers.now c.registers.state) l c.registers.waiting) (sym c.put.ensures)
+    (keeps_none (c.args.first * 64) c.args.registers.now c.args.values.now (c.args.word * 64 + c.registers._n) c.args.word start was (placed (length c.args.values.now) c.args.registers.now c.registers.state) (holding c.registers.marks c.args.word 0) c.registers.waiting
+    (subst (λ h. KeepsOn (c.args.first * 64) c.args.registers.now c.args.values.now (c.args.word * 64 + c.registers._n) start was (placed (length c.args.values.now) c.args.registers.now c.registers.state) (holding c.registers.marks c.args.word h) c.registers.waiting) c.in-None.ensures.none (c.registers.invariant.keeps start was w))
+    (omega arith) (no_marks c.registers.marks c.args.word (inside c.args.word c.args.marks.now c.registers.marks c.registers.invariant.room c.requires.word)))
+
+pub returns-clause-long : goal.returns-clause-long
+returns-clause-long c = ap length c.put-2.ensures ∙ holding_long c.registers.marks c.args.word c.registers.held ∙ c.registers.invariant.room
+
+pub returns-clause-keeps : goal.returns-clause-keeps
+returns-clause-keeps c = λ start was w.
+    subst (λ l. KeepsOn (c.args.first * 64) c.args.registers.now c.args.values.now ((c.args.word + 1) * 64) start was (placed (length c.args.values.now) c.args.registers.now c.registers.state) l c.registers.waiting) (sym c.put-2.ensures)
+    (subst (λ k. KeepsOn (c.args.first * 64) c.args.registers.now c.args.values.now k start was (placed (length c.args.values.now) c.args.registers.now c.registers.state) (holding c.registers.marks c.args.word c.registers.held) c.registers.waiting)
     (let a = c.registers-test.false in let b = c.registers.auto._n-end in omega (arith, a, b))
-    (c.registers.invariant.keeps start was w)
+    (c.registers.invariant.keeps start was w))

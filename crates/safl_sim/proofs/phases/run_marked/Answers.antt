@@ -31,31 +31,31 @@ run_word-count-requires-clause-runs c = let r = c.requires.runs in (r.0, r.1, r.
 pub words-init : goal.words-init
 words-init c = record {
   least = omega arith;
-  most = c.next_word-w.ensures.most;
+  most = c.next-w.ensures.most;
   count = omega arith;
   long = refl;
-  runs = λ o regs now start w. runs_skip o c.args.steps.now regs now c.args.starts.now c.args.readers.now start 0 c.next_word-w.result c.args.values.now c.args.marks.now
-      (subst (λ k. Runs o c.args.steps.now regs now c.args.starts.now c.args.readers.now start k c.args.values.now c.args.marks.now) (omega arith) w) c.next_word-w.ensures.none;
+  runs = λ o regs now start w. runs_skip o c.args.plan.now.steps.items regs now c.args.plan.now.starts.items c.args.plan.now.readers.items start 0 c.next-w.result c.args.values.now c.args.marks.now
+      (subst (λ k. Runs o c.args.plan.now.steps.items regs now c.args.plan.now.starts.items c.args.plan.now.readers.items start k c.args.values.now c.args.marks.now) (omega arith) w) c.next-w.ensures.none;
 }
 
 pub words-preserved : goal.words-preserved
 words-preserved c = record {
-  least = (let a = c.next_word-w-in-words.ensures.least in let b = c.words.invariant.least in omega (arith, a, b));
-  most = c.next_word-w-in-words.ensures.most;
-  count = (let a = c.run_word-count.ensures.count in let b = c.words.invariant.count in let d = c.next_word-w-in-words.ensures.least in omega (arith, a, b, d));
+  least = (let a = c.next-w-in-words.ensures.least in let b = c.words.invariant.least in omega (arith, a, b));
+  most = c.next-w-in-words.ensures.most;
+  count = (let a = c.run_word-count.ensures.count in let b = c.words.invariant.count in let d = c.next-w-in-words.ensures.least in omega (arith, a, b, d));
   long = c.run_word-count.ensures.long ∙ c.words.invariant.long;
-  runs = λ o regs now start w. runs_skip o c.args.steps.now regs now c.args.starts.now c.args.readers.now start (c.words.w + 1) c.next_word-w-in-words.result c.run_word-count.new.values c.run_word-count.new.marks
-      (c.run_word-count.ensures.runs o regs now start (c.words.invariant.runs o regs now start w)) c.next_word-w-in-words.ensures.none;
+  runs = λ o regs now start w. runs_skip o c.args.plan.now.steps.items regs now c.args.plan.now.starts.items c.args.plan.now.readers.items start (c.words.w + 1) c.next-w-in-words.result c.run_word-count.new.values c.run_word-count.new.marks
+      (c.run_word-count.ensures.runs o regs now start (c.words.invariant.runs o regs now start w)) c.next-w-in-words.ensures.none;
 }
 
 pub returns-clause-runs : goal.returns-clause-runs
 returns-clause-runs c = λ o regs now start w.
-    subst (λ k. Runs o c.args.steps.now regs now c.args.starts.now c.args.readers.now start k c.words.values c.words.marks)
+    subst (λ k. Runs o c.args.plan.now.steps.items regs now c.args.plan.now.starts.items c.args.plan.now.readers.items start k c.words.values c.words.marks)
     (let a = c.words-test.false in let b = c.words.auto._n-end in let d = c.word_count-end.ensures in let e = c.words.invariant.least in let f = c.words.invariant.most in omega (arith, a, b, d, e, f))
     (c.words.invariant.runs o regs now start w)
 
 pub returns-then-w-end-clause-runs : goal.returns-then-w-end-clause-runs
 returns-then-w-end-clause-runs c = λ o regs now start w.
-    subst (λ k. Runs o c.args.steps.now regs now c.args.starts.now c.args.readers.now start k c.words.values c.words.marks)
+    subst (λ k. Runs o c.args.plan.now.steps.items regs now c.args.plan.now.starts.items c.args.plan.now.readers.items start k c.words.values c.words.marks)
     (let a = c.if-w-end.true in let b = c.word_count-end.ensures in omega (arith, a, b))
     (c.words.invariant.runs o regs now start w)

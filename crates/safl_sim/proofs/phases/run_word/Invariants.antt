@@ -8,5 +8,5 @@ use Rattle.safl_sim.proofs.phases.run_word.Given as goal
 abbrev pub invariant-steps : goal.invariant-steps
 invariant-steps l = record {
   long : length l.marks ≡ length l.initial.marks;
-  runs : (o : Order) (regs : List Register) (now start : List ℕ) → Runs o l.steps regs now l.starts l.readers start (l.word * 64) l.initial.values l.initial.marks → Runs o l.steps regs now l.starts l.readers start (l.word * 64 + l.n) l.values (holding l.marks l.word l.held);
+  runs : (o : Order) (regs : List Register) (now start : List ℕ) → Runs o l.plan.steps.items regs now l.plan.starts.items l.plan.readers.items start (l.word * 64) l.initial.values l.initial.marks → Runs o l.plan.steps.items regs now l.plan.starts.items l.plan.readers.items start (l.word * 64 + l.n) l.values (holding l.marks l.word l.held);
 }

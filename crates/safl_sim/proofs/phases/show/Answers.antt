@@ -1,19 +1,25 @@
-use Rattle.std.proofs.Common.{ℕ, ◌+◌, List, slice_index, sym, subst}
-use Rattle.safl_sim.specs.Nears.{IsNear}
+use Rattle.std.proofs.Common.{ℕ, ◌+◌, ◌<◌, List, length, slice_index, sym, subst, arith}
 use Rattle.safl_sim.specs.Readers.{HasMarked, HasGiven}
 use Rattle.safl_sim.proofs.Nearing.{given_new}
 use Rattle.safl_sim.proofs.phases.show.Goals as goal
 
+pub mark_group-requires-clause-group : goal.mark_group-requires-clause-group
+mark_group-requires-clause-group c =
+    let p = c.args.register.signal.0 in
+    let inside : p + 1 < length c.args.plan.now.starts.items = (let a = c.requires.lists.long in let b = c.requires.within in omega (arith, a, b)) in
+    (p, inside, c.requires.group)
+
 pub returns-then-renew : goal.returns-then-renew
-returns-then-renew c = λ starts of.
-    let readers = c.args.readers.now in
+returns-then-renew c =
+    let plan = c.args.plan.now in
+    let steps = plan.steps.items in
+    let starts = plan.starts.items in
+    let readers = plan.readers.items in
     let p = c.args.register.signal.0 in
     let x = c.args.number in
-    let g = c.args.group in
     let old = c.args.values.now in
-    let own = subst (λ to. IsNear readers (slice_index starts p) to g.word g.near) (sym of.last) of in
-    subst (λ (l : List ℕ). HasGiven c.args.steps.now starts readers p x old l c.args.marks.now c.mark_group.new.marks) (sym c.renew.ensures.is)
-    (given_new c.args.steps.now starts readers p x old c.args.marks.now c.mark_group.new.marks
-    (subst (λ (l : List ℕ). HasMarked c.args.steps.now readers (slice_index starts p) (slice_index starts (p + 1)) p l c.args.marks.now c.mark_group.new.marks) c.renew.ensures.is
-    (subst (λ to. HasMarked c.args.steps.now readers (slice_index starts p) to p c.renew.new.values c.args.marks.now c.mark_group.new.marks) of.last
-    (c.mark_group.ensures (slice_index starts p) own))))
+    let inside : p + 1 < length starts = (let a = c.requires.lists.long in let b = c.requires.within in omega (arith, a, b)) in
+    subst (λ (l : List ℕ). HasGiven steps starts readers p x old l c.args.marks.now c.mark_group.new.marks) (sym c.renew.ensures.is)
+    (given_new steps starts readers p x old c.args.marks.now c.mark_group.new.marks
+    (subst (λ (l : List ℕ). HasMarked steps readers (slice_index starts p) (slice_index starts (p + 1)) p l c.args.marks.now c.mark_group.new.marks) c.renew.ensures.is
+    (c.mark_group.ensures p inside c.requires.group)))

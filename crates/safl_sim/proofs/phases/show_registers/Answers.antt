@@ -6,11 +6,12 @@ use Rattle.safl_sim.proofs.phases.show_registers.Goals as goal
 pub words-init : goal.words-init
 words-init c = record {
   least = omega arith;
-  most = c.next_word-w.ensures.most;
+  most = c.next-w.ensures.most;
   wide = refl;
   long = refl;
-  shows = λ now at w. shows_skip c.args.plan.now.registers.items now 0 c.next_word-w.result c.args.values.now c.args.values.now c.args.waiting.now
-      (shows_start c.args.plan.now.registers.items now c.args.values.now c.args.waiting.now w) c.next_word-w.ensures.none;
+  room = refl;
+  shows = λ now at w. shows_skip c.args.plan.now.registers.items now 0 c.next-w.result c.args.values.now c.args.values.now c.args.waiting.now
+      (shows_start c.args.plan.now.registers.items now c.args.values.now c.args.waiting.now w) c.next-w.ensures.none;
   goes = λ n ws now away at r are state fits h. (fits, h);
 }
 
@@ -25,12 +26,13 @@ show_word-requires-clause-shows c = let r = c.requires.waits in (r.0, c.args.val
 
 pub words-preserved : goal.words-preserved
 words-preserved c = record {
-  least = (let a = c.next_word-w-in-words.ensures.least in let b = c.words.invariant.least in omega (arith, a, b));
-  most = c.next_word-w-in-words.ensures.most;
+  least = (let a = c.next-w-in-words.ensures.least in let b = c.words.invariant.least in omega (arith, a, b));
+  most = c.next-w-in-words.ensures.most;
   wide = (let r = c.requires.waits in (c.show_word.ensures.shows r.0 c.args.values.now r.1 (c.words.invariant.shows r.0 r.1 r.2)).long);
   long = c.show_word.ensures.long ∙ c.words.invariant.long;
-  shows = λ now at w. shows_skip c.args.plan.now.registers.items now (c.words.w + 1) c.next_word-w-in-words.result c.args.values.now c.show_word.new.values c.show_word.new.waiting
-      (c.show_word.ensures.shows now c.args.values.now at (c.words.invariant.shows now at w)) c.next_word-w-in-words.ensures.none;
+  room = c.show_word.ensures.room ∙ c.words.invariant.room;
+  shows = λ now at w. shows_skip c.args.plan.now.registers.items now (c.words.w + 1) c.next-w-in-words.result c.args.values.now c.show_word.new.values c.show_word.new.waiting
+      (c.show_word.ensures.shows now c.args.values.now at (c.words.invariant.shows now at w)) c.next-w-in-words.ensures.none;
   goes = λ n ws now away at r are state fits h. let w = c.words.invariant.goes n ws now away at r are state fits h in c.show_word.ensures.goes n ws now away at r are state w.0 w.1;
 }
 

@@ -1,13 +1,14 @@
-use Rattle.std.proofs.Common.{ℕ, List, map, length, sym, ap, ◌∙◌}
-use Rattle.safl_sim.specs.Halves.{low_half, joined}
-use Rattle.safl_sim.proofs.Joining.{joined_of, halves_length}
+use Rattle.std.proofs.Common.{◌≡◌, ℕ, List, length, map, take, ap, ◌∙◌, arith}
+use Rattle.std.proofs.Math.Seq.{take-length}
+use Rattle.safl_sim.specs.Halves.{low_half, high_half, joined}
+use Rattle.safl_sim.proofs.Joining.{joined_of}
 use Rattle.safl_sim.proofs.numbers.Numbers.new.Goals as goal
-
-pub invariant_of-result : goal.invariant_of-result
-invariant_of-result c = ap length c.in_ok-low_halves.ensures ∙ halves_length c.args.numbers.now ∙ sym (ap length c.in_ok-high_halves.ensures)
 
 pub returns : goal.returns
 returns c =
-    ap (λ (l : List ℕ). joined l c.in_ok-high_halves.field-0.items) c.in_ok-low_halves.ensures
-    ∙ ap (λ (l : List ℕ). joined (map low_half c.args.numbers.now) l) c.in_ok-high_halves.ensures
-    ∙ joined_of c.args.numbers.now
+    let ns = c.args.numbers.now in
+    let end : c.numbers.number-index ≡ length ns = (let a = c.numbers-test.false in let b = c.numbers.auto.number-index-end in omega (arith, a, b)) in
+    let all : take c.numbers.number-index ns ≡ ns = ap (λ k. take k ns) end ∙ take-length ns in
+    ap (λ (l : List ℕ). joined l c.numbers.high.items) (c.numbers.invariant.low ∙ ap (map low_half) all)
+    ∙ ap (λ (l : List ℕ). joined (map low_half ns) l) (c.numbers.invariant.high ∙ ap (map high_half) all)
+    ∙ joined_of ns

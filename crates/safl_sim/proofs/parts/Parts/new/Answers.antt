@@ -3,6 +3,7 @@ use Rattle.safl_net.specs.Netlist.{Netlist}
 use Rattle.safl_net.specs.Making.{numbers}
 use Rattle.safl_net.specs.Rules.{IsNetlist}
 use Rattle.safl_order.specs.Order.{IsOrder}
+use Rattle.safl_sim.specs.Guards.{AreGuards}
 use Rattle.safl_sim.specs.Places.{inputs_of, resets}
 use Rattle.safl_sim.specs.declared.step.Register.{Register}
 use Rattle.safl_sim.specs.declared.step.Step.{Step}
@@ -30,12 +31,13 @@ all_marked-requires-clause-some c =
     let d = ap length c.as_slice-kept.ensures.value in
     omega (arith, a, b, d)
 
-pub none_marked-requires : goal.none_marked-requires
-none_marked-requires c =
+pub new-requires-2 : goal.new-requires-2
+new-requires-2 c =
     let a = c.in_ok-registers.ensures.few in
     let b = c.signals-count.ensures.netlist.few in
     let d = ap length c.as_slice-kept.ensures.value in
-    omega (arith, a, b, d)
+    let e = c.word_count.ensures in
+    omega (arith, a, b, d, e)
 
 pub table_of-requires-clause-few : goal.table_of-requires-clause-few
 table_of-requires-clause-few c =
@@ -71,8 +73,8 @@ returns-clause-keeps c =
     let kept = c.as_slice-kept.ensures.value in
     let starts = c.in_ok-table.table.starts.items in
     let readers = c.in_ok-table.table.readers.items in
-    let marks = c.in_ok-marks.marks.items in
-    let waiting = c.in_ok-waiting.waiting.items in
+    let marks = c.in_ok-marks.marks in
+    let waiting = c.in_ok-waiting.waiting in
     let states = c.in_ok-state.state.items in
     let are = subst (λ (m : Netlist). AreRegisters m (length m.signals) regs) e c.in_ok-registers.ensures in
     let reset = subst (λ (l : List Register). AreReset o.net l (length l) states) kept (subst (λ (m : Netlist). AreReset m c.as_slice-kept.result.now (length c.as_slice-kept.result.now) states) e c.in_ok-state.ensures) in
@@ -150,3 +152,14 @@ groups_of-requires c =
         registers_known n c.as_slice-kept.result.now places kept,
       );
     }
+
+pub invariant_of-plan-clause-guard_for_each : goal.invariant_of-plan-clause-guard_for_each
+invariant_of-plan-clause-guard_for_each c = c.in_ok-guards.ensures.0 ∙ ap length c.deref-10.ensures.value
+
+pub invariant_of-plan-clause-guarded : goal.invariant_of-plan-clause-guarded
+invariant_of-plan-clause-guarded c =
+    let guards = c.in_ok-guards.guards.items in
+    let starts = c.in_ok-table.table.starts.items in
+    subst (λ (l : List Step). AreGuards l starts c.in_ok-table.table.readers.items guards) c.deref-8.ensures.value
+    (subst (λ (l : List ℕ). AreGuards c.deref-8.result.now l c.in_ok-table.table.readers.items guards) c.deref-9.ensures.value
+    (subst (λ (l : List ℕ). AreGuards c.deref-8.result.now c.deref-9.result.now l guards) c.deref-10.ensures.value c.in_ok-guards.ensures.1))

@@ -1,0 +1,40 @@
+-- When the readers of a place look at it.
+use Rattle.std.specs.Prelude.{◌≡◌, ℕ, ◌+◌, ◌<◌, ◌≤◌, List, length, Some, slice_get, slice_index}
+use Rattle.std.specs.Coded.{×_prop, Π_prop, le_prop}
+use mathlib.Core.HLevel.{⊥_prop}
+use Rattle.safl_sim.specs.declared.step.Action.{Action}
+use Rattle.safl_sim.specs.declared.step.Action.TheVariants.{Const, Choose, One, Two}
+use Rattle.safl_sim.specs.declared.step.Guard.{Guard}
+use Rattle.safl_sim.specs.declared.step.Guard.TheVariants.{Always, If, Unless}
+use Rattle.safl_sim.specs.declared.step.Step.{Step}
+use Rattle.safl_sim.specs.Readers.{IsBlind, Blind}
+
+-- the guard says that a reader does not look
+abbrev pub Unseen : (ℕ → ℕ) → Guard → Type 0
+Unseen f Always = ⊥
+Unseen f (If c) = ¬ (f c ≡ 1)
+Unseen f (Unless c) = f c ≡ 1
+
+-- where it says so, reader k is blind to place p
+abbrev pub IsGuard : List Step → ℕ → ℕ → Guard → Type 0
+IsGuard steps p k g = (values : List ℕ) → Unseen (slice_index values) g → Blind steps values p k
+
+-- the readers of each place have such guards
+abbrev pub AreGuards : List Step → List ℕ → List ℕ → List Guard → Type 0
+AreGuards steps starts readers guards = (p j k : ℕ) (g : Guard) → p + 1 < length starts → slice_index starts p ≤ j → j < slice_index starts (p + 1)
+    → slice_get readers j ≡ Some k → slice_get guards j ≡ Some g → IsGuard steps p k g
+
+-- there is one guard for each reader
+abbrev pub AreGuarded : List Step → List ℕ → List ℕ → List Guard → Type 0
+AreGuarded steps starts readers guards = (length guards ≡ length readers) × AreGuards steps starts readers guards
+
+pub IsBlind-prop : (f : ℕ → ℕ) (p : ℕ) (action : Action) → IsProp (IsBlind f p action)
+IsBlind-prop f p (Const l h) = ⊥_prop
+IsBlind-prop f p (Choose c a b turned) = ×_prop (Π_prop λ _. ⊥_prop) (Π_prop λ _. ⊥_prop)
+IsBlind-prop f p (One q w a) = ⊥_prop
+IsBlind-prop f p (Two q w v a b) = ⊥_prop
+
+pub AreGuards-prop : (steps : List Step) (starts readers : List ℕ) (guards : List Guard) → IsProp (AreGuards steps starts readers guards)
+AreGuards-prop steps starts readers guards =
+    Π_prop λ p. Π_prop λ j. Π_prop λ k. Π_prop λ g. Π_prop λ _. Π_prop λ _. Π_prop λ _. Π_prop λ _. Π_prop λ _. Π_prop λ values. Π_prop λ _.
+    ×_prop le_prop (Π_prop λ s. Π_prop λ _. IsBlind-prop (slice_index values) p s.action)
