@@ -13,7 +13,7 @@ use Rattle.safl_word.specs.declared.primitive.Primitive.TheVariants.{Add, Sub, M
 use Rattle.safl_net.specs.declared.cell.Sig.{Sig}
 use Rattle.safl_net.specs.declared.cell.Op.{Op}
 use Rattle.safl_net.specs.declared.cell.Op.TheVariants as op
-use Rattle.safl_net.specs.Netlist.{Netlist, Signal, width_in, width_of}
+use Rattle.safl_net.specs.Netlist.{Netlist, Signal, Cell, width_in, width_of}
 use Rattle.safl_net.specs.Widths.{op_width, prim_width}
 use Rattle.safl_net.specs.Laws.{FitWidths}
 use Rattle.safl_net.specs.Making.{cell_on}
@@ -22,7 +22,7 @@ use Rattle.safl_sim.specs.declared.step.Action.{Action}
 use Rattle.safl_sim.specs.declared.step.Action.TheVariants.{Const, Choose, One, Two}
 use Rattle.safl_sim.specs.Halves.{low_half, high_half}
 use Rattle.safl_narrow.specs.Narrow.{word_of, HasLow}
-use Rattle.safl_sim.specs.Steps.{IsNarrow, Performs}
+use Rattle.safl_sim.specs.Steps.{plain, plain_number, PlainReady, PlainLow, IsNarrow, Performs}
 
 none_on_nil : (p : Primitive) → result_width p [] ≡ None
 none_on_nil Add = refl
@@ -307,6 +307,14 @@ performs_or n x y w f one =
       ready = λ values l fits. (omega (arith, a, l), omega (arith, a, l), omega (arith, b, l));
       low = λ values s fits h narrow. (low_number n values x.0 fits a (narrow.operands 0 x.0 refl), low_number n values x.0 fits a (narrow.operands 0 x.0 refl), low_number n values y.0 fits b (narrow.operands 1 y.0 refl));
     }
+
+-- actions of one plain form perform one cell
+pub performs_alike : (n : Netlist) (c : Cell) (one other : Action) → plain one ≡ plain other → Performs n c other → Performs n c one
+performs_alike n c one other e p = record {
+  gives = λ f fits. ap (plain_number f) e ∙ p.gives f fits;
+  ready = λ values l fits. subst (PlainReady values) (sym e) (p.ready values l fits);
+  low = λ values s fits h narrow. subst (PlainLow values) (sym e) (p.low values s fits h narrow);
+}
 
 -- a list of two
 pub two_of : (xs : List Sig) → 2 ≤ length xs → length xs < 3 → xs ≡ get_or xs 0 (record { 0 = 0 }) ∷ (get_or xs 1 (record { 0 = 0 }) ∷ [])

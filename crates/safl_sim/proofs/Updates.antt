@@ -11,7 +11,7 @@ use Rattle.safl_net.proofs.Naming.{within}
 use Rattle.safl_order.specs.Order.{IsOrder, operands_of, operands_in}
 use Rattle.safl_order.proofs.Places.{get_some}
 use Rattle.safl_sim.specs.declared.step.Action.{Action}
-use Rattle.safl_sim.specs.declared.step.Action.TheVariants.{Const, Choose, One, Two}
+use Rattle.safl_sim.specs.declared.step.Action.TheVariants.{Choose}
 use Rattle.safl_sim.specs.declared.step.Step.{Step}
 use Rattle.safl_sim.specs.declared.step.Register.{Register}
 use Rattle.safl_sim.specs.Marks.{marked, first_register}
@@ -47,9 +47,6 @@ agrees_apart n values p x t d ne away e = index_other values p x t ne ∙ e ∙ 
 
 -- a choice that is blind to a place gives the same whatever number stands there
 blind_same : (values : List ℕ) (p x : ℕ) (action : Action) → IsBlind (slice_index (set values p x)) p action → action_number (slice_index (set values p x)) action ≡ action_number (slice_index values) action
-blind_same values p x (Const l h) blind = absurd blind
-blind_same values p x (One q w a) blind = absurd blind
-blind_same values p x (Two q w v a b) blind = absurd blind
 blind_same values p x (Choose c a b turned) blind =
     let chosen = pick (slice_index (set values p x) c) a b in
     ap (bit_xor turned) (
@@ -57,6 +54,7 @@ blind_same values p x (Choose c a b turned) blind =
     ∙ index_other values p x chosen blind.1
     ∙ picked_number (slice_index values) (slice_index (set values p x) c) a b
     ∙ ap (λ i. pick i (slice_index values a) (slice_index values b)) (index_other values p x c blind.0))
+blind_same values p x action blind = absurd blind
 
 -- a step that holds, and is blind to what is written and writes it not, holds
 agrees_blind : (n : Netlist) (values : List ℕ) (p x t : ℕ) (d : Cell) (step : Step) → IsStep n t step → kind_at n t ≡ Wire (Some d) → ¬ (t ≡ p) → FitWidths n (slice_index values) → FitWidths n (slice_index (set values p x))

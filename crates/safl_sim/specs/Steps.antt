@@ -2,6 +2,8 @@
 use Rattle.std.specs.Prelude.{◌≡◌, ℕ, ◌+◌, ◌*◌, ◌<◌, ◌≤◌, ◌^◌, List, [], ◌∷◌, map, length, Some, IsSome, true, bit_xor, slice_get, slice_index}
 use Rattle.safl_word.specs.Words.{IsWord, pick}
 use Rattle.safl_word.specs.Primitives.{result_width, apply_prim}
+use Rattle.safl_word.specs.declared.primitive.Primitive.{Primitive}
+use Rattle.safl_word.specs.declared.primitive.Primitive.TheVariants as primitive
 use Rattle.safl_narrow.specs.Narrow.{word_of, HasLow}
 use Rattle.safl_net.specs.declared.cell.Sig.{Sig}
 use Rattle.safl_net.specs.Netlist.{Netlist, Kind, Input, Reg, Wire, Cell, width_of}
@@ -11,7 +13,7 @@ use Rattle.safl_net.specs.Laws.{FitWidths}
 use Rattle.safl_net.specs.Making.{kind_at, numbers}
 use Rattle.safl_order.specs.Order.{Order, IsOrder, IsWire}
 use Rattle.safl_sim.specs.declared.step.Action.{Action}
-use Rattle.safl_sim.specs.declared.step.Action.TheVariants.{Const, Choose, One, Two}
+use Rattle.safl_sim.specs.declared.step.Action.TheVariants.{Const, Choose, One, Two, Add, Sub, And, Or, Xor, Eq, Shl, Shr, Bits}
 use Rattle.safl_sim.specs.declared.step.Step.{Step}
 use Rattle.safl_sim.specs.declared.step.Register.{Register}
 use Rattle.safl_sim.specs.Places.{inputs_of}
@@ -19,26 +21,58 @@ use Rattle.safl_sim.specs.Marks.{marked, first_register}
 use Rattle.safl_sim.specs.Readers.{Lists, AreReaders, Holding, Shown}
 use Rattle.safl_sim.specs.States.{AreOnce}
 
--- what an action gives, where the signals have these numbers
+-- an action in its plain form: the halves of a number, a choice, or a primitive on one operand or on two
+pub data Plain : Type 0 where
+  Halves : (l h : ℕ) → Plain
+  Choice : (c a b turned : ℕ) → Plain
+  Unary : (p : Primitive) (w a : ℕ) → Plain
+  Binary : (p : Primitive) (w v a b : ℕ) → Plain
+
+abbrev pub plain : Action → Plain
+plain (Const l h) = Halves l h
+plain (Choose c a b turned) = Choice c a b turned
+plain (One p w a) = Unary p w a
+plain (Two p w v a b) = Binary p w v a b
+plain (Add w v a b) = Binary primitive.Add w v a b
+plain (Sub w v a b) = Binary primitive.Sub w v a b
+plain (And w v a b) = Binary primitive.And w v a b
+plain (Or w v a b) = Binary primitive.Or w v a b
+plain (Xor w v a b) = Binary primitive.Xor w v a b
+plain (Eq w v a b) = Binary primitive.Eq w v a b
+plain (Shl w v a b) = Binary primitive.Shl w v a b
+plain (Shr w v a b) = Binary primitive.Shr w v a b
+plain (Bits high low w a) = Unary (primitive.Bits high low) w a
+
+-- what it gives, where the signals have these numbers
+abbrev pub plain_number : (ℕ → ℕ) → Plain → ℕ
+plain_number f (Halves l h) = l + h * 2 ^ 64
+plain_number f (Choice c a b turned) = bit_xor turned (pick (f c) (f a) (f b))
+plain_number f (Unary p w a) = (apply_prim p (word_of w (f a) ∷ [])).bits
+plain_number f (Binary p w v a b) = (apply_prim p (word_of w (f a) ∷ word_of v (f b) ∷ [])).bits
+
 abbrev pub action_number : (ℕ → ℕ) → Action → ℕ
-action_number f (Const l h) = l + h * 2 ^ 64
-action_number f (Choose c a b turned) = bit_xor turned (pick (f c) (f a) (f b))
-action_number f (One p w a) = (apply_prim p (word_of w (f a) ∷ [])).bits
-action_number f (Two p w v a b) = (apply_prim p (word_of w (f a) ∷ word_of v (f b) ∷ [])).bits
+action_number f action = plain_number f (plain action)
 
 -- its operands are at hand, as words that it takes
-abbrev pub Ready : List ℕ → Action → Type 0
-Ready values (Const l h) = Unit {0}
-Ready values (Choose c a b turned) = (c < length values) × (a < length values) × (b < length values)
-Ready values (One p w a) = (a < length values) × IsWord (word_of w (slice_index values a)) × IsSome (result_width p (w ∷ []))
-Ready values (Two p w v a b) = (a < length values) × (b < length values) × IsWord (word_of w (slice_index values a)) × IsWord (word_of v (slice_index values b)) × IsSome (result_width p (w ∷ v ∷ []))
+abbrev pub PlainReady : List ℕ → Plain → Type 0
+PlainReady values (Halves l h) = Unit {0}
+PlainReady values (Choice c a b turned) = (c < length values) × (a < length values) × (b < length values)
+PlainReady values (Unary p w a) = (a < length values) × IsWord (word_of w (slice_index values a)) × IsSome (result_width p (w ∷ []))
+PlainReady values (Binary p w v a b) = (a < length values) × (b < length values) × IsWord (word_of w (slice_index values a)) × IsWord (word_of v (slice_index values b))
+    × IsSome (result_width p (w ∷ v ∷ []))
 
--- what an action works on has at most 64 bits, and so has what it gives
+abbrev pub Ready : List ℕ → Action → Type 0
+Ready values action = PlainReady values (plain action)
+
+-- what it works on has at most 64 bits, and so has what it gives
+abbrev pub PlainLow : List ℕ → Plain → Type 0
+PlainLow values (Halves l h) = h ≡ 0
+PlainLow values (Choice c a b turned) = (slice_index values c < 2 ^ 64) × (slice_index values a < 2 ^ 64) × (slice_index values b < 2 ^ 64)
+PlainLow values (Unary p w a) = (slice_index values a < 2 ^ 64) × (w ≤ 64) × HasLow (result_width p (w ∷ []))
+PlainLow values (Binary p w v a b) = (slice_index values a < 2 ^ 64) × (slice_index values b < 2 ^ 64) × (w ≤ 64) × HasLow (result_width p (w ∷ v ∷ []))
+
 abbrev pub Low : List ℕ → Action → Type 0
-Low values (Const l h) = h ≡ 0
-Low values (Choose c a b turned) = (slice_index values c < 2 ^ 64) × (slice_index values a < 2 ^ 64) × (slice_index values b < 2 ^ 64)
-Low values (One p w a) = (slice_index values a < 2 ^ 64) × (w ≤ 64) × HasLow (result_width p (w ∷ []))
-Low values (Two p w v a b) = (slice_index values a < 2 ^ 64) × (slice_index values b < 2 ^ 64) × (w ≤ 64) × HasLow (result_width p (w ∷ v ∷ []))
+Low values action = PlainLow values (plain action)
 
 -- a wire of at most 64 bits, and so are the operands of its cell
 pub record IsNarrow (n : Netlist) (s : ℕ) (c : Cell) : Type 0 where

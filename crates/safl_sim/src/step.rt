@@ -9,7 +9,7 @@ ghost use Rattle.safl_net.specs.Rules.{IsNetlist, CellFits};
 ghost use Rattle.safl_net.specs.Making.{cell_on};
 ghost use Rattle.safl_net.specs.Stored.{cell_of};
 ghost use Rattle.safl_sim.specs.Halves.{low_half, high_half};
-ghost use Rattle.safl_sim.specs.Steps.{action_number, Ready, Low, Performs, IsNarrow};
+ghost use Rattle.safl_sim.specs.Steps.{Unary, Binary, plain, plain_number, action_number, PlainReady, Ready, PlainLow, Low, Performs, IsNarrow};
 
 use crate::numbers::{Numbers, from_halves, high_half, low_half};
 use safl_narrow::{LOW_MAX, greatest, narrow_one, narrow_two};
@@ -27,6 +27,17 @@ pub enum Action {
     /// A primitive on an operand of a width, and on two.
     One(Primitive, u8, u32),
     Two(Primitive, u8, u8, u32, u32),
+    /// The commonest primitives have variants of their own, so that a step is evaluated with one jump.
+    Add(u8, u8, u32, u32),
+    Sub(u8, u8, u32, u32),
+    And(u8, u8, u32, u32),
+    Or(u8, u8, u32, u32),
+    Xor(u8, u8, u32, u32),
+    Eq(u8, u8, u32, u32),
+    Shl(u8, u8, u32, u32),
+    Shr(u8, u8, u32, u32),
+    /// The ends of a slice, the high one first, and the width and the place of its operand.
+    Bits(u8, u8, u8, u32),
 }
 
 /// Which of the steps that read a step's wire stand in the step's own word of marks, by a bit for each, and where its
@@ -84,10 +95,18 @@ pub fn act(action: &Action, values: &Numbers) -> Raw
             Raw::from(turned) ^ values.get(chosen as usize)
         }
         Action::One(p, width, a) => apply_one(p, Word::from_parts(width, values.get(a as usize))),
-        Action::Two(p, width, other, a, b) => apply_two(
-            p,
+        Action::Two(p, width, other, a, b) => wide_pair(values, p, width, other, a, b),
+        Action::Add(width, other, a, b) => wide_pair(values, Primitive::Add, width, other, a, b),
+        Action::Sub(width, other, a, b) => wide_pair(values, Primitive::Sub, width, other, a, b),
+        Action::And(width, other, a, b) => wide_pair(values, Primitive::And, width, other, a, b),
+        Action::Or(width, other, a, b) => wide_pair(values, Primitive::Or, width, other, a, b),
+        Action::Xor(width, other, a, b) => wide_pair(values, Primitive::Xor, width, other, a, b),
+        Action::Eq(width, other, a, b) => wide_pair(values, Primitive::Eq, width, other, a, b),
+        Action::Shl(width, other, a, b) => wide_pair(values, Primitive::Shl, width, other, a, b),
+        Action::Shr(width, other, a, b) => wide_pair(values, Primitive::Shr, width, other, a, b),
+        Action::Bits(high, low, width, a) => apply_one(
+            Primitive::Bits(high, low),
             Word::from_parts(width, values.get(a as usize)),
-            Word::from_parts(other, values.get(b as usize)),
         ),
     }
 }
@@ -106,12 +125,19 @@ pub fn act_low(action: &Action, values: &Numbers) -> u64
             turned ^ values.get_low(chosen as usize)
         }
         Action::One(p, width, a) => narrow_one(p, width, values.get_low(a as usize)),
-        Action::Two(p, width, other, a, b) => narrow_two(
-            p,
+        Action::Two(p, width, other, a, b) => low_pair(values, p, width, other, a, b),
+        Action::Add(width, other, a, b) => low_pair(values, Primitive::Add, width, other, a, b),
+        Action::Sub(width, other, a, b) => low_pair(values, Primitive::Sub, width, other, a, b),
+        Action::And(width, other, a, b) => low_pair(values, Primitive::And, width, other, a, b),
+        Action::Or(width, other, a, b) => low_pair(values, Primitive::Or, width, other, a, b),
+        Action::Xor(width, other, a, b) => low_pair(values, Primitive::Xor, width, other, a, b),
+        Action::Eq(width, other, a, b) => low_pair(values, Primitive::Eq, width, other, a, b),
+        Action::Shl(width, other, a, b) => low_pair(values, Primitive::Shl, width, other, a, b),
+        Action::Shr(width, other, a, b) => low_pair(values, Primitive::Shr, width, other, a, b),
+        Action::Bits(high, low, width, a) => narrow_one(
+            Primitive::Bits(high, low),
             width,
-            other,
             values.get_low(a as usize),
-            values.get_low(b as usize),
         ),
     }
 }
@@ -131,11 +157,30 @@ fn apply_one(p: Primitive, a: Word) -> Raw
     apply(p, &[a]).bits()
 }
 
-fn apply_two(p: Primitive, a: Word, b: Word) -> Raw
-    requires { IsSome (result_width p (a.width ∷ b.width ∷ [])) }
-    ensures { result ≡ (apply_prim p (a ∷ b ∷ [])).bits }
+// What a primitive gives on the numbers at two places.
+fn wide_pair(values: &Numbers, p: Primitive, width: u8, other: u8, a: u32, b: u32) -> Raw
+    requires { PlainReady values.now (Binary p width other a b) }
+    ensures { result ≡ plain_number (slice_index values.now) (Binary p width other a b) }
 {
-    apply(p, &[a, b]).bits()
+    let first = Word::from_parts(width, values.get(a as usize));
+    let second = Word::from_parts(other, values.get(b as usize));
+    apply(p, &[first, second]).bits()
+}
+
+// The same, where all that it works on and gives has at most 64 bits. Where the primitive is known, its match is no jump.
+#[inline(always)]
+fn low_pair(values: &Numbers, p: Primitive, width: u8, other: u8, a: u32, b: u32) -> u64
+    requires ready { PlainReady values.now (Binary p width other a b) }
+    requires low { PlainLow values.now (Binary p width other a b) }
+    ensures { result ≡ plain_number (slice_index values.now) (Binary p width other a b) }
+{
+    narrow_two(
+        p,
+        width,
+        other,
+        values.get_low(a as usize),
+        values.get_low(b as usize),
+    )
 }
 
 /// The action of a cell.
@@ -168,7 +213,7 @@ fn single(net: &Net, p: Primitive, a: Sig) -> Action
     let width = net.width(a);
     match p {
         Primitive::Not if width <= LOW_MAX => Action::Choose(a.0, a.0, a.0, greatest(width)),
-        _ => Action::One(p, width, a.0),
+        _ => one(p, width, a.0),
     }
 }
 
@@ -182,7 +227,34 @@ fn pair(net: &Net, starts: &[u32], p: Primitive, a: Sig, b: Sig) -> Action
     match p {
         Primitive::And if width == 1 => both(starts, a, b),
         Primitive::Or if width == 1 => Action::Choose(a.0, a.0, b.0, 0),
-        _ => Action::Two(p, width, net.width(b), a.0, b.0),
+        _ => two(p, width, net.width(b), a.0, b.0),
+    }
+}
+
+// The action of a primitive on an operand of a width.
+fn one(p: Primitive, width: u8, a: u32) -> Action
+    ensures { plain result ≡ Unary p width a }
+{
+    match p {
+        Primitive::Bits(high, low) => Action::Bits(high, low, width, a),
+        _ => Action::One(p, width, a),
+    }
+}
+
+// The action of a primitive on two operands of these widths.
+fn two(p: Primitive, width: u8, other: u8, a: u32, b: u32) -> Action
+    ensures { plain result ≡ Binary p width other a b }
+{
+    match p {
+        Primitive::Add => Action::Add(width, other, a, b),
+        Primitive::Sub => Action::Sub(width, other, a, b),
+        Primitive::And => Action::And(width, other, a, b),
+        Primitive::Or => Action::Or(width, other, a, b),
+        Primitive::Xor => Action::Xor(width, other, a, b),
+        Primitive::Eq => Action::Eq(width, other, a, b),
+        Primitive::Shl => Action::Shl(width, other, a, b),
+        Primitive::Shr => Action::Shr(width, other, a, b),
+        _ => Action::Two(p, width, other, a, b),
     }
 }
 

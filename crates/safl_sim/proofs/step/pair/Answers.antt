@@ -3,9 +3,9 @@ use Rattle.safl_word.specs.declared.primitive.Primitive.{Primitive}
 use Rattle.safl_net.specs.declared.cell.Op.TheVariants as op
 use Rattle.safl_net.specs.Making.{cell_on}
 use Rattle.safl_net.specs.Rules.{CellFits}
-use Rattle.safl_sim.specs.declared.step.Action.TheVariants.{Choose}
+use Rattle.safl_sim.specs.declared.step.Action.TheVariants.{Choose, Two}
 use Rattle.safl_sim.specs.Steps.{Performs}
-use Rattle.safl_sim.proofs.Actions.{performs_two, performs_both, performs_or}
+use Rattle.safl_sim.proofs.Actions.{performs_alike, performs_two, performs_both, performs_or}
 use Rattle.safl_sim.proofs.step.pair.Goals as goal
 
 pub returns-in-And : goal.returns-in-And
@@ -29,4 +29,5 @@ returns-in-Or c =
 pub returns-in_default : goal.returns-in_default
 returns-in_default c =
     let f = c.requires.fits in
-    performs_two c.args.net.now c.args.p (op.Apply c.args.p) (c.args.a ∷ (c.args.b ∷ [])) f.0 c.width-width.result c.width.result c.requires.netlist f.1 (omega arith) (omega arith) refl c.width-width.ensures c.width.ensures
+    performs_alike c.args.net.now (cell_on (op.Apply c.args.p) (c.args.a ∷ (c.args.b ∷ []))) c.two.result (Two c.args.p c.width-width.result c.width.result c.args.a.0 c.args.b.0) c.two.ensures
+    (performs_two c.args.net.now c.args.p (op.Apply c.args.p) (c.args.a ∷ (c.args.b ∷ [])) f.0 c.width-width.result c.width.result c.requires.netlist f.1 (omega arith) (omega arith) refl c.width-width.ensures c.width.ensures)
