@@ -238,22 +238,38 @@ set_past (y ∷ xs) zero x h = absurd (omega (arith, h))
 set_past (y ∷ xs) (suc w) x h = ap (λ l. y ∷ l) (set_past xs w x (omega (arith, h)))
 
 -- the marks with more of them in a word
-abbrev joined : List ℕ → ℕ → ℕ → List ℕ
+abbrev pub joined : List ℕ → ℕ → ℕ → List ℕ
 joined marks w x = set marks w (bit_or (slice_index marks w) x)
 
 marked_joined : (marks : List ℕ) (w x k : ℕ) → w < length marks → k / 64 ≡ w → marked (joined marks w x) k ≡ max (marked marks k) (bit_at x (k % 64))
 marked_joined marks w x k h e = written_same marks w (bit_or (slice_index marks w) x) k h e ∙ bit_at_or (slice_index marks w) x (k % 64) ∙ ap (λ y. max (bit_at (slice_index marks y) (k % 64)) (bit_at x (k % 64))) (sym e)
 
-module _ (readers : List ℕ) (from to w : ℕ) (g : Near) (near : IsNear readers from to w g) (marks : List ℕ) where
-  group_grows : (k : ℕ) → marked marks k ≡ 1 → marked (joined marks w g.mask) k ≡ 1
-  group_grows k e = elim (same_or_not (k / 64) w) [
+module _ (marks : List ℕ) (w x k : ℕ) where
+  pub joined_grows : marked marks k ≡ 1 → marked (joined marks w x) k ≡ 1
+  joined_grows e = elim (same_or_not (k / 64) w) [
     | inl q ↦ elim (lower_or_not w (length marks)) [
-      | inl h ↦ marked_joined marks w g.mask k h q ∙ one_left (marked marks k) (bit_at g.mask (k % 64)) e (bit_at-lt g.mask (k % 64))
-      | inr h ↦ ap (λ l. marked l k) (set_past marks w (bit_or (slice_index marks w) g.mask) h) ∙ e
+      | inl h ↦ marked_joined marks w x k h q ∙ one_left (marked marks k) (bit_at x (k % 64)) e (bit_at-lt x (k % 64))
+      | inr h ↦ ap (λ l. marked l k) (set_past marks w (bit_or (slice_index marks w) x) h) ∙ e
     ]
-    | inr q ↦ written_other marks w (bit_or (slice_index marks w) g.mask) k q ∙ e
+    | inr q ↦ written_other marks w (bit_or (slice_index marks w) x) k q ∙ e
   ]
 
+  pub joined_new : w < length marks → k / 64 ≡ w → bit_at x (k % 64) ≡ 1 → marked (joined marks w x) k ≡ 1
+  joined_new h q e = marked_joined marks w x k h q ∙ one_right (marked marks k) (bit_at x (k % 64)) e (bit_at-lt (slice_index marks (k / 64)) (k % 64))
+
+  pub joined_only : marked (joined marks w x) k ≡ 1 → (marked marks k ≡ 1) ⊎ ((k / 64 ≡ w) × (bit_at x (k % 64) ≡ 1))
+  joined_only e = elim (same_or_not (k / 64) w) [
+    | inl q ↦ elim (bit_or_none x (k % 64)) [
+      | inr b ↦ inr (q, b)
+      | inl b ↦ elim (lower_or_not w (length marks)) [
+        | inl h ↦ inl (sym (marked_joined marks w x k h q ∙ none_right (marked marks k) (bit_at x (k % 64)) b (bit_at-lt (slice_index marks (k / 64)) (k % 64))) ∙ e)
+        | inr h ↦ inl (ap (λ l. marked l k) (sym (set_past marks w (bit_or (slice_index marks w) x) h)) ∙ e)
+      ]
+    ]
+    | inr q ↦ inl (sym (written_other marks w (bit_or (slice_index marks w) x) k q) ∙ e)
+  ]
+
+module _ (readers : List ℕ) (from to w : ℕ) (g : Near) (near : IsNear readers from to w g) (marks : List ℕ) where
   group_others : (k : ℕ) → ((j : ℕ) → from ≤ j → j < to → ¬ (slice_get readers j ≡ Some k)) → marked (joined marks w g.mask) k ≡ marked marks k
   group_others k n = elim (same_or_not (k / 64) w) [
     | inl q ↦ elim (lower_or_not w (length marks)) [
@@ -271,22 +287,16 @@ module _ (readers : List ℕ) (from to w : ℕ) (g : Near) (near : IsNear reader
     pub group_marked : HasMarked steps readers from to p values marks marks'
     group_marked = record {
       long = m.long ∙ set_length marks w (bit_or (slice_index marks w) g.mask);
-      grows = λ k e. m.grows k (group_grows k e);
+      grows = λ k e. m.grows k (joined_grows marks w g.mask k e);
       all = λ j k f t e. elim (lower_or_not j g.first) [
         | inl l ↦
             let a = near.early j k f l e in
             let h : w < length marks = (let b = known j k e in omega (arith, a, b)) in
-            inl (m.grows k (marked_joined marks w g.mask k h a ∙ one_right (marked marks k) (bit_at g.mask (k % 64)) (near.all j k f t e a) (bit_at-lt (slice_index marks (k / 64)) (k % 64))))
+            inl (m.grows k (joined_new marks w g.mask k h a (near.all j k f t e a)))
         | inr l ↦ m.all j k l t e
       ];
       others = λ k n. m.others k (λ j f t e. n j (let a = near.least in omega (arith, a, f)) t e) ∙ group_others k n;
     }
-
--- a word that is not there is left out
-pub past_marked : (steps : List Step) (readers : List ℕ) (from to w p : ℕ) (g : Near) (values marks marks' : List ℕ) → IsNear readers from to w g → length marks ≤ w → ((j k : ℕ) → slice_get readers j ≡ Some k → k / 64 < length marks)
-    → HasMarked steps readers g.first to p values marks marks' → HasMarked steps readers from to p values marks marks'
-past_marked steps readers from to w p g values marks marks' near h known m = group_marked readers from to w g near marks steps p values marks' known
-    (subst (λ l. HasMarked steps readers g.first to p values l marks') (sym (set_past marks w (bit_or (slice_index marks w) g.mask) h)) m)
 
 -- a place whose readers are marked, or that has its number already
 pub given_new : (steps : List Step) (starts readers : List ℕ) (p x : ℕ) (values marks marks' : List ℕ) → HasMarked steps readers (slice_index starts p) (slice_index starts (p + 1)) p (set values p x) marks marks'

@@ -1,13 +1,15 @@
 -- Registers that are shown and kept.
-use Rattle.std.proofs.Common.{◌≡◌, inl, inr, ℕ, ◌+◌, ◌*◌, ◌<◌, ◌≤◌, List, length, set, Some, slice_get, slice_index, refl, sym, ap, subst, ◌∙◌, arith}
+use Rattle.std.proofs.Common.{◌≡◌, inl, inr, ℕ, ◌+◌, ◌-◌, ◌*◌, ◌/◌, ◌%◌, ◌<◌, ◌≤◌, List, length, set, Some, slice_get, slice_index, refl, sym, ap, subst, ◌∙◌, arith}
 use Rattle.safl_net.proofs.Naming.{within}
 use Rattle.safl_sim.specs.declared.step.Register.{Register}
-use Rattle.safl_sim.specs.Marks.{marked, HasMark, HasNone, NoneBetween, HasTaken}
+use Rattle.std.specs.Int.{bit_at}
+use Rattle.safl_sim.specs.Marks.{marked, HasNone, NoneBetween, HasTaken}
 use Rattle.safl_sim.specs.Steps.{Waits}
 use Rattle.safl_sim.specs.Writes.{HasShown, HasKept, Shows, KeepsOn}
 use Rattle.safl_sim.proofs.Written.{same_or_not, index_here, index_other, set_length}
 use Rattle.safl_sim.proofs.MarksByOne.{taken_upto, none_upto, none_past}
-use Rattle.safl_sim.proofs.Updates.{mark_or_none}
+use Rattle.safl_sim.proofs.Nearing.{joined, joined_grows, joined_new, joined_only}
+use Rattle.safl_sim.proofs.Updates.{mark_or_none, was_none}
 
 -- two registers at one index are one
 one_at : (regs : List Register) (j k : ℕ) (q r : Register) → slice_get regs j ≡ Some q → slice_get regs k ≡ Some r → j ≡ k → q ≡ r
@@ -97,13 +99,13 @@ pub keeps_skip : (first : ℕ) (regs : List Register) (values : List ℕ) (from 
     → KeepsOn first regs values (to * 64) start was now marks waiting
 keeps_skip first regs values from to start was now marks waiting w none = keeps_to first regs values (from * 64) (to * 64) start was now marks waiting w (none_past marks first from to w.below none)
 
--- one more is kept, and waits
-pub keeps_step : (first : ℕ) (regs : List Register) (values : List ℕ) (place word k : ℕ) (r : Register) (start was now now' marks marks' waiting waiting' : List ℕ) → KeepsOn first regs values place start was now marks waiting
+-- one more is kept that waits
+pub keeps_step : (first : ℕ) (regs : List Register) (values : List ℕ) (place word k : ℕ) (r : Register) (start was now now' marks marks' waiting : List ℕ) → KeepsOn first regs values place start was now marks waiting
     → first ≤ word * 64 → word * 64 ≤ place → HasTaken marks marks' word (first + k) → slice_get regs k ≡ Some r → r.signal.0 < length now
     → ((i j : ℕ) (r q : Register) → slice_get regs i ≡ Some r → slice_get regs j ≡ Some q → r.signal.0 ≡ q.signal.0 → r.next.0 ≡ q.next.0)
-    → now' ≡ set now r.signal.0 (slice_index values r.next.0) → HasMark waiting waiting' k → KeepsOn first regs values (first + k + 1) start was now' marks' waiting'
-keeps_step first regs values place word k r start was now now' marks marks' waiting waiting' w early from t here inside one is m =
-    subst (λ l. KeepsOn first regs values (first + k + 1) start was l marks' waiting') (sym is) (record {
+    → now' ≡ set now r.signal.0 (slice_index values r.next.0) → marked waiting k ≡ 1 → KeepsOn first regs values (first + k + 1) start was now' marks' waiting
+keeps_step first regs values place word k r start was now now' marks marks' waiting w early from t here inside one is waits =
+    subst (λ l. KeepsOn first regs values (first + k + 1) start was l marks' waiting) (sym is) (record {
       long = set_length now s x ∙ w.long;
       below = λ j f h. taken_upto marks marks' first place word (first + k) w.below early from t j f (omega (arith, h));
       low = λ j h. t.others j (λ z. absurd (omega (arith, z, h))) ∙ w.low j h;
@@ -117,13 +119,10 @@ keeps_step first regs values place word k r start was now now' marks marks' wait
       ];
       others = λ u h. index_other now s x u (λ z. h k r here (sym z)) ∙ w.others u h;
       waits = λ j e none. elim (same_or_not j k) [
-        | inl q ↦ absurd (let a = m.here in let b : marked waiting' k ≡ 0 = ap (marked waiting') (sym q) ∙ none in omega (arith, a, b))
-        | inr q ↦ t.others (first + j) (λ z. absurd (q (omega (arith, z)))) ∙ w.waits j e (sym (m.others j q) ∙ none)
+        | inl q ↦ absurd (let a = ap (marked waiting) q in omega (arith, a, waits, none))
+        | inr q ↦ t.others (first + j) (λ z. absurd (q (omega (arith, z)))) ∙ w.waits j e none
       ];
-      waiters = λ j e. elim (same_or_not j k) [
-        | inl q ↦ (let a = within regs k r here in omega (arith, a, q))
-        | inr q ↦ w.waiters j (sym (m.others j q) ∙ e)
-      ];
+      waiters = w.waiters;
     })
   where
     s : ℕ
@@ -131,6 +130,41 @@ keeps_step first regs values place word k r start was now now' marks marks' wait
 
     x : ℕ
     x = slice_index values r.next.0
+
+-- the marked registers of a word wait
+module _ (first : ℕ) (regs : List Register) (values : List ℕ) (place word : ℕ) (start was now marks waiting : List ℕ) (early : first ≤ word) (w : KeepsOn (first * 64) regs values place start was now marks waiting) where
+  abbrev waiting' : List ℕ
+  waiting' = joined waiting (word - first) (slice_index marks word)
+
+  -- such a register
+  own : (k : ℕ) → k / 64 ≡ word - first → bit_at (slice_index marks word) (k % 64) ≡ 1 → marked marks (first * 64 + k) ≡ 1
+  own k q e =
+      let a : (first * 64 + k) / 64 ≡ word = omega (arith, q, early) in
+      let b : (first * 64 + k) % 64 ≡ k % 64 = omega arith in
+      ap (λ x. bit_at (slice_index marks x) ((first * 64 + k) % 64)) a ∙ ap (bit_at (slice_index marks word)) b ∙ e
+
+  pub keeps_joined : KeepsOn (first * 64) regs values place start was now marks waiting'
+  keeps_joined = record {
+    long = w.long;
+    below = w.below;
+    low = w.low;
+    within = w.within;
+    kept = w.kept;
+    others = w.others;
+    waits = λ k e none. w.waits k e (was_none waiting waiting' k (λ j. joined_grows waiting (word - first) (slice_index marks word) j) none);
+    waiters = λ k e. elim (joined_only waiting (word - first) (slice_index marks word) k e) [
+      | inl h ↦ w.waiters k h
+      | inr h ↦ (let a = w.within (first * 64 + k) (own k h.0 h.1) in omega (arith, a))
+    ];
+  }
+
+  pub joined_waits : length regs ≤ length waiting * 64 → (k : ℕ) → (first * 64 + k) / 64 ≡ word → marked marks (first * 64 + k) ≡ 1 → marked waiting' k ≡ 1
+  joined_waits room k q e =
+      let inside : k / 64 < length waiting = (let a = w.within (first * 64 + k) e in omega (arith, a, room)) in
+      let at : k / 64 ≡ word - first = omega (arith, q) in
+      let b : (first * 64 + k) % 64 ≡ k % 64 = omega arith in
+      joined_new waiting (word - first) (slice_index marks word) k (omega (arith, inside, at)) at
+      (ap (bit_at (slice_index marks word)) (sym b) ∙ ap (λ x. bit_at (slice_index marks x) ((first * 64 + k) % 64)) (sym q) ∙ e)
 
 -- in the end none is marked, and all are kept
 module _ (first : ℕ) (regs : List Register) (values : List ℕ) (place : ℕ) (start was now marks waiting : List ℕ) (w : KeepsOn first regs values place start was now marks waiting) (room : first + length regs ≤ place) where

@@ -59,7 +59,7 @@ impl Model for Marks {
 }
 
 impl Marks {
-    ghost use Rattle.std.specs.Prelude.{◌≡◌, ℕ, ◌+◌, ◌*◌, ◌/◌, ◌<◌, ◌≤◌, ◌^◌, length, slice_index, slice_set, IfOk};
+    ghost use Rattle.std.specs.Prelude.{◌≡◌, ℕ, ◌+◌, ◌*◌, ◌/◌, ◌<◌, ◌≤◌, ◌^◌, length, slice_index, slice_set, bit_or, IfOk};
     ghost use Rattle.safl_sim.specs.Marks.{marked, HasMark, NoneBetween, HasRange};
 
     /// So many words, in which no number is marked.
@@ -103,6 +103,17 @@ impl Marks {
             self.filled[word / 64] &= !(1u64 << (word % 64));
         } else if before == 0 {
             self.filled[word / 64] |= 1u64 << (word % 64);
+        }
+    }
+
+    /// Marks the numbers of a word that have a bit here, if there is such a word.
+    #[inline(always)]
+    pub fn join(&mut self, word: usize, marks: u64)
+        ensures { self.new ≡ slice_set self.old word (bit_or (slice_index self.old word) marks) }
+    {
+        if word < self.words.len() {
+            let all = self.words[word] | marks;
+            self.put(word, all);
         }
     }
 

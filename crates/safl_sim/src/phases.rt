@@ -127,30 +127,26 @@ pub fn show_word(
         → Goes n ws plan.now.steps.items plan.now.registers.items now plan.now.starts.items plan.now.readers.items values.old values.new marks.old marks.new }
 {
     let mut held = waiting.get(word);
-    'registers: for _n in 0..64u32 {
-        match take_held(word, held) {
-            Some(taken) => {
-                let i = taken.number;
-                held = taken.left;
-                show(
-                    values,
-                    marks,
-                    plan,
-                    plan.registers[i],
-                    plan.groups[i],
-                    state[i],
-                );
-            }
-            None => {
-                waiting.put(word, 0);
-                return;
-            }
-        }
+    // No register before this one waits any longer. It tells why the loop ends, as in `run_word`.
+    let mut place = word * 64;
+    'registers: while let Some(taken) = take_held(word, held) {
+        let i = taken.number;
+        held = taken.left;
+        show(
+            values,
+            marks,
+            plan,
+            plan.registers[i],
+            plan.groups[i],
+            state[i],
+        );
+        place = i + 1;
     }
-    waiting.put(word, held);
+    waiting.put(word, 0);
 }
 
 /// Shows the registers that wait.
+#[inline(always)]
 pub fn show_registers(
     values: &mut Numbers,
     marks: &mut Marks,
@@ -180,27 +176,19 @@ pub fn show_registers(
     }
 }
 
-/// Keeps the number of a register's next signal as its state; it waits to be shown.
+/// Keeps the number of a register's next signal as its state.
 #[inline(always)]
-pub fn keep(
-    state: &mut [Raw],
-    waiting: &mut Marks,
-    registers: &[Register],
-    values: &Numbers,
-    k: usize,
-)
+pub fn keep(state: &mut [Raw], registers: &[Register], values: &Numbers, k: usize)
     requires known { k < length registers.now }
-    requires room { k / 64 < length waiting.old }
     requires states { length state.old ≡ length registers.now }
     requires next { (k : ℕ) (r : Register) → slice_get registers.now k ≡ Some r → r.next.0 < length values.now }
-    ensures state { (r : Register) → slice_get registers.now k ≡ Some r → state.new ≡ slice_set state.old k (slice_index values.now r.next.0) }
-    ensures waits { HasMark waiting.old waiting.new k }
+    ensures { (r : Register) → slice_get registers.now k ≡ Some r → state.new ≡ slice_set state.old k (slice_index values.now r.next.0) }
 {
     state[k] = values.get(registers[k].next.0 as usize);
-    waiting.mark(k);
 }
 
-/// Keeps the marked registers of a word of marks. The marks of registers begin with a word of their own.
+/// Keeps the marked registers of a word of marks, and lets them wait to be shown. The marks of registers begin with a word of
+/// their own, so that those of a word wait all at once.
 #[inline(always)]
 pub fn keep_word(
     state: &mut [Raw],
@@ -228,23 +216,19 @@ pub fn keep_word(
         → KeepsOn (first * 64) registers.now values.now ((word + 1) * 64) start was (placed (length values.now) registers.now state.new) marks.new waiting.new }
 {
     let mut held = marks.get(word);
-    'registers: for _n in 0..64u32 {
-        match take_held(word, held) {
-            Some(taken) => {
-                let k = taken.number - first * 64;
-                held = taken.left;
-                keep(state, waiting, registers, values, k);
-            }
-            None => {
-                marks.put(word, 0);
-                return;
-            }
-        }
+    waiting.join(word - first, held);
+    // No register before this one is marked any longer. It tells why the loop ends, as in `run_word`.
+    let mut place = word * 64;
+    'registers: while let Some(taken) = take_held(word, held) {
+        held = taken.left;
+        keep(state, registers, values, taken.number - first * 64);
+        place = taken.number + 1;
     }
-    marks.put(word, held);
+    marks.put(word, 0);
 }
 
 /// Keeps the numbers of the next signals as the state of the registers that are marked, and lets these wait.
+#[inline(always)]
 pub fn keep_registers(
     state: &mut [Raw],
     marks: &mut Marks,
@@ -317,15 +301,15 @@ pub fn evaluate(
     marks: &mut Marks,
     plan: &Plan,
     step: &Step,
-    near: Near,
+    near: &Near,
 ) -> u64
     requires lists { Lists plan.now.starts.items plan.now.readers.items (length values.old) (length marks.old) }
     requires within { step.now.wire.0 < length values.old }
     requires ready { Ready values.old step.now.action }
     requires low { LowStep values.old step.now }
-    requires near { (i : ℕ) × NearOf plan.now.starts.items plan.now.readers.items i step.now near }
+    requires near { (i : ℕ) × NearOf plan.now.starts.items plan.now.readers.items i step.now near.now }
     ensures long { length marks.new ≡ length marks.old }
-    ensures given { (i held : ℕ) → i / 64 < length marks.old → NearOf plan.now.starts.items plan.now.readers.items i step.now near
+    ensures given { (i held : ℕ) → i / 64 < length marks.old → NearOf plan.now.starts.items plan.now.readers.items i step.now near.now
         → HasGiven plan.now.steps.items plan.now.starts.items plan.now.readers.items step.now.wire.0 (action_number (slice_index values.old) step.now.action) values.old values.new
         (holding marks.old (i / 64) held) (holding marks.new (i / 64) (bit_or held result)) }
 {
@@ -352,21 +336,18 @@ pub fn run_word(values: &mut Numbers, marks: &mut Marks, plan: &Plan, word: usiz
         → Runs o plan.now.steps.items regs held plan.now.starts.items plan.now.readers.items start ((word + 1) * 64) values.new marks.new }
 {
     let mut held = marks.get(word);
-    'steps: for n in 0..64usize {
-        match take_held(word, held) {
-            Some(taken) => {
-                let i = taken.number;
-                let near = evaluate(values, marks, plan, &plan.steps[i], plan.nears[i]);
-                held = taken.left | near;
-            }
-            None => {
-                marks.put(word, 0);
-                return n;
-            }
-        }
+    let mut count = 0;
+    // No step before this one is marked any longer. Nothing that runs reads it: it tells why the loop ends.
+    let mut place = word * 64;
+    'steps: while let Some(taken) = take_held(word, held) {
+        let i = taken.number;
+        let near = evaluate(values, marks, plan, &plan.steps[i], &plan.nears[i]);
+        held = taken.left | near;
+        count += 1;
+        place = i + 1;
     }
-    marks.put(word, held);
-    64
+    marks.put(word, 0);
+    count
 }
 
 /// Evaluates the marked steps in turn, and answers how many there were.

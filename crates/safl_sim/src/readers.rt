@@ -69,10 +69,7 @@ pub fn mark_group(values: &Numbers, marks: &mut Marks, plan: &Plan, group: Group
     ensures { (p : ℕ) → p + 1 < length plan.now.starts.items → NearAt plan.now.starts.items plan.now.readers.items p group.word group.near
         → HasMarked plan.now.steps.items plan.now.readers.items (slice_index plan.now.starts.items p) (slice_index plan.now.starts.items (p + 1)) p values.now marks.old marks.new }
 {
-    let word = group.word as usize;
     let near = group.near;
-    if word < marks.count() {
-        marks.put(word, marks.get(word) | near.mask);
-    }
+    marks.join(group.word as usize, near.mask);
     mark_readers(values, marks, plan, near.first, near.end);
 }

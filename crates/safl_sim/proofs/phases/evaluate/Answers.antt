@@ -20,7 +20,7 @@ returns-clause-long c =
     let p = c.args.step.now.wire.0 in
     let near = c.requires.near.1 in
     let inside : p + 1 < length c.args.plan.now.starts.items = (let a = c.requires.lists.long in let b = c.requires.within in omega (arith, a, b)) in
-    let most : c.args.near.end ≤ slice_index c.args.plan.now.starts.items (p + 1) = (let a = near.last in omega (arith, a)) in
+    let most : c.args.near.now.end ≤ slice_index c.args.plan.now.starts.items (p + 1) = (let a = near.last in omega (arith, a)) in
     (c.mark_readers.ensures p (inside, near.least, most)).long
 
 pub returns-clause-given : goal.returns-clause-given
@@ -31,7 +31,7 @@ returns-clause-given c = λ i held h near.
     let readers = plan.readers.items in
     let step = c.args.step.now in
     let p = step.wire.0 in
-    let g = c.args.near in
+    let g = c.args.near.now in
     let x = action_number (slice_index c.args.values.now) step.action in
     let marks = c.args.marks.now in
     let marks' = c.mark_readers.new.marks in

@@ -1,20 +1,21 @@
-use Rattle.std.proofs.Common.{◌≡◌, ◌+◌, ◌-◌, ◌*◌, ◌<◌, ◌≤◌, ℕ, List, Some, length, get_or, slice_get, slice_index, refl, sym, ap, subst, ◌∙◌, arith}
+use Rattle.std.proofs.Common.{◌≡◌, inl, inr, ◌+◌, ◌-◌, ◌*◌, ◌/◌, ◌<◌, ◌≤◌, ℕ, List, Some, length, get_or, slice_get, slice_index, refl, sym, ap, subst, ◌∙◌, arith}
 use Rattle.safl_sim.specs.declared.step.Register.{Register}
-use Rattle.safl_sim.specs.Marks.{holding, HasTaken}
+use Rattle.safl_sim.specs.Marks.{marked, holding, HasTaken}
 use Rattle.safl_sim.specs.States.{placed}
 use Rattle.safl_sim.specs.Writes.{KeepsOn}
-use Rattle.safl_sim.proofs.Written.{get_at}
+use Rattle.safl_sim.proofs.Written.{get_at, same_or_not}
 use Rattle.safl_sim.proofs.MarksByOne.{taken_after}
-use Rattle.safl_sim.proofs.Nearing.{holding_all, holding_long, no_marks}
+use Rattle.safl_sim.proofs.Nearing.{joined, holding_all, holding_long, no_marks}
 use Rattle.safl_sim.proofs.Placing.{placed_long, placed_set, next_once}
-use Rattle.safl_sim.proofs.Registers.{keeps_to, keeps_none, keeps_step}
+use Rattle.safl_sim.proofs.Registers.{keeps_none, keeps_step, keeps_joined, joined_waits}
 use Rattle.safl_sim.proofs.phases.keep_word.Goals as goal
 
 abbrev none : Register
 none = record { signal = record { 0 = 0 }; next = record { 0 = 0 } }
 
-inside : (word : ℕ) (marks marks' : List ℕ) → length marks' ≡ length marks → word < length marks → word < length marks'
-inside word marks marks' e h = omega (arith, e, h)
+-- all registers of the word wait
+joins : (marks waiting waiting' : List ℕ) (word first held : ℕ) → held ≡ slice_index marks word → waiting' ≡ joined waiting (word - first) held → waiting' ≡ joined waiting (word - first) (slice_index marks word)
+joins marks waiting waiting' word first held e f = f ∙ ap (joined waiting (word - first)) e
 
 -- the register that is taken
 found : (first : ℕ) (regs : List Register) (values : List ℕ) (place word i : ℕ) (start was now marks marks' waiting : List ℕ) → first ≤ word * 64 → KeepsOn first regs values place start was now marks waiting → HasTaken marks marks' word i
@@ -25,78 +26,82 @@ found first regs values place word i start was now marks marks' waiting early w 
     let d : first ≤ i = omega (arith, b, early) in
     (d, omega (arith, a, d), omega (arith, d))
 
-pub overflow_sub-k : goal.overflow_sub-k
-overflow_sub-k c =
-    let r = c.requires.keeps in
-    (found (c.args.first * 64) c.args.registers.now c.args.values.now _ c.args.word c.in-Some.taken.number r.0 r.1 (placed (length c.args.values.now) c.args.registers.now c.registers.state) (holding c.registers.marks c.args.word c.registers.held) (holding c.registers.marks c.args.word c.in-Some.taken.left) c.registers.waiting (let a = c.requires.after in omega (arith, a)) (c.registers.invariant.keeps r.0 r.1 r.2) (c.in-Some.ensures.some c.registers.marks (inside c.args.word c.args.marks.now c.registers.marks c.registers.invariant.room c.requires.word))).0
+-- a turn leads past it
+past : (first : ℕ) (regs : List Register) (values : List ℕ) (place word i : ℕ) (start was now marks marks' waiting : List ℕ) → first ≤ word * 64 → word * 64 ≤ place → KeepsOn first regs values place start was now marks waiting → HasTaken marks marks' word i → place ≤ i
+past first regs values place word i start was now marks marks' waiting early from w t = taken_after marks marks' first place word i w.below early from t
+
+-- what the others of the word are
+left : (marks marks' waiting : List ℕ) (first word i : ℕ) → HasTaken marks marks' word i → ((k : ℕ) → (first + k) / 64 ≡ word → marked marks (first + k) ≡ 1 → marked waiting k ≡ 1)
+    → (k : ℕ) → (first + k) / 64 ≡ word → marked marks' (first + k) ≡ 1 → marked waiting k ≡ 1
+left marks marks' waiting first word i t wait k q e = elim (same_or_not (first + k) i) [
+  | inl z ↦ absurd (let a = t.gone in let b = ap (marked marks') z in omega (arith, a, b, e))
+  | inr n ↦ wait k q (sym (t.others (first + k) n) ∙ e)
+]
+
+pub registers-init : goal.registers-init
+registers-init c =
+    let q = c.requires.keeps in
+    record {
+      from = omega arith;
+      state = refl;
+      wait = λ k at e.
+          subst (λ l. marked l k ≡ 1) (sym (joins c.args.marks.now c.args.waiting.now c.join.new.self c.args.word c.args.first c.get-held.result c.get-held.ensures c.join.ensures))
+          (joined_waits c.args.first c.args.registers.now c.args.values.now (c.args.word * 64) c.args.word q.0 q.1 (placed (length c.args.values.now) c.args.registers.now c.args.state.now) c.args.marks.now c.args.waiting.now c.requires.after q.2 c.requires.room k at
+          (ap (λ l. marked l (c.args.first * 64 + k)) (sym (holding_all c.args.marks.now c.args.word)) ∙ ap (λ h. marked (holding c.args.marks.now c.args.word h) (c.args.first * 64 + k)) (sym c.get-held.ensures) ∙ e));
+      keeps = λ start was w.
+          subst (λ h. KeepsOn (c.args.first * 64) c.args.registers.now c.args.values.now (c.args.word * 64) start was (placed (length c.args.values.now) c.args.registers.now c.args.state.now) (holding c.args.marks.now c.args.word h) c.join.new.self) (sym c.get-held.ensures)
+          (subst (λ l. KeepsOn (c.args.first * 64) c.args.registers.now c.args.values.now (c.args.word * 64) start was (placed (length c.args.values.now) c.args.registers.now c.args.state.now) l c.join.new.self) (sym (holding_all c.args.marks.now c.args.word)) w);
+    }
 
 pub keep-requires-clause-known : goal.keep-requires-clause-known
 keep-requires-clause-known c =
-    let r = c.requires.keeps in
-    (found (c.args.first * 64) c.args.registers.now c.args.values.now _ c.args.word c.in-Some.taken.number r.0 r.1 (placed (length c.args.values.now) c.args.registers.now c.registers.state) (holding c.registers.marks c.args.word c.registers.held) (holding c.registers.marks c.args.word c.in-Some.taken.left) c.registers.waiting (let a = c.requires.after in omega (arith, a)) (c.registers.invariant.keeps r.0 r.1 r.2) (c.in-Some.ensures.some c.registers.marks (inside c.args.word c.args.marks.now c.registers.marks c.registers.invariant.room c.requires.word))).1
+    let q = c.requires.keeps in
+    let early : c.args.first * 64 ≤ c.args.word * 64 = (let a = c.requires.after in omega (arith, a)) in
+    let t = c.in-Some.ensures.some c.args.marks.now c.requires.word in
+    let w = c.registers.invariant.keeps q.0 q.1 (subst (λ l. KeepsOn (c.args.first * 64) c.args.registers.now c.args.values.now (c.args.word * 64) q.0 q.1 (placed (length c.args.values.now) c.args.registers.now c.args.state.now) c.args.marks.now l) (sym (joins c.args.marks.now c.args.waiting.now c.join.new.self c.args.word c.args.first c.get-held.result c.get-held.ensures c.join.ensures))
+    (keeps_joined c.args.first c.args.registers.now c.args.values.now (c.args.word * 64) c.args.word q.0 q.1 (placed (length c.args.values.now) c.args.registers.now c.args.state.now) c.args.marks.now c.args.waiting.now c.requires.after q.2)) in
+    (found (c.args.first * 64) c.args.registers.now c.args.values.now c.registers.place c.args.word c.in-Some.taken.number q.0 q.1 (placed (length c.args.values.now) c.args.registers.now c.registers.state) (holding c.args.marks.now c.args.word c.registers.held) (holding c.args.marks.now c.args.word c.in-Some.taken.left) c.join.new.self early w t).1
 
-pub keep-requires-clause-room : goal.keep-requires-clause-room
-keep-requires-clause-room c =
-    let r = c.requires.keeps in
-    let a = (found (c.args.first * 64) c.args.registers.now c.args.values.now _ c.args.word c.in-Some.taken.number r.0 r.1 (placed (length c.args.values.now) c.args.registers.now c.registers.state) (holding c.registers.marks c.args.word c.registers.held) (holding c.registers.marks c.args.word c.in-Some.taken.left) c.registers.waiting (let a = c.requires.after in omega (arith, a)) (c.registers.invariant.keeps r.0 r.1 r.2) (c.in-Some.ensures.some c.registers.marks (inside c.args.word c.args.marks.now c.registers.marks c.registers.invariant.room c.requires.word))).1 in
-    let b = c.requires.room in
-    let d = c.registers.invariant.waiting in
-    omega (arith, a, b, d)
-
-pub keep-requires-clause-states : goal.keep-requires-clause-states
-keep-requires-clause-states c = c.registers.invariant.state ∙ c.requires.states
+pub registers-smaller : goal.registers-smaller
+registers-smaller c =
+    let q = c.requires.keeps in
+    let early : c.args.first * 64 ≤ c.args.word * 64 = (let a = c.requires.after in omega (arith, a)) in
+    let t = c.in-Some.ensures.some c.args.marks.now c.requires.word in
+    let w = c.registers.invariant.keeps q.0 q.1 (subst (λ l. KeepsOn (c.args.first * 64) c.args.registers.now c.args.values.now (c.args.word * 64) q.0 q.1 (placed (length c.args.values.now) c.args.registers.now c.args.state.now) c.args.marks.now l) (sym (joins c.args.marks.now c.args.waiting.now c.join.new.self c.args.word c.args.first c.get-held.result c.get-held.ensures c.join.ensures))
+    (keeps_joined c.args.first c.args.registers.now c.args.values.now (c.args.word * 64) c.args.word q.0 q.1 (placed (length c.args.values.now) c.args.registers.now c.args.state.now) c.args.marks.now c.args.waiting.now c.requires.after q.2)) in
+    let a = past (c.args.first * 64) c.args.registers.now c.args.values.now c.registers.place c.args.word c.in-Some.taken.number q.0 q.1 (placed (length c.args.values.now) c.args.registers.now c.registers.state) (holding c.args.marks.now c.args.word c.registers.held) (holding c.args.marks.now c.args.word c.in-Some.taken.left) c.join.new.self early c.registers.invariant.from w t in
+    let b = t.within in
+    omega (arith, a, b)
 
 pub registers-preserved : goal.registers-preserved
 registers-preserved c =
     let q = c.requires.keeps in
     let early : c.args.first * 64 ≤ c.args.word * 64 = (let a = c.requires.after in omega (arith, a)) in
-    let t = c.in-Some.ensures.some c.registers.marks (inside c.args.word c.args.marks.now c.registers.marks c.registers.invariant.room c.requires.word) in
-    let f = found (c.args.first * 64) c.args.registers.now c.args.values.now _ c.args.word c.in-Some.taken.number q.0 q.1 (placed (length c.args.values.now) c.args.registers.now c.registers.state) (holding c.registers.marks c.args.word c.registers.held) (holding c.registers.marks c.args.word c.in-Some.taken.left) c.registers.waiting early (c.registers.invariant.keeps q.0 q.1 q.2) t in
+    let t = c.in-Some.ensures.some c.args.marks.now c.requires.word in
+    let w = c.registers.invariant.keeps q.0 q.1 (subst (λ l. KeepsOn (c.args.first * 64) c.args.registers.now c.args.values.now (c.args.word * 64) q.0 q.1 (placed (length c.args.values.now) c.args.registers.now c.args.state.now) c.args.marks.now l) (sym (joins c.args.marks.now c.args.waiting.now c.join.new.self c.args.word c.args.first c.get-held.result c.get-held.ensures c.join.ensures))
+    (keeps_joined c.args.first c.args.registers.now c.args.values.now (c.args.word * 64) c.args.word q.0 q.1 (placed (length c.args.values.now) c.args.registers.now c.args.state.now) c.args.marks.now c.args.waiting.now c.requires.after q.2)) in
+    let f = found (c.args.first * 64) c.args.registers.now c.args.values.now c.registers.place c.args.word c.in-Some.taken.number q.0 q.1 (placed (length c.args.values.now) c.args.registers.now c.registers.state) (holding c.args.marks.now c.args.word c.registers.held) (holding c.args.marks.now c.args.word c.in-Some.taken.left) c.join.new.self early w t in
     let k = c.in-Some.taken.number - c.args.first * 64 in
     let r = get_or c.args.registers.now k none in
     let here : slice_get c.args.registers.now k ≡ Some r = get_at c.args.registers.now k none f.1 in
     let long = c.registers.invariant.state ∙ c.requires.states in
     let known : r.signal.0 < length (placed (length c.args.values.now) c.args.registers.now c.registers.state) = (let a = c.requires.within k r here in let b = placed_long (length c.args.values.now) c.args.registers.now c.registers.state in omega (arith, a, b)) in
-    let taken = subst (λ i. HasTaken (holding c.registers.marks c.args.word c.registers.held) (holding c.registers.marks c.args.word c.in-Some.taken.left) c.args.word i) (sym f.2) t in
+    let taken = subst (λ i. HasTaken (holding c.args.marks.now c.args.word c.registers.held) (holding c.args.marks.now c.args.word c.in-Some.taken.left) c.args.word i) (sym f.2) t in
+    let waits : marked c.join.new.self k ≡ 1 = c.registers.invariant.wait k (let a = t.within in let b = f.2 in omega (arith, a, b)) taken.was in
     record {
-      room = c.registers.invariant.room;
+      from = (let a = t.within in omega (arith, a));
       state = (let a = c.registers.invariant.state in let b = c.keep.auto.state in omega (arith, a, b));
-      waiting = c.keep.ensures.waits.long ∙ c.registers.invariant.waiting;
+      wait = left (holding c.args.marks.now c.args.word c.registers.held) (holding c.args.marks.now c.args.word c.in-Some.taken.left) c.join.new.self (c.args.first * 64) c.args.word c.in-Some.taken.number t c.registers.invariant.wait;
       keeps = λ start was w.
-          let before = c.registers.invariant.keeps start was w in
-          let after = keeps_step (c.args.first * 64) c.args.registers.now c.args.values.now (c.args.word * 64 + c.registers._n) c.args.word k r start was (placed (length c.args.values.now) c.args.registers.now c.registers.state) (placed (length c.args.values.now) c.args.registers.now c.keep.new.state) (holding c.registers.marks c.args.word c.registers.held) (holding c.registers.marks c.args.word c.in-Some.taken.left) c.registers.waiting c.keep.new.waiting before early (omega arith) taken here known (next_once c.args.registers.now c.requires.once) (ap (placed (length c.args.values.now) c.args.registers.now) (c.keep.ensures.state r here) ∙ placed_set (length c.args.values.now) c.args.registers.now c.registers.state k r (slice_index c.args.values.now r.next.0) c.requires.once long here) c.keep.ensures.waits in
-          let late = taken_after (holding c.registers.marks c.args.word c.registers.held) (holding c.registers.marks c.args.word c.in-Some.taken.left) (c.args.first * 64) (c.args.word * 64 + c.registers._n) c.args.word c.in-Some.taken.number before.below early (omega arith) t in
-          keeps_to (c.args.first * 64) c.args.registers.now c.args.values.now (c.args.first * 64 + k + 1) (c.args.word * 64 + (c.registers._n + 1)) start was (placed (length c.args.values.now) c.args.registers.now c.keep.new.state) (holding c.registers.marks c.args.word c.in-Some.taken.left) c.keep.new.waiting after
-          (λ j z l. after.below j z (let e = f.2 in omega (arith, late, l, e)));
+          subst (λ i. KeepsOn (c.args.first * 64) c.args.registers.now c.args.values.now (i + 1) start was (placed (length c.args.values.now) c.args.registers.now c.keep.new.state) (holding c.args.marks.now c.args.word c.in-Some.taken.left) c.join.new.self) f.2
+          (keeps_step (c.args.first * 64) c.args.registers.now c.args.values.now c.registers.place c.args.word k r start was (placed (length c.args.values.now) c.args.registers.now c.registers.state) (placed (length c.args.values.now) c.args.registers.now c.keep.new.state) (holding c.args.marks.now c.args.word c.registers.held) (holding c.args.marks.now c.args.word c.in-Some.taken.left) c.join.new.self (c.registers.invariant.keeps start was w) early c.registers.invariant.from taken here known (next_once c.args.registers.now c.requires.once) (ap (placed (length c.args.values.now) c.args.registers.now) (c.keep.ensures r here) ∙ placed_set (length c.args.values.now) c.args.registers.now c.registers.state k r (slice_index c.args.values.now r.next.0) c.requires.once long here) waits);
     }
-
-pub registers-init : goal.registers-init
-registers-init c = record {
-  state = refl;
-  waiting = refl;
-  room = refl;
-  keeps = λ start was w.
-      subst (λ h. KeepsOn (c.args.first * 64) c.args.registers.now c.args.values.now (c.args.word * 64 + 0) start was (placed (length c.args.values.now) c.args.registers.now c.args.state.now) (holding c.args.marks.now c.args.word h) c.args.waiting.now) (sym c.get-held.ensures)
-      (subst (λ l. KeepsOn (c.args.first * 64) c.args.registers.now c.args.values.now (c.args.word * 64 + 0) start was (placed (length c.args.values.now) c.args.registers.now c.args.state.now) l c.args.waiting.now) (sym (holding_all c.args.marks.now c.args.word))
-      (subst (λ k. KeepsOn (c.args.first * 64) c.args.registers.now c.args.values.now k start was (placed (length c.args.values.now) c.args.registers.now c.args.state.now) c.args.marks.now c.args.waiting.now) (let z : c.args.word * 64 ≡ c.args.word * 64 + 0 = omega arith in z) w));
-}
-
-pub returns-in-None-clause-long : goal.returns-in-None-clause-long
-returns-in-None-clause-long c = ap length c.put.ensures ∙ holding_long c.registers.marks c.args.word 0 ∙ c.registers.invariant.room
-
-pub returns-in-None-clause-keeps : goal.returns-in-None-clause-keeps
-returns-in-None-clause-keeps c = λ start was w.
-    subst (λ l. KeepsOn (c.args.first * 64) c.args.registers.now c.args.values.now ((c.args.word + 1) * 64) start was (placed (length c.args.values.now) c.args.registers.now c.registers.state) l c.registers.waiting) (sym c.put.ensures)
-    (keeps_none (c.args.first * 64) c.args.registers.now c.args.values.now (c.args.word * 64 + c.registers._n) c.args.word start was (placed (length c.args.values.now) c.args.registers.now c.registers.state) (holding c.registers.marks c.args.word 0) c.registers.waiting
-    (subst (λ h. KeepsOn (c.args.first * 64) c.args.registers.now c.args.values.now (c.args.word * 64 + c.registers._n) start was (placed (length c.args.values.now) c.args.registers.now c.registers.state) (holding c.registers.marks c.args.word h) c.registers.waiting) c.in-None.ensures.none (c.registers.invariant.keeps start was w))
-    (omega arith) (no_marks c.registers.marks c.args.word (inside c.args.word c.args.marks.now c.registers.marks c.registers.invariant.room c.requires.word)))
-
-pub returns-clause-long : goal.returns-clause-long
-returns-clause-long c = ap length c.put-2.ensures ∙ holding_long c.registers.marks c.args.word c.registers.held ∙ c.registers.invariant.room
 
 pub returns-clause-keeps : goal.returns-clause-keeps
 returns-clause-keeps c = λ start was w.
-    subst (λ l. KeepsOn (c.args.first * 64) c.args.registers.now c.args.values.now ((c.args.word + 1) * 64) start was (placed (length c.args.values.now) c.args.registers.now c.registers.state) l c.registers.waiting) (sym c.put-2.ensures)
-    (subst (λ k. KeepsOn (c.args.first * 64) c.args.registers.now c.args.values.now k start was (placed (length c.args.values.now) c.args.registers.now c.registers.state) (holding c.registers.marks c.args.word c.registers.held) c.registers.waiting)
-    (let a = c.registers-test.false in let b = c.registers.auto._n-end in omega (arith, a, b))
-    (c.registers.invariant.keeps start was w))
+    subst (λ l. KeepsOn (c.args.first * 64) c.args.registers.now c.args.values.now ((c.args.word + 1) * 64) start was (placed (length c.args.values.now) c.args.registers.now c.registers.state) l c.join.new.self) (sym c.put.ensures)
+    (keeps_none (c.args.first * 64) c.args.registers.now c.args.values.now c.registers.place c.args.word start was (placed (length c.args.values.now) c.args.registers.now c.registers.state) (holding c.args.marks.now c.args.word 0) c.join.new.self
+    (subst (λ h. KeepsOn (c.args.first * 64) c.args.registers.now c.args.values.now c.registers.place start was (placed (length c.args.values.now) c.args.registers.now c.registers.state) (holding c.args.marks.now c.args.word h) c.join.new.self) c.in_default.ensures.none
+    (c.registers.invariant.keeps start was (subst (λ l. KeepsOn (c.args.first * 64) c.args.registers.now c.args.values.now (c.args.word * 64) start was (placed (length c.args.values.now) c.args.registers.now c.args.state.now) c.args.marks.now l) (sym (joins c.args.marks.now c.args.waiting.now c.join.new.self c.args.word c.args.first c.get-held.result c.get-held.ensures c.join.ensures))
+    (keeps_joined c.args.first c.args.registers.now c.args.values.now (c.args.word * 64) c.args.word start was (placed (length c.args.values.now) c.args.registers.now c.args.state.now) c.args.marks.now c.args.waiting.now c.requires.after w))))
+    c.registers.invariant.from (no_marks c.args.marks.now c.args.word c.requires.word))

@@ -1,4 +1,4 @@
-use Rattle.std.proofs.Common.{◌≡◌, ◌+◌, ◌*◌, ◌<◌, ℕ, List, length, get_or, set, slice_get, slice_index, Some, refl, sym, ap, subst, ◌∙◌, arith}
+use Rattle.std.proofs.Common.{◌≡◌, ◌+◌, ◌*◌, ◌<◌, ◌≤◌, ℕ, List, length, get_or, set, slice_get, slice_index, Some, refl, sym, ap, subst, ◌∙◌, arith}
 use Rattle.safl_sim.specs.declared.plan.Plan.{Plan}
 use Rattle.safl_sim.specs.declared.step.Group.{Group}
 use Rattle.safl_sim.specs.declared.step.Register.{Register}
@@ -9,12 +9,9 @@ use Rattle.safl_sim.specs.Writes.{Shows}
 use Rattle.safl_sim.proofs.Written.{get_read, set_length}
 use Rattle.safl_sim.proofs.MarksByOne.{taken_after}
 use Rattle.safl_sim.proofs.Nearing.{holding_all, holding_long, no_marks}
-use Rattle.safl_sim.proofs.Registers.{shows_to, shows_none, shows_step}
+use Rattle.safl_sim.proofs.Registers.{shows_none, shows_step}
 use Rattle.safl_sim.proofs.Updates.{goes_step, lists_same}
 use Rattle.safl_sim.proofs.phases.show_word.Goals as goal
-
-inside : (word : ℕ) (waiting waiting' : List ℕ) → length waiting' ≡ length waiting → word < length waiting → word < length waiting'
-inside word waiting waiting' e h = omega (arith, e, h)
 
 -- the register that is taken
 found : (regs : List Register) (now : List ℕ) (place word i : ℕ) (start values waiting waiting' : List ℕ) → Shows regs now place start values waiting → HasTaken waiting waiting' word i → i < length regs
@@ -27,14 +24,14 @@ group p i r g h at e = p.grouped.each i r g at (get_read p.groups.items i g (let
 pub index-requires : goal.index-requires
 index-requires c =
     let r = c.requires.shows in
-    let a = found c.args.plan.now.registers.items r.0 _ c.args.word c.in-Some.taken.number r.1 c.registers.values (holding c.registers.waiting c.args.word c.registers.held) (holding c.registers.waiting c.args.word c.in-Some.taken.left) (c.registers.invariant.shows r.0 r.1 r.2 r.3) (c.in-Some.ensures.some c.registers.waiting (inside c.args.word c.args.waiting.now c.registers.waiting c.registers.invariant.room c.requires.word)) in
+    let a = found c.args.plan.now.registers.items r.0 _ c.args.word c.in-Some.taken.number r.1 c.registers.values (holding c.args.waiting.now c.args.word c.registers.held) (holding c.args.waiting.now c.args.word c.in-Some.taken.left) (c.registers.invariant.shows r.0 r.1 r.2 r.3) (c.in-Some.ensures.some c.args.waiting.now c.requires.word) in
     let b = c.args.plan.now.registers.ok.0 in
     omega (arith, a, b)
 
 pub index-requires-in-Some : goal.index-requires-in-Some
 index-requires-in-Some c =
     let r = c.requires.shows in
-    let a = found c.args.plan.now.registers.items r.0 _ c.args.word c.in-Some.taken.number r.1 c.registers.values (holding c.registers.waiting c.args.word c.registers.held) (holding c.registers.waiting c.args.word c.in-Some.taken.left) (c.registers.invariant.shows r.0 r.1 r.2 r.3) (c.in-Some.ensures.some c.registers.waiting (inside c.args.word c.args.waiting.now c.registers.waiting c.registers.invariant.room c.requires.word)) in
+    let a = found c.args.plan.now.registers.items r.0 _ c.args.word c.in-Some.taken.number r.1 c.registers.values (holding c.args.waiting.now c.args.word c.registers.held) (holding c.args.waiting.now c.args.word c.in-Some.taken.left) (c.registers.invariant.shows r.0 r.1 r.2 r.3) (c.in-Some.ensures.some c.args.waiting.now c.requires.word) in
     let b = c.args.plan.now.groups.ok.0 in
     let d = c.args.plan.now.grouped.long in
     omega (arith, a, b, d)
@@ -42,7 +39,7 @@ index-requires-in-Some c =
 pub bounds-state-i : goal.bounds-state-i
 bounds-state-i c =
     let r = c.requires.shows in
-    let a = found c.args.plan.now.registers.items r.0 _ c.args.word c.in-Some.taken.number r.1 c.registers.values (holding c.registers.waiting c.args.word c.registers.held) (holding c.registers.waiting c.args.word c.in-Some.taken.left) (c.registers.invariant.shows r.0 r.1 r.2 r.3) (c.in-Some.ensures.some c.registers.waiting (inside c.args.word c.args.waiting.now c.registers.waiting c.registers.invariant.room c.requires.word)) in
+    let a = found c.args.plan.now.registers.items r.0 _ c.args.word c.in-Some.taken.number r.1 c.registers.values (holding c.args.waiting.now c.args.word c.registers.held) (holding c.args.waiting.now c.args.word c.in-Some.taken.left) (c.registers.invariant.shows r.0 r.1 r.2 r.3) (c.in-Some.ensures.some c.args.waiting.now c.requires.word) in
     let d = r.2.long in
     omega (arith, a, d)
 
@@ -54,16 +51,28 @@ show-requires-clause-group c =
     let r = c.requires.shows in
     let p = c.args.plan.now in
     let i = c.in-Some.taken.number in
-    let a = found c.args.plan.now.registers.items r.0 _ c.args.word c.in-Some.taken.number r.1 c.registers.values (holding c.registers.waiting c.args.word c.registers.held) (holding c.registers.waiting c.args.word c.in-Some.taken.left) (c.registers.invariant.shows r.0 r.1 r.2 r.3) (c.in-Some.ensures.some c.registers.waiting (inside c.args.word c.args.waiting.now c.registers.waiting c.registers.invariant.room c.requires.word)) in
+    let a = found c.args.plan.now.registers.items r.0 _ c.args.word c.in-Some.taken.number r.1 c.registers.values (holding c.args.waiting.now c.args.word c.registers.held) (holding c.args.waiting.now c.args.word c.in-Some.taken.left) (c.registers.invariant.shows r.0 r.1 r.2 r.3) (c.in-Some.ensures.some c.args.waiting.now c.requires.word) in
     group p i c.index.result.now c.index-in-Some.result.now a (get_read p.registers.items i c.index.result.now a c.index.ensures) c.index-in-Some.ensures
 
 pub show-requires-clause-within : goal.show-requires-clause-within
 show-requires-clause-within c =
     let r = c.requires.shows in
     let i = c.in-Some.taken.number in
-    let f = found c.args.plan.now.registers.items r.0 _ c.args.word c.in-Some.taken.number r.1 c.registers.values (holding c.registers.waiting c.args.word c.registers.held) (holding c.registers.waiting c.args.word c.in-Some.taken.left) (c.registers.invariant.shows r.0 r.1 r.2 r.3) (c.in-Some.ensures.some c.registers.waiting (inside c.args.word c.args.waiting.now c.registers.waiting c.registers.invariant.room c.requires.word)) in
+    let f = found c.args.plan.now.registers.items r.0 _ c.args.word c.in-Some.taken.number r.1 c.registers.values (holding c.args.waiting.now c.args.word c.registers.held) (holding c.args.waiting.now c.args.word c.in-Some.taken.left) (c.registers.invariant.shows r.0 r.1 r.2 r.3) (c.in-Some.ensures.some c.args.waiting.now c.requires.word) in
     let a = c.requires.within i c.index.result.now (get_read c.args.plan.now.registers.items i c.index.result.now f c.index.ensures) in
     let b = c.registers.invariant.wide in
+    omega (arith, a, b)
+
+-- a turn leads past the register that is taken
+past : (regs : List Register) (now : List ℕ) (place word i : ℕ) (start values waiting waiting' : List ℕ) → word * 64 ≤ place → Shows regs now place start values waiting → HasTaken waiting waiting' word i → place ≤ i
+past regs now place word i start values waiting waiting' from w t = taken_after waiting waiting' 0 place word i (λ k z h. w.below k h) (omega arith) from t
+
+pub registers-smaller : goal.registers-smaller
+registers-smaller c =
+    let r = c.requires.shows in
+    let t = c.in-Some.ensures.some c.args.waiting.now c.requires.word in
+    let a = past c.args.plan.now.registers.items r.0 _ c.args.word c.in-Some.taken.number r.1 c.registers.values (holding c.args.waiting.now c.args.word c.registers.held) (holding c.args.waiting.now c.args.word c.in-Some.taken.left) c.registers.invariant.from (c.registers.invariant.shows r.0 r.1 r.2 r.3) t in
+    let b = t.within in
     omega (arith, a, b)
 
 pub registers-preserved : goal.registers-preserved
@@ -71,57 +80,41 @@ registers-preserved c =
     let r = c.requires.shows in
     let p = c.args.plan.now in
     let i = c.in-Some.taken.number in
-    let f = found c.args.plan.now.registers.items r.0 _ c.args.word c.in-Some.taken.number r.1 c.registers.values (holding c.registers.waiting c.args.word c.registers.held) (holding c.registers.waiting c.args.word c.in-Some.taken.left) (c.registers.invariant.shows r.0 r.1 r.2 r.3) (c.in-Some.ensures.some c.registers.waiting (inside c.args.word c.args.waiting.now c.registers.waiting c.registers.invariant.room c.requires.word)) in
+    let t = c.in-Some.ensures.some c.args.waiting.now c.requires.word in
+    let f = found c.args.plan.now.registers.items r.0 _ c.args.word c.in-Some.taken.number r.1 c.registers.values (holding c.args.waiting.now c.args.word c.registers.held) (holding c.args.waiting.now c.args.word c.in-Some.taken.left) (c.registers.invariant.shows r.0 r.1 r.2 r.3) t in
     let own = c.index.result.now in
     let at = get_read p.registers.items i own f c.index.ensures in
     let known : own.signal.0 < length c.registers.values = (let a = c.requires.within i own at in let b = c.registers.invariant.wide in omega (arith, a, b)) in
     let x = slice_index c.args.state.now i in
     let told = c.show.ensures in
     record {
-      room = c.registers.invariant.room;
+      from = (let a = t.within in omega (arith, a));
       wide = (let a = c.registers.invariant.wide in let b = ap length told.is in let d = set_length c.registers.values own.signal.0 x in omega (arith, a, b, d));
       long = told.long ∙ c.registers.invariant.long;
-      shows = λ now start are w.
-          let before = c.registers.invariant.shows now start are w in
-          let t = (c.in-Some.ensures.some c.registers.waiting (inside c.args.word c.args.waiting.now c.registers.waiting c.registers.invariant.room c.requires.word)) in
-          let after = shows_step p.registers.items now (c.args.word * 64 + c.registers._n) c.args.word i own start c.registers.values c.show.new.values (holding c.registers.waiting c.args.word c.registers.held) (holding c.registers.waiting c.args.word c.in-Some.taken.left) before (omega arith) t at known (told.is ∙ ap (set c.registers.values own.signal.0) (sym (are.each i own at))) in
-          let late = taken_after (holding c.registers.waiting c.args.word c.registers.held) (holding c.registers.waiting c.args.word c.in-Some.taken.left) 0 (c.args.word * 64 + c.registers._n) c.args.word i (λ k z h. before.below k h) (omega arith) (omega arith) t in
-          shows_to p.registers.items now (i + 1) (c.args.word * 64 + (c.registers._n + 1)) start c.show.new.values (holding c.registers.waiting c.args.word c.in-Some.taken.left) after (λ k l. after.below k (omega (arith, late, l)));
+      shows = λ now start are w. shows_step p.registers.items now c.registers.place c.args.word i own start c.registers.values c.show.new.values (holding c.args.waiting.now c.args.word c.registers.held) (holding c.args.waiting.now c.args.word c.in-Some.taken.left) (c.registers.invariant.shows now start are w) c.registers.invariant.from t at known (told.is ∙ ap (set c.registers.values own.signal.0) (sym (are.each i own at)));
       goes = λ n ws now away are. goes_step n ws p.steps.items p.registers.items now p.starts.items p.readers.items own.signal.0 _ c.args.values.now c.registers.values c.show.new.values c.args.marks.now c.registers.marks c.show.new.marks (c.registers.invariant.goes n ws now away are) (away i own at) known (λ state s e. state own.signal.0 s e)
           (subst (λ y. HasGiven p.steps.items p.starts.items p.readers.items own.signal.0 y c.registers.values c.show.new.values c.registers.marks c.show.new.marks) (sym (are.each i own at)) told);
     }
 
 pub registers-init : goal.registers-init
 registers-init c = record {
+  from = omega arith;
   wide = refl;
   long = refl;
-  room = refl;
   shows = λ now start at w.
       let p = c.args.plan.now in
-      subst (λ h. Shows p.registers.items now (c.args.word * 64 + 0) start c.args.values.now (holding c.args.waiting.now c.args.word h)) (sym c.get-held.ensures)
-      (subst (λ l. Shows p.registers.items now (c.args.word * 64 + 0) start c.args.values.now l) (sym (holding_all c.args.waiting.now c.args.word))
-      (subst (λ k. Shows p.registers.items now k start c.args.values.now c.args.waiting.now) (let z : c.args.word * 64 ≡ c.args.word * 64 + 0 = omega arith in z) w));
+      subst (λ h. Shows p.registers.items now (c.args.word * 64) start c.args.values.now (holding c.args.waiting.now c.args.word h)) (sym c.get-held.ensures)
+      (subst (λ l. Shows p.registers.items now (c.args.word * 64) start c.args.values.now l) (sym (holding_all c.args.waiting.now c.args.word)) w);
   goes = λ n ws now away at r are state fits h. (fits, h);
 }
 
-pub returns-in-None-clause-room : goal.returns-in-None-clause-room
-returns-in-None-clause-room c = ap length c.put.ensures ∙ holding_long c.registers.waiting c.args.word 0 ∙ c.registers.invariant.room
-
-pub returns-in-None-clause-shows : goal.returns-in-None-clause-shows
-returns-in-None-clause-shows c = λ now start at w.
-    let p = c.args.plan.now in
-    subst (λ l. Shows p.registers.items now ((c.args.word + 1) * 64) start c.registers.values l) (sym c.put.ensures)
-    (shows_none p.registers.items now (c.args.word * 64 + c.registers._n) c.args.word start c.registers.values (holding c.registers.waiting c.args.word 0)
-    (subst (λ h. Shows p.registers.items now (c.args.word * 64 + c.registers._n) start c.registers.values (holding c.registers.waiting c.args.word h)) c.in-None.ensures.none (c.registers.invariant.shows now start at w))
-    (omega arith) (no_marks c.registers.waiting c.args.word (inside c.args.word c.args.waiting.now c.registers.waiting c.registers.invariant.room c.requires.word)))
-
 pub returns-clause-room : goal.returns-clause-room
-returns-clause-room c = ap length c.put-2.ensures ∙ holding_long c.registers.waiting c.args.word c.registers.held ∙ c.registers.invariant.room
+returns-clause-room c = ap length c.put.ensures ∙ holding_long c.args.waiting.now c.args.word 0
 
 pub returns-clause-shows : goal.returns-clause-shows
 returns-clause-shows c = λ now start at w.
     let p = c.args.plan.now in
-    subst (λ l. Shows p.registers.items now ((c.args.word + 1) * 64) start c.registers.values l) (sym c.put-2.ensures)
-    (subst (λ k. Shows p.registers.items now k start c.registers.values (holding c.registers.waiting c.args.word c.registers.held))
-    (let a = c.registers-test.false in let b = c.registers.auto._n-end in omega (arith, a, b))
-    (c.registers.invariant.shows now start at w))
+    subst (λ l. Shows p.registers.items now ((c.args.word + 1) * 64) start c.registers.values l) (sym c.put.ensures)
+    (shows_none p.registers.items now c.registers.place c.args.word start c.registers.values (holding c.args.waiting.now c.args.word 0)
+    (subst (λ h. Shows p.registers.items now c.registers.place start c.registers.values (holding c.args.waiting.now c.args.word h)) c.in_default.ensures.none (c.registers.invariant.shows now start at w))
+    c.registers.invariant.from (no_marks c.args.waiting.now c.args.word c.requires.word))

@@ -1,4 +1,4 @@
-use Rattle.std.proofs.Common.{◌≡◌, ℕ, ◌+◌, ◌*◌, List, length}
+use Rattle.std.proofs.Common.{◌≡◌, ℕ, ◌+◌, ◌-◌, ◌*◌, ◌≤◌, List, length}
 use Rattle.safl_net.specs.Netlist.{Netlist}
 use Rattle.safl_sim.specs.Marks.{holding}
 use Rattle.safl_sim.specs.Readers.{RegistersAway}
@@ -9,9 +9,12 @@ use Rattle.safl_sim.proofs.phases.show_word.Given as goal
 
 abbrev pub invariant-registers : goal.invariant-registers
 invariant-registers l = record {
+  from : l.word * 64 ≤ l.place;
   wide : length l.values ≡ length l.initial.values;
-  room : length l.waiting ≡ length l.initial.waiting;
   long : length l.marks ≡ length l.initial.marks;
-  shows : (now start : List ℕ) → AreAt l.plan.registers.items l.state now → Shows l.plan.registers.items now (l.word * 64) start l.initial.values l.initial.waiting → Shows l.plan.registers.items now (l.word * 64 + l._n) start l.values (holding l.waiting l.word l.held);
+  shows : (now start : List ℕ) → AreAt l.plan.registers.items l.state now → Shows l.plan.registers.items now (l.word * 64) start l.initial.values l.waiting → Shows l.plan.registers.items now l.place start l.values (holding l.waiting l.word l.held);
   goes : (n : Netlist) (ws now : List ℕ) → RegistersAway l.plan.registers.items ws → AreAt l.plan.registers.items l.state now → Goes n ws l.plan.steps.items l.plan.registers.items now l.plan.starts.items l.plan.readers.items l.initial.values l.values l.initial.marks l.marks;
 }
+
+abbrev pub decreases-registers : goal.decreases-registers
+decreases-registers l = (l.word + 1) * 64 - l.place
