@@ -4,6 +4,7 @@ use Rattle.safl_word.specs.Words.{Word}
 use Rattle.safl_net.specs.Netlist.{Netlist}
 use Rattle.safl_net.specs.Valuations.{Valuation, Fits, Holds, next_state}
 use Rattle.safl_net.proofs.Naming.{pushed}
+use Rattle.safl_sim.specs.Places.{HasWords}
 use Rattle.safl_sim.specs.Simulation.{Simulation, Ticks}
 use Rattle.safl_sim.specs.Ticks.{IsOnly, Ticked, state_after, words_of, IsOff}
 
@@ -69,3 +70,8 @@ module _ (n : Netlist) (state : ℕ → ℕ) (first later words : List Word) (si
   tick_off small one =
       off_more n state (slice_index old.state) (slice_index new.state) first later signal count new.values off tick_only (not_one (slice_index new.values signal) small one)
       (λ s. ticks.state s ∙ ap (λ m. next_state m new.values s) net)
+
+-- from cycle 1 on the inputs have the later words
+pub has_later : (first later : List Word) (c : ℕ) (old new : Simulation) → 0 < c → Ticks old new (words_of c first later) → HasWords new.net new.values later
+has_later first later zero old new h t = absurd (omega (arith, h))
+has_later first later (suc c) old new h t = subst (λ n. HasWords n new.values later) (sym t.net) t.inputs

@@ -4,7 +4,8 @@ ghost use Rattle.std.specs.Prelude.{◌≡◌, ◌↔◌, ◌<◌, Some, IsSome,
 ghost use Rattle.safl_net.specs.Netlist.{width_of, output_place};
 ghost use Rattle.safl_net.specs.Rules.{IsNetlist};
 ghost use Rattle.safl_net.specs.Whole.{IsWhole};
-ghost use Rattle.safl_sim.specs.Places.{AreInputs, resets};
+ghost use Rattle.safl_sim.specs.Places.{AreInputs, HasWords, resets};
+ghost use Rattle.safl_sim.specs.Simulation.{Ticks};
 ghost use Rattle.safl_sim.specs.Arguments.{AreArguments};
 ghost use Rattle.safl_sim.specs.Outcomes.{IsOutcome};
 ghost use Rattle.safl_sim.specs.Ticks.{IsWatched, words_of};
@@ -79,7 +80,7 @@ fn watch(
     ensures net { sim.new.net ≡ sim.old.net }
 {
     'cycles: for cycle in 0..limit {
-        sim.tick(words_of(cycle, first, later));
+        tick(sim, cycle, first, later);
         if is_on(sim, signal) {
             return Some(Done {
                 cycle,
@@ -90,11 +91,18 @@ fn watch(
     None
 }
 
-// The words of a cycle.
-fn words_of<'a>(cycle: u64, first: &'a [Word], later: &'a [Word]) -> &'a [Word]
-    ensures { result.now ≡ words_of cycle first.now later.now }
+// A tick with the words of a cycle. From cycle 2 on the inputs have these already.
+fn tick(sim: &mut Sim, cycle: u64, first: &[Word], later: &[Word])
+    requires first { AreInputs sim.old.net first.now }
+    requires later { AreInputs sim.old.net later.now }
+    requires given { 1 < cycle → HasWords sim.old.net sim.old.values later.now }
+    ensures { Ticks sim.old sim.new (words_of cycle first.now later.now) }
 {
-    if cycle == 0 { first } else { later }
+    match cycle {
+        0 => sim.tick(first),
+        1 => sim.tick(later),
+        _ => sim.tick_again(),
+    }
 }
 
 // Whether a signal of one bit is 1 in the last cycle.

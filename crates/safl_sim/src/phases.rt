@@ -7,7 +7,8 @@ ghost use Rattle.safl_sim.specs.declared.step.Group.{Group};
 ghost use Rattle.safl_sim.specs.declared.step.Near.{Near};
 ghost use Rattle.safl_sim.specs.declared.step.Register.{Register};
 ghost use Rattle.safl_order.specs.Order.{Order};
-ghost use Rattle.safl_sim.specs.Places.{AreInputs};
+ghost use Rattle.safl_word.specs.Words.{Word};
+ghost use Rattle.safl_sim.specs.Places.{AreInputs, HasWords};
 ghost use Rattle.safl_sim.specs.Readers.{Lists, HasMarked, HasGiven, RegistersAway};
 ghost use Rattle.safl_sim.specs.Marks.{marked, holding, HasMark, first_register};
 ghost use Rattle.safl_sim.specs.Nears.{NearOf, AreNear, GroupOf};
@@ -423,6 +424,28 @@ pub fn run_steps(values: &mut Numbers, marks: &mut Marks, plan: &Plan, all: bool
     run_marked(values, marks, plan)
 }
 
+/// The rest of a cycle in which the inputs have their words. It evaluates all steps, or those that are marked, and
+/// answers how many were marked.
+pub fn proceed(
+    values: &mut Numbers,
+    state: &mut [Raw],
+    marks: &mut Marks,
+    waiting: &mut Marks,
+    plan: &Plan,
+    all: bool,
+) -> usize
+    requires { (o : Order) × KeepsStates o plan.now marks.old waiting.old state.old values.old }
+    ensures { (o : Order) (words : List Word) → KeepsStates o plan.now marks.old waiting.old state.old values.old → HasWords o.net values.old words
+        → Cycles o plan.now words state.old values.old marks.new waiting.new state.new values.new }
+{
+    let registers = plan.registers.as_slice();
+    show_registers(values, marks, waiting, plan, state);
+    let count = run_steps(values, marks, plan, all);
+    let first = word_count(plan.steps.len());
+    keep_registers(state, marks, waiting, registers, values, first);
+    count
+}
+
 /// A cycle. It evaluates all steps, or those that are marked, and answers how many were marked.
 pub fn cycle(
     values: &mut Numbers,
@@ -437,11 +460,6 @@ pub fn cycle(
     ensures { (o : Order) → KeepsStates o plan.now marks.old waiting.old state.old values.old → AreInputs o.net words.now
         → Cycles o plan.now words.now state.old values.old marks.new waiting.new state.new values.new }
 {
-    let registers = plan.registers.as_slice();
     put_words(values, marks, plan, words);
-    show_registers(values, marks, waiting, plan, state);
-    let count = run_steps(values, marks, plan, all);
-    let first = word_count(plan.steps.len());
-    keep_registers(state, marks, waiting, registers, values, first);
-    count
+    proceed(values, state, marks, waiting, plan, all)
 }

@@ -3,7 +3,7 @@
 use crate::marks::Marks;
 use crate::numbers::Numbers;
 use crate::parts::Parts;
-use crate::phases::cycle;
+use crate::phases::{cycle, proceed};
 use crate::plan::Plan;
 use safl_net::{Net, Sig};
 use safl_order::Ordered;
@@ -40,9 +40,10 @@ impl Model for Sim {
 }
 
 impl Sim {
-    ghost use Rattle.std.specs.Prelude.{◌≡◌, ◌<◌, length, slice_index, IfOk, IfErr};
+    ghost use Rattle.std.specs.Prelude.{◌≡◌, ◌<◌, List, length, slice_index, IfOk, IfErr};
+    ghost use Rattle.safl_word.specs.Words.{Word};
     ghost use Rattle.safl_net.specs.Netlist.{width_of};
-    ghost use Rattle.safl_sim.specs.Places.{AreInputs, resets};
+    ghost use Rattle.safl_sim.specs.Places.{AreInputs, HasWords, resets};
     ghost use Rattle.safl_sim.specs.Simulation.{Ticks};
 
     /// The simulator of a net at reset. The error is lack of memory; no other call takes any.
@@ -93,6 +94,22 @@ impl Sim {
             &mut self.waiting,
             &self.plan,
             inputs,
+            dense,
+        );
+        self.dense_ticks = next_dense_ticks(self.dense_ticks, count, self.plan.steps.len());
+    }
+
+    /// A cycle in which the inputs keep their words.
+    pub fn tick_again(&mut self)
+        ensures { (words : List Word) → HasWords self.old.net self.old.values words → Ticks self.old self.new words }
+    {
+        let dense = self.dense_ticks > 0;
+        let count = proceed(
+            &mut self.values,
+            &mut self.state,
+            &mut self.marks,
+            &mut self.waiting,
+            &self.plan,
             dense,
         );
         self.dense_ticks = next_dense_ticks(self.dense_ticks, count, self.plan.steps.len());

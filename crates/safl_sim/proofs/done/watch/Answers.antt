@@ -1,6 +1,6 @@
-use Rattle.std.proofs.Common.{slice_index, subst, ◌∙◌, arith}
+use Rattle.std.proofs.Common.{slice_index, refl, subst, ◌∙◌, arith}
 use Rattle.safl_sim.specs.Ticks.{IsOff}
-use Rattle.safl_sim.proofs.Going.{tick_off}
+use Rattle.safl_sim.proofs.Going.{tick_off, has_later}
 use Rattle.safl_sim.proofs.done.watch.Goals as goal
 
 pub cycles-preserved : goal.cycles-preserved
@@ -8,8 +8,9 @@ cycles-preserved c =
     record {
       net = c.tick.ensures.net ∙ c.cycles.invariant.net;
       off =
-          tick_off c.args.sim.now.net (slice_index c.args.sim.now.state) c.args.first.now c.args.later.now c.words_of.result.now c.args.signal.0 c.cycles.cycle c.cycles.sim c.tick.new.self
-          c.cycles.invariant.net c.cycles.invariant.off c.words_of.ensures c.tick.ensures c.if-is_on.ensures.off (λ e. let z = c.if-is_on.ensures.on.1 e in cc);
+          tick_off c.args.sim.now.net (slice_index c.args.sim.now.state) c.args.first.now c.args.later.now _ c.args.signal.0 c.cycles.cycle c.cycles.sim c.tick.new.sim
+          c.cycles.invariant.net c.cycles.invariant.off refl c.tick.ensures c.if-is_on.ensures.off (λ e. let z = c.if-is_on.ensures.on.1 e in cc);
+      given = λ h. has_later c.args.first.now c.args.later.now c.cycles.cycle c.cycles.sim c.tick.new.sim (omega (arith, h)) c.tick.ensures;
     }
 
 pub returns-clause-watched : goal.returns-clause-watched
