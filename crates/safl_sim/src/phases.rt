@@ -168,10 +168,7 @@ pub fn show_registers(
 {
     let end = waiting.count();
     let mut w = waiting.next(0, end);
-    'words: for _n in 0..end {
-        if w == end {
-            return;
-        }
+    'words: while w < end {
         show_word(values, marks, waiting, plan, state, w);
         w = waiting.next(w + 1, end);
     }
@@ -255,10 +252,7 @@ pub fn keep_registers(
 {
     let end = marks.count();
     let mut w = marks.next(first, end);
-    'words: for _n in first..end {
-        if w == end {
-            return;
-        }
+    'words: while w < end {
         keep_word(state, marks, waiting, registers, values, first, w);
         w = marks.next(w + 1, end);
     }
@@ -364,10 +358,7 @@ pub fn run_marked(values: &mut Numbers, marks: &mut Marks, plan: &Plan) -> usize
     let mut count = 0;
     let end = word_count(plan.steps.len());
     let mut w = marks.next(0, end);
-    'words: for _n in 0..end {
-        if w == end {
-            return count;
-        }
+    'words: while w < end {
         count += run_word(values, marks, plan, w);
         w = marks.next(w + 1, end);
     }

@@ -34,11 +34,5 @@ words-preserved c = record {
 pub returns-clause-keeps : goal.returns-clause-keeps
 returns-clause-keeps c = λ start was w.
     subst (λ k. KeepsOn (c.args.first * 64) c.args.registers.now c.args.values.now (k * 64) start was (placed (length c.args.values.now) c.args.registers.now c.words.state) c.words.marks c.words.waiting)
-    (let a = c.words-test.false in let b = c.words.auto._n-end in let d = c.words.invariant.marks in let e = c.requires.first in let f = c.words.invariant.least in let g = c.words.invariant.most in omega (arith, a, b, d, e, f, g))
-    (c.words.invariant.keeps start was w)
-
-pub returns-then-w-end-clause-keeps : goal.returns-then-w-end-clause-keeps
-returns-then-w-end-clause-keeps c = λ start was w.
-    subst (λ k. KeepsOn (c.args.first * 64) c.args.registers.now c.args.values.now (k * 64) start was (placed (length c.args.values.now) c.args.registers.now c.words.state) c.words.marks c.words.waiting)
-    (let a = c.if-w-end.true in let b = c.words.invariant.marks in omega (arith, a, b))
+    (let a = c.words-test.false in let d = c.words.invariant.marks in let e = c.requires.first in let f = c.words.invariant.least in let g = c.words.invariant.most in omega (arith, a, d, e, f, g))
     (c.words.invariant.keeps start was w)

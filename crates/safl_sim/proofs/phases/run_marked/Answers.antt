@@ -30,7 +30,6 @@ run_word-count-requires-clause-runs c = let r = c.requires.runs in (r.0, r.1, r.
 
 pub words-init : goal.words-init
 words-init c = record {
-  least = omega arith;
   most = c.next-w.ensures.most;
   count = omega arith;
   long = refl;
@@ -40,7 +39,6 @@ words-init c = record {
 
 pub words-preserved : goal.words-preserved
 words-preserved c = record {
-  least = (let a = c.next-w-in-words.ensures.least in let b = c.words.invariant.least in omega (arith, a, b));
   most = c.next-w-in-words.ensures.most;
   count = (let a = c.run_word-count.ensures.count in let b = c.words.invariant.count in let d = c.next-w-in-words.ensures.least in omega (arith, a, b, d));
   long = c.run_word-count.ensures.long ∙ c.words.invariant.long;
@@ -51,11 +49,5 @@ words-preserved c = record {
 pub returns-clause-runs : goal.returns-clause-runs
 returns-clause-runs c = λ o regs now start w.
     subst (λ k. Runs o c.args.plan.now.steps.items regs now c.args.plan.now.starts.items c.args.plan.now.readers.items start k c.words.values c.words.marks)
-    (let a = c.words-test.false in let b = c.words.auto._n-end in let d = c.word_count-end.ensures in let e = c.words.invariant.least in let f = c.words.invariant.most in omega (arith, a, b, d, e, f))
-    (c.words.invariant.runs o regs now start w)
-
-pub returns-then-w-end-clause-runs : goal.returns-then-w-end-clause-runs
-returns-then-w-end-clause-runs c = λ o regs now start w.
-    subst (λ k. Runs o c.args.plan.now.steps.items regs now c.args.plan.now.starts.items c.args.plan.now.readers.items start k c.words.values c.words.marks)
-    (let a = c.if-w-end.true in let b = c.word_count-end.ensures in omega (arith, a, b))
+    (let a = c.words-test.false in let d = c.word_count-end.ensures in let b = c.words.invariant.most in omega (arith, a, b, d))
     (c.words.invariant.runs o regs now start w)

@@ -5,7 +5,6 @@ use Rattle.safl_sim.proofs.phases.show_registers.Goals as goal
 
 pub words-init : goal.words-init
 words-init c = record {
-  least = omega arith;
   most = c.next-w.ensures.most;
   wide = refl;
   long = refl;
@@ -26,7 +25,6 @@ show_word-requires-clause-shows c = let r = c.requires.waits in (r.0, c.args.val
 
 pub words-preserved : goal.words-preserved
 words-preserved c = record {
-  least = (let a = c.next-w-in-words.ensures.least in let b = c.words.invariant.least in omega (arith, a, b));
   most = c.next-w-in-words.ensures.most;
   wide = (let r = c.requires.waits in (c.show_word.ensures.shows r.0 c.args.values.now r.1 (c.words.invariant.shows r.0 r.1 r.2)).long);
   long = c.show_word.ensures.long ∙ c.words.invariant.long;
@@ -38,16 +36,8 @@ words-preserved c = record {
 
 pub returns-clause-none : goal.returns-clause-none
 returns-clause-none c = let r = c.requires.waits in none_waits c.args.plan.now.registers.items r.0 (c.words.w * 64) c.args.values.now c.words.values c.words.waiting (c.words.invariant.shows r.0 r.1 r.2)
-    (let a = c.words-test.false in let b = r.2.room in let d = c.words.invariant.least in let e = c.words.invariant.most in let f = c.words.auto._n-end in omega (arith, a, b, d, e, f))
+    (let a = c.words-test.false in let b = r.2.room in let d = c.words.invariant.most in omega (arith, a, b, d))
 
 pub returns-clause-shown : goal.returns-clause-shown
 returns-clause-shown c = λ now at r. all_shown c.args.plan.now.registers.items now (c.words.w * 64) c.args.values.now c.words.values c.words.waiting (c.words.invariant.shows now at r)
-    (let a = c.words-test.false in let b = r.room in let d = c.words.invariant.least in let e = c.words.invariant.most in let f = c.words.auto._n-end in omega (arith, a, b, d, e, f))
-
-pub returns-then-w-end-clause-none : goal.returns-then-w-end-clause-none
-returns-then-w-end-clause-none c = let r = c.requires.waits in none_waits c.args.plan.now.registers.items r.0 (c.words.w * 64) c.args.values.now c.words.values c.words.waiting (c.words.invariant.shows r.0 r.1 r.2)
-    (let a = c.if-w-end.true in let b = r.2.room in omega (arith, a, b))
-
-pub returns-then-w-end-clause-shown : goal.returns-then-w-end-clause-shown
-returns-then-w-end-clause-shown c = λ now at r. all_shown c.args.plan.now.registers.items now (c.words.w * 64) c.args.values.now c.words.values c.words.waiting (c.words.invariant.shows now at r)
-    (let a = c.if-w-end.true in let b = r.room in omega (arith, a, b))
+    (let a = c.words-test.false in let b = r.room in let d = c.words.invariant.most in omega (arith, a, b, d))
