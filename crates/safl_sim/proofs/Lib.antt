@@ -1,4 +1,3 @@
-pub mod Joining
 pub mod MarksByOne
 pub mod Actions
 pub mod Written

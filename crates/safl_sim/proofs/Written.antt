@@ -34,11 +34,6 @@ index_other (y ∷ xs) zero x (suc s) n = refl
 index_other (y ∷ xs) (suc t) x zero n = refl
 index_other (y ∷ xs) (suc t) x (suc s) n = index_other xs t x s (λ e. n (ap suc e))
 
-pub index_past : (xs : List ℕ) (i : ℕ) → length xs ≤ i → slice_index xs i ≡ 0
-index_past [] i h = refl
-index_past (x ∷ xs) zero h = absurd (omega (arith, h))
-index_past (x ∷ xs) (suc i) h = index_past xs i (omega (arith, h))
-
 pub set_length : (xs : List ℕ) (t x : ℕ) → length (set xs t x) ≡ length xs
 set_length [] t x = refl
 set_length (y ∷ xs) zero x = refl

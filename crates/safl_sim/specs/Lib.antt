@@ -1,6 +1,5 @@
 pub mod Places
 pub mod Simulation
-pub mod Halves
 pub mod Marks
 pub mod Readers
 pub mod Guards

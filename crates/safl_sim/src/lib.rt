@@ -9,7 +9,6 @@ pub mod inputs;
 pub mod laws;
 mod marks;
 mod near;
-mod numbers;
 mod parts;
 mod phases;
 mod plan;

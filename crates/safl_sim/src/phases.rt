@@ -18,10 +18,10 @@ ghost use Rattle.safl_sim.specs.States.{placed, AreAt, AreOnce};
 ghost use Rattle.safl_sim.specs.Writes.{HasPut, HasShown, Shows, KeepsOn, after_steps, AllReady};
 
 use crate::marks::{Marks, take_held, word_count};
-use crate::numbers::Numbers;
 use crate::plan::Plan;
 use crate::readers::{mark_group, mark_readers};
 use crate::step::{Group, Near, Register, Step, act, act_low};
+use safl_halves::Numbers;
 use safl_net::Sig;
 use safl_word::{Raw, Word};
 

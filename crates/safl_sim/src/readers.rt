@@ -6,9 +6,9 @@ ghost use Rattle.safl_sim.specs.Nears.{NearAt};
 ghost use Rattle.safl_sim.specs.Readers.{IsPart, HasMarked};
 
 use crate::marks::Marks;
-use crate::numbers::Numbers;
 use crate::plan::Plan;
 use crate::step::{Group, Guard};
+use safl_halves::Numbers;
 
 // Of so many readers and more, those that are blind to the place are sought. It is a matter of speed alone.
 const MANY: u32 = 8;

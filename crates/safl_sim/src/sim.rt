@@ -1,10 +1,10 @@
 //! A simulator.
 
 use crate::marks::Marks;
-use crate::numbers::Numbers;
 use crate::parts::Parts;
 use crate::phases::{cycle, proceed};
 use crate::plan::Plan;
+use safl_halves::Numbers;
 use safl_net::{Net, Sig};
 use safl_order::Ordered;
 use safl_word::{Raw, Word};

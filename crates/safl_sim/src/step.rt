@@ -8,10 +8,10 @@ ghost use Rattle.safl_net.specs.Netlist.{Netlist, width_of};
 ghost use Rattle.safl_net.specs.Rules.{IsNetlist, CellFits};
 ghost use Rattle.safl_net.specs.Making.{cell_on};
 ghost use Rattle.safl_net.specs.Stored.{cell_of};
-ghost use Rattle.safl_sim.specs.Halves.{low_half, high_half};
+ghost use Rattle.safl_halves.specs.Halves.{low_half, high_half};
 ghost use Rattle.safl_sim.specs.Steps.{Unary, Binary, plain, plain_number, action_number, PlainReady, Ready, PlainLow, Low, Performs, IsNarrow};
 
-use crate::numbers::{Numbers, from_halves, high_half, low_half};
+use safl_halves::{Numbers, from_halves, high_half, low_half};
 use safl_narrow::{LOW_MAX, greatest, narrow_one, narrow_two};
 use safl_net::{Cell, Net, Op, Sig};
 use safl_word::{Primitive, Raw, Word, apply};

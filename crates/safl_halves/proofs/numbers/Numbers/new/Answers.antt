@@ -1,8 +1,8 @@
 use Rattle.std.proofs.Common.{◌≡◌, ℕ, List, length, map, take, ap, ◌∙◌, arith}
 use Rattle.std.proofs.Math.Seq.{take-length}
-use Rattle.safl_sim.specs.Halves.{low_half, high_half, joined}
-use Rattle.safl_sim.proofs.Joining.{joined_of}
-use Rattle.safl_sim.proofs.numbers.Numbers.new.Goals as goal
+use Rattle.safl_halves.specs.Halves.{low_half, high_half, joined}
+use Rattle.safl_halves.proofs.Joining.{joined_of}
+use Rattle.safl_halves.proofs.numbers.Numbers.new.Goals as goal
 
 pub returns : goal.returns
 returns c =

@@ -1,7 +1,7 @@
 //! Numbers by place, in two halves.
 
 ghost use Rattle.std.specs.Prelude.{◌≡◌, ◌+◌, ◌*◌, ◌^◌, map, IfOk};
-ghost use Rattle.safl_sim.specs.Halves.{low_half, high_half};
+ghost use Rattle.safl_halves.specs.Halves.{low_half, high_half};
 
 use safl_word::Raw;
 use std::alloc::{AllocError, Global};
@@ -20,7 +20,7 @@ pub struct Numbers {
 
 impl Model for Numbers {
     ghost use Rattle.std.specs.Prelude.{◌≡◌, List, ℕ, length};
-    ghost use Rattle.safl_sim.specs.Halves.{joined};
+    ghost use Rattle.safl_halves.specs.Halves.{joined};
 
     ghost Value = { List ℕ };
 

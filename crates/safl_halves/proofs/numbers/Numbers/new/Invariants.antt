@@ -1,6 +1,6 @@
 use Rattle.std.proofs.Common.{◌≡◌, map, take}
-use Rattle.safl_sim.specs.Halves.{low_half, high_half}
-use Rattle.safl_sim.proofs.numbers.Numbers.new.Given as goal
+use Rattle.safl_halves.specs.Halves.{low_half, high_half}
+use Rattle.safl_halves.proofs.numbers.Numbers.new.Given as goal
 
 abbrev pub invariant-numbers : goal.invariant-numbers
 invariant-numbers l = record {

@@ -1,7 +1,7 @@
 use Rattle.std.proofs.Common.{◌≡◌, ◌+◌, ◌*◌, ◌^◌, set, ap, ◌∙◌, arith}
-use Rattle.safl_sim.specs.Halves.{joined}
-use Rattle.safl_sim.proofs.Joining.{places_known, joined_set}
-use Rattle.safl_sim.proofs.numbers.Numbers.set.Goals as goal
+use Rattle.safl_halves.specs.Halves.{joined}
+use Rattle.safl_halves.proofs.Joining.{places_known, joined_set}
+use Rattle.safl_halves.proofs.numbers.Numbers.set.Goals as goal
 
 pub index_mut-requires : goal.index_mut-requires
 index_mut-requires c =

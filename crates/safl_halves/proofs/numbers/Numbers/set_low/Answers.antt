@@ -1,6 +1,6 @@
 use Rattle.std.proofs.Common.{◌<◌, ◌^◌, set, slice_index, sym, ap, subst, ◌∙◌, arith}
-use Rattle.safl_sim.proofs.Joining.{places_known, no_high, joined_set_low}
-use Rattle.safl_sim.proofs.numbers.Numbers.set_low.Goals as goal
+use Rattle.safl_halves.proofs.Joining.{places_known, no_high, joined_set_low}
+use Rattle.safl_halves.proofs.numbers.Numbers.set_low.Goals as goal
 
 pub index_mut-requires : goal.index_mut-requires
 index_mut-requires c =

@@ -1,9 +1,8 @@
 use Rattle.std.proofs.Common.{◌≡◌, ℕ, ◌+◌, ◌*◌, ◌<◌, ◌≤◌, ◌^◌, List, length, slice_index, sym, ap, ◌∙◌, arith}
 use Rattle.std.proofs.lemmas.List.{get_or_read}
-use Rattle.safl_sim.specs.Halves.{joined}
-use Rattle.safl_sim.proofs.Joining.{joined_length, joined_index}
-use Rattle.safl_sim.proofs.Written.{index_past}
-use Rattle.safl_sim.proofs.numbers.Numbers.is_one.Goals as goal
+use Rattle.safl_halves.specs.Halves.{joined}
+use Rattle.safl_halves.proofs.Joining.{index_past, joined_length, joined_index}
+use Rattle.safl_halves.proofs.numbers.Numbers.is_one.Goals as goal
 
 -- a number by its halves
 halves : (ls hs ns : List ℕ) (i : ℕ) → joined ls hs ≡ ns → length ls ≡ length hs → i < length ls → slice_index ns i ≡ slice_index ls i + slice_index hs i * 2 ^ 64

@@ -1,7 +1,7 @@
 use Rattle.std.proofs.Common.{◌+◌, ◌*◌, ◌^◌, slice_index, sym, ap, ◌∙◌, arith}
 use Rattle.std.proofs.lemmas.List.{get_or_read}
-use Rattle.safl_sim.proofs.Joining.{places_known, joined_index}
-use Rattle.safl_sim.proofs.numbers.Numbers.get.Goals as goal
+use Rattle.safl_halves.proofs.Joining.{places_known, joined_index}
+use Rattle.safl_halves.proofs.numbers.Numbers.get.Goals as goal
 
 pub index-requires : goal.index-requires
 index-requires c =

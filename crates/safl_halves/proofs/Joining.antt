@@ -1,6 +1,12 @@
 -- Numbers in two halves.
-use Rattle.std.proofs.Common.{◌≡◌, ℕ, zero, suc, ◌+◌, ◌*◌, ◌/◌, ◌%◌, ◌<◌, ◌^◌, List, [], ◌∷◌, map, length, set, slice_index, refl, ap, ◌∙◌, arith}
-use Rattle.safl_sim.specs.Halves.{low_half, high_half, joined}
+use Rattle.std.proofs.Common.{◌≡◌, ℕ, zero, suc, ◌+◌, ◌*◌, ◌/◌, ◌%◌, ◌<◌, ◌≤◌, ◌^◌, List, [], ◌∷◌, map, length, set, slice_index, refl, ap, ◌∙◌, arith}
+use Rattle.safl_halves.specs.Halves.{low_half, high_half, joined}
+
+-- past the end of a list
+pub index_past : (xs : List ℕ) (i : ℕ) → length xs ≤ i → slice_index xs i ≡ 0
+index_past [] i h = refl
+index_past (x ∷ xs) zero h = absurd (omega (arith, h))
+index_past (x ∷ xs) (suc i) h = index_past xs i (omega (arith, h))
 
 pub joined_length : (ls hs : List ℕ) → length ls ≡ length hs → length (joined ls hs) ≡ length ls
 joined_length [] hs e = refl
