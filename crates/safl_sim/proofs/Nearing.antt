@@ -14,7 +14,7 @@ use Rattle.safl_sim.specs.declared.step.Register.{Register}
 use Rattle.safl_sim.specs.declared.step.Step.{Step}
 use Rattle.safl_sim.specs.Marks.{marked, holding, HasNone, HasTaken}
 use Rattle.safl_sim.specs.Readers.{Reader, HasMarked, HasGiven}
-use Rattle.safl_sim.specs.Nears.{IsNear, NearOf, GroupOf}
+use Rattle.safl_sim.specs.Nears.{IsNear, NearAt, NearOf, AreNear, GroupOf}
 use Rattle.safl_sim.specs.Steps.{AreSteps}
 use Rattle.safl_sim.proofs.Written.{same_or_not, lower_or_not, lower_or_same, index_here, set_length}
 use Rattle.safl_sim.proofs.MarksByOne.{written_same, written_other, none_in, take_has}
@@ -183,7 +183,7 @@ module _ (steps : List Step) (starts readers : List ℕ) (s : Step) (i x : ℕ) 
   })
 
   -- or new: the readers are marked, or their bits are in the mask
-  module _ (g : Near) (marks' : List ℕ) (inside : (i / 64) < length marks) (near : NearOf starts readers i s g) (m : HasMarked steps readers g.first (slice_index starts (s.wire.0 + 1)) s.wire.0 (set values s.wire.0 x) marks marks') where
+  module _ (g : Near) (marks' : List ℕ) (inside : (i / 64) < length marks) (near : NearAt starts readers s.wire.0 (i / 64) g) (m : HasMarked steps readers g.first (slice_index starts (s.wire.0 + 1)) s.wire.0 (set values s.wire.0 x) marks marks') where
     inside' : (i / 64) < length marks'
     inside' = let a = m.long in omega (arith, a, inside)
 
@@ -320,27 +320,18 @@ given_same steps starts readers p x values marks e = record {
 
 -- ---- near readers of each step, and a group for each register
 
+-- one more step
+pub nears_more : (starts readers : List ℕ) (steps : List Step) (i : ℕ) (s : Step) → AreNear starts readers steps → length steps ≡ i → NearOf starts readers i s → AreNear starts readers (steps ++ s ∷ [])
+nears_more starts readers steps i s w long is = record {
+  each = λ k t e. elim (pushed steps s t k e) [
+    | inl q ↦ w.each k t q
+    | inr q ↦ subst (λ y. NearOf starts readers k y) (sym q.1) (subst (λ j. NearOf starts readers j s) (sym (q.0 ∙ long)) is)
+  ];
+}
+
 length_push : {A : Type 0} (xs : List A) (x : A) → length (xs ++ x ∷ []) ≡ length xs + 1
 length_push [] x = omega arith
 length_push (a ∷ xs) x = let e = length_push xs x in omega (arith, e)
-
-pub record NearsTo (starts readers : List ℕ) (steps : List Step) (nears : List Near) (count : ℕ) : Type 0 where
-  pub long : length nears ≡ count
-  pub each : (k : ℕ) (s : Step) (g : Near) → slice_get steps k ≡ Some s → slice_get nears k ≡ Some g → NearOf starts readers k s g
-
-pub nears_more : (starts readers : List ℕ) (steps : List Step) (nears : List Near) (i : ℕ) (s : Step) (g : Near) → NearsTo starts readers steps nears i → slice_get steps i ≡ Some s → NearOf starts readers i s g
-    → NearsTo starts readers steps (nears ++ g ∷ []) (i + 1)
-nears_more starts readers steps nears i s g w at is = record {
-  long = (let a = length_push nears g in let b = w.long in omega (arith, a, b));
-  each = λ k t h e f. elim (pushed nears g h k f) [
-    | inl q ↦ w.each k t h e q
-    | inr q ↦
-        let here : k ≡ i = q.0 ∙ w.long in
-        let same : Some t ≡ Some s = sym e ∙ ap (slice_get steps) here ∙ at in
-        let one : t ≡ s = cc in
-        subst (λ y. NearOf starts readers k t y) (sym q.1) (subst (λ y. NearOf starts readers y t g) (sym here) (subst (λ y. NearOf starts readers i y g) (sym one) is))
-  ];
-}
 
 pub record GroupedTo (starts readers : List ℕ) (registers : List Register) (groups : List Group) (count : ℕ) : Type 0 where
   pub long : length groups ≡ count

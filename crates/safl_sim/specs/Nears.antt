@@ -21,12 +21,11 @@ abbrev pub NearAt : List ℕ → List ℕ → ℕ → ℕ → Near → Type 0
 NearAt starts readers p word near = IsNear readers (slice_index starts p) (slice_index starts (p + 1)) word near
 
 -- those of the wire of step i, and of each step
-abbrev pub NearOf : List ℕ → List ℕ → ℕ → Step → Near → Type 0
-NearOf starts readers i s near = NearAt starts readers s.wire.0 (i / 64) near
+abbrev pub NearOf : List ℕ → List ℕ → ℕ → Step → Type 0
+NearOf starts readers i s = NearAt starts readers s.wire.0 (i / 64) s.near
 
-pub record AreNear (starts readers : List ℕ) (steps : List Step) (nears : List Near) : Type 0 where
-  pub long : length nears ≡ length steps
-  pub each : (i : ℕ) (s : Step) (near : Near) → slice_get steps i ≡ Some s → slice_get nears i ≡ Some near → NearOf starts readers i s near
+pub record AreNear (starts readers : List ℕ) (steps : List Step) : Type 0 where
+  pub each : (i : ℕ) (s : Step) → slice_get steps i ≡ Some s → NearOf starts readers i s
 
 -- those of a register that stand in the word of its group, and a group for each register
 abbrev pub GroupOf : List ℕ → List ℕ → Register → Group → Type 0

@@ -1,35 +1,15 @@
 //! Readers that have their marks in one word: that of the step that writes what they read, or of a register's first reader.
 
 ghost use Rattle.std.specs.Prelude.{◌≡◌, ℕ, ◌+◌, ◌<◌, ◌≤◌, List, length, Some, IfOk, slice_get, slice_index};
-ghost use Rattle.safl_sim.specs.declared.step.Step.{Step};
 ghost use Rattle.safl_sim.specs.declared.step.Register.{Register};
-ghost use Rattle.safl_sim.specs.Nears.{IsNear, AreNear, AreGrouped};
+ghost use Rattle.safl_sim.specs.Nears.{IsNear, AreGrouped};
 ghost use Rattle.safl_sim.specs.Readers.{Lists};
 
-use crate::step::{Group, Near, Register, Step};
+use crate::step::{Group, Near, Register};
 use std::alloc::{AllocError, Global};
 
-/// The near readers of each step.
-pub fn nears_of(
-    alloc: Global,
-    steps: &[Step],
-    starts: &[u32],
-    readers: &[u32],
-) -> Result<Vec<Near>, AllocError>
-    requires lists { (places : ℕ) × (words : ℕ) × Lists starts.now readers.now places words
-        × ((i : ℕ) (s : Step) → slice_get steps.now i ≡ Some s → s.wire.0 < places) }
-    ensures { IfOk result (λ v. AreNear starts.now readers.now steps.now v.items) }
-{
-    let mut nears = Vec::with_capacity(alloc, steps.len())?;
-    'steps: for i in 0..steps.len() {
-        let place = steps[i].wire.0 as usize;
-        nears.push(near_of(readers, starts[place], starts[place + 1], i / 64))?;
-    }
-    Ok(nears)
-}
-
-// Of a part of the readers, those that stand in a word.
-fn near_of(readers: &[u32], from: u32, to: u32, word: usize) -> Near
+/// Of a part of the readers, those that stand in a word.
+pub fn near_of(readers: &[u32], from: u32, to: u32, word: usize) -> Near
     requires ordered { from ≤ to }
     requires within { to ≤ length readers.now }
     ensures { IsNear readers.now from to word result }

@@ -7,7 +7,8 @@ ghost use Rattle.safl_net.specs.Rules.{IsNetlist};
 ghost use Rattle.safl_net.specs.Making.{numbers, kind_at};
 ghost use Rattle.safl_order.specs.Order.{IsWire, IsOrder, operands_of};
 ghost use Rattle.safl_sim.specs.Marks.{marked, first_register};
-ghost use Rattle.safl_sim.specs.Readers.{Inside};
+ghost use Rattle.safl_sim.specs.Nears.{NearAt, AreNear};
+ghost use Rattle.safl_sim.specs.Readers.{Inside, Lists};
 ghost use Rattle.safl_sim.specs.Places.{with_input, inputs_of, resets};
 ghost use Rattle.safl_sim.specs.States.{AreReset};
 ghost use Rattle.safl_sim.specs.Steps.{IsStep, IsReg, AreSteps, AreRegisters};
@@ -15,7 +16,7 @@ ghost use Rattle.safl_sim.specs.Cycles.{state_of, KeepsStates};
 
 use crate::guards::guards_of;
 use crate::marks::{Marks, word_count};
-use crate::near::{groups_of, nears_of};
+use crate::near::{groups_of, near_of};
 use crate::plan::Plan;
 use crate::step::{Register, Step, action_of, is_narrow};
 use crate::table::table_of;
@@ -54,8 +55,7 @@ impl Parts {
         let kept = registers.as_slice();
         // First the table: while it is made, it takes more than what stays of it.
         let table = table_of(alloc, net, ordered.wires(), kept)?;
-        let steps = steps_of(alloc, net, &table.starts, ordered.wires())?;
-        let nears = nears_of(alloc, &steps, &table.starts, &table.readers)?;
+        let steps = steps_of(alloc, net, &table.starts, &table.readers, ordered.wires())?;
         let groups = groups_of(alloc, kept, &table.starts, &table.readers)?;
         let guards = guards_of(alloc, &steps, &table.starts, &table.readers)?;
         let marks = all_marked(alloc, ordered.wires().len(), kept.len())?;
@@ -63,7 +63,6 @@ impl Parts {
         let state = states_of(alloc, net, kept)?;
         let plan = Plan {
             steps,
-            nears,
             inputs: inputs_of(alloc, net)?,
             registers,
             groups,
@@ -102,31 +101,39 @@ fn steps_of(
     alloc: Global,
     net: &Net,
     starts: &[u32],
+    readers: &[u32],
     wires: &[Sig],
 ) -> Result<Vec<Step>, AllocError>
     requires netlist { IsNetlist net.now }
     requires set { AllSet net.now }
     requires wires { (i : ℕ) (s : ℕ) → slice_get (numbers wires.now) i ≡ Some s → IsWire net.now s }
-    ensures { IfOk result (λ v. AreSteps net.now (numbers wires.now) v.items) }
+    requires lists { (words : ℕ) × Lists starts.now readers.now (length net.now.signals) words }
+    ensures steps { IfOk result (λ v. AreSteps net.now (numbers wires.now) v.items) }
+    ensures near { IfOk result (λ v. AreNear starts.now readers.now v.items) }
 {
     let mut steps = Vec::with_capacity(alloc, wires.len())?;
     'wires: for i in 0..wires.len() {
-        steps.push(step_of(net, starts, wires[i]))?;
+        steps.push(step_of(net, starts, readers, wires[i], i / 64))?;
     }
     Ok(steps)
 }
 
-fn step_of(net: &Net, starts: &[u32], wire: Sig) -> Step
+// The step of a wire that has its mark in a word.
+fn step_of(net: &Net, starts: &[u32], readers: &[u32], wire: Sig, word: usize) -> Step
     requires netlist { IsNetlist net.now }
     requires set { AllSet net.now }
     requires wire { IsWire net.now wire.0 }
-    ensures { IsStep net.now wire.0 result }
+    requires lists { (words : ℕ) × Lists starts.now readers.now (length net.now.signals) words }
+    ensures step { IsStep net.now wire.0 result }
+    ensures near { NearAt starts.now readers.now wire.0 word result.near }
 {
+    let place = wire.0 as usize;
     match net.cell(wire) {
         Some(cell) => Step {
             wire,
             narrow: is_narrow(net, wire, cell),
             action: action_of(net, starts, cell),
+            near: near_of(readers, starts[place], starts[place + 1], word),
         },
         None => unreachable!(),
     }

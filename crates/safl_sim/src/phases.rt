@@ -4,14 +4,13 @@ ghost use Rattle.std.specs.Prelude.{◌≡◌, ℕ, ◌+◌, ◌*◌, ◌/◌, �
 ghost use Rattle.safl_net.specs.declared.cell.Sig.{Sig};
 ghost use Rattle.safl_net.specs.Netlist.{Netlist, Signal};
 ghost use Rattle.safl_sim.specs.declared.step.Group.{Group};
-ghost use Rattle.safl_sim.specs.declared.step.Near.{Near};
 ghost use Rattle.safl_sim.specs.declared.step.Register.{Register};
 ghost use Rattle.safl_order.specs.Order.{Order};
 ghost use Rattle.safl_word.specs.Words.{Word};
 ghost use Rattle.safl_sim.specs.Places.{AreInputs, HasWords};
 ghost use Rattle.safl_sim.specs.Readers.{Lists, HasMarked, HasGiven, RegistersAway};
 ghost use Rattle.safl_sim.specs.Marks.{marked, holding, HasMark, first_register};
-ghost use Rattle.safl_sim.specs.Nears.{NearOf, AreNear, GroupOf};
+ghost use Rattle.safl_sim.specs.Nears.{NearOf, GroupOf};
 ghost use Rattle.safl_sim.specs.Steps.{Waits, Goes, Runs, Ready, LowStep, action_number};
 ghost use Rattle.safl_sim.specs.Cycles.{KeepsStates, Cycles};
 ghost use Rattle.safl_sim.specs.States.{placed, AreAt, AreOnce};
@@ -20,7 +19,7 @@ ghost use Rattle.safl_sim.specs.Writes.{HasPut, HasShown, Shows, KeepsOn, after_
 use crate::marks::{Marks, take_held, word_count};
 use crate::plan::Plan;
 use crate::readers::{mark_group, mark_readers};
-use crate::step::{Group, Near, Register, Step, act, act_low};
+use crate::step::{Group, Register, Step, act, act_low};
 use safl_halves::Numbers;
 use safl_net::Sig;
 use safl_word::{Raw, Word};
@@ -296,24 +295,24 @@ pub fn evaluate(
     marks: &mut Marks,
     plan: &Plan,
     step: &Step,
-    near: &Near,
 ) -> u64
     requires lists { Lists plan.now.starts.items plan.now.readers.items (length values.old) (length marks.old) }
     requires within { step.now.wire.0 < length values.old }
     requires ready { Ready values.old step.now.action }
     requires low { LowStep values.old step.now }
-    requires near { (i : ℕ) × NearOf plan.now.starts.items plan.now.readers.items i step.now near.now }
+    requires near { (i : ℕ) × NearOf plan.now.starts.items plan.now.readers.items i step.now }
     ensures long { length marks.new ≡ length marks.old }
-    ensures given { (i held : ℕ) → i / 64 < length marks.old → NearOf plan.now.starts.items plan.now.readers.items i step.now near.now
+    ensures given { (i held : ℕ) → i / 64 < length marks.old → NearOf plan.now.starts.items plan.now.readers.items i step.now
         → HasGiven plan.now.steps.items plan.now.starts.items plan.now.readers.items step.now.wire.0 (action_number (slice_index values.old) step.now.action) values.old values.new
         (holding marks.old (i / 64) held) (holding marks.new (i / 64) (bit_or held result)) }
 {
-    let new = act_anew(values, step);
-    if !new {
+    // The mask is read first: which step comes next is not known without it.
+    let near = step.near.mask;
+    if !act_anew(values, step) {
         return 0;
     }
-    mark_readers(values, marks, plan, near.first, near.end);
-    near.mask
+    mark_readers(values, marks, plan, step.near.first, step.near.end);
+    near
 }
 
 /// Evaluates the marked steps of a word, and answers how many there were.
@@ -336,7 +335,7 @@ pub fn run_word(values: &mut Numbers, marks: &mut Marks, plan: &Plan, word: usiz
     let mut place = word * 64;
     'steps: while let Some(taken) = take_held(word, held) {
         let i = taken.number;
-        let near = evaluate(values, marks, plan, &plan.steps[i], &plan.nears[i]);
+        let near = evaluate(values, marks, plan, &plan.steps[i]);
         held = taken.left | near;
         count += 1;
         place = i + 1;

@@ -66,12 +66,14 @@ pub enum Guard {
     Unless(u32),
 }
 
-/// A wire, and what gives it its number. A narrow step has at most 64 bits in all that it works on and gives.
+/// A wire, what gives it its number, and its near readers. A narrow step has at most 64 bits in all that it works on and
+/// gives.
 #[derive(Clone, Copy)]
 pub struct Step {
     pub wire: Sig,
     pub narrow: bool,
     pub action: Action,
+    pub near: Near,
 }
 
 /// A register, and its next signal.

@@ -2,11 +2,9 @@ use Rattle.std.proofs.Common.{◌≡◌, ℕ, ◌+◌, ◌*◌, ◌<◌, ◌≤�
 use Rattle.std.specs.Int.RustNames.{bit_or}
 use Rattle.safl_order.specs.Order.{Order}
 use Rattle.safl_sim.specs.declared.plan.Plan.{Plan}
-use Rattle.safl_sim.specs.declared.step.Near.{Near}
 use Rattle.safl_sim.specs.declared.step.Step.{Step}
 use Rattle.safl_sim.specs.declared.step.Register.{Register}
 use Rattle.safl_sim.specs.Marks.{holding, HasTaken, first_register}
-use Rattle.safl_sim.specs.Nears.{NearOf}
 use Rattle.safl_sim.specs.Readers.{Lists, HasGiven}
 use Rattle.safl_sim.specs.Steps.{action_number, Runs}
 use Rattle.safl_sim.proofs.Written.{get_read}
@@ -36,16 +34,6 @@ index-requires c =
     let a = known r.0 c.args.plan.now r.1 r.2 r.3 c.args.word c.steps.place c.in-Some.taken.number c.steps.values (holding c.steps.marks c.args.word c.steps.held) (holding c.steps.marks c.args.word c.in-Some.taken.left) from c.steps.invariant.to c.requires.steps (c.steps.invariant.runs r.0 r.1 r.2 r.3 r.4) t in
     let b = c.args.plan.now.steps.ok.0 in
     omega (arith, a, b)
-
-pub index-requires-in-Some : goal.index-requires-in-Some
-index-requires-in-Some c =
-    let r = c.requires.runs in
-    let from : c.args.word * 64 ≤ c.steps.place = (let a = c.steps.invariant.from in omega (arith, a)) in
-    let t = c.in-Some.ensures.some c.steps.marks (inside c.args.word c.args.marks.now c.steps.marks c.steps.invariant.long c.requires.within) in
-    let a = known r.0 c.args.plan.now r.1 r.2 r.3 c.args.word c.steps.place c.in-Some.taken.number c.steps.values (holding c.steps.marks c.args.word c.steps.held) (holding c.steps.marks c.args.word c.in-Some.taken.left) from c.steps.invariant.to c.requires.steps (c.steps.invariant.runs r.0 r.1 r.2 r.3 r.4) t in
-    let b = c.args.plan.now.nears.ok.0 in
-    let d = c.args.plan.now.near.long in
-    omega (arith, a, b, d)
 
 pub evaluate-near-requires-clause-lists : goal.evaluate-near-requires-clause-lists
 evaluate-near-requires-clause-lists c =
@@ -83,10 +71,6 @@ evaluate-near-requires-clause-low c =
     let at = get_read c.args.plan.now.steps.items c.in-Some.taken.number c.index.result.now a c.index.ensures in
     (turn r.0 c.args.plan.now r.1 r.2 r.3 c.args.word c.steps.place c.in-Some.taken.number c.steps.values (holding c.steps.marks c.args.word c.steps.held) (holding c.steps.marks c.args.word c.in-Some.taken.left) from c.steps.invariant.to c.requires.steps (c.steps.invariant.runs r.0 r.1 r.2 r.3 r.4) t c.index.result.now at).low
 
--- its near readers
-near : (p : Plan) (i : ℕ) (s : Step) (g : Near) → i < length p.steps.items → slice_get p.steps.items i ≡ Some s → g ≡ get_or p.nears.items i g → NearOf p.starts.items p.readers.items i s g
-near p i s g h at e = p.near.each i s g at (get_read p.nears.items i g (let a = p.near.long in omega (arith, a, h)) e)
-
 pub evaluate-near-requires-clause-near : goal.evaluate-near-requires-clause-near
 evaluate-near-requires-clause-near c =
     let r = c.requires.runs in
@@ -94,7 +78,7 @@ evaluate-near-requires-clause-near c =
     let t = c.in-Some.ensures.some c.steps.marks (inside c.args.word c.args.marks.now c.steps.marks c.steps.invariant.long c.requires.within) in
     let a = known r.0 c.args.plan.now r.1 r.2 r.3 c.args.word c.steps.place c.in-Some.taken.number c.steps.values (holding c.steps.marks c.args.word c.steps.held) (holding c.steps.marks c.args.word c.in-Some.taken.left) from c.steps.invariant.to c.requires.steps (c.steps.invariant.runs r.0 r.1 r.2 r.3 r.4) t in
     let at = get_read c.args.plan.now.steps.items c.in-Some.taken.number c.index.result.now a c.index.ensures in
-    (c.in-Some.taken.number, near c.args.plan.now c.in-Some.taken.number c.index.result.now c.index-in-Some.result.now a at c.index-in-Some.ensures)
+    (c.in-Some.taken.number, c.args.plan.now.near.each c.in-Some.taken.number c.index.result.now at)
 
 pub steps-smaller : goal.steps-smaller
 steps-smaller c =
@@ -123,7 +107,7 @@ steps-preserved c =
       runs = λ o regs now start w.
           let a = known o c.args.plan.now regs now start c.args.word c.steps.place c.in-Some.taken.number c.steps.values (holding c.steps.marks c.args.word c.steps.held) (holding c.steps.marks c.args.word c.in-Some.taken.left) from c.steps.invariant.to c.requires.steps (c.steps.invariant.runs o regs now start w) t in
           let at = get_read p.steps.items i step a c.index.ensures in
-          let g = c.evaluate-near.ensures.given i left (let b = c.steps.invariant.long in let d = c.requires.within in omega (arith, b, d, within)) (near p i step c.index-in-Some.result.now a at c.index-in-Some.ensures) in
+          let g = c.evaluate-near.ensures.given i left (let b = c.steps.invariant.long in let d = c.requires.within in omega (arith, b, d, within)) (p.near.each i step at) in
           let g' = subst (λ y. HasGiven p.steps.items p.starts.items p.readers.items step.wire.0 (action_number (slice_index c.steps.values) step.action) c.steps.values c.evaluate-near.new.values (holding c.steps.marks y left) (holding c.evaluate-near.new.marks y (bit_or left c.evaluate-near.result))) within g in
           (turn o c.args.plan.now regs now start c.args.word c.steps.place c.in-Some.taken.number c.steps.values (holding c.steps.marks c.args.word c.steps.held) (holding c.steps.marks c.args.word c.in-Some.taken.left) from c.steps.invariant.to c.requires.steps (c.steps.invariant.runs o regs now start w) t step at).next c.evaluate-near.new.values (holding c.evaluate-near.new.marks c.args.word (bit_or left c.evaluate-near.result)) g';
     }

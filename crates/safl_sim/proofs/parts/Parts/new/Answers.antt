@@ -84,7 +84,7 @@ returns-clause-keeps c =
           made
           c.wires-2.ensures.order
           (subst (λ (x : List ℕ). AreSteps o.net x c.in_ok-steps.steps.items) c.wires-2.ensures.wires
-          (subst (λ (m : Netlist). AreSteps m ws c.in_ok-steps.steps.items) e c.in_ok-steps.ensures))
+          (subst (λ (m : Netlist). AreSteps m ws c.in_ok-steps.steps.items) e c.in_ok-steps.ensures.steps))
           (c.in_ok-inputs_of.ensures ∙ ap inputs_of e)
           (subst (λ (m : Netlist). AreRegisters m (length m.signals) regs) e c.in_ok-registers.ensures)
           (subst (λ (k : ℕ). Lists starts readers (length o.net.signals) ((first_register k + length regs + 63) / 64)) many3
@@ -123,20 +123,6 @@ states_of-requires c =
     let kept = subst (λ (l : List Register). AreRegisters n places l) (sym c.as_slice-kept.ensures.value) c.in_ok-registers.ensures in
     registers_known n c.as_slice-kept.result.now places kept
 
-pub nears_of-requires : goal.nears_of-requires
-nears_of-requires c =
-    let places = length c.net-net.result.now.signals in
-    let words = (first_register (length c.wires.result.now) + length c.as_slice-kept.result.now + 63) / 64 in
-    record {
-      lists = (
-        places,
-        words,
-        subst (λ (l : List ℕ). Lists l c.deref-5.result.now places words) (sym c.deref-4.ensures.value)
-            (subst (λ (l : List ℕ). Lists c.in_ok-table.table.starts.items l places words) (sym c.deref-5.ensures.value) c.in_ok-table.ensures.lists),
-        λ i s e. steps_known c.net-net.result.now (numbers c.wires-2.result.now) c.in_ok-steps.steps.items c.in_ok-steps.ensures i s (ap (λ (l : List Step). slice_get l i) (sym c.deref-3.ensures.value) ∙ e),
-      );
-    }
-
 pub groups_of-requires : goal.groups_of-requires
 groups_of-requires c =
     let n = c.net-net.result.now in
@@ -147,19 +133,19 @@ groups_of-requires c =
       lists = (
         places,
         words,
-        subst (λ (l : List ℕ). Lists l c.deref-7.result.now places words) (sym c.deref-6.ensures.value)
-            (subst (λ (l : List ℕ). Lists c.in_ok-table.table.starts.items l places words) (sym c.deref-7.ensures.value) c.in_ok-table.ensures.lists),
+        subst (λ (l : List ℕ). Lists l c.deref-5.result.now places words) (sym c.deref-4.ensures.value)
+            (subst (λ (l : List ℕ). Lists c.in_ok-table.table.starts.items l places words) (sym c.deref-5.ensures.value) c.in_ok-table.ensures.lists),
         registers_known n c.as_slice-kept.result.now places kept,
       );
     }
 
 pub invariant_of-plan-clause-guard_for_each : goal.invariant_of-plan-clause-guard_for_each
-invariant_of-plan-clause-guard_for_each c = c.in_ok-guards.ensures.0 ∙ ap length c.deref-10.ensures.value
+invariant_of-plan-clause-guard_for_each c = c.in_ok-guards.ensures.0 ∙ ap length c.deref-8.ensures.value
 
 pub invariant_of-plan-clause-guarded : goal.invariant_of-plan-clause-guarded
 invariant_of-plan-clause-guarded c =
     let guards = c.in_ok-guards.guards.items in
     let starts = c.in_ok-table.table.starts.items in
-    subst (λ (l : List Step). AreGuards l starts c.in_ok-table.table.readers.items guards) c.deref-8.ensures.value
-    (subst (λ (l : List ℕ). AreGuards c.deref-8.result.now l c.in_ok-table.table.readers.items guards) c.deref-9.ensures.value
-    (subst (λ (l : List ℕ). AreGuards c.deref-8.result.now c.deref-9.result.now l guards) c.deref-10.ensures.value c.in_ok-guards.ensures.1))
+    subst (λ (l : List Step). AreGuards l starts c.in_ok-table.table.readers.items guards) c.deref-6.ensures.value
+    (subst (λ (l : List ℕ). AreGuards c.deref-6.result.now l c.in_ok-table.table.readers.items guards) c.deref-7.ensures.value
+    (subst (λ (l : List ℕ). AreGuards c.deref-6.result.now c.deref-7.result.now l guards) c.deref-8.ensures.value c.in_ok-guards.ensures.1))
