@@ -1,6 +1,5 @@
 -- Registers that are shown and kept.
 use Rattle.std.proofs.Common.{◌≡◌, inl, inr, ℕ, ◌+◌, ◌-◌, ◌*◌, ◌/◌, ◌%◌, ◌<◌, ◌≤◌, List, length, set, Some, slice_get, slice_index, refl, sym, ap, subst, ◌∙◌, arith}
-use Rattle.safl_net.proofs.Naming.{within}
 use Rattle.safl_sim.specs.declared.step.Register.{Register}
 use Rattle.std.specs.Int.{bit_at}
 use Rattle.safl_sim.specs.Marks.{marked, HasNone, NoneBetween, HasTaken}

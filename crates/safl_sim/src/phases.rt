@@ -290,12 +290,7 @@ fn act_wide(values: &mut Numbers, step: &Step) -> bool
 /// Evaluates a step. Where its wire's number is new, it marks what reads the wire, but for the near readers: it answers
 /// which these are.
 #[inline(always)]
-pub fn evaluate(
-    values: &mut Numbers,
-    marks: &mut Marks,
-    plan: &Plan,
-    step: &Step,
-) -> u64
+pub fn evaluate(values: &mut Numbers, marks: &mut Marks, plan: &Plan, step: &Step) -> u64
     requires lists { Lists plan.now.starts.items plan.now.readers.items (length values.old) (length marks.old) }
     requires within { step.now.wire.0 < length values.old }
     requires ready { Ready values.old step.now.action }

@@ -1,4 +1,4 @@
-use Rattle.std.proofs.Common.{◌≡◌, ◌+◌, ◌/◌, ℕ, List, get_or, sym, subst, ◌∙◌}
+use Rattle.std.proofs.Common.{◌+◌, ◌/◌, ℕ, List, get_or, sym, subst}
 use Rattle.safl_net.specs.declared.cell.Sig.{Sig}
 use Rattle.safl_net.specs.Making.{numbers}
 use Rattle.safl_sim.specs.declared.step.Step.{Step}

@@ -5,7 +5,7 @@ use Rattle.safl_sim.specs.States.{placed}
 use Rattle.safl_sim.specs.Writes.{KeepsOn}
 use Rattle.safl_sim.proofs.Written.{get_at, same_or_not}
 use Rattle.safl_sim.proofs.MarksByOne.{taken_after}
-use Rattle.safl_sim.proofs.Nearing.{joined, holding_all, holding_long, no_marks}
+use Rattle.safl_sim.proofs.Nearing.{joined, holding_all, no_marks}
 use Rattle.safl_sim.proofs.Placing.{placed_long, placed_set, next_once}
 use Rattle.safl_sim.proofs.Registers.{keeps_none, keeps_step, keeps_joined, joined_waits}
 use Rattle.safl_sim.proofs.phases.keep_word.Goals as goal

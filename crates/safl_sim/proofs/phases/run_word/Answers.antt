@@ -1,4 +1,4 @@
-use Rattle.std.proofs.Common.{◌≡◌, ℕ, ◌+◌, ◌*◌, ◌<◌, ◌≤◌, List, length, get_or, slice_get, slice_index, Some, refl, sym, ap, subst, ◌∙◌, arith}
+use Rattle.std.proofs.Common.{◌≡◌, ℕ, ◌+◌, ◌*◌, ◌<◌, ◌≤◌, List, length, slice_get, slice_index, Some, sym, subst, ◌∙◌, arith}
 use Rattle.std.specs.Int.RustNames.{bit_or}
 use Rattle.safl_order.specs.Order.{Order}
 use Rattle.safl_sim.specs.declared.plan.Plan.{Plan}
@@ -8,7 +8,7 @@ use Rattle.safl_sim.specs.Marks.{holding, HasTaken, first_register}
 use Rattle.safl_sim.specs.Readers.{Lists, HasGiven}
 use Rattle.safl_sim.specs.Steps.{action_number, Runs}
 use Rattle.safl_sim.proofs.Written.{get_read}
-use Rattle.safl_sim.proofs.Nearing.{holding_all, holding_long, no_marks}
+use Rattle.safl_sim.proofs.Nearing.{holding_long, no_marks}
 use Rattle.safl_sim.proofs.MarkedSteps.{Takes, takes, taken_within, taken_from, none_left}
 use Rattle.safl_sim.proofs.phases.run_word.Goals as goal
 

@@ -1,4 +1,4 @@
-use Rattle.std.proofs.Common.{◌≡◌, ◌+◌, ◌/◌, ℕ, List, length, slice_get, sym, ap, subst, ◌∙◌, arith}
+use Rattle.std.proofs.Common.{◌≡◌, ◌+◌, ◌/◌, ℕ, List, length, sym, ap, subst, ◌∙◌, arith}
 use Rattle.safl_net.specs.Netlist.{Netlist}
 use Rattle.safl_net.specs.Making.{numbers}
 use Rattle.safl_net.specs.Rules.{IsNetlist}
@@ -14,7 +14,6 @@ use Rattle.safl_sim.specs.Steps.{AreSteps, AreRegisters}
 use Rattle.safl_sim.proofs.Builds.{keeps_new, placed_resets, numbers_length}
 use Rattle.safl_sim.proofs.Cycle.{registers_known}
 use Rattle.safl_sim.proofs.Few.{few_wires}
-use Rattle.safl_sim.proofs.Nearing.{steps_known}
 use Rattle.safl_sim.proofs.parts.Parts.new.Goals as goal
 
 pub all_marked-requires-clause-few : goal.all_marked-requires-clause-few
