@@ -320,18 +320,30 @@ given_same steps starts readers p x values marks e = record {
 
 -- ---- near readers of each step, and a group for each register
 
--- one more step
-pub nears_more : (starts readers : List ℕ) (steps : List Step) (i : ℕ) (s : Step) → AreNear starts readers steps → length steps ≡ i → NearOf starts readers i s → AreNear starts readers (steps ++ s ∷ [])
-nears_more starts readers steps i s w long is = record {
-  each = λ k t e. elim (pushed steps s t k e) [
-    | inl q ↦ w.each k t q
-    | inr q ↦ subst (λ y. NearOf starts readers k y) (sym q.1) (subst (λ j. NearOf starts readers j s) (sym (q.0 ∙ long)) is)
-  ];
-}
-
 length_push : {A : Type 0} (xs : List A) (x : A) → length (xs ++ x ∷ []) ≡ length xs + 1
 length_push [] x = omega arith
 length_push (a ∷ xs) x = let e = length_push xs x in omega (arith, e)
+
+-- of the first steps
+pub record NearsTo (starts readers : List ℕ) (steps : List Step) (masks : List ℕ) (count : ℕ) : Type 0 where
+  pub long : length masks ≡ count
+  pub each : (k : ℕ) (s : Step) (mask : ℕ) → slice_get steps k ≡ Some s → slice_get masks k ≡ Some mask → NearOf starts readers k s mask
+
+pub nears_more : (starts readers : List ℕ) (steps : List Step) (masks : List ℕ) (i : ℕ) (s : Step) (mask : ℕ) → NearsTo starts readers steps masks i → length steps ≡ i → NearOf starts readers i s mask
+    → NearsTo starts readers (steps ++ s ∷ []) (masks ++ mask ∷ []) (i + 1)
+nears_more starts readers steps masks i s mask w long is = record {
+  long = (let a = length_push masks mask in let b = w.long in omega (arith, a, b));
+  each = λ k t m e f. elim (pushed steps s t k e) [
+    | inl q ↦ elim (pushed masks mask m k f) [
+      | inl r ↦ w.each k t m q r
+      | inr r ↦ absurd (let a = within steps k t q in let b = r.0 in let d = w.long in omega (arith, a, b, d, long))
+    ]
+    | inr q ↦ elim (pushed masks mask m k f) [
+      | inl r ↦ absurd (let a = within masks k m r in let b = q.0 in let d = w.long in omega (arith, a, b, d, long))
+      | inr r ↦ subst (λ y. NearOf starts readers k y m) (sym q.1) (subst (λ y. NearOf starts readers k s y) (sym r.1) (subst (λ j. NearOf starts readers j s mask) (sym (q.0 ∙ long)) is))
+    ]
+  ];
+}
 
 pub record GroupedTo (starts readers : List ℕ) (registers : List Register) (groups : List Group) (count : ℕ) : Type 0 where
   pub long : length groups ≡ count

@@ -20,12 +20,13 @@ pub record IsNear (readers : List ℕ) (from to word : ℕ) (near : Near) : Type
 abbrev pub NearAt : List ℕ → List ℕ → ℕ → ℕ → Near → Type 0
 NearAt starts readers p word near = IsNear readers (slice_index starts p) (slice_index starts (p + 1)) word near
 
--- those of the wire of step i, and of each step
-abbrev pub NearOf : List ℕ → List ℕ → ℕ → Step → Type 0
-NearOf starts readers i s = NearAt starts readers s.wire.0 (i / 64) s.near
+-- those of the wire of step i, with their mask, and of each step
+abbrev pub NearOf : List ℕ → List ℕ → ℕ → Step → ℕ → Type 0
+NearOf starts readers i s mask = NearAt starts readers s.wire.0 (i / 64) (record { mask = mask; first = s.first; end = s.end })
 
-pub record AreNear (starts readers : List ℕ) (steps : List Step) : Type 0 where
-  pub each : (i : ℕ) (s : Step) → slice_get steps i ≡ Some s → NearOf starts readers i s
+pub record AreNear (starts readers : List ℕ) (steps : List Step) (masks : List ℕ) : Type 0 where
+  pub long : length masks ≡ length steps
+  pub each : (i : ℕ) (s : Step) (mask : ℕ) → slice_get steps i ≡ Some s → slice_get masks i ≡ Some mask → NearOf starts readers i s mask
 
 -- those of a register that stand in the word of its group, and a group for each register
 abbrev pub GroupOf : List ℕ → List ℕ → Register → Group → Type 0

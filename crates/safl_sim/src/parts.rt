@@ -7,7 +7,7 @@ ghost use Rattle.safl_net.specs.Rules.{IsNetlist};
 ghost use Rattle.safl_net.specs.Making.{numbers, kind_at};
 ghost use Rattle.safl_order.specs.Order.{IsWire, IsOrder, operands_of};
 ghost use Rattle.safl_sim.specs.Marks.{marked, first_register};
-ghost use Rattle.safl_sim.specs.Nears.{NearAt, AreNear};
+ghost use Rattle.safl_sim.specs.Nears.{AreNear};
 ghost use Rattle.safl_sim.specs.Readers.{Inside, Lists};
 ghost use Rattle.safl_sim.specs.Places.{with_input, inputs_of, resets};
 ghost use Rattle.safl_sim.specs.States.{AreReset};
@@ -18,7 +18,7 @@ use crate::guards::guards_of;
 use crate::marks::{Marks, word_count};
 use crate::near::{groups_of, near_of};
 use crate::plan::Plan;
-use crate::step::{Register, Step, action_of, is_narrow};
+use crate::step::{Near, Register, Step, action_of, is_narrow};
 use crate::table::table_of;
 use safl_halves::Numbers;
 use safl_net::{Net, Sig, SigKind};
@@ -55,7 +55,8 @@ impl Parts {
         let kept = registers.as_slice();
         // First the table: while it is made, it takes more than what stays of it.
         let table = table_of(alloc, net, ordered.wires(), kept)?;
-        let steps = steps_of(alloc, net, &table.starts, &table.readers, ordered.wires())?;
+        let made = steps_of(alloc, net, &table.starts, &table.readers, ordered.wires())?;
+        let steps = made.steps;
         let groups = groups_of(alloc, kept, &table.starts, &table.readers)?;
         let guards = guards_of(alloc, &steps, &table.starts, &table.readers)?;
         let marks = all_marked(alloc, ordered.wires().len(), kept.len())?;
@@ -63,6 +64,7 @@ impl Parts {
         let state = states_of(alloc, net, kept)?;
         let plan = Plan {
             steps,
+            masks: made.masks,
             inputs: inputs_of(alloc, net)?,
             registers,
             groups,
@@ -96,6 +98,13 @@ fn all_marked(alloc: Global, steps: usize, registers: usize) -> Result<Marks, Al
     Ok(marks)
 }
 
+// Steps with the masks of their near readers.
+#[derive(Drop)]
+struct Steps {
+    steps: Vec<Step>,
+    masks: Vec<u64>,
+}
+
 // The steps of wires, in their order.
 fn steps_of(
     alloc: Global,
@@ -103,37 +112,41 @@ fn steps_of(
     starts: &[u32],
     readers: &[u32],
     wires: &[Sig],
-) -> Result<Vec<Step>, AllocError>
+) -> Result<Steps, AllocError>
     requires netlist { IsNetlist net.now }
     requires set { AllSet net.now }
     requires wires { (i : ℕ) (s : ℕ) → slice_get (numbers wires.now) i ≡ Some s → IsWire net.now s }
     requires lists { (words : ℕ) × Lists starts.now readers.now (length net.now.signals) words }
-    ensures steps { IfOk result (λ v. AreSteps net.now (numbers wires.now) v.items) }
-    ensures near { IfOk result (λ v. AreNear starts.now readers.now v.items) }
+    ensures steps { IfOk result (λ v. AreSteps net.now (numbers wires.now) v.steps.items) }
+    ensures near { IfOk result (λ v. AreNear starts.now readers.now v.steps.items v.masks.items) }
 {
     let mut steps = Vec::with_capacity(alloc, wires.len())?;
+    let mut masks = Vec::with_capacity(alloc, wires.len())?;
     'wires: for i in 0..wires.len() {
-        steps.push(step_of(net, starts, readers, wires[i], i / 64))?;
+        let place = wires[i].0 as usize;
+        let near = near_of(readers, starts[place], starts[place + 1], i / 64);
+        steps.push(step_of(net, starts, wires[i], near))?;
+        masks.push(near.mask)?;
     }
-    Ok(steps)
+    Ok(Steps { steps, masks })
 }
 
-// The step of a wire that has its mark in a word.
-fn step_of(net: &Net, starts: &[u32], readers: &[u32], wire: Sig, word: usize) -> Step
+// The step of a wire with these near readers.
+fn step_of(net: &Net, starts: &[u32], wire: Sig, near: Near) -> Step
     requires netlist { IsNetlist net.now }
     requires set { AllSet net.now }
     requires wire { IsWire net.now wire.0 }
-    requires lists { (words : ℕ) × Lists starts.now readers.now (length net.now.signals) words }
     ensures step { IsStep net.now wire.0 result }
-    ensures near { NearAt starts.now readers.now wire.0 word result.near }
+    ensures first { result.first ≡ near.first }
+    ensures end { result.end ≡ near.end }
 {
-    let place = wire.0 as usize;
     match net.cell(wire) {
         Some(cell) => Step {
             wire,
             narrow: is_narrow(net, wire, cell),
             action: action_of(net, starts, cell),
-            near: near_of(readers, starts[place], starts[place + 1], word),
+            first: near.first,
+            end: near.end,
         },
         None => unreachable!(),
     }

@@ -287,26 +287,30 @@ fn act_wide(values: &mut Numbers, step: &Step) -> bool
     renew(values, step.wire.0 as usize, number)
 }
 
-/// Evaluates a step. Where its wire's number is new, it marks what reads the wire, but for the near readers: it answers
-/// which these are.
+/// Evaluates a step with a mask of its near readers. Where its wire's number is new, it marks what else reads the wire, and
+/// answers the mask.
 #[inline(always)]
-pub fn evaluate(values: &mut Numbers, marks: &mut Marks, plan: &Plan, step: &Step) -> u64
+pub fn evaluate(
+    values: &mut Numbers,
+    marks: &mut Marks,
+    plan: &Plan,
+    step: &Step,
+    near: u64,
+) -> u64
     requires lists { Lists plan.now.starts.items plan.now.readers.items (length values.old) (length marks.old) }
     requires within { step.now.wire.0 < length values.old }
     requires ready { Ready values.old step.now.action }
     requires low { LowStep values.old step.now }
-    requires near { (i : ℕ) × NearOf plan.now.starts.items plan.now.readers.items i step.now }
+    requires near { (i : ℕ) × NearOf plan.now.starts.items plan.now.readers.items i step.now near }
     ensures long { length marks.new ≡ length marks.old }
-    ensures given { (i held : ℕ) → i / 64 < length marks.old → NearOf plan.now.starts.items plan.now.readers.items i step.now
+    ensures given { (i held : ℕ) → i / 64 < length marks.old → NearOf plan.now.starts.items plan.now.readers.items i step.now near
         → HasGiven plan.now.steps.items plan.now.starts.items plan.now.readers.items step.now.wire.0 (action_number (slice_index values.old) step.now.action) values.old values.new
         (holding marks.old (i / 64) held) (holding marks.new (i / 64) (bit_or held result)) }
 {
-    // The mask is read first: which step comes next is not known without it.
-    let near = step.near.mask;
     if !act_anew(values, step) {
         return 0;
     }
-    mark_readers(values, marks, plan, step.near.first, step.near.end);
+    mark_readers(values, marks, plan, step.first, step.end);
     near
 }
 
@@ -330,8 +334,9 @@ pub fn run_word(values: &mut Numbers, marks: &mut Marks, plan: &Plan, word: usiz
     let mut place = word * 64;
     'steps: while let Some(taken) = take_held(word, held) {
         let i = taken.number;
-        let near = evaluate(values, marks, plan, &plan.steps[i]);
-        held = taken.left | near;
+        // The mask is read before the step is: which step comes next is not known without it.
+        let near = plan.masks[i];
+        held = taken.left | evaluate(values, marks, plan, &plan.steps[i], near);
         count += 1;
         place = i + 1;
     }

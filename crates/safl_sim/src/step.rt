@@ -66,14 +66,15 @@ pub enum Guard {
     Unless(u32),
 }
 
-/// A wire, what gives it its number, and its near readers. A narrow step has at most 64 bits in all that it works on and
-/// gives.
+/// A wire, what gives it its number, and where its readers that are not near begin and end. A narrow step has at most 64
+/// bits in all that it works on and gives.
 #[derive(Clone, Copy)]
 pub struct Step {
     pub wire: Sig,
     pub narrow: bool,
     pub action: Action,
-    pub near: Near,
+    pub first: u32,
+    pub end: u32,
 }
 
 /// A register, and its next signal.

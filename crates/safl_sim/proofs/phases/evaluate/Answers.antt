@@ -1,5 +1,6 @@
 use Rattle.std.proofs.Common.{ℕ, ◌+◌, ◌/◌, ◌<◌, ◌≤◌, List, length, set, slice_index, sym, subst, arith}
 use Rattle.std.specs.Int.RustNames.{bit_or}
+use Rattle.safl_sim.specs.declared.step.Near.{Near}
 use Rattle.safl_sim.specs.Marks.{holding}
 use Rattle.safl_sim.specs.Readers.{HasMarked, HasGiven}
 use Rattle.safl_sim.specs.Steps.{action_number}
@@ -20,7 +21,7 @@ returns-clause-long c =
     let p = c.args.step.now.wire.0 in
     let near = c.requires.near.1 in
     let inside : p + 1 < length c.args.plan.now.starts.items = (let a = c.requires.lists.long in let b = c.requires.within in omega (arith, a, b)) in
-    let most : c.args.step.now.near.end ≤ slice_index c.args.plan.now.starts.items (p + 1) = (let a = near.last in omega (arith, a)) in
+    let most : c.args.step.now.end ≤ slice_index c.args.plan.now.starts.items (p + 1) = (let a = near.last in omega (arith, a)) in
     (c.mark_readers.ensures p (inside, near.least, most)).long
 
 pub returns-clause-given : goal.returns-clause-given
@@ -31,7 +32,7 @@ returns-clause-given c = λ i held h near.
     let readers = plan.readers.items in
     let step = c.args.step.now in
     let p = step.wire.0 in
-    let g = c.args.step.now.near in
+    let g : Near = record { mask = c.args.near; first = step.first; end = step.end } in
     let x = action_number (slice_index c.args.values.now) step.action in
     let marks = c.args.marks.now in
     let marks' = c.mark_readers.new.marks in

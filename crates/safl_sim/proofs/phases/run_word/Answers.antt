@@ -1,10 +1,11 @@
-use Rattle.std.proofs.Common.{◌≡◌, ℕ, ◌+◌, ◌*◌, ◌<◌, ◌≤◌, List, length, slice_get, slice_index, Some, sym, subst, ◌∙◌, arith}
+use Rattle.std.proofs.Common.{◌≡◌, ℕ, ◌+◌, ◌*◌, ◌<◌, ◌≤◌, List, length, get_or, slice_get, slice_index, Some, sym, subst, ◌∙◌, arith}
 use Rattle.std.specs.Int.RustNames.{bit_or}
 use Rattle.safl_order.specs.Order.{Order}
 use Rattle.safl_sim.specs.declared.plan.Plan.{Plan}
 use Rattle.safl_sim.specs.declared.step.Step.{Step}
 use Rattle.safl_sim.specs.declared.step.Register.{Register}
 use Rattle.safl_sim.specs.Marks.{holding, HasTaken, first_register}
+use Rattle.safl_sim.specs.Nears.{NearOf}
 use Rattle.safl_sim.specs.Readers.{Lists, HasGiven}
 use Rattle.safl_sim.specs.Steps.{action_number, Runs}
 use Rattle.safl_sim.proofs.Written.{get_read}
@@ -35,8 +36,18 @@ index-requires c =
     let b = c.args.plan.now.steps.ok.0 in
     omega (arith, a, b)
 
-pub evaluate-near-requires-clause-lists : goal.evaluate-near-requires-clause-lists
-evaluate-near-requires-clause-lists c =
+pub index-near-requires : goal.index-near-requires
+index-near-requires c =
+    let r = c.requires.runs in
+    let from : c.args.word * 64 ≤ c.steps.place = (let a = c.steps.invariant.from in omega (arith, a)) in
+    let t = c.in-Some.ensures.some c.steps.marks (inside c.args.word c.args.marks.now c.steps.marks c.steps.invariant.long c.requires.within) in
+    let a = known r.0 c.args.plan.now r.1 r.2 r.3 c.args.word c.steps.place c.in-Some.taken.number c.steps.values (holding c.steps.marks c.args.word c.steps.held) (holding c.steps.marks c.args.word c.in-Some.taken.left) from c.steps.invariant.to c.requires.steps (c.steps.invariant.runs r.0 r.1 r.2 r.3 r.4) t in
+    let b = c.args.plan.now.masks.ok.0 in
+    let d = c.args.plan.now.near.long in
+    omega (arith, a, b, d)
+
+pub evaluate-requires-clause-lists : goal.evaluate-requires-clause-lists
+evaluate-requires-clause-lists c =
     let r = c.requires.runs in
     let from : c.args.word * 64 ≤ c.steps.place = (let a = c.steps.invariant.from in omega (arith, a)) in
     let t = c.in-Some.ensures.some c.steps.marks (inside c.args.word c.args.marks.now c.steps.marks c.steps.invariant.long c.requires.within) in
@@ -44,8 +55,8 @@ evaluate-near-requires-clause-lists c =
     let at = get_read c.args.plan.now.steps.items c.in-Some.taken.number c.index.result.now a c.index.ensures in
     subst (λ k. Lists c.args.plan.now.starts.items c.args.plan.now.readers.items (length c.steps.values) k) (holding_long c.steps.marks c.args.word c.in-Some.taken.left) (turn r.0 c.args.plan.now r.1 r.2 r.3 c.args.word c.steps.place c.in-Some.taken.number c.steps.values (holding c.steps.marks c.args.word c.steps.held) (holding c.steps.marks c.args.word c.in-Some.taken.left) from c.steps.invariant.to c.requires.steps (c.steps.invariant.runs r.0 r.1 r.2 r.3 r.4) t c.index.result.now at).lists
 
-pub evaluate-near-requires-clause-within : goal.evaluate-near-requires-clause-within
-evaluate-near-requires-clause-within c =
+pub evaluate-requires-clause-within : goal.evaluate-requires-clause-within
+evaluate-requires-clause-within c =
     let r = c.requires.runs in
     let from : c.args.word * 64 ≤ c.steps.place = (let a = c.steps.invariant.from in omega (arith, a)) in
     let t = c.in-Some.ensures.some c.steps.marks (inside c.args.word c.args.marks.now c.steps.marks c.steps.invariant.long c.requires.within) in
@@ -53,8 +64,8 @@ evaluate-near-requires-clause-within c =
     let at = get_read c.args.plan.now.steps.items c.in-Some.taken.number c.index.result.now a c.index.ensures in
     (turn r.0 c.args.plan.now r.1 r.2 r.3 c.args.word c.steps.place c.in-Some.taken.number c.steps.values (holding c.steps.marks c.args.word c.steps.held) (holding c.steps.marks c.args.word c.in-Some.taken.left) from c.steps.invariant.to c.requires.steps (c.steps.invariant.runs r.0 r.1 r.2 r.3 r.4) t c.index.result.now at).wire
 
-pub evaluate-near-requires-clause-ready : goal.evaluate-near-requires-clause-ready
-evaluate-near-requires-clause-ready c =
+pub evaluate-requires-clause-ready : goal.evaluate-requires-clause-ready
+evaluate-requires-clause-ready c =
     let r = c.requires.runs in
     let from : c.args.word * 64 ≤ c.steps.place = (let a = c.steps.invariant.from in omega (arith, a)) in
     let t = c.in-Some.ensures.some c.steps.marks (inside c.args.word c.args.marks.now c.steps.marks c.steps.invariant.long c.requires.within) in
@@ -62,8 +73,8 @@ evaluate-near-requires-clause-ready c =
     let at = get_read c.args.plan.now.steps.items c.in-Some.taken.number c.index.result.now a c.index.ensures in
     (turn r.0 c.args.plan.now r.1 r.2 r.3 c.args.word c.steps.place c.in-Some.taken.number c.steps.values (holding c.steps.marks c.args.word c.steps.held) (holding c.steps.marks c.args.word c.in-Some.taken.left) from c.steps.invariant.to c.requires.steps (c.steps.invariant.runs r.0 r.1 r.2 r.3 r.4) t c.index.result.now at).ready
 
-pub evaluate-near-requires-clause-low : goal.evaluate-near-requires-clause-low
-evaluate-near-requires-clause-low c =
+pub evaluate-requires-clause-low : goal.evaluate-requires-clause-low
+evaluate-requires-clause-low c =
     let r = c.requires.runs in
     let from : c.args.word * 64 ≤ c.steps.place = (let a = c.steps.invariant.from in omega (arith, a)) in
     let t = c.in-Some.ensures.some c.steps.marks (inside c.args.word c.args.marks.now c.steps.marks c.steps.invariant.long c.requires.within) in
@@ -71,14 +82,18 @@ evaluate-near-requires-clause-low c =
     let at = get_read c.args.plan.now.steps.items c.in-Some.taken.number c.index.result.now a c.index.ensures in
     (turn r.0 c.args.plan.now r.1 r.2 r.3 c.args.word c.steps.place c.in-Some.taken.number c.steps.values (holding c.steps.marks c.args.word c.steps.held) (holding c.steps.marks c.args.word c.in-Some.taken.left) from c.steps.invariant.to c.requires.steps (c.steps.invariant.runs r.0 r.1 r.2 r.3 r.4) t c.index.result.now at).low
 
-pub evaluate-near-requires-clause-near : goal.evaluate-near-requires-clause-near
-evaluate-near-requires-clause-near c =
+-- the mask of its near readers
+near : (p : Plan) (i : ℕ) (s : Step) (mask : ℕ) → i < length p.steps.items → slice_get p.steps.items i ≡ Some s → mask ≡ get_or p.masks.items i mask → NearOf p.starts.items p.readers.items i s mask
+near p i s mask h at e = p.near.each i s mask at (get_read p.masks.items i mask (let a = p.near.long in omega (arith, a, h)) e)
+
+pub evaluate-requires-clause-near : goal.evaluate-requires-clause-near
+evaluate-requires-clause-near c =
     let r = c.requires.runs in
     let from : c.args.word * 64 ≤ c.steps.place = (let a = c.steps.invariant.from in omega (arith, a)) in
     let t = c.in-Some.ensures.some c.steps.marks (inside c.args.word c.args.marks.now c.steps.marks c.steps.invariant.long c.requires.within) in
     let a = known r.0 c.args.plan.now r.1 r.2 r.3 c.args.word c.steps.place c.in-Some.taken.number c.steps.values (holding c.steps.marks c.args.word c.steps.held) (holding c.steps.marks c.args.word c.in-Some.taken.left) from c.steps.invariant.to c.requires.steps (c.steps.invariant.runs r.0 r.1 r.2 r.3 r.4) t in
     let at = get_read c.args.plan.now.steps.items c.in-Some.taken.number c.index.result.now a c.index.ensures in
-    (c.in-Some.taken.number, c.args.plan.now.near.each c.in-Some.taken.number c.index.result.now at)
+    (c.in-Some.taken.number, near c.args.plan.now c.in-Some.taken.number c.index.result.now c.index-near.result.now a at c.index-near.ensures)
 
 pub steps-smaller : goal.steps-smaller
 steps-smaller c =
@@ -101,15 +116,15 @@ steps-preserved c =
     let within = t.within in
     let late = later r.0 c.args.plan.now r.1 r.2 r.3 c.args.word c.steps.place c.in-Some.taken.number c.steps.values (holding c.steps.marks c.args.word c.steps.held) (holding c.steps.marks c.args.word c.in-Some.taken.left) from c.steps.invariant.to c.requires.steps (c.steps.invariant.runs r.0 r.1 r.2 r.3 r.4) t in
     record {
-      long = c.evaluate-near.ensures.long ∙ c.steps.invariant.long;
+      long = c.evaluate.ensures.long ∙ c.steps.invariant.long;
       from = (let a = c.steps.invariant.from in omega (arith, a, late));
       to = omega (arith, within);
       runs = λ o regs now start w.
           let a = known o c.args.plan.now regs now start c.args.word c.steps.place c.in-Some.taken.number c.steps.values (holding c.steps.marks c.args.word c.steps.held) (holding c.steps.marks c.args.word c.in-Some.taken.left) from c.steps.invariant.to c.requires.steps (c.steps.invariant.runs o regs now start w) t in
           let at = get_read p.steps.items i step a c.index.ensures in
-          let g = c.evaluate-near.ensures.given i left (let b = c.steps.invariant.long in let d = c.requires.within in omega (arith, b, d, within)) (p.near.each i step at) in
-          let g' = subst (λ y. HasGiven p.steps.items p.starts.items p.readers.items step.wire.0 (action_number (slice_index c.steps.values) step.action) c.steps.values c.evaluate-near.new.values (holding c.steps.marks y left) (holding c.evaluate-near.new.marks y (bit_or left c.evaluate-near.result))) within g in
-          (turn o c.args.plan.now regs now start c.args.word c.steps.place c.in-Some.taken.number c.steps.values (holding c.steps.marks c.args.word c.steps.held) (holding c.steps.marks c.args.word c.in-Some.taken.left) from c.steps.invariant.to c.requires.steps (c.steps.invariant.runs o regs now start w) t step at).next c.evaluate-near.new.values (holding c.evaluate-near.new.marks c.args.word (bit_or left c.evaluate-near.result)) g';
+          let g = c.evaluate.ensures.given i left (let b = c.steps.invariant.long in let d = c.requires.within in omega (arith, b, d, within)) (near p i step c.index-near.result.now a at c.index-near.ensures) in
+          let g' = subst (λ y. HasGiven p.steps.items p.starts.items p.readers.items step.wire.0 (action_number (slice_index c.steps.values) step.action) c.steps.values c.evaluate.new.values (holding c.steps.marks y left) (holding c.evaluate.new.marks y (bit_or left c.evaluate.result))) within g in
+          (turn o c.args.plan.now regs now start c.args.word c.steps.place c.in-Some.taken.number c.steps.values (holding c.steps.marks c.args.word c.steps.held) (holding c.steps.marks c.args.word c.in-Some.taken.left) from c.steps.invariant.to c.requires.steps (c.steps.invariant.runs o regs now start w) t step at).next c.evaluate.new.values (holding c.evaluate.new.marks c.args.word (bit_or left c.evaluate.result)) g';
     }
 
 pub returns-clause-runs : goal.returns-clause-runs

@@ -79,11 +79,11 @@ returns-clause-keeps c =
     let reset = subst (λ (l : List Register). AreReset o.net l (length l) states) kept (subst (λ (m : Netlist). AreReset m c.as_slice-kept.result.now (length c.as_slice-kept.result.now) states) e c.in_ok-state.ensures) in
     record {
       long = reset.long;
-      keeps = keeps_new o c.in_ok-steps.steps.items c.in_ok-inputs_of.field-0.items regs starts readers marks waiting (placed (length o.net.signals) regs states) c.in_ok-values.values
+      keeps = keeps_new o c.in_ok-made.made.steps.items c.in_ok-inputs_of.field-0.items regs starts readers marks waiting (placed (length o.net.signals) regs states) c.in_ok-values.values
           made
           c.wires-2.ensures.order
-          (subst (λ (x : List ℕ). AreSteps o.net x c.in_ok-steps.steps.items) c.wires-2.ensures.wires
-          (subst (λ (m : Netlist). AreSteps m ws c.in_ok-steps.steps.items) e c.in_ok-steps.ensures.steps))
+          (subst (λ (x : List ℕ). AreSteps o.net x c.in_ok-made.made.steps.items) c.wires-2.ensures.wires
+          (subst (λ (m : Netlist). AreSteps m ws c.in_ok-made.made.steps.items) e c.in_ok-made.ensures.steps))
           (c.in_ok-inputs_of.ensures ∙ ap inputs_of e)
           (subst (λ (m : Netlist). AreRegisters m (length m.signals) regs) e c.in_ok-registers.ensures)
           (subst (λ (k : ℕ). Lists starts readers (length o.net.signals) ((first_register k + length regs + 63) / 64)) many3
