@@ -14,7 +14,7 @@ use Rattle.safl_sim.specs.declared.step.Register.{Register}
 use Rattle.safl_sim.specs.declared.step.Step.{Step}
 use Rattle.safl_sim.specs.Marks.{marked, holding, HasNone, HasTaken}
 use Rattle.safl_sim.specs.Readers.{Reader, HasMarked, HasGiven}
-use Rattle.safl_sim.specs.Nears.{IsNear, NearAt, NearOf, AreNear, GroupOf}
+use Rattle.safl_sim.specs.Nears.{IsNear, NearAt, NearOf, GroupOf}
 use Rattle.safl_sim.specs.Steps.{AreSteps}
 use Rattle.safl_sim.proofs.Written.{same_or_not, lower_or_not, lower_or_same, index_here, set_length}
 use Rattle.safl_sim.proofs.MarksByOne.{written_same, written_other, none_in, take_has}

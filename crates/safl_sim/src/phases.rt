@@ -290,13 +290,7 @@ fn act_wide(values: &mut Numbers, step: &Step) -> bool
 /// Evaluates a step with a mask of its near readers. Where its wire's number is new, it marks what else reads the wire, and
 /// answers the mask.
 #[inline(always)]
-pub fn evaluate(
-    values: &mut Numbers,
-    marks: &mut Marks,
-    plan: &Plan,
-    step: &Step,
-    near: u64,
-) -> u64
+pub fn evaluate(values: &mut Numbers, marks: &mut Marks, plan: &Plan, step: &Step, near: u64) -> u64
     requires lists { Lists plan.now.starts.items plan.now.readers.items (length values.old) (length marks.old) }
     requires within { step.now.wire.0 < length values.old }
     requires ready { Ready values.old step.now.action }
