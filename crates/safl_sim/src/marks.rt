@@ -140,6 +140,10 @@ impl Marks {
         if from == end {
             return end;
         }
+        // So that what is done with the word does not wait for a search: small circuits have all their marks in one word.
+        if self.get(from) != 0 {
+            return from;
+        }
         let begun = from / 64;
         let left = self.filled[begun] >> (from % 64);
         if left != 0 {
