@@ -1,6 +1,7 @@
 pub mod MarksByOne
 pub mod Actions
 pub mod Written
+pub mod Parting
 pub mod Covering
 pub mod InputsInOrder
 pub mod Updates

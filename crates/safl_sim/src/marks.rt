@@ -1,6 +1,6 @@
 //! Marks of steps and registers, a bit for each.
 
-ghost use Rattle.std.specs.Prelude.{◌≡◌, ℕ, ◌+◌, ◌/◌, ◌<◌, ◌≤◌, ◌^◌, List, length, IfSome, IfNone};
+ghost use Rattle.std.specs.Prelude.{◌≡◌, ℕ, ◌+◌, ◌*◌, ◌/◌, ◌<◌, ◌≤◌, ◌^◌, List, length, IfSome, IfNone};
 ghost use Rattle.safl_sim.specs.Marks.{holding, HasTaken};
 
 use std::alloc::{AllocError, Global};
@@ -14,26 +14,27 @@ pub fn word_count(count: usize) -> usize
     (count + 63) / 64
 }
 
-/// A number that was marked, and what of its word is left.
+/// The bit of a mark in its word, and what of the word is left without it.
 #[derive(Clone, Copy)]
 pub struct Taken {
-    pub number: usize,
+    pub bit: usize,
     pub left: u64,
 }
 
 /// Takes the first mark of a word away, of which all marks are held apart.
 #[inline(always)]
-pub fn take_held(word: usize, held: u64) -> Option<Taken>
-    requires few { word < 2 ^ 32 }
+pub fn take_held(held: u64) -> Option<Taken>
     ensures none { IfNone result (held ≡ 0) }
-    ensures some { IfSome result (λ t. (marks : List ℕ) → word < length marks → HasTaken (holding marks word held) (holding marks word t.left) word t.number) }
+    ensures within { IfSome result (λ t. t.bit < 64) }
+    ensures some { IfSome result (λ t. (word : ℕ) (marks : List ℕ) → word < length marks
+        → HasTaken (holding marks word held) (holding marks word t.left) word (word * 64 + t.bit)) }
 {
     if held == 0 {
         None
     } else {
         let bit = held.trailing_zeros();
         Some(Taken {
-            number: word * 64 + bit as usize,
+            bit: bit as usize,
             left: held & !(1u64 << bit),
         })
     }

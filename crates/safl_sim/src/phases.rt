@@ -129,8 +129,8 @@ pub fn show_word(
     let mut held = waiting.get(word);
     // No register before this one waits any longer. It tells why the loop ends, as in `run_word`.
     let mut place = word * 64;
-    'registers: while let Some(taken) = take_held(word, held) {
-        let i = taken.number;
+    'registers: while let Some(taken) = take_held(held) {
+        let i = word * 64 + taken.bit;
         held = taken.left;
         show(
             values,
@@ -216,10 +216,11 @@ pub fn keep_word(
     waiting.join(word - first, held);
     // No register before this one is marked any longer. It tells why the loop ends, as in `run_word`.
     let mut place = word * 64;
-    'registers: while let Some(taken) = take_held(word, held) {
+    'registers: while let Some(taken) = take_held(held) {
+        let k = (word - first) * 64 + taken.bit;
         held = taken.left;
-        keep(state, registers, values, taken.number - first * 64);
-        place = taken.number + 1;
+        keep(state, registers, values, k);
+        place = word * 64 + taken.bit + 1;
     }
     marks.put(word, 0);
 }
@@ -322,17 +323,18 @@ pub fn run_word(values: &mut Numbers, marks: &mut Marks, plan: &Plan, word: usiz
         → Runs o plan.now.steps.items regs held plan.now.starts.items plan.now.readers.items start (word * 64) values.old marks.old
         → Runs o plan.now.steps.items regs held plan.now.starts.items plan.now.readers.items start ((word + 1) * 64) values.new marks.new }
 {
+    let steps = &plan.steps[word * 64..];
+    let masks = &plan.masks[word * 64..];
     let mut held = marks.get(word);
     let mut count = 0;
     // No step before this one is marked any longer. Nothing that runs reads it: it tells why the loop ends.
     let mut place = word * 64;
-    'steps: while let Some(taken) = take_held(word, held) {
-        let i = taken.number;
+    'steps: while let Some(taken) = take_held(held) {
         // The mask is read before the step is: which step comes next is not known without it.
-        let near = plan.masks[i];
-        held = taken.left | evaluate(values, marks, plan, &plan.steps[i], near);
+        let near = masks[taken.bit];
+        held = taken.left | evaluate(values, marks, plan, &steps[taken.bit], near);
         count += 1;
-        place = i + 1;
+        place = word * 64 + taken.bit + 1;
     }
     marks.put(word, 0);
     count

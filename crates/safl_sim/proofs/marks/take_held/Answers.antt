@@ -8,4 +8,4 @@ pub overflow_shl-result : goal.overflow_shl-result
 overflow_shl-result c = (bit_at-trailing_zeros w64 c.args.held (omega arith) (search rules)).0
 
 pub returns-else-held-eq0-clause-some : goal.returns-else-held-eq0-clause-some
-returns-else-held-eq0-clause-some c = λ marks h. take_held_has c.args.word c.args.held (omega arith) (search rules) marks h
+returns-else-held-eq0-clause-some c = λ word marks h. take_held_has word c.args.held (omega arith) (search rules) marks h

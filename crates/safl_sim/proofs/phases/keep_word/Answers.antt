@@ -18,13 +18,12 @@ joins : (marks waiting waiting' : List ℕ) (word first held : ℕ) → held ≡
 joins marks waiting waiting' word first held e f = f ∙ ap (joined waiting (word - first)) e
 
 -- the register that is taken
-found : (first : ℕ) (regs : List Register) (values : List ℕ) (place word i : ℕ) (start was now marks marks' waiting : List ℕ) → first ≤ word * 64 → KeepsOn first regs values place start was now marks waiting → HasTaken marks marks' word i
-    → (first ≤ i) × (i - first < length regs) × (first + (i - first) ≡ i)
-found first regs values place word i start was now marks marks' waiting early w t =
-    let a = w.within i t.was in
-    let b = t.within in
-    let d : first ≤ i = omega (arith, b, early) in
-    (d, omega (arith, a, d), omega (arith, d))
+found : (first : ℕ) (regs : List Register) (values : List ℕ) (place word k i : ℕ) (start was now marks marks' waiting : List ℕ) → first + k ≡ i → KeepsOn first regs values place start was now marks waiting → HasTaken marks marks' word i → k < length regs
+found first regs values place word k i start was now marks marks' waiting e w t = let a = w.within i t.was in omega (arith, a, e)
+
+-- its number
+number : (first word bit : ℕ) → first ≤ word → first * 64 + ((word - first) * 64 + bit) ≡ word * 64 + bit
+number first word bit h = omega (arith, h)
 
 -- a turn leads past it
 past : (first : ℕ) (regs : List Register) (values : List ℕ) (place word i : ℕ) (start was now marks marks' waiting : List ℕ) → first ≤ word * 64 → word * 64 ≤ place → KeepsOn first regs values place start was now marks waiting → HasTaken marks marks' word i → place ≤ i
@@ -57,19 +56,19 @@ pub keep-requires-clause-known : goal.keep-requires-clause-known
 keep-requires-clause-known c =
     let q = c.requires.keeps in
     let early : c.args.first * 64 ≤ c.args.word * 64 = (let a = c.requires.after in omega (arith, a)) in
-    let t = c.in-Some.ensures.some c.args.marks.now c.requires.word in
+    let t = c.in-Some.ensures.some c.args.word c.args.marks.now c.requires.word in
     let w = c.registers.invariant.keeps q.0 q.1 (subst (λ l. KeepsOn (c.args.first * 64) c.args.registers.now c.args.values.now (c.args.word * 64) q.0 q.1 (placed (length c.args.values.now) c.args.registers.now c.args.state.now) c.args.marks.now l) (sym (joins c.args.marks.now c.args.waiting.now c.join.new.self c.args.word c.args.first c.get-held.result c.get-held.ensures c.join.ensures))
     (keeps_joined c.args.first c.args.registers.now c.args.values.now (c.args.word * 64) c.args.word q.0 q.1 (placed (length c.args.values.now) c.args.registers.now c.args.state.now) c.args.marks.now c.args.waiting.now c.requires.after q.2)) in
-    (found (c.args.first * 64) c.args.registers.now c.args.values.now c.registers.place c.args.word c.in-Some.taken.number q.0 q.1 (placed (length c.args.values.now) c.args.registers.now c.registers.state) (holding c.args.marks.now c.args.word c.registers.held) (holding c.args.marks.now c.args.word c.in-Some.taken.left) c.join.new.self early w t).1
+    found (c.args.first * 64) c.args.registers.now c.args.values.now c.registers.place c.args.word ((c.args.word - c.args.first) * 64 + c.in-Some.taken.bit) (c.args.word * 64 + c.in-Some.taken.bit) q.0 q.1 (placed (length c.args.values.now) c.args.registers.now c.registers.state) (holding c.args.marks.now c.args.word c.registers.held) (holding c.args.marks.now c.args.word c.in-Some.taken.left) c.join.new.self (number c.args.first c.args.word c.in-Some.taken.bit c.requires.after) w t
 
 pub registers-smaller : goal.registers-smaller
 registers-smaller c =
     let q = c.requires.keeps in
     let early : c.args.first * 64 ≤ c.args.word * 64 = (let a = c.requires.after in omega (arith, a)) in
-    let t = c.in-Some.ensures.some c.args.marks.now c.requires.word in
+    let t = c.in-Some.ensures.some c.args.word c.args.marks.now c.requires.word in
     let w = c.registers.invariant.keeps q.0 q.1 (subst (λ l. KeepsOn (c.args.first * 64) c.args.registers.now c.args.values.now (c.args.word * 64) q.0 q.1 (placed (length c.args.values.now) c.args.registers.now c.args.state.now) c.args.marks.now l) (sym (joins c.args.marks.now c.args.waiting.now c.join.new.self c.args.word c.args.first c.get-held.result c.get-held.ensures c.join.ensures))
     (keeps_joined c.args.first c.args.registers.now c.args.values.now (c.args.word * 64) c.args.word q.0 q.1 (placed (length c.args.values.now) c.args.registers.now c.args.state.now) c.args.marks.now c.args.waiting.now c.requires.after q.2)) in
-    let a = past (c.args.first * 64) c.args.registers.now c.args.values.now c.registers.place c.args.word c.in-Some.taken.number q.0 q.1 (placed (length c.args.values.now) c.args.registers.now c.registers.state) (holding c.args.marks.now c.args.word c.registers.held) (holding c.args.marks.now c.args.word c.in-Some.taken.left) c.join.new.self early c.registers.invariant.from w t in
+    let a = past (c.args.first * 64) c.args.registers.now c.args.values.now c.registers.place c.args.word (c.args.word * 64 + c.in-Some.taken.bit) q.0 q.1 (placed (length c.args.values.now) c.args.registers.now c.registers.state) (holding c.args.marks.now c.args.word c.registers.held) (holding c.args.marks.now c.args.word c.in-Some.taken.left) c.join.new.self early c.registers.invariant.from w t in
     let b = t.within in
     omega (arith, a, b)
 
@@ -77,23 +76,24 @@ pub registers-preserved : goal.registers-preserved
 registers-preserved c =
     let q = c.requires.keeps in
     let early : c.args.first * 64 ≤ c.args.word * 64 = (let a = c.requires.after in omega (arith, a)) in
-    let t = c.in-Some.ensures.some c.args.marks.now c.requires.word in
+    let t = c.in-Some.ensures.some c.args.word c.args.marks.now c.requires.word in
     let w = c.registers.invariant.keeps q.0 q.1 (subst (λ l. KeepsOn (c.args.first * 64) c.args.registers.now c.args.values.now (c.args.word * 64) q.0 q.1 (placed (length c.args.values.now) c.args.registers.now c.args.state.now) c.args.marks.now l) (sym (joins c.args.marks.now c.args.waiting.now c.join.new.self c.args.word c.args.first c.get-held.result c.get-held.ensures c.join.ensures))
     (keeps_joined c.args.first c.args.registers.now c.args.values.now (c.args.word * 64) c.args.word q.0 q.1 (placed (length c.args.values.now) c.args.registers.now c.args.state.now) c.args.marks.now c.args.waiting.now c.requires.after q.2)) in
-    let f = found (c.args.first * 64) c.args.registers.now c.args.values.now c.registers.place c.args.word c.in-Some.taken.number q.0 q.1 (placed (length c.args.values.now) c.args.registers.now c.registers.state) (holding c.args.marks.now c.args.word c.registers.held) (holding c.args.marks.now c.args.word c.in-Some.taken.left) c.join.new.self early w t in
-    let k = c.in-Some.taken.number - c.args.first * 64 in
+    let f = found (c.args.first * 64) c.args.registers.now c.args.values.now c.registers.place c.args.word ((c.args.word - c.args.first) * 64 + c.in-Some.taken.bit) (c.args.word * 64 + c.in-Some.taken.bit) q.0 q.1 (placed (length c.args.values.now) c.args.registers.now c.registers.state) (holding c.args.marks.now c.args.word c.registers.held) (holding c.args.marks.now c.args.word c.in-Some.taken.left) c.join.new.self (number c.args.first c.args.word c.in-Some.taken.bit c.requires.after) w t in
+    let k = (c.args.word - c.args.first) * 64 + c.in-Some.taken.bit in
+    let e = number c.args.first c.args.word c.in-Some.taken.bit c.requires.after in
     let r = get_or c.args.registers.now k none in
-    let here : slice_get c.args.registers.now k ≡ Some r = get_at c.args.registers.now k none f.1 in
+    let here : slice_get c.args.registers.now k ≡ Some r = get_at c.args.registers.now k none f in
     let long = c.registers.invariant.state ∙ c.requires.states in
     let known : r.signal.0 < length (placed (length c.args.values.now) c.args.registers.now c.registers.state) = (let a = c.requires.within k r here in let b = placed_long (length c.args.values.now) c.args.registers.now c.registers.state in omega (arith, a, b)) in
-    let taken = subst (λ i. HasTaken (holding c.args.marks.now c.args.word c.registers.held) (holding c.args.marks.now c.args.word c.in-Some.taken.left) c.args.word i) (sym f.2) t in
-    let waits : marked c.join.new.self k ≡ 1 = c.registers.invariant.wait k (let a = t.within in let b = f.2 in omega (arith, a, b)) taken.was in
+    let taken = subst (λ i. HasTaken (holding c.args.marks.now c.args.word c.registers.held) (holding c.args.marks.now c.args.word c.in-Some.taken.left) c.args.word i) (sym e) t in
+    let waits : marked c.join.new.self k ≡ 1 = c.registers.invariant.wait k (let a = t.within in omega (arith, a, e)) taken.was in
     record {
       from = (let a = t.within in omega (arith, a));
       state = (let a = c.registers.invariant.state in let b = c.keep.auto.state in omega (arith, a, b));
-      wait = left (holding c.args.marks.now c.args.word c.registers.held) (holding c.args.marks.now c.args.word c.in-Some.taken.left) c.join.new.self (c.args.first * 64) c.args.word c.in-Some.taken.number t c.registers.invariant.wait;
+      wait = left (holding c.args.marks.now c.args.word c.registers.held) (holding c.args.marks.now c.args.word c.in-Some.taken.left) c.join.new.self (c.args.first * 64) c.args.word (c.args.word * 64 + c.in-Some.taken.bit) t c.registers.invariant.wait;
       keeps = λ start was w.
-          subst (λ i. KeepsOn (c.args.first * 64) c.args.registers.now c.args.values.now (i + 1) start was (placed (length c.args.values.now) c.args.registers.now c.keep.new.state) (holding c.args.marks.now c.args.word c.in-Some.taken.left) c.join.new.self) f.2
+          subst (λ i. KeepsOn (c.args.first * 64) c.args.registers.now c.args.values.now (i + 1) start was (placed (length c.args.values.now) c.args.registers.now c.keep.new.state) (holding c.args.marks.now c.args.word c.in-Some.taken.left) c.join.new.self) e
           (keeps_step (c.args.first * 64) c.args.registers.now c.args.values.now c.registers.place c.args.word k r start was (placed (length c.args.values.now) c.args.registers.now c.registers.state) (placed (length c.args.values.now) c.args.registers.now c.keep.new.state) (holding c.args.marks.now c.args.word c.registers.held) (holding c.args.marks.now c.args.word c.in-Some.taken.left) c.join.new.self (c.registers.invariant.keeps start was w) early c.registers.invariant.from taken here known (next_once c.args.registers.now c.requires.once) (ap (placed (length c.args.values.now) c.args.registers.now) (c.keep.ensures r here) ∙ placed_set (length c.args.values.now) c.args.registers.now c.registers.state k r (slice_index c.args.values.now r.next.0) c.requires.once long here) waits);
     }
 

@@ -24,14 +24,14 @@ group p i r g h at e = p.grouped.each i r g at (get_read p.groups.items i g (let
 pub index-requires : goal.index-requires
 index-requires c =
     let r = c.requires.shows in
-    let a = found c.args.plan.now.registers.items r.0 _ c.args.word c.in-Some.taken.number r.1 c.registers.values (holding c.args.waiting.now c.args.word c.registers.held) (holding c.args.waiting.now c.args.word c.in-Some.taken.left) (c.registers.invariant.shows r.0 r.1 r.2 r.3) (c.in-Some.ensures.some c.args.waiting.now c.requires.word) in
+    let a = found c.args.plan.now.registers.items r.0 _ c.args.word (c.args.word * 64 + c.in-Some.taken.bit) r.1 c.registers.values (holding c.args.waiting.now c.args.word c.registers.held) (holding c.args.waiting.now c.args.word c.in-Some.taken.left) (c.registers.invariant.shows r.0 r.1 r.2 r.3) (c.in-Some.ensures.some c.args.word c.args.waiting.now c.requires.word) in
     let b = c.args.plan.now.registers.ok.0 in
     omega (arith, a, b)
 
 pub index-requires-in-Some : goal.index-requires-in-Some
 index-requires-in-Some c =
     let r = c.requires.shows in
-    let a = found c.args.plan.now.registers.items r.0 _ c.args.word c.in-Some.taken.number r.1 c.registers.values (holding c.args.waiting.now c.args.word c.registers.held) (holding c.args.waiting.now c.args.word c.in-Some.taken.left) (c.registers.invariant.shows r.0 r.1 r.2 r.3) (c.in-Some.ensures.some c.args.waiting.now c.requires.word) in
+    let a = found c.args.plan.now.registers.items r.0 _ c.args.word (c.args.word * 64 + c.in-Some.taken.bit) r.1 c.registers.values (holding c.args.waiting.now c.args.word c.registers.held) (holding c.args.waiting.now c.args.word c.in-Some.taken.left) (c.registers.invariant.shows r.0 r.1 r.2 r.3) (c.in-Some.ensures.some c.args.word c.args.waiting.now c.requires.word) in
     let b = c.args.plan.now.groups.ok.0 in
     let d = c.args.plan.now.grouped.long in
     omega (arith, a, b, d)
@@ -39,7 +39,7 @@ index-requires-in-Some c =
 pub bounds-state-i : goal.bounds-state-i
 bounds-state-i c =
     let r = c.requires.shows in
-    let a = found c.args.plan.now.registers.items r.0 _ c.args.word c.in-Some.taken.number r.1 c.registers.values (holding c.args.waiting.now c.args.word c.registers.held) (holding c.args.waiting.now c.args.word c.in-Some.taken.left) (c.registers.invariant.shows r.0 r.1 r.2 r.3) (c.in-Some.ensures.some c.args.waiting.now c.requires.word) in
+    let a = found c.args.plan.now.registers.items r.0 _ c.args.word (c.args.word * 64 + c.in-Some.taken.bit) r.1 c.registers.values (holding c.args.waiting.now c.args.word c.registers.held) (holding c.args.waiting.now c.args.word c.in-Some.taken.left) (c.registers.invariant.shows r.0 r.1 r.2 r.3) (c.in-Some.ensures.some c.args.word c.args.waiting.now c.requires.word) in
     let d = r.2.long in
     omega (arith, a, d)
 
@@ -50,15 +50,15 @@ pub show-requires-clause-group : goal.show-requires-clause-group
 show-requires-clause-group c =
     let r = c.requires.shows in
     let p = c.args.plan.now in
-    let i = c.in-Some.taken.number in
-    let a = found c.args.plan.now.registers.items r.0 _ c.args.word c.in-Some.taken.number r.1 c.registers.values (holding c.args.waiting.now c.args.word c.registers.held) (holding c.args.waiting.now c.args.word c.in-Some.taken.left) (c.registers.invariant.shows r.0 r.1 r.2 r.3) (c.in-Some.ensures.some c.args.waiting.now c.requires.word) in
+    let i = (c.args.word * 64 + c.in-Some.taken.bit) in
+    let a = found c.args.plan.now.registers.items r.0 _ c.args.word (c.args.word * 64 + c.in-Some.taken.bit) r.1 c.registers.values (holding c.args.waiting.now c.args.word c.registers.held) (holding c.args.waiting.now c.args.word c.in-Some.taken.left) (c.registers.invariant.shows r.0 r.1 r.2 r.3) (c.in-Some.ensures.some c.args.word c.args.waiting.now c.requires.word) in
     group p i c.index.result.now c.index-in-Some.result.now a (get_read p.registers.items i c.index.result.now a c.index.ensures) c.index-in-Some.ensures
 
 pub show-requires-clause-within : goal.show-requires-clause-within
 show-requires-clause-within c =
     let r = c.requires.shows in
-    let i = c.in-Some.taken.number in
-    let f = found c.args.plan.now.registers.items r.0 _ c.args.word c.in-Some.taken.number r.1 c.registers.values (holding c.args.waiting.now c.args.word c.registers.held) (holding c.args.waiting.now c.args.word c.in-Some.taken.left) (c.registers.invariant.shows r.0 r.1 r.2 r.3) (c.in-Some.ensures.some c.args.waiting.now c.requires.word) in
+    let i = (c.args.word * 64 + c.in-Some.taken.bit) in
+    let f = found c.args.plan.now.registers.items r.0 _ c.args.word (c.args.word * 64 + c.in-Some.taken.bit) r.1 c.registers.values (holding c.args.waiting.now c.args.word c.registers.held) (holding c.args.waiting.now c.args.word c.in-Some.taken.left) (c.registers.invariant.shows r.0 r.1 r.2 r.3) (c.in-Some.ensures.some c.args.word c.args.waiting.now c.requires.word) in
     let a = c.requires.within i c.index.result.now (get_read c.args.plan.now.registers.items i c.index.result.now f c.index.ensures) in
     let b = c.registers.invariant.wide in
     omega (arith, a, b)
@@ -70,8 +70,8 @@ past regs now place word i start values waiting waiting' from w t = taken_after 
 pub registers-smaller : goal.registers-smaller
 registers-smaller c =
     let r = c.requires.shows in
-    let t = c.in-Some.ensures.some c.args.waiting.now c.requires.word in
-    let a = past c.args.plan.now.registers.items r.0 _ c.args.word c.in-Some.taken.number r.1 c.registers.values (holding c.args.waiting.now c.args.word c.registers.held) (holding c.args.waiting.now c.args.word c.in-Some.taken.left) c.registers.invariant.from (c.registers.invariant.shows r.0 r.1 r.2 r.3) t in
+    let t = c.in-Some.ensures.some c.args.word c.args.waiting.now c.requires.word in
+    let a = past c.args.plan.now.registers.items r.0 _ c.args.word (c.args.word * 64 + c.in-Some.taken.bit) r.1 c.registers.values (holding c.args.waiting.now c.args.word c.registers.held) (holding c.args.waiting.now c.args.word c.in-Some.taken.left) c.registers.invariant.from (c.registers.invariant.shows r.0 r.1 r.2 r.3) t in
     let b = t.within in
     omega (arith, a, b)
 
@@ -79,9 +79,9 @@ pub registers-preserved : goal.registers-preserved
 registers-preserved c =
     let r = c.requires.shows in
     let p = c.args.plan.now in
-    let i = c.in-Some.taken.number in
-    let t = c.in-Some.ensures.some c.args.waiting.now c.requires.word in
-    let f = found c.args.plan.now.registers.items r.0 _ c.args.word c.in-Some.taken.number r.1 c.registers.values (holding c.args.waiting.now c.args.word c.registers.held) (holding c.args.waiting.now c.args.word c.in-Some.taken.left) (c.registers.invariant.shows r.0 r.1 r.2 r.3) t in
+    let i = (c.args.word * 64 + c.in-Some.taken.bit) in
+    let t = c.in-Some.ensures.some c.args.word c.args.waiting.now c.requires.word in
+    let f = found c.args.plan.now.registers.items r.0 _ c.args.word (c.args.word * 64 + c.in-Some.taken.bit) r.1 c.registers.values (holding c.args.waiting.now c.args.word c.registers.held) (holding c.args.waiting.now c.args.word c.in-Some.taken.left) (c.registers.invariant.shows r.0 r.1 r.2 r.3) t in
     let own = c.index.result.now in
     let at = get_read p.registers.items i own f c.index.ensures in
     let known : own.signal.0 < length c.registers.values = (let a = c.requires.within i own at in let b = c.registers.invariant.wide in omega (arith, a, b)) in
