@@ -7,8 +7,9 @@ ghost use Rattle.safl_sim.specs.Guards.{AreGuards, AreGuards-prop};
 use crate::step::{Group, Guard, Register, Step};
 use safl_net::Sig;
 
-/// The steps in an order of evaluation with the masks of their near readers, the inputs, the registers with a group of their readers, and what reads each place. That of place `p` is `readers[starts[p]..starts[p + 1]]`, by its mark: of steps that have
-/// it as an operand, and of registers that have it as their next signal. Each reader has a guard.
+/// The steps in an order of evaluation with the masks of their near readers, the inputs, the registers with a group of
+/// their readers, and what reads each place. That of place `p` is `readers[starts[p]..starts[p + 1]]`, by its mark: of
+/// steps that have it as an operand, and of registers that have it as their next signal. Each reader has a guard.
 #[derive(Drop)]
 pub struct Plan {
     pub steps: Vec<Step>,
