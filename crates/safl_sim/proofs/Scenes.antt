@@ -1,5 +1,5 @@
 -- The values while the steps run.
-use Rattle.std.proofs.Common.{◌≡◌, inl, inr, ℕ, zero, suc, ◌+◌, ◌<◌, ◌≤◌, ◌^◌, List, [], ◌∷◌, map, length, set, Option, Some, None, slice_get, slice_index, slice_index_or, refl, sym, ap, subst, ◌∙◌, arith}
+use Rattle.std.proofs.Common.{◌≡◌, inl, inr, true, ℕ, zero, suc, ◌+◌, ◌<◌, ◌≤◌, ◌^◌, List, [], ◌∷◌, map, length, set, Option, Some, None, slice_get, slice_index, slice_index_or, refl, sym, ap, subst, ◌∙◌, arith}
 use Rattle.safl_word.specs.Words.{Word, IsWord, AreWords}
 use Rattle.safl_net.specs.Netlist.{Netlist, Signal, Wire, Cell, width_in, width_of}
 use Rattle.safl_net.specs.Valuations.{signal_word, cell_word}
@@ -10,8 +10,10 @@ use Rattle.safl_net.specs.Laws.{FitWidths}
 use Rattle.safl_net.proofs.Naming.{within}
 use Rattle.safl_net.proofs.CellWords.{cell_width, cell_is_word, shown_widths}
 use Rattle.safl_order.specs.Order.{IsOrder, IsWire, operands_of, operands_in}
+use Rattle.safl_sim.specs.declared.step.Action.{Action}
+use Rattle.safl_sim.specs.declared.step.Action.TheVariants.{Choose, One, Two, Add, Sub, And, Or, Xor, Eq, Shl, Shr, Bits, Const, WideChoose, WideOne, WideTwo}
 use Rattle.safl_sim.specs.declared.step.Step.{Step}
-use Rattle.safl_sim.specs.Steps.{action_number, IsStep, AreSteps, LowStep}
+use Rattle.safl_sim.specs.Steps.{action_number, is_low, Low, LowOf, IsStep, AreSteps, LowStep}
 use Rattle.safl_sim.specs.Writes.{after_steps, AllReady}
 use Rattle.safl_sim.proofs.Actions.{signal_word as a_word, low_number}
 use Rattle.safl_sim.proofs.Updates.{operands_same}
@@ -101,15 +103,33 @@ scene_step n ws j s step start values made o w at p =
     subst (λ y. Scene n ws (j + 1) start (set values y (action_number (slice_index values) step.action))) (sym p.wire)
     (write_step n ws j s (action_number (slice_index values) step.action) p.cell start values made o w at p.is (p.performs.gives (slice_index values) w.fits))
 
--- a narrow step works on and gives numbers of at most 64 bits
+-- an action for at most 64 bits works on numbers of so many
+low_of : (values : List ℕ) (action : Action) → (is_low action ≡ true → Low values action) → LowOf values action
+low_of values (Const l h) low = tt
+low_of values (WideChoose c a b turned) low = tt
+low_of values (WideOne p w a) low = tt
+low_of values (WideTwo p w v a b) low = tt
+low_of values (Choose c a b turned) low = low refl
+low_of values (One p w a) low = low refl
+low_of values (Two p w v a b) low = low refl
+low_of values (Add w v a b) low = low refl
+low_of values (Sub w v a b) low = low refl
+low_of values (And w v a b) low = low refl
+low_of values (Or w v a b) low = low refl
+low_of values (Xor w v a b) low = low refl
+low_of values (Eq w v a b) low = low refl
+low_of values (Shl w v a b) low = low refl
+low_of values (Shr w v a b) low = low refl
+low_of values (Bits high low' w a) low = low refl
+
+-- and the wire of its step has at most 64 bits
 pub step_low : (n : Netlist) (s : ℕ) (step : Step) (values : List ℕ) → IsNetlist n → IsStep n s step → FitWidths n (slice_index values) → LowStep values step
-step_low n s step values made is fits marked =
+step_low n s step values made is fits =
     let g = wire_at n s is.cell is.is in
     let w : width_of n s ≡ g.0.width = ap width_in g.1 in
-    let f : CellFits n g.0.width is.cell = subst (λ k. KindFits n g.0.width k) g.2 (made.signals s g.0 g.1).kind in
-    let narrow = is.narrow marked in (
-      is.performs.low values s fits (subst (λ k. CellFits n k is.cell) (sym w) f) narrow,
-      subst (λ x. slice_index values x < 2 ^ 64) (sym is.wire) (low_number n values s fits (within n.signals s g.0 g.1) narrow.wire),
+    let f : CellFits n g.0.width is.cell = subst (λ k. KindFits n g.0.width k) g.2 (made.signals s g.0 g.1).kind in (
+      low_of values step.action (λ low. is.performs.low values s fits (subst (λ k. CellFits n k is.cell) (sym w) f) (is.narrow low)),
+      λ low. subst (λ x. slice_index values x < 2 ^ 64) (sym is.wire) (low_number n values s fits (within n.signals s g.0 g.1) (is.narrow low).wire),
     )
 
 -- what the rest of the steps do

@@ -11,13 +11,13 @@ use Rattle.safl_net.proofs.Naming.{within}
 use Rattle.safl_order.specs.Order.{IsOrder, operands_of, operands_in}
 use Rattle.safl_order.proofs.Places.{get_some}
 use Rattle.safl_sim.specs.declared.step.Action.{Action}
-use Rattle.safl_sim.specs.declared.step.Action.TheVariants.{Choose}
+use Rattle.safl_sim.specs.declared.step.Action.TheVariants.{Choose, WideChoose}
 use Rattle.safl_sim.specs.declared.step.Step.{Step}
 use Rattle.safl_sim.specs.declared.step.Register.{Register}
 use Rattle.safl_sim.specs.Marks.{marked, first_register}
 use Rattle.safl_sim.specs.Readers.{Lists, Reader, AreReaders, IsBlind, HasGiven, Agrees, Kept, Inside, Holding}
 use Rattle.safl_narrow.specs.Narrow.{word_of}
-use Rattle.safl_sim.specs.Steps.{action_number, IsStep, AreSteps, Goes}
+use Rattle.safl_sim.specs.Steps.{Choice, plain_number, action_number, IsStep, AreSteps, Goes}
 use Rattle.safl_sim.proofs.Actions.{picked_number}
 use Rattle.safl_sim.proofs.Written.{same_or_not, lower_or_not, index_here, index_other}
 
@@ -46,14 +46,19 @@ pub agrees_apart : (n : Netlist) (values : List ℕ) (p x t : ℕ) (d : Cell) �
 agrees_apart n values p x t d ne away e = index_other values p x t ne ∙ e ∙ ap (λ l. (cell_word d.op l).bits) (sym (operands_same n values p x d.operands away))
 
 -- a choice that is blind to a place gives the same whatever number stands there
-blind_same : (values : List ℕ) (p x : ℕ) (action : Action) → IsBlind (slice_index (set values p x)) p action → action_number (slice_index (set values p x)) action ≡ action_number (slice_index values) action
-blind_same values p x (Choose c a b turned) blind =
+choice_same : (values : List ℕ) (p x c a b turned : ℕ) → ¬ (c ≡ p) → ¬ (pick (slice_index (set values p x) c) a b ≡ p)
+    → plain_number (slice_index (set values p x)) (Choice c a b turned) ≡ plain_number (slice_index values) (Choice c a b turned)
+choice_same values p x c a b turned apart away =
     let chosen = pick (slice_index (set values p x) c) a b in
     ap (bit_xor turned) (
     sym (picked_number (slice_index (set values p x)) (slice_index (set values p x) c) a b)
-    ∙ index_other values p x chosen blind.1
+    ∙ index_other values p x chosen away
     ∙ picked_number (slice_index values) (slice_index (set values p x) c) a b
-    ∙ ap (λ i. pick i (slice_index values a) (slice_index values b)) (index_other values p x c blind.0))
+    ∙ ap (λ i. pick i (slice_index values a) (slice_index values b)) (index_other values p x c apart))
+
+blind_same : (values : List ℕ) (p x : ℕ) (action : Action) → IsBlind (slice_index (set values p x)) p action → action_number (slice_index (set values p x)) action ≡ action_number (slice_index values) action
+blind_same values p x (Choose c a b turned) blind = choice_same values p x c a b turned blind.0 blind.1
+blind_same values p x (WideChoose c a b turned) blind = choice_same values p x c a b turned blind.0 blind.1
 blind_same values p x action blind = absurd blind
 
 -- a step that holds, and is blind to what is written and writes it not, holds

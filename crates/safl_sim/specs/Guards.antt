@@ -3,7 +3,7 @@ use Rattle.std.specs.Prelude.{◌≡◌, ℕ, ◌+◌, ◌<◌, ◌≤◌, List,
 use Rattle.std.specs.Coded.{×_prop, Π_prop, le_prop}
 use mathlib.Core.HLevel.{⊥_prop}
 use Rattle.safl_sim.specs.declared.step.Action.{Action}
-use Rattle.safl_sim.specs.declared.step.Action.TheVariants.{Choose}
+use Rattle.safl_sim.specs.declared.step.Action.TheVariants.{Choose, WideChoose}
 use Rattle.safl_sim.specs.declared.step.Guard.{Guard}
 use Rattle.safl_sim.specs.declared.step.Guard.TheVariants.{Always, If, Unless}
 use Rattle.safl_sim.specs.declared.step.Step.{Step}
@@ -30,6 +30,7 @@ AreGuarded steps starts readers guards = (length guards ≡ length readers) × A
 
 pub IsBlind-prop : (f : ℕ → ℕ) (p : ℕ) (action : Action) → IsProp (IsBlind f p action)
 IsBlind-prop f p (Choose c a b turned) = ×_prop (Π_prop λ _. ⊥_prop) (Π_prop λ _. ⊥_prop)
+IsBlind-prop f p (WideChoose c a b turned) = ×_prop (Π_prop λ _. ⊥_prop) (Π_prop λ _. ⊥_prop)
 IsBlind-prop f p action = ⊥_prop
 
 pub AreGuards-prop : (steps : List Step) (starts readers : List ℕ) (guards : List Guard) → IsProp (AreGuards steps starts readers guards)

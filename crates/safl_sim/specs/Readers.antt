@@ -6,7 +6,7 @@ use Rattle.safl_net.specs.Valuations.{signal_word, cell_word}
 use Rattle.safl_net.specs.Making.{kind_at}
 use Rattle.safl_order.specs.Order.{operands_of}
 use Rattle.safl_sim.specs.declared.step.Action.{Action}
-use Rattle.safl_sim.specs.declared.step.Action.TheVariants.{Choose}
+use Rattle.safl_sim.specs.declared.step.Action.TheVariants.{Choose, WideChoose}
 use Rattle.safl_sim.specs.declared.step.Step.{Step}
 use Rattle.safl_sim.specs.declared.step.Register.{Register}
 use Rattle.safl_sim.specs.Marks.{marked, first_register}
@@ -37,6 +37,7 @@ pub record AreReaders (n : Netlist) (ws : List ℕ) (regs : List Register) (star
 -- a choice that is blind to a place: neither its condition nor what it chooses stands there
 abbrev pub IsBlind : (ℕ → ℕ) → ℕ → Action → Type 0
 IsBlind f p (Choose c a b turned) = ¬ (c ≡ p) × ¬ (pick (f c) a b ≡ p)
+IsBlind f p (WideChoose c a b turned) = ¬ (c ≡ p) × ¬ (pick (f c) a b ≡ p)
 IsBlind f p action = ⊥
 
 -- number k is of a step, which is such a choice

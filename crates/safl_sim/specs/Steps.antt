@@ -1,5 +1,5 @@
 -- Steps that are prepared for evaluation.
-use Rattle.std.specs.Prelude.{◌≡◌, ℕ, ◌+◌, ◌*◌, ◌<◌, ◌≤◌, ◌^◌, List, [], ◌∷◌, map, length, Some, IsSome, true, bit_xor, slice_get, slice_index}
+use Rattle.std.specs.Prelude.{◌≡◌, ℕ, ◌+◌, ◌*◌, ◌<◌, ◌≤◌, ◌^◌, List, [], ◌∷◌, map, length, Some, IsSome, Bool, true, false, bit_xor, slice_get, slice_index}
 use Rattle.safl_word.specs.Words.{IsWord, pick}
 use Rattle.safl_word.specs.Primitives.{result_width, apply_prim}
 use Rattle.safl_word.specs.declared.primitive.Primitive.{Primitive}
@@ -13,7 +13,7 @@ use Rattle.safl_net.specs.Laws.{FitWidths}
 use Rattle.safl_net.specs.Making.{kind_at, numbers}
 use Rattle.safl_order.specs.Order.{Order, IsOrder, IsWire}
 use Rattle.safl_sim.specs.declared.step.Action.{Action}
-use Rattle.safl_sim.specs.declared.step.Action.TheVariants.{Const, Choose, One, Two, Add, Sub, And, Or, Xor, Eq, Shl, Shr, Bits}
+use Rattle.safl_sim.specs.declared.step.Action.TheVariants.{Choose, One, Two, Add, Sub, And, Or, Xor, Eq, Shl, Shr, Bits, Const, WideChoose, WideOne, WideTwo}
 use Rattle.safl_sim.specs.declared.step.Step.{Step}
 use Rattle.safl_sim.specs.declared.step.Register.{Register}
 use Rattle.safl_sim.specs.Places.{inputs_of}
@@ -42,6 +42,9 @@ plain (Eq w v a b) = Binary primitive.Eq w v a b
 plain (Shl w v a b) = Binary primitive.Shl w v a b
 plain (Shr w v a b) = Binary primitive.Shr w v a b
 plain (Bits high low w a) = Unary (primitive.Bits high low) w a
+plain (WideChoose c a b turned) = Choice c a b turned
+plain (WideOne p w a) = Unary p w a
+plain (WideTwo p w v a b) = Binary p w v a b
 
 -- what it gives, where the signals have these numbers
 abbrev pub plain_number : (ℕ → ℕ) → Plain → ℕ
@@ -74,6 +77,22 @@ PlainLow values (Binary p w v a b) = (slice_index values a < 2 ^ 64) × (slice_i
 abbrev pub Low : List ℕ → Action → Type 0
 Low values action = PlainLow values (plain action)
 
+-- an action for at most 64 bits
+abbrev pub is_low : Action → Bool
+is_low (Const l h) = false
+is_low (WideChoose c a b turned) = false
+is_low (WideOne p w a) = false
+is_low (WideTwo p w v a b) = false
+is_low action = true
+
+-- what such an action works on and gives has at most 64 bits
+abbrev pub LowOf : List ℕ → Action → Type 0
+LowOf values (Const l h) = Unit {0}
+LowOf values (WideChoose c a b turned) = Unit {0}
+LowOf values (WideOne p w a) = Unit {0}
+LowOf values (WideTwo p w v a b) = Unit {0}
+LowOf values action = Low values action
+
 -- a wire of at most 64 bits, and so are the operands of its cell
 pub record IsNarrow (n : Netlist) (s : ℕ) (c : Cell) : Type 0 where
   pub wire : width_of n s ≤ 64
@@ -90,11 +109,11 @@ pub record IsStep (n : Netlist) (s : ℕ) (step : Step) : Type 0 where
   pub cell : Cell
   pub is : kind_at n s ≡ Wire (Some cell)
   pub performs : Performs n cell step.action
-  pub narrow : step.narrow ≡ true → IsNarrow n s cell
+  pub narrow : is_low step.action ≡ true → IsNarrow n s cell
 
--- what is known of a narrow step
+-- and so has the wire of its step
 abbrev pub LowStep : List ℕ → Step → Type 0
-LowStep values step = step.narrow ≡ true → Low values step.action × (slice_index values step.wire.0 < 2 ^ 64)
+LowStep values step = LowOf values step.action × (is_low step.action ≡ true → slice_index values step.wire.0 < 2 ^ 64)
 
 -- the steps of wires, in their order
 pub record AreSteps (n : Netlist) (wires : List ℕ) (steps : List Step) : Type 0 where

@@ -54,6 +54,7 @@ fn guard_of(steps: &[Step], k: usize, place: usize) -> Guard
     match steps.get(k) {
         Some(step) => match step.action {
             Action::Choose(c, a, b, _) => guard_in(place, c, a, b),
+            Action::WideChoose(c, a, b, _) => guard_in(place, c, a, b),
             _ => Guard::Always,
         },
         None => Guard::Always,

@@ -18,7 +18,7 @@ use crate::guards::guards_of;
 use crate::marks::{Marks, word_count};
 use crate::near::{groups_of, near_of};
 use crate::plan::Plan;
-use crate::step::{Near, Register, Step, action_of, is_narrow};
+use crate::step::{Near, Register, Step, fitting_action};
 use crate::table::table_of;
 use safl_halves::Numbers;
 use safl_net::{Net, Sig, SigKind};
@@ -143,8 +143,7 @@ fn step_of(net: &Net, starts: &[u32], wire: Sig, near: Near) -> Step
     match net.cell(wire) {
         Some(cell) => Step {
             wire,
-            narrow: is_narrow(net, wire, cell),
-            action: action_of(net, starts, cell),
+            action: fitting_action(net, starts, wire, cell),
             first: near.first,
             end: near.end,
         },

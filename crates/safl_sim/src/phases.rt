@@ -11,7 +11,7 @@ ghost use Rattle.safl_sim.specs.Places.{AreInputs, HasWords};
 ghost use Rattle.safl_sim.specs.Readers.{Lists, HasMarked, HasGiven, RegistersAway};
 ghost use Rattle.safl_sim.specs.Marks.{marked, holding, HasMark, first_register};
 ghost use Rattle.safl_sim.specs.Nears.{NearOf, GroupOf};
-ghost use Rattle.safl_sim.specs.Steps.{Waits, Goes, Runs, Ready, LowStep, action_number};
+ghost use Rattle.safl_sim.specs.Steps.{Waits, Goes, Runs, Ready, LowStep, is_low, action_number};
 ghost use Rattle.safl_sim.specs.Cycles.{KeepsStates, Cycles};
 ghost use Rattle.safl_sim.specs.States.{placed, AreAt, AreOnce};
 ghost use Rattle.safl_sim.specs.Writes.{HasPut, HasShown, Shows, KeepsOn, after_steps, AllReady};
@@ -267,12 +267,9 @@ fn act_anew(values: &mut Numbers, step: &Step) -> bool
     ensures is { values.new ≡ slice_set values.old step.now.wire.0 (action_number (slice_index values.old) step.now.action) }
     ensures new { result ≡ false → slice_index values.old step.now.wire.0 ≡ action_number (slice_index values.old) step.now.action }
 {
-    let place = step.wire.0 as usize;
-    if step.narrow {
-        let number = act_low(&step.action, values);
-        renew_low(values, place, number)
-    } else {
-        act_wide(values, step)
+    match act_low(&step.action, values) {
+        Some(number) => renew_low(values, step.wire.0 as usize, number),
+        None => act_wide(values, step),
     }
 }
 
@@ -281,6 +278,7 @@ fn act_anew(values: &mut Numbers, step: &Step) -> bool
 fn act_wide(values: &mut Numbers, step: &Step) -> bool
     requires within { step.now.wire.0 < length values.old }
     requires ready { Ready values.old step.now.action }
+    requires wide { is_low step.now.action ≡ false }
     ensures is { values.new ≡ slice_set values.old step.now.wire.0 (action_number (slice_index values.old) step.now.action) }
     ensures new { result ≡ false → slice_index values.old step.now.wire.0 ≡ action_number (slice_index values.old) step.now.action }
 {
@@ -309,9 +307,26 @@ pub fn evaluate(values: &mut Numbers, marks: &mut Marks, plan: &Plan, step: &Ste
     near
 }
 
-/// Evaluates the marked steps of a word, and answers how many there were.
+/// How the steps of a cycle are run.
+#[derive(Clone, Copy, PartialEq, Eq)]
+pub enum Pace {
+    /// All steps, marked or not.
+    All,
+    /// The marked steps.
+    Marked,
+    /// The marked steps, and they are counted.
+    Counted,
+}
+
+/// Evaluates the marked steps of a word, and answers how many there were, if they are counted.
 #[inline(always)]
-pub fn run_word(values: &mut Numbers, marks: &mut Marks, plan: &Plan, word: usize) -> usize
+pub fn run_word(
+    values: &mut Numbers,
+    marks: &mut Marks,
+    plan: &Plan,
+    word: usize,
+    counted: bool,
+) -> usize
     requires within { word < length marks.old }
     requires few { length marks.old ≤ 2 ^ 32 }
     requires steps { (word + 1) * 64 ≤ first_register (length plan.now.steps.items) }
@@ -326,6 +341,7 @@ pub fn run_word(values: &mut Numbers, marks: &mut Marks, plan: &Plan, word: usiz
     let steps = &plan.steps[word * 64..];
     let masks = &plan.masks[word * 64..];
     let mut held = marks.get(word);
+    let turn = usize::from(counted);
     let mut count = 0;
     // No step before this one is marked any longer. Nothing that runs reads it: it tells why the loop ends.
     let mut place = word * 64;
@@ -333,15 +349,17 @@ pub fn run_word(values: &mut Numbers, marks: &mut Marks, plan: &Plan, word: usiz
         // The mask is read before the step is: which step comes next is not known without it.
         let near = masks[taken.bit];
         held = taken.left | evaluate(values, marks, plan, &steps[taken.bit], near);
-        count += 1;
+        count += turn;
         place = word * 64 + taken.bit + 1;
     }
     marks.put(word, 0);
     count
 }
 
-/// Evaluates the marked steps in turn, and answers how many there were.
-pub fn run_marked(values: &mut Numbers, marks: &mut Marks, plan: &Plan) -> usize
+/// Evaluates the marked steps in turn, and answers how many there were, if they are counted.
+// So that there is a loop without a count.
+#[inline(always)]
+pub fn run_marked(values: &mut Numbers, marks: &mut Marks, plan: &Plan, counted: bool) -> usize
     requires few { length marks.old ≤ 2 ^ 32 }
     requires runs { (o : Order) × (regs : List Register) × (held : List ℕ) × (start : List ℕ)
         × Runs o plan.now.steps.items regs held plan.now.starts.items plan.now.readers.items start 0 values.old marks.old }
@@ -354,7 +372,7 @@ pub fn run_marked(values: &mut Numbers, marks: &mut Marks, plan: &Plan) -> usize
     let end = word_count(plan.steps.len());
     let mut w = marks.next(0, end);
     'words: while w < end {
-        count += run_word(values, marks, plan, w);
+        count += run_word(values, marks, plan, w, counted);
         w = marks.next(w + 1, end);
     }
     count
@@ -379,17 +397,18 @@ fn write(values: &mut Numbers, step: &Step)
     ensures { values.new ≡ slice_set values.old step.now.wire.0 (action_number (slice_index values.old) step.now.action) }
 {
     let place = step.wire.0 as usize;
-    if step.narrow {
-        let number = act_low(&step.action, values);
-        values.set_low(place, number);
-    } else {
-        let number = act(&step.action, values);
-        values.set(place, number);
+    match act_low(&step.action, values) {
+        Some(number) => values.set_low(place, number),
+        None => {
+            let number = act(&step.action, values);
+            values.set(place, number);
+        }
     }
 }
 
-/// Evaluates all steps, and marks all registers, or the marked steps alone, and answers how many were marked.
-pub fn run_steps(values: &mut Numbers, marks: &mut Marks, plan: &Plan, all: bool) -> usize
+/// Evaluates all steps, and marks all registers, or the marked steps alone, and answers how many were marked, if they
+/// are counted.
+pub fn run_steps(values: &mut Numbers, marks: &mut Marks, plan: &Plan, pace: Pace) -> usize
     requires few { length marks.old ≤ 2 ^ 32 }
     requires runs { (o : Order) × (held : List ℕ) × (start : List ℕ)
         × Runs o plan.now.steps.items plan.now.registers.items held plan.now.starts.items plan.now.readers.items start 0 values.old marks.old }
@@ -399,26 +418,29 @@ pub fn run_steps(values: &mut Numbers, marks: &mut Marks, plan: &Plan, all: bool
         → Runs o plan.now.steps.items plan.now.registers.items held plan.now.starts.items plan.now.readers.items start
         (first_register (length plan.now.steps.items)) values.new marks.new }
 {
-    if all {
-        let words = word_count(plan.steps.len());
-        let first = words * 64;
-        run_all(values, plan.steps.as_slice());
-        marks.clear();
-        marks.mark_range(first, first + plan.registers.len());
-        return 0;
+    match pace {
+        Pace::All => {
+            let words = word_count(plan.steps.len());
+            let first = words * 64;
+            run_all(values, plan.steps.as_slice());
+            marks.clear();
+            marks.mark_range(first, first + plan.registers.len());
+            0
+        }
+        Pace::Marked => run_marked(values, marks, plan, false),
+        Pace::Counted => run_marked(values, marks, plan, true),
     }
-    run_marked(values, marks, plan)
 }
 
 /// The rest of a cycle in which the inputs have their words. It evaluates all steps, or those that are marked, and
-/// answers how many were marked.
+/// answers how many were marked, if they are counted.
 pub fn proceed(
     values: &mut Numbers,
     state: &mut [Raw],
     marks: &mut Marks,
     waiting: &mut Marks,
     plan: &Plan,
-    all: bool,
+    pace: Pace,
 ) -> usize
     requires { (o : Order) × KeepsStates o plan.now marks.old waiting.old state.old values.old }
     ensures { (o : Order) (words : List Word) → KeepsStates o plan.now marks.old waiting.old state.old values.old → HasWords o.net values.old words
@@ -426,13 +448,13 @@ pub fn proceed(
 {
     let registers = plan.registers.as_slice();
     show_registers(values, marks, waiting, plan, state);
-    let count = run_steps(values, marks, plan, all);
+    let count = run_steps(values, marks, plan, pace);
     let first = word_count(plan.steps.len());
     keep_registers(state, marks, waiting, registers, values, first);
     count
 }
 
-/// A cycle. It evaluates all steps, or those that are marked, and answers how many were marked.
+/// A cycle. It evaluates all steps, or those that are marked, and answers how many were marked, if they are counted.
 pub fn cycle(
     values: &mut Numbers,
     state: &mut [Raw],
@@ -440,12 +462,12 @@ pub fn cycle(
     waiting: &mut Marks,
     plan: &Plan,
     words: &[Word],
-    all: bool,
+    pace: Pace,
 ) -> usize
     requires { (o : Order) × KeepsStates o plan.now marks.old waiting.old state.old values.old × AreInputs o.net words.now }
     ensures { (o : Order) → KeepsStates o plan.now marks.old waiting.old state.old values.old → AreInputs o.net words.now
         → Cycles o plan.now words.now state.old values.old marks.new waiting.new state.new values.new }
 {
     put_words(values, marks, plan, words);
-    proceed(values, state, marks, waiting, plan, all)
+    proceed(values, state, marks, waiting, plan, pace)
 }

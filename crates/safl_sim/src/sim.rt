@@ -2,7 +2,7 @@
 
 use crate::marks::Marks;
 use crate::parts::Parts;
-use crate::phases::{cycle, proceed};
+use crate::phases::{Pace, cycle, proceed};
 use crate::plan::Plan;
 use safl_halves::Numbers;
 use safl_net::{Net, Sig};
@@ -11,8 +11,21 @@ use safl_word::{Raw, Word};
 use std::alloc::Global;
 use std::marker::Model;
 
-// So many ticks evaluate all steps, after one in which more than three quarters were marked.
-const DENSE_TICKS: u8 = 15;
+// After a tick that counts the marked steps, so many evaluate all steps, or the marked ones without a count.
+const TICKS_A_COUNT: u8 = 15;
+
+// In the first tick all steps are marked, whatever the net, so the second is the first that counts.
+const FIRST: Turns = Turns {
+    pace: Pace::Marked,
+    more: 0,
+};
+
+// The pace of a tick, and how many more ticks have the same.
+#[derive(Clone, Copy)]
+struct Turns {
+    pace: Pace,
+    more: u8,
+}
 
 /// A simulator of a net: steps in an order of evaluation, and the number of each signal.
 #[derive(Drop)]
@@ -21,7 +34,7 @@ pub struct Sim {
     plan: Plan,
     marks: Marks,
     waiting: Marks,
-    dense_ticks: u8,
+    turns: Turns,
     // by register
     state: Vec<Raw>,
     values: Numbers,
@@ -57,7 +70,7 @@ impl Sim {
                 plan: parts.plan,
                 marks: parts.marks,
                 waiting: parts.waiting,
-                dense_ticks: 0,
+                turns: FIRST,
                 state: parts.state,
                 values: parts.values,
             }),
@@ -86,7 +99,6 @@ impl Sim {
         requires { AreInputs self.old.net inputs.now }
         ensures { Ticks self.old self.new inputs.now }
     {
-        let dense = self.dense_ticks > 0;
         let count = cycle(
             &mut self.values,
             &mut self.state,
@@ -94,36 +106,41 @@ impl Sim {
             &mut self.waiting,
             &self.plan,
             inputs,
-            dense,
+            self.turns.pace,
         );
-        self.dense_ticks = next_dense_ticks(self.dense_ticks, count, self.plan.steps.len());
+        self.turns = next_turns(self.turns, count, self.plan.steps.len());
     }
 
     /// A cycle in which the inputs keep their words.
     pub fn tick_again(&mut self)
         ensures { (words : List Word) → HasWords self.old.net self.old.values words → Ticks self.old self.new words }
     {
-        let dense = self.dense_ticks > 0;
         let count = proceed(
             &mut self.values,
             &mut self.state,
             &mut self.marks,
             &mut self.waiting,
             &self.plan,
-            dense,
+            self.turns.pace,
         );
-        self.dense_ticks = next_dense_ticks(self.dense_ticks, count, self.plan.steps.len());
+        self.turns = next_turns(self.turns, count, self.plan.steps.len());
     }
 }
 
-// How many of the next ticks evaluate all steps, marked or not. Where most steps are marked, looking for marks takes
-// longer than it saves, so after such a tick a few evaluate all. It is a matter of speed alone.
-fn next_dense_ticks(dense_ticks: u8, marked: usize, steps: usize) -> u8 {
-    if dense_ticks > 0 {
-        dense_ticks - 1
-    } else if marked > steps / 4 * 3 {
-        DENSE_TICKS
-    } else {
-        0
+// The pace of the tick after one that had the pace of these turns. Where most steps are marked, looking for marks takes
+// longer than it saves, so all are evaluated then. A count takes time too, so one tick in sixteen counts. It is a matter
+// of speed alone.
+fn next_turns(turns: Turns, marked: usize, steps: usize) -> Turns {
+    if turns.more > 0 {
+        return Turns {
+            pace: turns.pace,
+            more: turns.more - 1,
+        };
     }
+    let (pace, more) = match turns.pace {
+        Pace::Counted if marked > steps / 4 * 3 => (Pace::All, TICKS_A_COUNT - 1),
+        Pace::Counted => (Pace::Marked, TICKS_A_COUNT - 1),
+        _ => (Pace::Counted, 0),
+    };
+    Turns { pace, more }
 }

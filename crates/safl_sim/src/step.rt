@@ -1,6 +1,6 @@
 //! Steps that are prepared for evaluation.
 
-ghost use Rattle.std.specs.Prelude.{◌≡◌, ◌⊎◌, ℕ, ◌<◌, ◌≤◌, [], ◌∷◌, length, slice_get, slice_index, Some, IsSome, true};
+ghost use Rattle.std.specs.Prelude.{◌≡◌, ◌⊎◌, ℕ, ◌<◌, ◌≤◌, [], ◌∷◌, length, slice_get, slice_index, Some, IsSome, IfSome, IfNone, true, false};
 ghost use Rattle.safl_word.specs.Words.{Word, pick};
 ghost use Rattle.safl_word.specs.Primitives.{result_width, apply_prim};
 ghost use Rattle.safl_net.specs.declared.cell.Sig.{Sig};
@@ -9,18 +9,17 @@ ghost use Rattle.safl_net.specs.Rules.{IsNetlist, CellFits};
 ghost use Rattle.safl_net.specs.Making.{cell_on};
 ghost use Rattle.safl_net.specs.Stored.{cell_of};
 ghost use Rattle.safl_halves.specs.Halves.{low_half, high_half};
-ghost use Rattle.safl_sim.specs.Steps.{Unary, Binary, plain, plain_number, action_number, PlainReady, Ready, PlainLow, Low, Performs, IsNarrow};
+ghost use Rattle.safl_sim.specs.Steps.{Unary, Binary, plain, plain_number, action_number, PlainReady, Ready, PlainLow, LowOf, is_low, Performs, IsNarrow};
 
 use safl_halves::{Numbers, from_halves, high_half, low_half};
 use safl_narrow::{LOW_MAX, greatest, narrow_one, narrow_two};
 use safl_net::{Cell, Net, Op, Sig};
 use safl_word::{Primitive, Raw, Word, apply};
 
-/// What a step does, on the numbers at places.
+/// What a step does, on the numbers at places. But for the last four, an action works on at most 64 bits, and gives no
+/// more.
 #[derive(Clone, Copy)]
 pub enum Action {
-    /// The low and the high 64 bits of a number.
-    Const(u64, u64),
     /// A condition, what is taken where it is 1, and else, and the bits that are turned then. A copy is the choice
     /// between a place and itself.
     Choose(u32, u32, u32, u64),
@@ -38,6 +37,12 @@ pub enum Action {
     Shr(u8, u8, u32, u32),
     /// The ends of a slice, the high one first, and the width and the place of its operand.
     Bits(u8, u8, u8, u32),
+    /// The low and the high 64 bits of a number.
+    Const(u64, u64),
+    /// A choice, and a primitive on one operand and on two, where there may be more than 64 bits.
+    WideChoose(u32, u32, u32, u64),
+    WideOne(Primitive, u8, u32),
+    WideTwo(Primitive, u8, u8, u32, u32),
 }
 
 /// Which of the steps that read a step's wire stand in the step's own word of marks, by a bit for each, and where its
@@ -66,12 +71,10 @@ pub enum Guard {
     Unless(u32),
 }
 
-/// A wire, what gives it its number, and where its readers that are not near begin and end. A narrow step has at most 64
-/// bits in all that it works on and gives.
+/// A wire, what gives it its number, and where its readers that are not near begin and end.
 #[derive(Clone, Copy)]
 pub struct Step {
     pub wire: Sig,
-    pub narrow: bool,
     pub action: Action,
     pub first: u32,
     pub end: u32,
@@ -84,45 +87,39 @@ pub struct Register {
     pub next: Sig,
 }
 
-/// The number that an action gives.
-// Both loops over the steps call it: without this it is inlined in neither.
-#[inline(always)]
+/// The number that an action gives, where there may be more than 64 bits.
 pub fn act(action: &Action, values: &Numbers) -> Raw
-    requires { Ready values.now action.now }
+    requires ready { Ready values.now action.now }
+    requires wide { is_low action.now ≡ false }
     ensures { result ≡ action_number (slice_index values.now) action.now }
 {
     match *action {
         Action::Const(low, high) => from_halves(low, high),
-        Action::Choose(c, a, b, turned) => {
+        Action::WideChoose(c, a, b, turned) => {
             let chosen = choose(values.get(c as usize), a, b);
             Raw::from(turned) ^ values.get(chosen as usize)
         }
-        Action::One(p, width, a) => apply_one(p, Word::from_parts(width, values.get(a as usize))),
-        Action::Two(p, width, other, a, b) => wide_pair(values, p, width, other, a, b),
-        Action::Add(width, other, a, b) => wide_pair(values, Primitive::Add, width, other, a, b),
-        Action::Sub(width, other, a, b) => wide_pair(values, Primitive::Sub, width, other, a, b),
-        Action::And(width, other, a, b) => wide_pair(values, Primitive::And, width, other, a, b),
-        Action::Or(width, other, a, b) => wide_pair(values, Primitive::Or, width, other, a, b),
-        Action::Xor(width, other, a, b) => wide_pair(values, Primitive::Xor, width, other, a, b),
-        Action::Eq(width, other, a, b) => wide_pair(values, Primitive::Eq, width, other, a, b),
-        Action::Shl(width, other, a, b) => wide_pair(values, Primitive::Shl, width, other, a, b),
-        Action::Shr(width, other, a, b) => wide_pair(values, Primitive::Shr, width, other, a, b),
-        Action::Bits(high, low, width, a) => apply_one(
-            Primitive::Bits(high, low),
+        Action::WideOne(p, width, a) => apply_one(
+            p,
             Word::from_parts(width, values.get(a as usize)),
         ),
+        Action::WideTwo(p, width, other, a, b) => wide_pair(values, p, width, other, a, b),
+        _ => unreachable!(),
     }
 }
 
-/// The same, where all that it works on and gives has at most 64 bits.
+/// The number that an action gives, if it is one for at most 64 bits. So one jump tells what a step does, and whether it
+/// is narrow.
+// Both loops over the steps call it: without this it is inlined in neither.
 #[inline(always)]
-pub fn act_low(action: &Action, values: &Numbers) -> u64
+pub fn act_low(action: &Action, values: &Numbers) -> Option<u64>
     requires ready { Ready values.now action.now }
-    requires low { Low values.now action.now }
-    ensures { result ≡ action_number (slice_index values.now) action.now }
+    requires low { LowOf values.now action.now }
+    ensures some { IfSome result (λ x. x ≡ action_number (slice_index values.now) action.now) }
+    ensures low { IfSome result (λ x. is_low action.now ≡ true) }
+    ensures none { IfNone result (is_low action.now ≡ false) }
 {
-    match *action {
-        Action::Const(low, _) => low,
+    Some(match *action {
         Action::Choose(c, a, b, turned) => {
             let chosen = choose(Raw::from(values.get_low(c as usize)), a, b);
             turned ^ values.get_low(chosen as usize)
@@ -142,7 +139,11 @@ pub fn act_low(action: &Action, values: &Numbers) -> u64
             width,
             values.get_low(a as usize),
         ),
-    }
+        Action::Const(_, _)
+        | Action::WideChoose(_, _, _, _)
+        | Action::WideOne(_, _, _)
+        | Action::WideTwo(_, _, _, _, _) => return None,
+    })
 }
 
 /// The first place where the condition is 1, and else the second: so one number is read and no jump is guessed.
@@ -186,8 +187,49 @@ fn low_pair(values: &Numbers, p: Primitive, width: u8, other: u8, a: u32, b: u32
     )
 }
 
-/// The action of a cell.
-pub fn action_of(net: &Net, starts: &[u32], cell: &Cell) -> Action
+/// The action of a wire's cell: one for at most 64 bits only if the wire and the operands have no more.
+pub fn fitting_action(net: &Net, starts: &[u32], wire: Sig, cell: &Cell) -> Action
+    requires netlist { IsNetlist net.now }
+    requires known { wire.0 < length net.now.signals }
+    requires fits { (width : ℕ) × CellFits net.now width (cell_of cell.now) }
+    ensures performs { Performs net.now (cell_of cell.now) result }
+    ensures narrow { is_low result ≡ true → IsNarrow net.now wire.0 (cell_of cell.now) }
+{
+    let action = action_of(net, starts, cell);
+    if is_narrow(net, wire, cell) {
+        action
+    } else {
+        widened(action)
+    }
+}
+
+// What does the same where there may be more than 64 bits.
+fn widened(action: Action) -> Action
+    ensures same { plain result ≡ plain action }
+    ensures wide { is_low result ≡ false }
+{
+    match action {
+        Action::Choose(c, a, b, turned) => Action::WideChoose(c, a, b, turned),
+        Action::One(p, width, a) => Action::WideOne(p, width, a),
+        Action::Two(p, width, other, a, b) => Action::WideTwo(p, width, other, a, b),
+        Action::Add(width, other, a, b) => Action::WideTwo(Primitive::Add, width, other, a, b),
+        Action::Sub(width, other, a, b) => Action::WideTwo(Primitive::Sub, width, other, a, b),
+        Action::And(width, other, a, b) => Action::WideTwo(Primitive::And, width, other, a, b),
+        Action::Or(width, other, a, b) => Action::WideTwo(Primitive::Or, width, other, a, b),
+        Action::Xor(width, other, a, b) => Action::WideTwo(Primitive::Xor, width, other, a, b),
+        Action::Eq(width, other, a, b) => Action::WideTwo(Primitive::Eq, width, other, a, b),
+        Action::Shl(width, other, a, b) => Action::WideTwo(Primitive::Shl, width, other, a, b),
+        Action::Shr(width, other, a, b) => Action::WideTwo(Primitive::Shr, width, other, a, b),
+        Action::Bits(high, low, width, a) => Action::WideOne(Primitive::Bits(high, low), width, a),
+        Action::Const(low, high) => Action::Const(low, high),
+        Action::WideChoose(c, a, b, turned) => Action::WideChoose(c, a, b, turned),
+        Action::WideOne(p, width, a) => Action::WideOne(p, width, a),
+        Action::WideTwo(p, width, other, a, b) => Action::WideTwo(p, width, other, a, b),
+    }
+}
+
+// The action of a cell.
+fn action_of(net: &Net, starts: &[u32], cell: &Cell) -> Action
     requires netlist { IsNetlist net.now }
     requires fits { (width : ℕ) × CellFits net.now width (cell_of cell.now) }
     ensures { Performs net.now (cell_of cell.now) result }
@@ -286,8 +328,8 @@ fn constant(op: &Op) -> Action
     }
 }
 
-/// Whether a wire has at most 64 bits, and so have the operands of its cell.
-pub fn is_narrow(net: &Net, wire: Sig, cell: &Cell) -> bool
+// Whether a wire has at most 64 bits, and so have the operands of its cell.
+fn is_narrow(net: &Net, wire: Sig, cell: &Cell) -> bool
     requires known { wire.0 < length net.now.signals }
     requires fits { (width : ℕ) × CellFits net.now width (cell_of cell.now) }
     ensures { result ≡ true → IsNarrow net.now wire.0 (cell_of cell.now) }

@@ -1,8 +1,8 @@
-use Rattle.std.proofs.Common.{◌≡◌, ℕ, ◌+◌, ◌-◌, ◌*◌, ◌<◌, ◌≤◌, List, length, take, drop, get_or, slice_get, slice_index, Some, false, sym, subst, ◌∙◌, arith}
+use Rattle.std.proofs.Common.{◌≡◌, ℕ, ◌+◌, ◌-◌, ◌*◌, ◌<◌, ◌≤◌, List, length, take, drop, get_or, slice_get, slice_index, Some, sym, subst, ◌∙◌, arith}
 use Rattle.std.specs.Int.RustNames.{bit_or}
 use Rattle.safl_order.specs.Order.{Order}
 use Rattle.safl_sim.specs.declared.plan.Plan.{Plan}
-use Rattle.safl_sim.specs.declared.step.Action.TheVariants.{Const}
+use Rattle.safl_sim.specs.declared.step.Action.TheVariants.{Choose}
 use Rattle.safl_sim.specs.declared.step.Step.{Step}
 use Rattle.safl_sim.specs.declared.step.Register.{Register}
 use Rattle.safl_sim.specs.Marks.{holding, HasTaken, first_register}
@@ -18,7 +18,7 @@ inside : (word : ℕ) (marks marks' : List ℕ) → length marks' ≡ length mar
 inside word marks marks' e h = omega (arith, e, h)
 
 abbrev none : Step
-none = record { wire = record { 0 = 0 }; narrow = false; action = Const 0 0; first = 0; end = 0 }
+none = record { wire = record { 0 = 0 }; action = Choose 0 0 0 0; first = 0; end = 0 }
 
 -- the step of a bit, among those of a word and all after it
 abbrev step_in : List Step → ℕ → ℕ → Step
@@ -124,7 +124,8 @@ steps-preserved c =
     let late = later r.0 c.args.plan.now r.1 r.2 r.3 c.args.word c.steps.place (c.args.word * 64 + c.in-Some.taken.bit) c.steps.values (holding c.steps.marks c.args.word c.steps.held) (holding c.steps.marks c.args.word c.in-Some.taken.left) from c.steps.invariant.to c.requires.steps (c.steps.invariant.runs r.0 r.1 r.2 r.3 r.4) t in
     record {
       long = c.evaluate.ensures.long ∙ c.steps.invariant.long;
-      from = (let a = c.steps.invariant.from in omega (arith, a, late));
+      from = (let a = c.steps.invariant.from in let b = c.steps.invariant.one in omega (arith, a, b, late));
+      one = c.steps.invariant.one;
       to = (let a = c.in-Some.ensures.within in omega (arith, a));
       runs = λ o regs now start w.
           let a = known o c.args.plan.now regs now start c.args.word c.steps.place (c.args.word * 64 + c.in-Some.taken.bit) c.steps.values (holding c.steps.marks c.args.word c.steps.held) (holding c.steps.marks c.args.word c.in-Some.taken.left) from c.steps.invariant.to c.requires.steps (c.steps.invariant.runs o regs now start w) t in
