@@ -50,7 +50,7 @@ pub(crate) fn watch<S: Shelf>(
     'cycles: for cycle in 0..limit {
         sim.tick(words_of(schedule, cycle));
         show(sim, cycle, probes, files, shelf, room)?;
-        if is_on(sim, schedule.done) {
+        if sim.is_on(schedule.done) {
             return Ok(Some(Done {
                 cycle,
                 result: sim.value(schedule.result),
@@ -58,14 +58,4 @@ pub(crate) fn watch<S: Shelf>(
         }
     }
     Ok(None)
-}
-
-// Whether a signal of one bit is 1 in the last cycle.
-fn is_on(sim: &Sim, signal: Sig) -> bool
-    requires known { signal.0 < length sim.now.net.signals }
-    requires bit { width_of sim.now.net signal.0 ≡ 1 }
-    ensures on { IsTrue result ↔ (slice_index sim.now.values signal.0 ≡ 1) }
-    ensures off { slice_index sim.now.values signal.0 < 2 }
-{
-    sim.value(signal).bits() == 1
 }

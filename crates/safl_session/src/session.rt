@@ -108,7 +108,7 @@ fn watch(sim: &mut Sim, room: &Room, signal: Sig, value: Sig, limit: u64) -> Opt
 {
     'cycles: for cycle in 0..limit {
         sim.tick(words_of(cycle, room));
-        if is_on(sim, signal) {
+        if sim.is_on(signal) {
             return Some(Reply {
                 cycle,
                 result: sim.value(value),
@@ -123,14 +123,4 @@ fn words_of<'a>(cycle: u64, room: &'a Room) -> &'a [Word]
     ensures { result.now ≡ words_of cycle room.now.first.items room.now.later.items }
 {
     if cycle == 0 { &room.first } else { &room.later }
-}
-
-// Whether a signal of one bit is 1 in the last cycle.
-fn is_on(sim: &Sim, signal: Sig) -> bool
-    requires known { signal.0 < length sim.now.net.signals }
-    requires bit { width_of sim.now.net signal.0 ≡ 1 }
-    ensures on { IsTrue result ↔ (slice_index sim.now.values signal.0 ≡ 1) }
-    ensures off { (slice_index sim.now.values signal.0 < 2) }
-{
-    sim.value(signal).bits() == 1
 }

@@ -81,7 +81,7 @@ fn watch(
 {
     'cycles: for cycle in 0..limit {
         tick(sim, cycle, first, later);
-        if is_on(sim, signal) {
+        if sim.is_on(signal) {
             return Some(Done {
                 cycle,
                 result: sim.value(value),
@@ -103,14 +103,4 @@ fn tick(sim: &mut Sim, cycle: u64, first: &[Word], later: &[Word])
         1 => sim.tick(later),
         _ => sim.tick_again(),
     }
-}
-
-// Whether a signal of one bit is 1 in the last cycle.
-fn is_on(sim: &Sim, signal: Sig) -> bool
-    requires known { signal.0 < length sim.now.net.signals }
-    requires bit { width_of sim.now.net signal.0 ≡ 1 }
-    ensures on { IsTrue result ↔ (slice_index sim.now.values signal.0 ≡ 1) }
-    ensures off { (slice_index sim.now.values signal.0 < 2) }
-{
-    sim.value(signal).bits() == 1
 }

@@ -53,7 +53,7 @@ impl Model for Sim {
 }
 
 impl Sim {
-    ghost use Rattle.std.specs.Prelude.{◌≡◌, ◌<◌, List, length, slice_index, IfOk, IfErr};
+    ghost use Rattle.std.specs.Prelude.{◌≡◌, ◌↔◌, ◌<◌, List, length, slice_index, IsTrue, IfOk, IfErr};
     ghost use Rattle.safl_word.specs.Words.{Word};
     ghost use Rattle.safl_net.specs.Netlist.{width_of};
     ghost use Rattle.safl_sim.specs.Places.{AreInputs, HasWords, resets};
@@ -91,6 +91,17 @@ impl Sim {
         ensures { result ≡ record { width = width_of self.now.net s.0; bits = slice_index self.now.values s.0 } }
     {
         Word::from_parts(self.ordered.net().width(s), self.values.get(s.0 as usize))
+    }
+
+    /// Whether a signal of one bit is 1 in the cycle of the last tick.
+    #[inline(always)]
+    pub fn is_on(&self, s: Sig) -> bool
+        requires known { s.0 < length self.now.net.signals }
+        requires bit { width_of self.now.net s.0 ≡ 1 }
+        ensures on { IsTrue result ↔ (slice_index self.now.values s.0 ≡ 1) }
+        ensures off { slice_index self.now.values s.0 < 2 }
+    {
+        self.values.is_one(s.0 as usize)
     }
 
     /// A cycle: the values become the one valuation that fits the register state and the inputs, one word for each
