@@ -1,7 +1,6 @@
 //! The loop of a run: a tick, what the probes are shown, and a look at `done`.
 
-ghost use Rattle.std.specs.Prelude.{◌≡◌, ◌↔◌, ◌<◌, ℕ, List, map, length, slice_index, IsTrue, IfOk, IfErr, OnOk, OnErr, OnSome};
-ghost use Rattle.safl_net.specs.Netlist.{width_of};
+ghost use Rattle.std.specs.Prelude.{◌≡◌, ◌<◌, ℕ, List, map, length, slice_index, IfOk, IfErr, OnOk, OnErr, OnSome};
 ghost use Rattle.safl_drive.specs.Rooms.{HasWidths};
 ghost use Rattle.safl_drive.specs.Asked.{IsAsked, SameUnasked, asked, probe_at};
 ghost use Rattle.safl_drive.specs.Growth.{AllThere, NowThere};

@@ -1,6 +1,6 @@
 //! Sessions: calls of a circuit, each after the one before is done.
 
-ghost use Rattle.std.specs.Prelude.{◌≡◌, ◌↔◌, ◌<◌, IsTrue, IfSome, IfNone, length, slice_index};
+ghost use Rattle.std.specs.Prelude.{◌≡◌, ◌<◌, IfSome, IfNone, length, slice_index};
 ghost use Rattle.safl_net.specs.Netlist.{width_of};
 ghost use Rattle.safl_sim.specs.Places.{AreInputs};
 ghost use Rattle.safl_sim.specs.Ticks.{words_of};

@@ -1,6 +1,6 @@
 //! Runs until `done` is 1.
 
-ghost use Rattle.std.specs.Prelude.{◌≡◌, ◌↔◌, ◌<◌, Some, IsSome, IsTrue, IfOk, OnErr, length, slice_index};
+ghost use Rattle.std.specs.Prelude.{◌≡◌, ◌<◌, Some, IsSome, IfOk, OnErr, length, slice_index};
 ghost use Rattle.safl_net.specs.Netlist.{width_of, output_place};
 ghost use Rattle.safl_net.specs.Rules.{IsNetlist};
 ghost use Rattle.safl_net.specs.Whole.{IsWhole};

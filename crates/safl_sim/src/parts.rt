@@ -1,11 +1,11 @@
 //! The parts of a simulator, prepared from a net in an order.
 
-ghost use Rattle.std.specs.Prelude.{◌≡◌, ℕ, ◌+◌, ◌*◌, ◌/◌, ◌^◌, ◌<◌, ◌≤◌, [], ◌++◌, List, length, OnOk, slice_get, slice_index, Some, IfOk, IfSome, IfNone};
-ghost use Rattle.safl_net.specs.Netlist.{Netlist, AllSet, Reg};
+ghost use Rattle.std.specs.Prelude.{◌≡◌, ℕ, ◌+◌, ◌*◌, ◌/◌, ◌^◌, ◌<◌, [], ◌++◌, length, OnOk, slice_get, Some, IfOk, IfSome, IfNone};
+ghost use Rattle.safl_net.specs.Netlist.{AllSet, Reg};
 ghost use Rattle.safl_net.specs.Valuations.{kind_reset};
 ghost use Rattle.safl_net.specs.Rules.{IsNetlist};
 ghost use Rattle.safl_net.specs.Making.{numbers, kind_at};
-ghost use Rattle.safl_order.specs.Order.{IsWire, IsOrder, operands_of};
+ghost use Rattle.safl_order.specs.Order.{IsWire};
 ghost use Rattle.safl_sim.specs.Marks.{marked, first_register};
 ghost use Rattle.safl_sim.specs.Nears.{AreNear};
 ghost use Rattle.safl_sim.specs.Readers.{Inside, Lists};

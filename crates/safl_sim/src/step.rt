@@ -1,10 +1,9 @@
 //! Steps that are prepared for evaluation.
 
-ghost use Rattle.std.specs.Prelude.{◌≡◌, ◌⊎◌, ℕ, ◌<◌, ◌≤◌, [], ◌∷◌, length, slice_get, slice_index, Some, IsSome, IfSome, IfNone, true, false};
+ghost use Rattle.std.specs.Prelude.{◌≡◌, ◌⊎◌, ℕ, ◌<◌, [], ◌∷◌, length, slice_index, Some, IsSome, IfSome, IfNone, true, false};
 ghost use Rattle.safl_word.specs.Words.{Word, pick};
 ghost use Rattle.safl_word.specs.Primitives.{result_width, apply_prim};
 ghost use Rattle.safl_net.specs.declared.cell.Sig.{Sig};
-ghost use Rattle.safl_net.specs.Netlist.{Netlist, width_of};
 ghost use Rattle.safl_net.specs.Rules.{IsNetlist, CellFits};
 ghost use Rattle.safl_net.specs.Making.{cell_on};
 ghost use Rattle.safl_net.specs.Stored.{cell_of};
