@@ -87,6 +87,8 @@ pub struct Register {
 }
 
 /// The number that an action gives, where there may be more than 64 bits.
+// Both loops over the steps call this and `act_low`: without the attribute they are inlined in neither.
+#[inline(always)]
 pub fn act(action: &Action, values: &Numbers) -> Raw
     requires ready { Ready values.now action.now }
     requires wide { is_low action.now ≡ false }
@@ -109,7 +111,6 @@ pub fn act(action: &Action, values: &Numbers) -> Raw
 
 /// The number that an action gives, if it is one for at most 64 bits. So one jump tells what a step does, and whether it
 /// is narrow.
-// Both loops over the steps call it: without this it is inlined in neither.
 #[inline(always)]
 pub fn act_low(action: &Action, values: &Numbers) -> Option<u64>
     requires ready { Ready values.now action.now }
