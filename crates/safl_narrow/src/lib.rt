@@ -3,4 +3,4 @@
 
 pub mod narrow;
 
-pub use crate::narrow::{LOW_MAX, greatest, narrow_one, narrow_two};
+pub use crate::narrow::{LOW_MAX, narrow_one, narrow_two};

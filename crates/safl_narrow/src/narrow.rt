@@ -55,9 +55,9 @@ pub fn narrow_two(p: Primitive, width: u8, other: u8, a: u64, b: u64) -> u64
     }
 }
 
-/// The greatest number of a width, which has a one in each place.
+// The greatest number of a width, which has a one in each place.
 #[inline(always)]
-pub fn greatest(width: u8) -> u64
+fn greatest(width: u8) -> u64
     requires some { 1 ≤ width }
     requires narrow { width ≤ 64 }
     ensures { result ≡ 2 ^ width - 1 }

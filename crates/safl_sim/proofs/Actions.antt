@@ -19,10 +19,9 @@ use Rattle.safl_net.specs.Laws.{FitWidths}
 use Rattle.safl_net.specs.Making.{cell_on}
 use Rattle.safl_net.specs.Rules.{IsNetlist, CellFits}
 use Rattle.safl_sim.specs.declared.step.Action.{Action}
-use Rattle.safl_sim.specs.declared.step.Action.TheVariants.{Const, Choose, One, Two}
-use Rattle.safl_halves.specs.Halves.{low_half, high_half}
+use Rattle.safl_sim.specs.declared.step.Action.TheVariants.{Choose, One, Two}
 use Rattle.safl_narrow.specs.Narrow.{word_of, HasLow}
-use Rattle.safl_sim.specs.Steps.{plain, plain_number, PlainReady, PlainLow, IsNarrow, Performs}
+use Rattle.safl_sim.specs.Steps.{Constant, plain, plain_number, PlainReady, PlainLow, IsNarrow, Performs}
 
 none_on_nil : (p : Primitive) → result_width p [] ≡ None
 none_on_nil Add = refl
@@ -91,7 +90,7 @@ low_number n values s fits h le =
     let f = fits s g.0 g.1 in
     omega (arith, p, f)
 
-const_low : (n : Netlist) (v : Word) (s : ℕ) → CellFits n (width_of n s) (cell_on (op.Const v) []) → IsNarrow n s (cell_on (op.Const v) []) → high_half v.bits ≡ 0
+const_low : (n : Netlist) (v : Word) (s : ℕ) → CellFits n (width_of n s) (cell_on (op.Const v) []) → IsNarrow n s (cell_on (op.Const v) []) → v.bits < 2 ^ 64
 const_low n v s f narrow =
     let q : Some v.width ≡ Some (width_of n s) = f.gives in
     let e : v.width ≡ width_of n s = cc in
@@ -105,8 +104,12 @@ pub first_known : (n : Netlist) (o : Op) (xs : List Sig) (w : ℕ) → CellFits 
 first_known n o [] w f h = absurd (omega (arith, h))
 first_known n o (x ∷ xs) w f h = f.known 0 0 (omega arith)
 
-pub performs_const : (n : Netlist) (o : Op) (xs : List Sig) (w : ℕ) (action : Action) → CellFits n w (cell_on o xs) → length xs < 1 → ((v : Word) → o ≡ op.Const v → action ≡ Const (low_half v.bits) (high_half v.bits)) → Performs n (cell_on o xs) action
-performs_const n (op.Const v) [] w action f h k = subst (λ a. Performs n (cell_on (op.Const v) []) a) (sym (k v refl)) (record { gives = λ g fits. (let e : low_half v.bits + high_half v.bits * 2 ^ 64 ≡ v.bits = omega arith in e); ready = λ values l g. tt; low = λ values s fits g narrow. const_low n v s g narrow })
+pub performs_const : (n : Netlist) (o : Op) (xs : List Sig) (w : ℕ) (action : Action) → CellFits n w (cell_on o xs) → length xs < 1 → ((v : Word) → o ≡ op.Const v → plain action ≡ Constant v.bits) → Performs n (cell_on o xs) action
+performs_const n (op.Const v) [] w action f h k = record {
+  gives = λ g fits. ap (plain_number g) (k v refl);
+  ready = λ values l g. subst (PlainReady values) (sym (k v refl)) tt;
+  low = λ values s fits g narrow. subst (PlainLow values) (sym (k v refl)) (const_low n v s g narrow);
+}
 performs_const n op.Copy [] w action f h k = absurd (let e = f.gives in cc)
 performs_const n op.Mux [] w action f h k = absurd (let e = f.gives in cc)
 performs_const n (op.Apply p) [] w action f h k = absurd (let e = sym (none_on_nil p) ∙ prim_says p [] w f.gives in cc)
@@ -161,7 +164,7 @@ performs_two n p o (x ∷ (y ∷ [])) w width other made f h k e g i = subst (λ
 })
 
 pub performs_mux : (n : Netlist) (o : Op) (xs : List Sig) (w : ℕ) → CellFits n w (cell_on o xs) → 3 ≤ length xs → length xs < 4
-    → Performs n (cell_on o xs) (Choose (get_or xs 0 (record { 0 = 0 })).0 (get_or xs 1 (record { 0 = 0 })).0 (get_or xs 2 (record { 0 = 0 })).0 0)
+    → Performs n (cell_on o xs) (Choose (get_or xs 0 (record { 0 = 0 })).0 (get_or xs 1 (record { 0 = 0 })).0 (get_or xs 2 (record { 0 = 0 })).0)
 performs_mux n o [] w f h k = absurd (omega (arith, h))
 performs_mux n o (x ∷ []) w f h k = absurd (omega (arith, h))
 performs_mux n o (x ∷ (y ∷ [])) w f h k = absurd (omega (arith, h))
@@ -195,7 +198,7 @@ picked_same (suc zero) a = refl
 picked_same (suc (suc i)) a = refl
 
 pub performs_copy : (n : Netlist) (o : Op) (xs : List Sig) (w : ℕ) → CellFits n w (cell_on o xs) → 1 ≤ length xs → length xs < 2 → ((p : Primitive) → ¬ (o ≡ op.Apply p))
-    → Performs n (cell_on o xs) (Choose (get_or xs 0 (record { 0 = 0 })).0 (get_or xs 0 (record { 0 = 0 })).0 (get_or xs 0 (record { 0 = 0 })).0 0)
+    → Performs n (cell_on o xs) (Choose (get_or xs 0 (record { 0 = 0 })).0 (get_or xs 0 (record { 0 = 0 })).0 (get_or xs 0 (record { 0 = 0 })).0)
 performs_copy n o [] w f h k away = absurd (omega (arith, h))
 performs_copy n o (x ∷ (y ∷ xs)) w f h k away = absurd (omega (arith, k))
 performs_copy n (op.Const v) (x ∷ []) w f h k away = absurd (let e = f.gives in cc)
@@ -205,27 +208,6 @@ performs_copy n op.Copy (x ∷ []) w f h k away =
     let a : x.0 < length n.signals = f.known 0 0 (omega arith) in
     record {
       gives = λ g fits. picked_same (g x.0) (g x.0);
-      ready = λ values l fits. (omega (arith, a, l), omega (arith, a, l), omega (arith, a, l));
-      low = λ values s fits h' narrow. let b = low_number n values x.0 fits a (narrow.operands 0 x.0 refl) in (b, b, b);
-    }
-
--- the complement of a number
-complement : (w x : ℕ) → x < 2 ^ w → bit_xor (2 ^ w - 1) x ≡ 2 ^ w - 1 - x
-complement w x h =
-    let a = xor_add_and (2 ^ w - 1) x in
-    let b : bit_and (2 ^ w - 1) x ≡ x = and_comm (2 ^ w - 1) x ∙ and_mask x w ∙ mod-eq_of_lt h in
-    omega (arith, a, b, h)
-
-below_width : (n : Netlist) (f : ℕ → ℕ) (s : ℕ) → FitWidths n f → s < length n.signals → f s < 2 ^ width_of n s
-below_width n f s fits h =
-    let g = get_some n.signals s h in
-    subst (λ x. f s < 2 ^ x) (sym (ap width_in g.1)) (fits s g.0 g.1)
-
-pub performs_not : (n : Netlist) (x : Sig) (w turned : ℕ) → CellFits n w (cell_on (op.Apply Not) (x ∷ [])) → turned ≡ 2 ^ width_of n x.0 - 1 → Performs n (cell_on (op.Apply Not) (x ∷ [])) (Choose x.0 x.0 x.0 turned)
-performs_not n x w turned f e =
-    let a : x.0 < length n.signals = f.known 0 0 (omega arith) in
-    record {
-      gives = λ g fits. ap (λ y. bit_xor y (pick (g x.0) (g x.0) (g x.0))) e ∙ ap (bit_xor (2 ^ width_of n x.0 - 1)) (picked_same (g x.0) (g x.0)) ∙ complement (width_of n x.0) (g x.0) (below_width n g x.0 fits a);
       ready = λ values l fits. (omega (arith, a, l), omega (arith, a, l), omega (arith, a, l));
       low = λ values s fits h' narrow. let b = low_number n values x.0 fits a (narrow.operands 0 x.0 refl) in (b, b, b);
     }
@@ -267,7 +249,7 @@ bits_or (suc (suc a)) b h k = absurd (omega (arith, h))
 bits_or zero (suc (suc b)) h k = absurd (omega (arith, k))
 bits_or (suc zero) (suc (suc b)) h k = absurd (omega (arith, k))
 
-performs_and : (n : Netlist) (x y : Sig) (w : ℕ) → CellFits n w (cell_on (op.Apply And) (x ∷ (y ∷ []))) → width_of n x.0 ≡ 1 → Performs n (cell_on (op.Apply And) (x ∷ (y ∷ []))) (Choose x.0 y.0 x.0 0)
+performs_and : (n : Netlist) (x y : Sig) (w : ℕ) → CellFits n w (cell_on (op.Apply And) (x ∷ (y ∷ []))) → width_of n x.0 ≡ 1 → Performs n (cell_on (op.Apply And) (x ∷ (y ∷ []))) (Choose x.0 y.0 x.0)
 performs_and n x y w f one =
     let a : x.0 < length n.signals = f.known 0 0 (omega arith) in
     let b : y.0 < length n.signals = f.known 1 0 (omega arith) in
@@ -279,7 +261,7 @@ performs_and n x y w f one =
     }
 
 -- by either of them
-performs_turned : (n : Netlist) (x y : Sig) (w : ℕ) → CellFits n w (cell_on (op.Apply And) (x ∷ (y ∷ []))) → width_of n x.0 ≡ 1 → Performs n (cell_on (op.Apply And) (x ∷ (y ∷ []))) (Choose y.0 x.0 y.0 0)
+performs_turned : (n : Netlist) (x y : Sig) (w : ℕ) → CellFits n w (cell_on (op.Apply And) (x ∷ (y ∷ []))) → width_of n x.0 ≡ 1 → Performs n (cell_on (op.Apply And) (x ∷ (y ∷ []))) (Choose y.0 x.0 y.0)
 performs_turned n x y w f one =
     let a : x.0 < length n.signals = f.known 0 0 (omega arith) in
     let b : y.0 < length n.signals = f.known 1 0 (omega arith) in
@@ -290,14 +272,14 @@ performs_turned n x y w f one =
       low = λ values s fits h narrow. (low_number n values y.0 fits b (narrow.operands 1 y.0 refl), low_number n values x.0 fits a (narrow.operands 0 x.0 refl), low_number n values y.0 fits b (narrow.operands 1 y.0 refl));
     }
 
-pub performs_both : (n : Netlist) (x y : Sig) (w : ℕ) (action : Action) → CellFits n w (cell_on (op.Apply And) (x ∷ (y ∷ []))) → width_of n x.0 ≡ 1 → (action ≡ Choose x.0 y.0 x.0 0) ⊎ (action ≡ Choose y.0 x.0 y.0 0)
+pub performs_both : (n : Netlist) (x y : Sig) (w : ℕ) (action : Action) → CellFits n w (cell_on (op.Apply And) (x ∷ (y ∷ []))) → width_of n x.0 ≡ 1 → (action ≡ Choose x.0 y.0 x.0) ⊎ (action ≡ Choose y.0 x.0 y.0)
     → Performs n (cell_on (op.Apply And) (x ∷ (y ∷ []))) action
 performs_both n x y w action f one h = elim h [
   | inl e ↦ subst (λ a. Performs n (cell_on (op.Apply And) (x ∷ (y ∷ []))) a) (sym e) (performs_and n x y w f one)
   | inr e ↦ subst (λ a. Performs n (cell_on (op.Apply And) (x ∷ (y ∷ []))) a) (sym e) (performs_turned n x y w f one)
 ]
 
-pub performs_or : (n : Netlist) (x y : Sig) (w : ℕ) → CellFits n w (cell_on (op.Apply Or) (x ∷ (y ∷ []))) → width_of n x.0 ≡ 1 → Performs n (cell_on (op.Apply Or) (x ∷ (y ∷ []))) (Choose x.0 x.0 y.0 0)
+pub performs_or : (n : Netlist) (x y : Sig) (w : ℕ) → CellFits n w (cell_on (op.Apply Or) (x ∷ (y ∷ []))) → width_of n x.0 ≡ 1 → Performs n (cell_on (op.Apply Or) (x ∷ (y ∷ []))) (Choose x.0 x.0 y.0)
 performs_or n x y w f one =
     let a : x.0 < length n.signals = f.known 0 0 (omega arith) in
     let b : y.0 < length n.signals = f.known 1 0 (omega arith) in

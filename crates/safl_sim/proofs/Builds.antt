@@ -1,10 +1,10 @@
 -- The parts of a simulator are what it keeps.
-use Rattle.std.proofs.Common.{◌≡◌, ◌⊎◌, inl, inr, ℕ, zero, suc, ◌+◌, ◌/◌, ◌<◌, ◌≤◌, ◌^◌, List, [], ◌∷◌, ◌++◌, map, length, take, drop, get_or, Option, Some, None, slice_get, slice_index, refl, sym, ap, subst, ◌∙◌, arith, append_assoc}
+use Rattle.std.proofs.Common.{◌≡◌, ◌⊎◌, inl, inr, ℕ, zero, suc, ◌+◌, ◌/◌, ◌<◌, ◌≤◌, ◌^◌, List, [], ◌∷◌, ◌++◌, map, length, take, drop, get_or, Option, Some, None, slice_get, slice_index, refl, sym, ap, subst, ◌∙◌, arith, append_assoc, true}
 use Rattle.std.proofs.lemmas.Nat.{pow_pos}
 use Rattle.std.proofs.lemmas.List.{append-nil}
 use Rattle.safl_net.specs.declared.cell.Sig.{Sig}
 use Rattle.safl_net.specs.declared.cell.SigKind.TheVariants as SigKind
-use Rattle.safl_net.specs.Netlist.{Netlist, Signal, Kind, Input, Reg, Wire, Cell}
+use Rattle.safl_net.specs.Netlist.{Netlist, Signal, Kind, Input, Reg, Wire, Cell, width_of}
 use Rattle.safl_net.specs.Valuations.{kind_reset}
 use Rattle.safl_net.specs.Making.{numbers, kind_at, kind_in, cell_in, sort_of}
 use Rattle.safl_net.specs.Rules.{IsNetlist, KindFits, CellFits}
@@ -112,8 +112,9 @@ inputs_end n all i h e = sym (append-nil all) ∙ ap (λ l. all ++ inputs_from l
     past (g ∷ gs) zero h = absurd (omega (arith, h))
     past (g ∷ gs) (suc i) h = past gs i (omega (arith, h))
 
-pub registers_more : (n : Netlist) (regs : List Register) (i : ℕ) (r : Register) → AreRegisters n i regs → r.signal.0 ≡ i → (init : ℕ) × (kind_at n r.signal.0 ≡ Reg init (Some r.next.0)) → AreRegisters n (i + 1) (regs ++ r ∷ [])
-registers_more n regs i r w e f = record {
+pub registers_more : (n : Netlist) (regs : List Register) (i : ℕ) (r : Register) → AreRegisters n i regs → r.signal.0 ≡ i → (init : ℕ) × (kind_at n r.signal.0 ≡ Reg init (Some r.next.0))
+    → (r.narrow ≡ true → width_of n r.signal.0 ≤ 64) → AreRegisters n (i + 1) (regs ++ r ∷ [])
+registers_more n regs i r w e f low = record {
   each = λ k q g. elim (pushed regs r q k g) [
     | inl h ↦ w.each k q h
     | inr h ↦ subst (λ (y : Register). (init : ℕ) × (kind_at n y.signal.0 ≡ Reg init (Some y.next.0))) (sym h.1) f
@@ -121,6 +122,10 @@ registers_more n regs i r w e f = record {
   all = λ s h is. elim (lower_or_same s i h) [
     | inl l ↦ let a = w.all s l is in (a.0, a.1, front regs (r ∷ []) a.0 a.1 a.2, a.3)
     | inr q ↦ (length regs, r, end regs r, e ∙ sym q)
+  ];
+  narrow = λ k q g. elim (pushed regs r q k g) [
+    | inl h ↦ w.narrow k q h
+    | inr h ↦ subst (λ (y : Register). y.narrow ≡ true → width_of n y.signal.0 ≤ 64) (sym h.1) low
   ];
   few = (let a = w.few in let b = length_push regs r in omega (arith, a, b));
   below = λ k q g. elim (pushed regs r q k g) [
@@ -152,6 +157,7 @@ pub registers_same : (n : Netlist) (regs : List Register) (i : ℕ) → AreRegis
 registers_same n regs i w away = record {
   each = w.each;
   all = λ s h is. elim (lower_or_same s i h) [ inl l ↦ w.all s l is | inr q ↦ absurd (away (subst (λ y. IsReg (kind_at n y)) q is)) ];
+  narrow = w.narrow;
   few = (let a = w.few in omega (arith, a));
   below = λ k q g. (let a = w.below k q g in omega (arith, a));
   once = w.once;

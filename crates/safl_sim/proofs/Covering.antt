@@ -46,13 +46,6 @@ covers_new filled words w y c h =
       ],
     )
 
--- one that has its mark already
-pub covers_kept : (filled words : List ℕ) (w y : ℕ) → Covers filled words → ¬ (slice_index words w ≡ 0) → Covers filled (set words w y)
-covers_kept filled words w y c some = (
-  (let b = set_length words w y in let d = c.0 in omega (arith, b, d)),
-  λ v n. elim (same_or_not v w) [ inl q ↦ ap (marked filled) q ∙ c.1 w some | inr q ↦ c.1 v (λ z. n (index_other words w y v q ∙ z)) ],
-)
-
 -- the bits of a number that is moved
 moved : (n s j : ℕ) → bit_at (n / 2 ^ s) j ≡ bit_at n (s + j)
 moved n zero j = ap (λ x. bit_at x j) (div-one n) ∙ ap (bit_at n) (let e : j ≡ 0 + j = omega arith in e)

@@ -1,5 +1,5 @@
 -- A cycle of a simulator.
-use Rattle.std.proofs.Common.{◌≡◌, ℕ, zero, suc, ◌+◌, ◌*◌, ◌<◌, ◌≤◌, ◌^◌, List, [], ◌∷◌, map, length, Option, Some, None, slice_get, slice_index, refl, sym, ap, subst, ◌∙◌, arith}
+use Rattle.std.proofs.Common.{◌≡◌, ℕ, zero, suc, ◌+◌, ◌*◌, ◌<◌, ◌≤◌, ◌^◌, List, [], ◌∷◌, map, length, Option, Some, None, slice_get, slice_index, refl, sym, ap, subst, ◌∙◌, arith, true}
 use Rattle.safl_word.specs.Words.{Word}
 use Rattle.safl_net.specs.declared.cell.Sig.{Sig}
 use Rattle.safl_net.specs.declared.cell.SigKind.TheVariants as SigKind
@@ -17,11 +17,12 @@ use Rattle.safl_sim.specs.Places.{inputs_of, AreInputs, HasWords}
 use Rattle.safl_sim.specs.Simulation.{Simulation, Ticks}
 use Rattle.safl_sim.specs.Marks.{marked, first_register}
 use Rattle.safl_sim.specs.Readers.{Lists, Kept, Shown, RegistersAway}
-use Rattle.safl_sim.specs.States.{AreAt}
+use Rattle.safl_sim.specs.States.{AreAt, AreLow, HaveLowNexts}
 use Rattle.safl_sim.specs.Steps.{IsReg, AreRegisters, Waits, Keeps, Runs, Goes}
 use Rattle.safl_sim.specs.declared.plan.Plan.{Plan}
 use Rattle.safl_sim.specs.Cycles.{state_of, KeepsStates, Cycles}
 use Rattle.safl_sim.specs.Writes.{HasPut, HasShown, HasKept, KeepsOn}
+use Rattle.safl_sim.proofs.Actions.{low_number}
 use Rattle.safl_sim.proofs.Registers.{all_kept, was_unmarked}
 use Rattle.safl_sim.proofs.InputsInOrder.{inputs_are, inputs_long, map_get, get_map, maps_agree, length_map}
 use Rattle.safl_sim.proofs.Placing.{all_placed}
@@ -148,6 +149,24 @@ module _ (o : Order) (p : Plan) (marks waiting numbers v1 : List ℕ) (kept : Ke
 
   pub numbers_at : AreAt p.registers.items numbers (state_of o p numbers)
   numbers_at = all_placed (length o.net.signals) p.registers.items numbers kept.keeps.registers.once kept.keeps.registers.below kept.long
+
+  -- the narrow registers have at most 64 bits
+  pub shown_low : AreLow p.registers.items v1 numbers
+  shown_low i r e narrow =
+      let known = reg_within i r e in
+      let few = kept.keeps.registers.narrow i r e narrow in (
+        low_number o.net v1 r.signal.0 kept.keeps.values known few,
+        subst (λ x. x < 2 ^ 64) (numbers_at.each i r e) (low_number o.net (state_of o p numbers) r.signal.0 kept.keeps.state known few),
+      )
+
+  -- and so have their next signals
+  pub nexts_low : (v3 : List ℕ) → FitWidths o.net (slice_index v3) → HaveLowNexts p.registers.items v3
+  nexts_low v3 fits i r e narrow =
+      let a = kept.keeps.registers.each i r e in
+      let b = next_at o.net r a.0 i a.1 in
+      let next : width_of o.net r.next.0 ≡ b.0.width = (subst (λ x. KindFits o.net b.0.width x) b.2 (kept.keeps.made.signals r.signal.0 b.0 b.1).kind).2 in
+      let few = kept.keeps.registers.narrow i r e narrow in
+      low_number o.net v3 r.next.0 fits (next_within i r e) (let w : width_of o.net r.signal.0 ≡ b.0.width = ap width_in b.1 in omega (arith, w, next, few))
 
   shown_at : (v2 : List ℕ) → HasShown p.registers.items (state_of o p numbers) (length p.registers.items) v1 v2 → (s : ℕ) (g : Signal) → slice_get o.net.signals s ≡ Some g → IsReg g.kind → slice_index v2 s ≡ slice_index (state_of o p numbers) s
   shown_at v2 q s g e h =

@@ -1,8 +1,9 @@
 -- Registers that are shown and kept.
-use Rattle.std.proofs.Common.{◌≡◌, inl, inr, ℕ, ◌+◌, ◌-◌, ◌*◌, ◌/◌, ◌%◌, ◌<◌, ◌≤◌, List, length, set, Some, slice_get, slice_index, refl, sym, ap, subst, ◌∙◌, arith}
+use Rattle.std.proofs.Common.{◌≡◌, inl, inr, ℕ, ◌+◌, ◌-◌, ◌*◌, ◌/◌, ◌%◌, ◌^◌, ◌<◌, ◌≤◌, List, length, set, Some, slice_get, slice_index, refl, sym, ap, subst, ◌∙◌, arith, true}
 use Rattle.safl_sim.specs.declared.step.Register.{Register}
 use Rattle.std.specs.Int.{bit_at}
 use Rattle.safl_sim.specs.Marks.{marked, HasNone, NoneBetween, HasTaken}
+use Rattle.safl_sim.specs.States.{AreOnce, AreLow}
 use Rattle.safl_sim.specs.Steps.{Waits}
 use Rattle.safl_sim.specs.Writes.{HasShown, HasKept, Shows, KeepsOn}
 use Rattle.safl_sim.proofs.Written.{same_or_not, index_here, index_other, set_length}
@@ -15,6 +16,20 @@ one_at : (regs : List Register) (j k : ℕ) (q r : Register) → slice_get regs 
 one_at regs j k q r e f z = let a : Some q ≡ Some r = sym e ∙ ap (slice_get regs) z ∙ f in cc
 
 -- ---- shown
+
+-- after one more is shown, the narrow ones have at most 64 bits still
+pub low_shown : (regs : List Register) (values numbers : List ℕ) (i : ℕ) (r : Register) → AreOnce regs → AreLow regs values numbers → slice_get regs i ≡ Some r → r.signal.0 < length values
+    → AreLow regs (set values r.signal.0 (slice_index numbers i)) numbers
+low_shown regs values numbers i r once low at inside = λ k q e narrow. (
+  elim (same_or_not q.signal.0 r.signal.0) [
+    | inl z ↦ subst (λ y. y < 2 ^ 64) (sym (ap (slice_index (set values r.signal.0 x)) z ∙ index_here values r.signal.0 x inside)) (subst (λ j. slice_index numbers j < 2 ^ 64) (once k i q r e at z) (low k q e narrow).1)
+    | inr n ↦ subst (λ y. y < 2 ^ 64) (sym (index_other values r.signal.0 x q.signal.0 n)) (low k q e narrow).0
+  ],
+  (low k q e narrow).1,
+)
+  where
+    x : ℕ
+    x = slice_index numbers i
 
 pub shows_start : (regs : List Register) (now values waiting : List ℕ) → Waits regs now values waiting → Shows regs now 0 values values waiting
 shows_start regs now values waiting w = record {

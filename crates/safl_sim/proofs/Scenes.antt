@@ -11,7 +11,7 @@ use Rattle.safl_net.proofs.Naming.{within}
 use Rattle.safl_net.proofs.CellWords.{cell_width, cell_is_word, shown_widths}
 use Rattle.safl_order.specs.Order.{IsOrder, IsWire, operands_of, operands_in}
 use Rattle.safl_sim.specs.declared.step.Action.{Action}
-use Rattle.safl_sim.specs.declared.step.Action.TheVariants.{Choose, One, Two, Add, Sub, And, Or, Xor, Eq, Shl, Shr, Bits, Const, WideChoose, WideOne, WideTwo}
+use Rattle.safl_sim.specs.declared.step.Action.TheVariants.{Choose, One, Two, Not, Add, Sub, And, Or, Xor, Eq, Shl, Shr, Bits, Const, WideChoose, WideOne, WideTwo}
 use Rattle.safl_sim.specs.declared.step.Step.{Step}
 use Rattle.safl_sim.specs.Steps.{action_number, is_low, Low, LowOf, IsStep, AreSteps, LowStep}
 use Rattle.safl_sim.specs.Writes.{after_steps, AllReady}
@@ -105,13 +105,14 @@ scene_step n ws j s step start values made o w at p =
 
 -- an action for at most 64 bits works on numbers of so many
 low_of : (values : List ℕ) (action : Action) → (is_low action ≡ true → Low values action) → LowOf values action
-low_of values (Const l h) low = tt
-low_of values (WideChoose c a b turned) low = tt
+low_of values (Const a b c d) low = tt
+low_of values (WideChoose c a b) low = tt
 low_of values (WideOne p w a) low = tt
 low_of values (WideTwo p w v a b) low = tt
-low_of values (Choose c a b turned) low = low refl
+low_of values (Choose c a b) low = low refl
 low_of values (One p w a) low = low refl
 low_of values (Two p w v a b) low = low refl
+low_of values (Not w a) low = low refl
 low_of values (Add w v a b) low = low refl
 low_of values (Sub w v a b) low = low refl
 low_of values (And w v a b) low = low refl

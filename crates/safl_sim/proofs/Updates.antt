@@ -1,5 +1,5 @@
 -- Numbers that are given to places, and steps that hold.
-use Rattle.std.proofs.Common.{◌≡◌, ◌⊎◌, inl, inr, ℕ, zero, suc, ◌+◌, ◌/◌, ◌<◌, ◌≤◌, ◌^◌, bit_xor, List, [], ◌∷◌, map, length, set, Some, slice_get, slice_index, refl, sym, ap, subst, ◌∙◌, arith}
+use Rattle.std.proofs.Common.{◌≡◌, ◌⊎◌, inl, inr, ℕ, zero, suc, ◌+◌, ◌/◌, ◌<◌, ◌≤◌, ◌^◌, List, [], ◌∷◌, map, length, set, Some, slice_get, slice_index, refl, sym, ap, subst, ◌∙◌, arith}
 use Rattle.std.proofs.lemmas.Nat.Bits.{bit_at-lt}
 use Rattle.safl_word.specs.Words.{pick}
 use Rattle.safl_net.specs.Netlist.{Netlist, Signal, Wire, Cell, width_of}
@@ -46,19 +46,18 @@ pub agrees_apart : (n : Netlist) (values : List ℕ) (p x t : ℕ) (d : Cell) �
 agrees_apart n values p x t d ne away e = index_other values p x t ne ∙ e ∙ ap (λ l. (cell_word d.op l).bits) (sym (operands_same n values p x d.operands away))
 
 -- a choice that is blind to a place gives the same whatever number stands there
-choice_same : (values : List ℕ) (p x c a b turned : ℕ) → ¬ (c ≡ p) → ¬ (pick (slice_index (set values p x) c) a b ≡ p)
-    → plain_number (slice_index (set values p x)) (Choice c a b turned) ≡ plain_number (slice_index values) (Choice c a b turned)
-choice_same values p x c a b turned apart away =
+choice_same : (values : List ℕ) (p x c a b : ℕ) → ¬ (c ≡ p) → ¬ (pick (slice_index (set values p x) c) a b ≡ p)
+    → plain_number (slice_index (set values p x)) (Choice c a b) ≡ plain_number (slice_index values) (Choice c a b)
+choice_same values p x c a b apart away =
     let chosen = pick (slice_index (set values p x) c) a b in
-    ap (bit_xor turned) (
     sym (picked_number (slice_index (set values p x)) (slice_index (set values p x) c) a b)
     ∙ index_other values p x chosen away
     ∙ picked_number (slice_index values) (slice_index (set values p x) c) a b
-    ∙ ap (λ i. pick i (slice_index values a) (slice_index values b)) (index_other values p x c apart))
+    ∙ ap (λ i. pick i (slice_index values a) (slice_index values b)) (index_other values p x c apart)
 
 blind_same : (values : List ℕ) (p x : ℕ) (action : Action) → IsBlind (slice_index (set values p x)) p action → action_number (slice_index (set values p x)) action ≡ action_number (slice_index values) action
-blind_same values p x (Choose c a b turned) blind = choice_same values p x c a b turned blind.0 blind.1
-blind_same values p x (WideChoose c a b turned) blind = choice_same values p x c a b turned blind.0 blind.1
+blind_same values p x (Choose c a b) blind = choice_same values p x c a b blind.0 blind.1
+blind_same values p x (WideChoose c a b) blind = choice_same values p x c a b blind.0 blind.1
 blind_same values p x action blind = absurd blind
 
 -- a step that holds, and is blind to what is written and writes it not, holds

@@ -29,8 +29,8 @@ abbrev pub AreGuarded : List Step → List ℕ → List ℕ → List Guard → T
 AreGuarded steps starts readers guards = (length guards ≡ length readers) × AreGuards steps starts readers guards
 
 pub IsBlind-prop : (f : ℕ → ℕ) (p : ℕ) (action : Action) → IsProp (IsBlind f p action)
-IsBlind-prop f p (Choose c a b turned) = ×_prop (Π_prop λ _. ⊥_prop) (Π_prop λ _. ⊥_prop)
-IsBlind-prop f p (WideChoose c a b turned) = ×_prop (Π_prop λ _. ⊥_prop) (Π_prop λ _. ⊥_prop)
+IsBlind-prop f p (Choose c a b) = ×_prop (Π_prop λ _. ⊥_prop) (Π_prop λ _. ⊥_prop)
+IsBlind-prop f p (WideChoose c a b) = ×_prop (Π_prop λ _. ⊥_prop) (Π_prop λ _. ⊥_prop)
 IsBlind-prop f p action = ⊥_prop
 
 pub AreGuards-prop : (steps : List Step) (starts readers : List ℕ) (guards : List Guard) → IsProp (AreGuards steps starts readers guards)

@@ -36,8 +36,8 @@ pub record AreReaders (n : Netlist) (ws : List ℕ) (regs : List Register) (star
 
 -- a choice that is blind to a place: neither its condition nor what it chooses stands there
 abbrev pub IsBlind : (ℕ → ℕ) → ℕ → Action → Type 0
-IsBlind f p (Choose c a b turned) = ¬ (c ≡ p) × ¬ (pick (f c) a b ≡ p)
-IsBlind f p (WideChoose c a b turned) = ¬ (c ≡ p) × ¬ (pick (f c) a b ≡ p)
+IsBlind f p (Choose c a b) = ¬ (c ≡ p) × ¬ (pick (f c) a b ≡ p)
+IsBlind f p (WideChoose c a b) = ¬ (c ≡ p) × ¬ (pick (f c) a b ≡ p)
 IsBlind f p action = ⊥
 
 -- number k is of a step, which is such a choice

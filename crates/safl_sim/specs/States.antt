@@ -1,5 +1,5 @@
 -- The states of the registers, by register and by place.
-use Rattle.std.specs.Prelude.{◌≡◌, ℕ, ◌<◌, List, [], ◌∷◌, length, replicate, Some, slice_get, slice_set, slice_index}
+use Rattle.std.specs.Prelude.{◌≡◌, ℕ, ◌^◌, ◌<◌, List, [], ◌∷◌, length, replicate, Some, true, slice_get, slice_set, slice_index}
 use Rattle.safl_net.specs.Netlist.{Netlist}
 use Rattle.safl_net.specs.Valuations.{kind_reset}
 use Rattle.safl_net.specs.Making.{kind_at}
@@ -19,6 +19,14 @@ pub record AreAt (regs : List Register) (numbers now : List ℕ) : Type 0 where
 -- no two registers have one place
 abbrev pub AreOnce : List Register → Type 0
 AreOnce regs = (i j : ℕ) (r q : Register) → slice_get regs i ≡ Some r → slice_get regs j ≡ Some q → r.signal.0 ≡ q.signal.0 → i ≡ j
+
+-- the narrow registers have at most 64 bits, as they are shown and as their states
+abbrev pub AreLow : List Register → List ℕ → List ℕ → Type 0
+AreLow regs values numbers = (k : ℕ) (r : Register) → slice_get regs k ≡ Some r → r.narrow ≡ true → (slice_index values r.signal.0 < 2 ^ 64) × (slice_index numbers k < 2 ^ 64)
+
+-- and so have their next signals
+abbrev pub HaveLowNexts : List Register → List ℕ → Type 0
+HaveLowNexts regs values = (k : ℕ) (r : Register) → slice_get regs k ≡ Some r → r.narrow ≡ true → slice_index values r.next.0 < 2 ^ 64
 
 -- the first of the registers have their number at reset
 pub record AreReset (n : Netlist) (regs : List Register) (count : ℕ) (numbers : List ℕ) : Type 0 where

@@ -1,5 +1,5 @@
 -- Steps that are prepared for evaluation.
-use Rattle.std.specs.Prelude.{◌≡◌, ℕ, ◌+◌, ◌*◌, ◌<◌, ◌≤◌, ◌^◌, List, [], ◌∷◌, map, length, Some, IsSome, Bool, true, false, bit_xor, slice_get, slice_index}
+use Rattle.std.specs.Prelude.{◌≡◌, ℕ, ◌+◌, ◌*◌, ◌<◌, ◌≤◌, ◌^◌, List, [], ◌∷◌, map, length, Some, IsSome, Bool, true, false, slice_get, slice_index}
 use Rattle.safl_word.specs.Words.{IsWord, pick}
 use Rattle.safl_word.specs.Primitives.{result_width, apply_prim}
 use Rattle.safl_word.specs.declared.primitive.Primitive.{Primitive}
@@ -13,7 +13,7 @@ use Rattle.safl_net.specs.Laws.{FitWidths}
 use Rattle.safl_net.specs.Making.{kind_at, numbers}
 use Rattle.safl_order.specs.Order.{Order, IsOrder, IsWire}
 use Rattle.safl_sim.specs.declared.step.Action.{Action}
-use Rattle.safl_sim.specs.declared.step.Action.TheVariants.{Choose, One, Two, Add, Sub, And, Or, Xor, Eq, Shl, Shr, Bits, Const, WideChoose, WideOne, WideTwo}
+use Rattle.safl_sim.specs.declared.step.Action.TheVariants.{Choose, One, Two, Not, Add, Sub, And, Or, Xor, Eq, Shl, Shr, Bits, Const, WideChoose, WideOne, WideTwo}
 use Rattle.safl_sim.specs.declared.step.Step.{Step}
 use Rattle.safl_sim.specs.declared.step.Register.{Register}
 use Rattle.safl_sim.specs.Places.{inputs_of}
@@ -21,18 +21,19 @@ use Rattle.safl_sim.specs.Marks.{marked, first_register}
 use Rattle.safl_sim.specs.Readers.{Lists, AreReaders, Holding, Shown}
 use Rattle.safl_sim.specs.States.{AreOnce}
 
--- an action in its plain form: the halves of a number, a choice, or a primitive on one operand or on two
+-- an action in its plain form: a constant, a choice, or a primitive on one operand or on two
 pub data Plain : Type 0 where
-  Halves : (l h : ℕ) → Plain
-  Choice : (c a b turned : ℕ) → Plain
+  Constant : (x : ℕ) → Plain
+  Choice : (c a b : ℕ) → Plain
   Unary : (p : Primitive) (w a : ℕ) → Plain
   Binary : (p : Primitive) (w v a b : ℕ) → Plain
 
 abbrev pub plain : Action → Plain
-plain (Const l h) = Halves l h
-plain (Choose c a b turned) = Choice c a b turned
+plain (Const a b c d) = Constant (a + b * 2 ^ 32 + c * 2 ^ 64 + d * 2 ^ 96)
+plain (Choose c a b) = Choice c a b
 plain (One p w a) = Unary p w a
 plain (Two p w v a b) = Binary p w v a b
+plain (Not w a) = Unary primitive.Not w a
 plain (Add w v a b) = Binary primitive.Add w v a b
 plain (Sub w v a b) = Binary primitive.Sub w v a b
 plain (And w v a b) = Binary primitive.And w v a b
@@ -42,14 +43,14 @@ plain (Eq w v a b) = Binary primitive.Eq w v a b
 plain (Shl w v a b) = Binary primitive.Shl w v a b
 plain (Shr w v a b) = Binary primitive.Shr w v a b
 plain (Bits high low w a) = Unary (primitive.Bits high low) w a
-plain (WideChoose c a b turned) = Choice c a b turned
+plain (WideChoose c a b) = Choice c a b
 plain (WideOne p w a) = Unary p w a
 plain (WideTwo p w v a b) = Binary p w v a b
 
 -- what it gives, where the signals have these numbers
 abbrev pub plain_number : (ℕ → ℕ) → Plain → ℕ
-plain_number f (Halves l h) = l + h * 2 ^ 64
-plain_number f (Choice c a b turned) = bit_xor turned (pick (f c) (f a) (f b))
+plain_number f (Constant x) = x
+plain_number f (Choice c a b) = pick (f c) (f a) (f b)
 plain_number f (Unary p w a) = (apply_prim p (word_of w (f a) ∷ [])).bits
 plain_number f (Binary p w v a b) = (apply_prim p (word_of w (f a) ∷ word_of v (f b) ∷ [])).bits
 
@@ -58,8 +59,8 @@ action_number f action = plain_number f (plain action)
 
 -- its operands are at hand, as words that it takes
 abbrev pub PlainReady : List ℕ → Plain → Type 0
-PlainReady values (Halves l h) = Unit {0}
-PlainReady values (Choice c a b turned) = (c < length values) × (a < length values) × (b < length values)
+PlainReady values (Constant x) = Unit {0}
+PlainReady values (Choice c a b) = (c < length values) × (a < length values) × (b < length values)
 PlainReady values (Unary p w a) = (a < length values) × IsWord (word_of w (slice_index values a)) × IsSome (result_width p (w ∷ []))
 PlainReady values (Binary p w v a b) = (a < length values) × (b < length values) × IsWord (word_of w (slice_index values a)) × IsWord (word_of v (slice_index values b))
     × IsSome (result_width p (w ∷ v ∷ []))
@@ -69,8 +70,8 @@ Ready values action = PlainReady values (plain action)
 
 -- what it works on has at most 64 bits, and so has what it gives
 abbrev pub PlainLow : List ℕ → Plain → Type 0
-PlainLow values (Halves l h) = h ≡ 0
-PlainLow values (Choice c a b turned) = (slice_index values c < 2 ^ 64) × (slice_index values a < 2 ^ 64) × (slice_index values b < 2 ^ 64)
+PlainLow values (Constant x) = x < 2 ^ 64
+PlainLow values (Choice c a b) = (slice_index values c < 2 ^ 64) × (slice_index values a < 2 ^ 64) × (slice_index values b < 2 ^ 64)
 PlainLow values (Unary p w a) = (slice_index values a < 2 ^ 64) × (w ≤ 64) × HasLow (result_width p (w ∷ []))
 PlainLow values (Binary p w v a b) = (slice_index values a < 2 ^ 64) × (slice_index values b < 2 ^ 64) × (w ≤ 64) × HasLow (result_width p (w ∷ v ∷ []))
 
@@ -79,16 +80,16 @@ Low values action = PlainLow values (plain action)
 
 -- an action for at most 64 bits
 abbrev pub is_low : Action → Bool
-is_low (Const l h) = false
-is_low (WideChoose c a b turned) = false
+is_low (Const a b c d) = false
+is_low (WideChoose c a b) = false
 is_low (WideOne p w a) = false
 is_low (WideTwo p w v a b) = false
 is_low action = true
 
 -- what such an action works on and gives has at most 64 bits
 abbrev pub LowOf : List ℕ → Action → Type 0
-LowOf values (Const l h) = Unit {0}
-LowOf values (WideChoose c a b turned) = Unit {0}
+LowOf values (Const a b c d) = Unit {0}
+LowOf values (WideChoose c a b) = Unit {0}
 LowOf values (WideOne p w a) = Unit {0}
 LowOf values (WideTwo p w v a b) = Unit {0}
 LowOf values action = Low values action
@@ -129,6 +130,7 @@ IsReg (Wire cell) = ⊥
 pub record AreRegisters (n : Netlist) (count : ℕ) (registers : List Register) : Type 0 where
   pub each : (k : ℕ) (r : Register) → slice_get registers k ≡ Some r → (init : ℕ) × (kind_at n r.signal.0 ≡ Reg init (Some r.next.0))
   pub all : (s : ℕ) → s < count → IsReg (kind_at n s) → (k : ℕ) × (r : Register) × (slice_get registers k ≡ Some r) × (r.signal.0 ≡ s)
+  pub narrow : (k : ℕ) (r : Register) → slice_get registers k ≡ Some r → r.narrow ≡ true → width_of n r.signal.0 ≤ 64
   pub few : length registers ≤ count
   pub below : (k : ℕ) (r : Register) → slice_get registers k ≡ Some r → r.signal.0 < count
   pub once : AreOnce registers

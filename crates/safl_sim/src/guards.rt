@@ -53,8 +53,8 @@ fn guard_of(steps: &[Step], k: usize, place: usize) -> Guard
 {
     match steps.get(k) {
         Some(step) => match step.action {
-            Action::Choose(c, a, b, _) => guard_in(place, c, a, b),
-            Action::WideChoose(c, a, b, _) => guard_in(place, c, a, b),
+            Action::Choose(c, a, b) => guard_in(place, c, a, b),
+            Action::WideChoose(c, a, b) => guard_in(place, c, a, b),
             _ => Guard::Always,
         },
         None => Guard::Always,
@@ -63,7 +63,7 @@ fn guard_of(steps: &[Step], k: usize, place: usize) -> Guard
 
 // That of a choice: it looks at its condition, and at a branch only if the condition selects it.
 fn guard_in(place: usize, c: u32, a: u32, b: u32) -> Guard
-    ensures { (f : ℕ → ℕ) (turned : ℕ) → Unseen f result → IsBlind f place (Choose c a b turned) }
+    ensures { (f : ℕ → ℕ) → Unseen f result → IsBlind f place (Choose c a b) }
 {
     if c as usize == place {
         return Guard::Always;

@@ -98,11 +98,11 @@ impl Marks {
         requires { word < length self.old }
         ensures { self.new ≡ slice_set self.old word marks }
     {
-        let before = self.words[word];
         self.words[word] = marks;
+        // The bit may be 1 already. To ask for that would be a jump that the processor often guesses wrong.
         if marks == 0 {
             self.filled[word / 64] &= !(1u64 << (word % 64));
-        } else if before == 0 {
+        } else {
             self.filled[word / 64] |= 1u64 << (word % 64);
         }
     }

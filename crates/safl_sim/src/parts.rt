@@ -1,7 +1,7 @@
 //! The parts of a simulator, prepared from a net in an order.
 
-ghost use Rattle.std.specs.Prelude.{◌≡◌, ℕ, ◌+◌, ◌*◌, ◌/◌, ◌^◌, ◌<◌, [], ◌++◌, length, OnOk, slice_get, Some, IfOk, IfSome, IfNone};
-ghost use Rattle.safl_net.specs.Netlist.{AllSet, Reg};
+ghost use Rattle.std.specs.Prelude.{◌≡◌, ℕ, ◌+◌, ◌*◌, ◌/◌, ◌^◌, ◌<◌, ◌≤◌, [], ◌++◌, length, OnOk, slice_get, Some, true, IfOk, IfSome, IfNone};
+ghost use Rattle.safl_net.specs.Netlist.{AllSet, Reg, width_of};
 ghost use Rattle.safl_net.specs.Valuations.{kind_reset};
 ghost use Rattle.safl_net.specs.Rules.{IsNetlist};
 ghost use Rattle.safl_net.specs.Making.{numbers, kind_at};
@@ -21,6 +21,7 @@ use crate::plan::Plan;
 use crate::step::{Near, Register, Step, fitting_action};
 use crate::table::table_of;
 use safl_halves::Numbers;
+use safl_narrow::LOW_MAX;
 use safl_net::{Net, Sig, SigKind};
 use safl_order::Ordered;
 use safl_word::Raw;
@@ -206,10 +207,15 @@ fn register_of(net: &Net, signal: Sig) -> Option<Register>
     requires known { signal.0 < length net.now.signals }
     ensures none { IfNone result (¬ (IsReg (kind_at net.now signal.0))) }
     ensures register { IfSome result (λ r. (r.signal.0 ≡ signal.0) × ((init : ℕ) × (kind_at net.now signal.0 ≡ Reg init (Some r.next.0)))) }
+    ensures narrow { IfSome result (λ r. r.narrow ≡ true → width_of net.now r.signal.0 ≤ 64) }
 {
     match net.kind(signal) {
         SigKind::Reg => match net.next(signal) {
-            Some(next) => Some(Register { signal, next }),
+            Some(next) => Some(Register {
+                signal,
+                next,
+                narrow: net.width(signal) <= LOW_MAX,
+            }),
             None => unreachable!(),
         },
         _ => None,

@@ -13,14 +13,14 @@ ghost use Rattle.safl_sim.specs.Marks.{marked, holding, first_register};
 ghost use Rattle.safl_sim.specs.Nears.{NearOf, GroupOf};
 ghost use Rattle.safl_sim.specs.Steps.{Waits, Goes, Runs, Ready, LowStep, is_low, action_number};
 ghost use Rattle.safl_sim.specs.Cycles.{KeepsStates, Cycles};
-ghost use Rattle.safl_sim.specs.States.{placed, AreAt, AreOnce};
+ghost use Rattle.safl_sim.specs.States.{placed, AreAt, AreOnce, AreLow, HaveLowNexts};
 ghost use Rattle.safl_sim.specs.Writes.{HasPut, HasShown, Shows, KeepsOn, after_steps, AllReady};
 
 use crate::marks::{Marks, take_held, word_count};
 use crate::plan::Plan;
 use crate::readers::{mark_group, mark_readers};
 use crate::step::{Group, Register, Step, act, act_low};
-use safl_halves::Numbers;
+use safl_halves::{Numbers, low_half};
 use safl_net::Sig;
 use safl_word::{Raw, Word};
 
@@ -64,6 +64,22 @@ fn renew_low(values: &mut Numbers, place: usize, number: u64) -> bool
     new
 }
 
+// The same where the place is a register's.
+#[inline(always)]
+fn renew_register(values: &mut Numbers, register: Register, number: Raw) -> bool
+    requires within { register.signal.0 < length values.old }
+    requires low { register.narrow ≡ true → (slice_index values.old register.signal.0 < 2 ^ 64) × (number < 2 ^ 64) }
+    ensures is { values.new ≡ slice_set values.old register.signal.0 number }
+    ensures new { result ≡ false → slice_index values.old register.signal.0 ≡ number }
+{
+    let place = register.signal.0 as usize;
+    if register.narrow {
+        renew_low(values, place, low_half(number))
+    } else {
+        renew(values, place, number)
+    }
+}
+
 /// Writes the words to the inputs.
 pub fn put_words(values: &mut Numbers, marks: &mut Marks, plan: &Plan, words: &[Word])
     requires lists { Lists plan.now.starts.items plan.now.readers.items (length values.old) (length marks.old) }
@@ -96,9 +112,10 @@ pub fn show(
     requires lists { Lists plan.now.starts.items plan.now.readers.items (length values.old) (length marks.old) }
     requires group { GroupOf plan.now.starts.items plan.now.readers.items register group }
     requires within { register.signal.0 < length values.old }
+    requires low { register.narrow ≡ true → (slice_index values.old register.signal.0 < 2 ^ 64) × (number < 2 ^ 64) }
     ensures { HasGiven plan.now.steps.items plan.now.starts.items plan.now.readers.items register.signal.0 number values.old values.new marks.old marks.new }
 {
-    if renew(values, register.signal.0 as usize, number) {
+    if renew_register(values, register, number) {
         mark_group(values, marks, plan, group);
     }
 }
@@ -117,10 +134,13 @@ pub fn show_word(
     requires few { length waiting.old ≤ 2 ^ 32 }
     requires lists { Lists plan.now.starts.items plan.now.readers.items (length values.old) (length marks.old) }
     requires within { (k : ℕ) (r : Register) → slice_get plan.now.registers.items k ≡ Some r → r.signal.0 < length values.old }
+    requires once { AreOnce plan.now.registers.items }
+    requires low { AreLow plan.now.registers.items values.old state.now }
     requires shows { (now : List ℕ) × (start : List ℕ) × AreAt plan.now.registers.items state.now now
         × Shows plan.now.registers.items now (word * 64) start values.old waiting.old }
     ensures long { length marks.new ≡ length marks.old }
     ensures room { length waiting.new ≡ length waiting.old }
+    ensures low { AreLow plan.now.registers.items values.new state.now }
     ensures shows { (now start : List ℕ) → AreAt plan.now.registers.items state.now now → Shows plan.now.registers.items now (word * 64) start values.old waiting.old
         → Shows plan.now.registers.items now ((word + 1) * 64) start values.new waiting.new }
     ensures goes { (n : Netlist) (ws now : List ℕ) → RegistersAway plan.now.registers.items ws → AreAt plan.now.registers.items state.now now
@@ -156,6 +176,8 @@ pub fn show_registers(
 )
     requires lists { Lists plan.now.starts.items plan.now.readers.items (length values.old) (length marks.old) }
     requires within { (k : ℕ) (r : Register) → slice_get plan.now.registers.items k ≡ Some r → r.signal.0 < length values.old }
+    requires once { AreOnce plan.now.registers.items }
+    requires low { AreLow plan.now.registers.items values.old state.now }
     requires waits { (now : List ℕ) × AreAt plan.now.registers.items state.now now × Waits plan.now.registers.items now values.old waiting.old }
     ensures long { length marks.new ≡ length marks.old }
     ensures room { length waiting.new ≡ length waiting.old }
@@ -173,15 +195,31 @@ pub fn show_registers(
     }
 }
 
+// The number of a register's next signal.
+#[inline(always)]
+fn next_number(values: &Numbers, register: Register) -> Raw
+    requires within { register.next.0 < length values.now }
+    requires low { register.narrow ≡ true → slice_index values.now register.next.0 < 2 ^ 64 }
+    ensures { result ≡ slice_index values.now register.next.0 }
+{
+    let place = register.next.0 as usize;
+    if register.narrow {
+        Raw::from(values.get_low(place))
+    } else {
+        values.get(place)
+    }
+}
+
 /// Keeps the number of a register's next signal as its state.
 #[inline(always)]
 pub fn keep(state: &mut [Raw], registers: &[Register], values: &Numbers, k: usize)
     requires known { k < length registers.now }
     requires states { length state.old ≡ length registers.now }
     requires next { (k : ℕ) (r : Register) → slice_get registers.now k ≡ Some r → r.next.0 < length values.now }
+    requires low { HaveLowNexts registers.now values.now }
     ensures { (r : Register) → slice_get registers.now k ≡ Some r → state.new ≡ slice_set state.old k (slice_index values.now r.next.0) }
 {
-    state[k] = values.get(registers[k].next.0 as usize);
+    state[k] = next_number(values, registers[k]);
 }
 
 /// Keeps the marked registers of a word of marks, and lets them wait to be shown. The marks of registers begin with a word of
@@ -203,6 +241,7 @@ pub fn keep_word(
     requires states { length state.old ≡ length registers.now }
     requires within { (k : ℕ) (r : Register) → slice_get registers.now k ≡ Some r → r.signal.0 < length values.now }
     requires next { (k : ℕ) (r : Register) → slice_get registers.now k ≡ Some r → r.next.0 < length values.now }
+    requires low { HaveLowNexts registers.now values.now }
     requires once { AreOnce registers.now }
     requires keeps { (start was : List ℕ)
         × KeepsOn (first * 64) registers.now values.now (word * 64) start was (placed (length values.now) registers.now state.old) marks.old waiting.old }
@@ -241,6 +280,7 @@ pub fn keep_registers(
     requires states { length state.old ≡ length registers.now }
     requires within { (k : ℕ) (r : Register) → slice_get registers.now k ≡ Some r → r.signal.0 < length values.now }
     requires next { (k : ℕ) (r : Register) → slice_get registers.now k ≡ Some r → r.next.0 < length values.now }
+    requires low { HaveLowNexts registers.now values.now }
     requires once { AreOnce registers.now }
     requires keeps { (start was : List ℕ)
         × KeepsOn (first * 64) registers.now values.now (first * 64) start was (placed (length values.now) registers.now state.old) marks.old waiting.old }

@@ -1,31 +1,33 @@
 //! Steps that are prepared for evaluation.
 
-ghost use Rattle.std.specs.Prelude.{◌≡◌, ◌⊎◌, ℕ, ◌<◌, [], ◌∷◌, length, slice_index, Some, IsSome, IfSome, IfNone, true, false};
+ghost use Rattle.std.specs.Prelude.{◌≡◌, ◌⊎◌, ℕ, ◌+◌, ◌*◌, ◌^◌, ◌<◌, [], ◌∷◌, length, slice_index, Some, IsSome, IfSome, IfNone, true, false};
 ghost use Rattle.safl_word.specs.Words.{Word, pick};
 ghost use Rattle.safl_word.specs.Primitives.{result_width, apply_prim};
 ghost use Rattle.safl_net.specs.declared.cell.Sig.{Sig};
 ghost use Rattle.safl_net.specs.Rules.{IsNetlist, CellFits};
 ghost use Rattle.safl_net.specs.Making.{cell_on};
 ghost use Rattle.safl_net.specs.Stored.{cell_of};
-ghost use Rattle.safl_halves.specs.Halves.{low_half, high_half};
-ghost use Rattle.safl_sim.specs.Steps.{Unary, Binary, plain, plain_number, action_number, PlainReady, Ready, PlainLow, LowOf, is_low, Performs, IsNarrow};
+ghost use Rattle.safl_sim.specs.Steps.{Constant, Unary, Binary, plain, plain_number, action_number, PlainReady, Ready, PlainLow, LowOf, is_low, Performs, IsNarrow};
 
-use safl_halves::{Numbers, from_halves, high_half, low_half};
-use safl_narrow::{LOW_MAX, greatest, narrow_one, narrow_two};
+use safl_halves::Numbers;
+use safl_narrow::{LOW_MAX, narrow_one, narrow_two};
 use safl_net::{Cell, Net, Op, Sig};
 use safl_word::{Primitive, Raw, Word, apply};
+
+// 2 to the 32nd, one more than the greatest quarter of a number.
+const QUARTER: Raw = 0x1_0000_0000;
 
 /// What a step does, on the numbers at places. But for the last four, an action works on at most 64 bits, and gives no
 /// more.
 #[derive(Clone, Copy)]
 pub enum Action {
-    /// A condition, what is taken where it is 1, and else, and the bits that are turned then. A copy is the choice
-    /// between a place and itself.
-    Choose(u32, u32, u32, u64),
+    /// A condition, what is taken where it is 1, and else. A copy is the choice between a place and itself.
+    Choose(u32, u32, u32),
     /// A primitive on an operand of a width, and on two.
     One(Primitive, u8, u32),
     Two(Primitive, u8, u8, u32, u32),
     /// The commonest primitives have variants of their own, so that a step is evaluated with one jump.
+    Not(u8, u32),
     Add(u8, u8, u32, u32),
     Sub(u8, u8, u32, u32),
     And(u8, u8, u32, u32),
@@ -36,10 +38,10 @@ pub enum Action {
     Shr(u8, u8, u32, u32),
     /// The ends of a slice, the high one first, and the width and the place of its operand.
     Bits(u8, u8, u8, u32),
-    /// The low and the high 64 bits of a number.
-    Const(u64, u64),
+    /// The quarters of a number of 128 bits, the lowest first. As halves they would make every step longer by 8 bytes.
+    Const(u32, u32, u32, u32),
     /// A choice, and a primitive on one operand and on two, where there may be more than 64 bits.
-    WideChoose(u32, u32, u32, u64),
+    WideChoose(u32, u32, u32),
     WideOne(Primitive, u8, u32),
     WideTwo(Primitive, u8, u8, u32, u32),
 }
@@ -79,11 +81,12 @@ pub struct Step {
     pub end: u32,
 }
 
-/// A register, and its next signal.
+/// A register, its next signal, and whether they have at most 64 bits.
 #[derive(Clone, Copy)]
 pub struct Register {
     pub signal: Sig,
     pub next: Sig,
+    pub narrow: bool,
 }
 
 /// The number that an action gives, where there may be more than 64 bits.
@@ -95,10 +98,10 @@ pub fn act(action: &Action, values: &Numbers) -> Raw
     ensures { result ≡ action_number (slice_index values.now) action.now }
 {
     match *action {
-        Action::Const(low, high) => from_halves(low, high),
-        Action::WideChoose(c, a, b, turned) => {
+        Action::Const(a, b, c, d) => from_quarters(a, b, c, d),
+        Action::WideChoose(c, a, b) => {
             let chosen = choose(values.get(c as usize), a, b);
-            Raw::from(turned) ^ values.get(chosen as usize)
+            values.get(chosen as usize)
         }
         Action::WideOne(p, width, a) => apply_one(
             p,
@@ -120,12 +123,13 @@ pub fn act_low(action: &Action, values: &Numbers) -> Option<u64>
     ensures none { IfNone result (is_low action.now ≡ false) }
 {
     Some(match *action {
-        Action::Choose(c, a, b, turned) => {
+        Action::Choose(c, a, b) => {
             let chosen = choose(Raw::from(values.get_low(c as usize)), a, b);
-            turned ^ values.get_low(chosen as usize)
+            values.get_low(chosen as usize)
         }
         Action::One(p, width, a) => narrow_one(p, width, values.get_low(a as usize)),
         Action::Two(p, width, other, a, b) => low_pair(values, p, width, other, a, b),
+        Action::Not(width, a) => narrow_one(Primitive::Not, width, values.get_low(a as usize)),
         Action::Add(width, other, a, b) => low_pair(values, Primitive::Add, width, other, a, b),
         Action::Sub(width, other, a, b) => low_pair(values, Primitive::Sub, width, other, a, b),
         Action::And(width, other, a, b) => low_pair(values, Primitive::And, width, other, a, b),
@@ -139,8 +143,8 @@ pub fn act_low(action: &Action, values: &Numbers) -> Option<u64>
             width,
             values.get_low(a as usize),
         ),
-        Action::Const(_, _)
-        | Action::WideChoose(_, _, _, _)
+        Action::Const(_, _, _, _)
+        | Action::WideChoose(_, _, _)
         | Action::WideOne(_, _, _)
         | Action::WideTwo(_, _, _, _, _) => return None,
     })
@@ -209,9 +213,10 @@ fn widened(action: Action) -> Action
     ensures wide { is_low result ≡ false }
 {
     match action {
-        Action::Choose(c, a, b, turned) => Action::WideChoose(c, a, b, turned),
+        Action::Choose(c, a, b) => Action::WideChoose(c, a, b),
         Action::One(p, width, a) => Action::WideOne(p, width, a),
         Action::Two(p, width, other, a, b) => Action::WideTwo(p, width, other, a, b),
+        Action::Not(width, a) => Action::WideOne(Primitive::Not, width, a),
         Action::Add(width, other, a, b) => Action::WideTwo(Primitive::Add, width, other, a, b),
         Action::Sub(width, other, a, b) => Action::WideTwo(Primitive::Sub, width, other, a, b),
         Action::And(width, other, a, b) => Action::WideTwo(Primitive::And, width, other, a, b),
@@ -221,8 +226,8 @@ fn widened(action: Action) -> Action
         Action::Shl(width, other, a, b) => Action::WideTwo(Primitive::Shl, width, other, a, b),
         Action::Shr(width, other, a, b) => Action::WideTwo(Primitive::Shr, width, other, a, b),
         Action::Bits(high, low, width, a) => Action::WideOne(Primitive::Bits(high, low), width, a),
-        Action::Const(low, high) => Action::Const(low, high),
-        Action::WideChoose(c, a, b, turned) => Action::WideChoose(c, a, b, turned),
+        Action::Const(a, b, c, d) => Action::Const(a, b, c, d),
+        Action::WideChoose(c, a, b) => Action::WideChoose(c, a, b),
         Action::WideOne(p, width, a) => Action::WideOne(p, width, a),
         Action::WideTwo(p, width, other, a, b) => Action::WideTwo(p, width, other, a, b),
     }
@@ -237,28 +242,15 @@ fn action_of(net: &Net, starts: &[u32], cell: &Cell) -> Action
     match cell.operands.as_slice() {
         [] => constant(&cell.op),
         [a] => match cell.op {
-            Op::Apply(p) => single(net, p, *a),
-            _ => Action::Choose(a.0, a.0, a.0, 0),
+            Op::Apply(p) => one(p, net.width(*a), a.0),
+            _ => Action::Choose(a.0, a.0, a.0),
         },
         [a, b] => match cell.op {
             Op::Apply(p) => pair(net, starts, p, *a, *b),
             _ => unreachable!(),
         },
-        [c, a, b] => Action::Choose(c.0, a.0, b.0, 0),
+        [c, a, b] => Action::Choose(c.0, a.0, b.0),
         _ => unreachable!(),
-    }
-}
-
-// The action of a primitive on an operand. A complement is a copy with all bits turned.
-fn single(net: &Net, p: Primitive, a: Sig) -> Action
-    requires netlist { IsNetlist net.now }
-    requires fits { (width : ℕ) × CellFits net.now width (cell_on (Op.Apply p) (a ∷ [])) }
-    ensures { Performs net.now (cell_on (Op.Apply p) (a ∷ [])) result }
-{
-    let width = net.width(a);
-    match p {
-        Primitive::Not if width <= LOW_MAX => Action::Choose(a.0, a.0, a.0, greatest(width)),
-        _ => one(p, width, a.0),
     }
 }
 
@@ -271,7 +263,7 @@ fn pair(net: &Net, starts: &[u32], p: Primitive, a: Sig, b: Sig) -> Action
     let width = net.width(a);
     match p {
         Primitive::And if width == 1 => both(starts, a, b),
-        Primitive::Or if width == 1 => Action::Choose(a.0, a.0, b.0, 0),
+        Primitive::Or if width == 1 => Action::Choose(a.0, a.0, b.0),
         _ => two(p, width, net.width(b), a.0, b.0),
     }
 }
@@ -281,6 +273,7 @@ fn one(p: Primitive, width: u8, a: u32) -> Action
     ensures { plain result ≡ Unary p width a }
 {
     match p {
+        Primitive::Not => Action::Not(width, a),
         Primitive::Bits(high, low) => Action::Bits(high, low, width, a),
         _ => Action::One(p, width, a),
     }
@@ -306,26 +299,42 @@ fn two(p: Primitive, width: u8, other: u8, a: u32, b: u32) -> Action
 // The "and" of two bits. Where its condition is 0, it is blind to the other bit; so the condition is the one that has
 // fewer readers. It is a matter of speed alone.
 fn both(starts: &[u32], a: Sig, b: Sig) -> Action
-    ensures { (result ≡ Action.Choose a.0 b.0 a.0 0) ⊎ (result ≡ Action.Choose b.0 a.0 b.0 0) }
+    ensures { (result ≡ Action.Choose a.0 b.0 a.0) ⊎ (result ≡ Action.Choose b.0 a.0 b.0) }
 {
     let (i, j) = (a.0 as usize, b.0 as usize);
     if i + 1 < starts.len() && j + 1 < starts.len() {
         let count = starts[i + 1].saturating_sub(starts[i]);
         if starts[j + 1].saturating_sub(starts[j]) < count {
-            return Action::Choose(b.0, a.0, b.0, 0);
+            return Action::Choose(b.0, a.0, b.0);
         }
     }
-    Action::Choose(a.0, b.0, a.0, 0)
+    Action::Choose(a.0, b.0, a.0)
 }
 
+// The action of a constant.
 fn constant(op: &Op) -> Action
     requires { (w : Word) × (op.now ≡ Op.Const w) }
-    ensures { (w : Word) → op.now ≡ Op.Const w → result ≡ Action.Const (low_half w.bits) (high_half w.bits) }
+    ensures { (w : Word) → op.now ≡ Op.Const w → plain result ≡ Constant w.bits }
 {
     match op {
-        Op::Const(w) => Action::Const(low_half(w.bits()), high_half(w.bits())),
+        Op::Const(w) => {
+            let number = w.bits();
+            Action::Const(
+                (number % QUARTER) as u32,
+                (number / QUARTER % QUARTER) as u32,
+                (number / QUARTER / QUARTER % QUARTER) as u32,
+                (number / QUARTER / QUARTER / QUARTER) as u32,
+            )
+        }
         _ => unreachable!(),
     }
+}
+
+// The number that has these quarters, the lowest first.
+fn from_quarters(a: u32, b: u32, c: u32, d: u32) -> Raw
+    ensures { result ≡ a + b * 2 ^ 32 + c * 2 ^ 64 + d * 2 ^ 96 }
+{
+    Raw::from(a) + QUARTER * (Raw::from(b) + QUARTER * (Raw::from(c) + QUARTER * Raw::from(d)))
 }
 
 // Whether a wire has at most 64 bits, and so have the operands of its cell.

@@ -20,11 +20,11 @@ returns-in-Choose c = λ values u.
     let step = c.in-Some.step.now in
     let found = c.in-Some.ensures.lookup in
     blind c.args.steps.now c.args.place c.args.k step values found.3.0 (get_read c.args.steps.now c.args.k step found.3.0 found.1)
-    (subst (λ (a : Action). IsBlind (slice_index values) c.args.place a) (sym c.in-Choose.is) (c.guard_in.ensures (slice_index values) c.in-Choose.field-3 u))
+    (subst (λ (a : Action). IsBlind (slice_index values) c.args.place a) (sym c.in-Choose.is) (c.guard_in.ensures (slice_index values) u))
 
 pub returns-in-WideChoose : goal.returns-in-WideChoose
 returns-in-WideChoose c = λ values u.
     let step = c.in-Some.step.now in
     let found = c.in-Some.ensures.lookup in
     blind c.args.steps.now c.args.place c.args.k step values found.3.0 (get_read c.args.steps.now c.args.k step found.3.0 found.1)
-    (subst (λ (a : Action). IsBlind (slice_index values) c.args.place a) (sym c.in-WideChoose.is) (c.guard_in-in-WideChoose.ensures (slice_index values) c.in-WideChoose.field-3 u))
+    (subst (λ (a : Action). IsBlind (slice_index values) c.args.place a) (sym c.in-WideChoose.is) (c.guard_in-in-WideChoose.ensures (slice_index values) u))

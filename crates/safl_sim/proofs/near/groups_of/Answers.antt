@@ -1,4 +1,4 @@
-use Rattle.std.proofs.Common.{◌≡◌, ◌+◌, List, Some, slice_get, get_or, sym, subst, arith}
+use Rattle.std.proofs.Common.{◌≡◌, ◌+◌, List, Some, slice_get, get_or, sym, subst, arith, false}
 use Rattle.safl_sim.specs.declared.step.Group.{Group}
 use Rattle.safl_sim.specs.declared.step.Register.{Register}
 use Rattle.safl_sim.proofs.Written.{get_at}
@@ -6,7 +6,7 @@ use Rattle.safl_sim.proofs.Nearing.{GroupedTo, groups_more}
 use Rattle.safl_sim.proofs.near.groups_of.Goals as goal
 
 abbrev none : Register
-none = record { signal = record { 0 = 0 }; next = record { 0 = 0 } }
+none = record { signal = record { 0 = 0 }; next = record { 0 = 0 }; narrow = false }
 
 pub bounds-starts-place : goal.bounds-starts-place
 bounds-starts-place c =

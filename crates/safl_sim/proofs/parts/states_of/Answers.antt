@@ -1,4 +1,4 @@
-use Rattle.std.proofs.Common.{◌+◌, List, ℕ, get_or, sym, subst}
+use Rattle.std.proofs.Common.{◌+◌, List, ℕ, get_or, sym, subst, false}
 use Rattle.safl_sim.specs.declared.step.Register.{Register}
 use Rattle.safl_sim.specs.States.{AreReset}
 use Rattle.safl_sim.proofs.Written.{get_at}
@@ -6,7 +6,7 @@ use Rattle.safl_sim.proofs.Builds.{reset_more}
 use Rattle.safl_sim.proofs.parts.states_of.Goals as goal
 
 abbrev none : Register
-none = record { signal = record { 0 = 0 }; next = record { 0 = 0 } }
+none = record { signal = record { 0 = 0 }; next = record { 0 = 0 }; narrow = false }
 
 pub reset-requires : goal.reset-requires
 reset-requires c = c.requires c.registers.i (get_or c.args.registers.now c.registers.i none) (get_at c.args.registers.now c.registers.i none c.registers-test.true)

@@ -1,4 +1,4 @@
-use Rattle.std.proofs.Common.{◌≡◌, inl, inr, ◌+◌, ◌-◌, ◌*◌, ◌/◌, ◌<◌, ◌≤◌, ℕ, List, Some, length, get_or, slice_get, slice_index, refl, sym, ap, subst, ◌∙◌, arith}
+use Rattle.std.proofs.Common.{◌≡◌, inl, inr, ◌+◌, ◌-◌, ◌*◌, ◌/◌, ◌<◌, ◌≤◌, ℕ, List, Some, length, get_or, slice_get, slice_index, refl, sym, ap, subst, ◌∙◌, arith, false}
 use Rattle.safl_sim.specs.declared.step.Register.{Register}
 use Rattle.safl_sim.specs.Marks.{marked, holding, HasTaken}
 use Rattle.safl_sim.specs.States.{placed}
@@ -11,7 +11,7 @@ use Rattle.safl_sim.proofs.Registers.{keeps_none, keeps_step, keeps_joined, join
 use Rattle.safl_sim.proofs.phases.keep_word.Goals as goal
 
 abbrev none : Register
-none = record { signal = record { 0 = 0 }; next = record { 0 = 0 } }
+none = record { signal = record { 0 = 0 }; next = record { 0 = 0 }; narrow = false }
 
 -- all registers of the word wait
 joins : (marks waiting waiting' : List ℕ) (word first held : ℕ) → held ≡ slice_index marks word → waiting' ≡ joined waiting (word - first) held → waiting' ≡ joined waiting (word - first) (slice_index marks word)

@@ -4,7 +4,7 @@ use Rattle.safl_sim.specs.Marks.{first_register}
 use Rattle.safl_sim.specs.States.{placed}
 use Rattle.safl_sim.specs.Cycles.{state_of}
 use Rattle.safl_sim.specs.Writes.{KeepsOn}
-use Rattle.safl_sim.proofs.Cycle.{reg_within, next_within, numbers_at, begins, keeps_start, cycles}
+use Rattle.safl_sim.proofs.Cycle.{reg_within, next_within, numbers_at, shown_low, nexts_low, begins, keeps_start, cycles}
 use Rattle.safl_sim.proofs.phases.proceed.Goals as goal
 
 -- the registers as a slice, and the places as many as the values
@@ -19,6 +19,12 @@ show_registers-requires-clause-waits c =
     let o = c.requires.0 in
     let k = c.requires.1 in
     (state_of o c.args.plan.now c.args.state.now, numbers_at o c.args.plan.now c.args.marks.now c.args.waiting.now c.args.state.now c.args.values.now k, k.keeps.waits)
+
+pub show_registers-requires-clause-once : goal.show_registers-requires-clause-once
+show_registers-requires-clause-once c = c.requires.1.keeps.registers.once
+
+pub show_registers-requires-clause-low : goal.show_registers-requires-clause-low
+show_registers-requires-clause-low c = shown_low c.requires.0 c.args.plan.now c.args.marks.now c.args.waiting.now c.args.state.now c.args.values.now c.requires.1
 
 pub run_steps-count-requires-clause-runs : goal.run_steps-count-requires-clause-runs
 run_steps-count-requires-clause-runs c =
@@ -54,6 +60,16 @@ keep_registers-requires-clause-next c = λ i r e.
     let a = next_within o c.args.plan.now c.args.marks.now c.args.waiting.now c.args.state.now c.args.values.now k i r (rw (← c.as_slice-registers.ensures.value) e) in
     let b = ran.long in
     omega (arith, a, b)
+
+pub keep_registers-requires-clause-low : goal.keep_registers-requires-clause-low
+keep_registers-requires-clause-low c = λ i r e.
+    let o = c.requires.0 in
+    let k = c.requires.1 in
+    let now = state_of o c.args.plan.now c.args.state.now in
+    let begun = begins o c.args.plan.now c.args.marks.now c.args.waiting.now c.args.state.now c.args.values.now k c.show_registers.new.values c.show_registers.new.marks
+    (c.show_registers.ensures.shown now) c.show_registers.ensures.long (c.show_registers.ensures.goes o.net o.wires now) in
+    let ran = c.run_steps-count.ensures.runs o now c.show_registers.new.values begun in
+    nexts_low o c.args.plan.now c.args.marks.now c.args.waiting.now c.args.state.now c.args.values.now k c.run_steps-count.new.values ran.fits i r (rw (← c.as_slice-registers.ensures.value) e)
 
 pub keep_registers-requires-clause-keeps : goal.keep_registers-requires-clause-keeps
 keep_registers-requires-clause-keeps c =

@@ -18,7 +18,7 @@ inside : (word : ℕ) (marks marks' : List ℕ) → length marks' ≡ length mar
 inside word marks marks' e h = omega (arith, e, h)
 
 abbrev none : Step
-none = record { wire = record { 0 = 0 }; action = Choose 0 0 0 0; first = 0; end = 0 }
+none = record { wire = record { 0 = 0 }; action = Choose 0 0 0; first = 0; end = 0 }
 
 -- the step of a bit, among those of a word and all after it
 abbrev step_in : List Step → ℕ → ℕ → Step

@@ -8,6 +8,7 @@ words-init c = record {
   most = c.next-w.ensures.most;
   wide = refl;
   long = refl;
+  low = c.requires.low;
   room = refl;
   shows = λ now at w. shows_skip c.args.plan.now.registers.items now 0 c.next-w.result c.args.values.now c.args.values.now c.args.waiting.now
       (shows_start c.args.plan.now.registers.items now c.args.values.now c.args.waiting.now w) c.next-w.ensures.none;
@@ -28,6 +29,7 @@ words-preserved c = record {
   most = c.next-w-in-words.ensures.most;
   wide = (let r = c.requires.waits in (c.show_word.ensures.shows r.0 c.args.values.now r.1 (c.words.invariant.shows r.0 r.1 r.2)).long);
   long = c.show_word.ensures.long ∙ c.words.invariant.long;
+  low = c.show_word.ensures.low;
   room = c.show_word.ensures.room ∙ c.words.invariant.room;
   shows = λ now at w. shows_skip c.args.plan.now.registers.items now (c.words.w + 1) c.next-w-in-words.result c.args.values.now c.show_word.new.values c.show_word.new.waiting
       (c.show_word.ensures.shows now c.args.values.now at (c.words.invariant.shows now at w)) c.next-w-in-words.ensures.none;

@@ -1,15 +1,16 @@
-use Rattle.std.proofs.Common.{◌≡◌, ◌+◌, ◌*◌, ◌<◌, ◌≤◌, ℕ, List, length, get_or, set, slice_get, slice_index, Some, refl, sym, ap, subst, ◌∙◌, arith}
+use Rattle.std.proofs.Common.{◌≡◌, ◌+◌, ◌*◌, ◌<◌, ◌≤◌, ℕ, List, length, get_or, set, slice_get, slice_index, Some, refl, sym, ap, subst, ◌∙◌, arith, ◌^◌}
 use Rattle.safl_sim.specs.declared.plan.Plan.{Plan}
 use Rattle.safl_sim.specs.declared.step.Group.{Group}
 use Rattle.safl_sim.specs.declared.step.Register.{Register}
 use Rattle.safl_sim.specs.Marks.{holding, HasTaken}
 use Rattle.safl_sim.specs.Nears.{GroupOf}
 use Rattle.safl_sim.specs.Readers.{HasGiven}
+use Rattle.safl_sim.specs.States.{AreLow}
 use Rattle.safl_sim.specs.Writes.{Shows}
 use Rattle.safl_sim.proofs.Written.{get_read, set_length}
 use Rattle.safl_sim.proofs.MarksByOne.{taken_after}
 use Rattle.safl_sim.proofs.Nearing.{holding_all, holding_long, no_marks}
-use Rattle.safl_sim.proofs.Registers.{shows_none, shows_step}
+use Rattle.safl_sim.proofs.Registers.{low_shown, shows_none, shows_step}
 use Rattle.safl_sim.proofs.Updates.{goes_step, lists_same}
 use Rattle.safl_sim.proofs.phases.show_word.Goals as goal
 
@@ -63,6 +64,13 @@ show-requires-clause-within c =
     let b = c.registers.invariant.wide in
     omega (arith, a, b)
 
+pub show-requires-clause-low : goal.show-requires-clause-low
+show-requires-clause-low c =
+    let r = c.requires.shows in
+    let i = (c.args.word * 64 + c.in-Some.taken.bit) in
+    let f = found c.args.plan.now.registers.items r.0 _ c.args.word (c.args.word * 64 + c.in-Some.taken.bit) r.1 c.registers.values (holding c.args.waiting.now c.args.word c.registers.held) (holding c.args.waiting.now c.args.word c.in-Some.taken.left) (c.registers.invariant.shows r.0 r.1 r.2 r.3) (c.in-Some.ensures.some c.args.word c.args.waiting.now c.requires.word) in
+    c.registers.invariant.low i c.index.result.now (get_read c.args.plan.now.registers.items i c.index.result.now f c.index.ensures)
+
 -- a turn leads past the register that is taken
 past : (regs : List Register) (now : List ℕ) (place word i : ℕ) (start values waiting waiting' : List ℕ) → word * 64 ≤ place → Shows regs now place start values waiting → HasTaken waiting waiting' word i → place ≤ i
 past regs now place word i start values waiting waiting' from w t = taken_after waiting waiting' 0 place word i (λ k z h. w.below k h) (omega arith) from t
@@ -91,6 +99,7 @@ registers-preserved c =
       from = (let a = t.within in omega (arith, a));
       wide = (let a = c.registers.invariant.wide in let b = ap length told.is in let d = set_length c.registers.values own.signal.0 x in omega (arith, a, b, d));
       long = told.long ∙ c.registers.invariant.long;
+      low = subst (λ l. AreLow p.registers.items l c.args.state.now) (sym told.is) (low_shown p.registers.items c.registers.values c.args.state.now i own c.requires.once c.registers.invariant.low at known);
       shows = λ now start are w. shows_step p.registers.items now c.registers.place c.args.word i own start c.registers.values c.show.new.values (holding c.args.waiting.now c.args.word c.registers.held) (holding c.args.waiting.now c.args.word c.in-Some.taken.left) (c.registers.invariant.shows now start are w) c.registers.invariant.from t at known (told.is ∙ ap (set c.registers.values own.signal.0) (sym (are.each i own at)));
       goes = λ n ws now away are. goes_step n ws p.steps.items p.registers.items now p.starts.items p.readers.items own.signal.0 _ c.args.values.now c.registers.values c.show.new.values c.args.marks.now c.registers.marks c.show.new.marks (c.registers.invariant.goes n ws now away are) (away i own at) known (λ state s e. state own.signal.0 s e)
           (subst (λ y. HasGiven p.steps.items p.starts.items p.readers.items own.signal.0 y c.registers.values c.show.new.values c.registers.marks c.show.new.marks) (sym (are.each i own at)) told);
@@ -101,6 +110,7 @@ registers-init c = record {
   from = omega arith;
   wide = refl;
   long = refl;
+  low = c.requires.low;
   shows = λ now start at w.
       let p = c.args.plan.now in
       subst (λ h. Shows p.registers.items now (c.args.word * 64) start c.args.values.now (holding c.args.waiting.now c.args.word h)) (sym c.get-held.ensures)

@@ -4,9 +4,9 @@ use Rattle.safl_net.specs.declared.cell.Op.{Op}
 use Rattle.safl_net.specs.declared.cell.Op.TheVariants as op
 use Rattle.safl_net.specs.Making.{cell_on}
 use Rattle.safl_net.specs.Rules.{CellFits}
-use Rattle.safl_sim.specs.declared.step.Action.TheVariants.{Choose}
+use Rattle.safl_sim.specs.declared.step.Action.TheVariants.{Choose, One}
 use Rattle.safl_sim.specs.Steps.{Performs}
-use Rattle.safl_sim.proofs.Actions.{performs_const, performs_copy, performs_mux, one_of, two_of}
+use Rattle.safl_sim.proofs.Actions.{performs_alike, performs_const, performs_copy, performs_mux, performs_one, first_known, two_of}
 use Rattle.safl_sim.proofs.step.action_of.Goals as goal
 
 pub returns-in-empty : goal.returns-in-empty
@@ -18,23 +18,25 @@ returns-in-empty c =
     subst (λ (l : List Sig). Performs n (cell_on o l) c.constant.result) e
     (performs_const n o c.as_slice.result.now f.0 c.constant.result (subst (λ (l : List Sig). CellFits n f.0 (cell_on o l)) (sym e) f.1) c.in-empty.len_below c.constant.ensures)
 
-pub single-requires-clause-fits : goal.single-requires-clause-fits
-single-requires-clause-fits c =
+-- its operand is a signal of the net
+pub width-requires : goal.width-requires
+width-requires c =
     let n = c.args.net.now in
     let o = c.args.cell.now.op in
     let xs = c.as_slice.result.now in
     let f = c.requires.fits in
-    let fits = subst (λ (l : List Sig). CellFits n f.0 (cell_on o l)) (sym c.as_slice.ensures.value) f.1 in
-    (f.0, subst (λ (l : List Sig). CellFits n f.0 (cell_on (op.Apply c.in-Apply.p) l)) (one_of xs c.in-len1.len_at_least c.in-len1.len_below) (subst (λ (q : Op). CellFits n f.0 (cell_on q xs)) c.in-Apply.is fits))
+    first_known n o xs f.0 (subst (λ (l : List Sig). CellFits n f.0 (cell_on o l)) (sym c.as_slice.ensures.value) f.1) c.in-len1.len_at_least
 
 pub returns-in-Apply : goal.returns-in-Apply
 returns-in-Apply c =
     let n = c.args.net.now in
     let o = c.args.cell.now.op in
     let xs = c.as_slice.result.now in
-    subst (λ (l : List Sig). Performs n (cell_on o l) c.single.result) c.as_slice.ensures.value
-    (subst (λ (q : Op). Performs n (cell_on q xs) c.single.result) (sym c.in-Apply.is)
-    (subst (λ (l : List Sig). Performs n (cell_on (op.Apply c.in-Apply.p) l) c.single.result) (sym (one_of xs c.in-len1.len_at_least c.in-len1.len_below)) c.single.ensures))
+    let f = c.requires.fits in
+    let fits = subst (λ (l : List Sig). CellFits n f.0 (cell_on o l)) (sym c.as_slice.ensures.value) f.1 in
+    subst (λ (l : List Sig). Performs n (cell_on o l) c.one.result) c.as_slice.ensures.value
+    (performs_alike n (cell_on o xs) c.one.result (One c.in-Apply.p c.width.result (get_or xs 0 (record { 0 = 0 })).0) c.one.ensures
+    (performs_one n c.in-Apply.p o xs f.0 c.width.result c.requires.netlist fits c.in-len1.len_at_least c.in-len1.len_below c.in-Apply.is c.width.ensures))
 
 pub pair-requires-clause-fits : goal.pair-requires-clause-fits
 pair-requires-clause-fits c =
@@ -60,7 +62,7 @@ returns-in-len3 c =
     let o = c.args.cell.now.op in
     let e = c.as_slice.ensures.value in
     let f = c.requires.fits in
-    subst (λ (l : List Sig). Performs n (cell_on o l) (Choose (get_or c.as_slice.result.now 0 (record { 0 = 0 })).0 (get_or c.as_slice.result.now 1 (record { 0 = 0 })).0 (get_or c.as_slice.result.now 2 (record { 0 = 0 })).0 0)) e
+    subst (λ (l : List Sig). Performs n (cell_on o l) (Choose (get_or c.as_slice.result.now 0 (record { 0 = 0 })).0 (get_or c.as_slice.result.now 1 (record { 0 = 0 })).0 (get_or c.as_slice.result.now 2 (record { 0 = 0 })).0)) e
     (performs_mux n o c.as_slice.result.now f.0 (subst (λ (l : List Sig). CellFits n f.0 (cell_on o l)) (sym e) f.1) c.in-len3.len_at_least c.in-len3.len_below)
 
 pub returns-in_default-op : goal.returns-in_default-op
@@ -69,5 +71,5 @@ returns-in_default-op c =
     let o = c.args.cell.now.op in
     let xs = c.as_slice.result.now in
     let f = c.requires.fits in
-    subst (λ (l : List Sig). Performs n (cell_on o l) (Choose (get_or xs 0 (record { 0 = 0 })).0 (get_or xs 0 (record { 0 = 0 })).0 (get_or xs 0 (record { 0 = 0 })).0 0)) c.as_slice.ensures.value
+    subst (λ (l : List Sig). Performs n (cell_on o l) (Choose (get_or xs 0 (record { 0 = 0 })).0 (get_or xs 0 (record { 0 = 0 })).0 (get_or xs 0 (record { 0 = 0 })).0)) c.as_slice.ensures.value
     (performs_copy n o xs f.0 (subst (λ (l : List Sig). CellFits n f.0 (cell_on o l)) (sym c.as_slice.ensures.value) f.1) c.in-len1.len_at_least c.in-len1.len_below c.in_default-op.not-Apply)

@@ -23,7 +23,7 @@ returns-in-Or c =
     let a = c.args.a in
     let b = c.args.b in
     let f = c.requires.fits in
-    subst (λ (p : Primitive). Performs n (cell_on (op.Apply p) (a ∷ (b ∷ []))) (Choose a.0 a.0 b.0 0)) (sym c.in-Or.is)
+    subst (λ (p : Primitive). Performs n (cell_on (op.Apply p) (a ∷ (b ∷ []))) (Choose a.0 a.0 b.0)) (sym c.in-Or.is)
     (performs_or n a b f.0 (subst (λ (p : Primitive). CellFits n f.0 (cell_on (op.Apply p) (a ∷ (b ∷ [])))) c.in-Or.is f.1) (sym c.width-width.ensures ∙ c.if-width-eq1-2.true))
 
 pub returns-in_default : goal.returns-in_default

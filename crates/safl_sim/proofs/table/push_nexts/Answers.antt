@@ -1,4 +1,4 @@
-use Rattle.std.proofs.Common.{◌≡◌, ◌+◌, ◌-◌, ◌∷◌, [], ℕ, Some, length, set, get_or, slice_get, sym, subst, ◌∙◌, arith}
+use Rattle.std.proofs.Common.{◌≡◌, ◌+◌, ◌-◌, ◌∷◌, [], ℕ, Some, length, set, get_or, slice_get, sym, subst, ◌∙◌, arith, false}
 use Rattle.safl_sim.specs.declared.step.Register.{Register}
 use Rattle.safl_sim.specs.Marks.{first_register}
 use Rattle.safl_sim.specs.Readers.{AreLists}
@@ -7,7 +7,7 @@ use Rattle.safl_sim.proofs.Tables.{lists_register}
 use Rattle.safl_sim.proofs.table.push_nexts.Goals as goal
 
 abbrev none : Register
-none = record { signal = record { 0 = 0 }; next = record { 0 = 0 } }
+none = record { signal = record { 0 = 0 }; next = record { 0 = 0 }; narrow = false }
 
 pub registers-preserved : goal.registers-preserved
 registers-preserved c =

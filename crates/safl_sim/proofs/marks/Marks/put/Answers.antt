@@ -4,7 +4,7 @@ use Rattle.std.specs.Int.RustNames.{bit_or}
 use lib.Bits.{bit_and}
 use Rattle.std.proofs.lemmas.List.{get_or_read}
 use Rattle.safl_sim.specs.Marks.{Covers}
-use Rattle.safl_sim.proofs.Covering.{covers_taken, covers_new, covers_kept}
+use Rattle.safl_sim.proofs.Covering.{covers_taken, covers_new}
 use Rattle.safl_sim.proofs.marks.Marks.put.Goals as goal
 
 pub invariant_of-self : goal.invariant_of-self
@@ -17,19 +17,11 @@ invariant_of-self c =
     subst (λ y. Covers (set filled (w / 64) (bit_and y (bit_not w64 (1 * 2 ^ (w % 64) % 2 ^ 64)))) (set words w c.args.marks)) (sym is)
     (subst (λ y. Covers (set filled (w / 64) (bit_and (slice_index filled (w / 64)) (bit_not w64 (1 * 2 ^ (w % 64) % 2 ^ 64)))) (set words w y)) (sym c.if-marks-eq0.true) (covers_taken filled words w c.self.invariant known))
 
-pub invariant_of-self-then-before-eq0 : goal.invariant_of-self-then-before-eq0
-invariant_of-self-then-before-eq0 c =
+pub invariant_of-self-else-marks-eq0 : goal.invariant_of-self-else-marks-eq0
+invariant_of-self-else-marks-eq0 c =
     let filled = c.self.inside.filled.items in
     let words = c.self.inside.words.items in
     let w = c.args.word in
     let known : w < length words = (let a = ap length c.self.view_is in let b = c.requires in omega (arith, a, b)) in
-    let is = get_or_read filled (w / 64) _ (let a = c.self.invariant.0 in omega (arith, a, known)) c.index_mut-then-before-eq0.ensures.value 0 in
+    let is = get_or_read filled (w / 64) _ (let a = c.self.invariant.0 in omega (arith, a, known)) c.index_mut-else-marks-eq0.ensures.value 0 in
     subst (λ y. Covers (set filled (w / 64) (bit_or y (1 * 2 ^ (w % 64) % 2 ^ 64))) (set words w c.args.marks)) (sym is) (covers_new filled words w c.args.marks c.self.invariant known)
-
-pub invariant_of-self-else-before-eq0 : goal.invariant_of-self-else-before-eq0
-invariant_of-self-else-before-eq0 c =
-    let words = c.self.inside.words.items in
-    let w = c.args.word in
-    let known : w < length words = (let a = ap length c.self.view_is in let b = c.requires in omega (arith, a, b)) in
-    let is = get_or_read words w _ known c.index-before.ensures 0 in
-    covers_kept c.self.inside.filled.items words w c.args.marks c.self.invariant (λ z. let a = c.if-before-eq0.false in absurd (omega (arith, a, is, z)))
