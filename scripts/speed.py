@@ -4,7 +4,7 @@
     compile    nodes, signals, signals with --opt, the longest path, bytes of Verilog, and the time of `build`
     simulate   the time of a cycle of `sim`, and of Icarus Verilog and Verilator on the same file if they are there
     plan       the plan of nearly 4,000 call sites alone
-    nets       the simulator on nets in which nearly all wires change in every cycle
+    nets       the simulator on nets in which nearly all wires change in every cycle, and what it takes to order and prepare them
 
 All parts are done if none is named. Verilator is left out for sources of more than 100 functions, or of another number, as
 its C++ compiler takes more than a quarter of an hour of the processor for 900. The programs are those of the crates safl,
@@ -112,14 +112,16 @@ def net_row(folder, number, line):
     wires, width, cycles, steps = map(int, re.findall(r"\d+", line)[:4])
     took, most = seconds([NETS, str(number)]), peak([NETS, str(number)])
     signal = f"{most / wires:.0f}" if most and wires >= 1_000_000 else "-"
-    return f"{wires:,}", width, f"{cycles:,}", as_time(took), f"{steps / took / 1e6:,.0f}", signal
+    made, ready = seconds_between([NETS, str(number), "net"], [NETS, str(number), "sim"])
+    set_up = as_time(ready - made), f"{(ready - made) / wires * 1e9:.0f}"
+    return f"{wires:,}", width, f"{cycles:,}", as_time(took), f"{steps / took / 1e6:,.0f}", signal, *set_up
 
 
 def nets():
     lines = read(f"{TOP}/crates/safl_bench_sim/stdout").splitlines(keepends=True)
     with tempfile.TemporaryDirectory() as folder:
         rows = [net_row(folder, number, line) for number, line in enumerate(lines, 1)]
-    head = ("wires", "bits", "cycles", "time, set-up counted in", "million steps a second", "bytes a signal")
+    head = ("wires", "bits", "cycles", "time, set-up counted in", "million steps a second", "bytes a signal", "order and simulator", "ns a wire")
     table("Nets that change nearly everywhere", head, rows)
 
 

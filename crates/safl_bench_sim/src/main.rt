@@ -1,6 +1,7 @@
 //! Runs nets of many wires, mixed over the operators, for some cycles, and prints what the last wires showed.
 //!
-//! There are three nets. A number from 1 to 3 on the command line runs that one alone.
+//! There are three nets. A number from 1 to 3 on the command line runs that one alone. With the word `net` nets are made and not
+//! run, and with `sim` their simulators are made too, so that two runs tell what it takes to order a net and to make its simulator.
 #![tactic(auto)]
 
 ghost use Rattle.std.specs.Prelude.{◌<◌, ◌≤◌};
@@ -10,43 +11,70 @@ mod turns;
 
 use std::{env, io};
 
+/// What the command line asks for: one of the nets, or all, and how far to go.
+#[derive(Clone, Copy)]
+struct Wanted {
+    number: Option<u8>,
+    stage: Stage,
+}
+
+#[derive(Clone, Copy)]
+enum Stage {
+    Net,
+    Simulator,
+    Cycles,
+}
+
 fn main(rt: HostRuntime) -> io::Result<()> {
-    let chosen = chosen(&rt)?;
-    if is_wanted(chosen, 1) {
-        show(&rt, 64, 2_000, 20_000)?;
+    let wanted = read_words(&rt)?;
+    if is_wanted(wanted, 1) {
+        show(&rt, 64, 2_000, ticks(wanted, 20_000))?;
     }
-    if is_wanted(chosen, 2) {
-        show(&rt, 128, 2_000, 20_000)?;
+    if is_wanted(wanted, 2) {
+        show(&rt, 128, 2_000, ticks(wanted, 20_000))?;
     }
-    if is_wanted(chosen, 3) {
-        show(&rt, 64, 200_000, 100)?;
+    if is_wanted(wanted, 3) {
+        show(&rt, 64, 200_000, ticks(wanted, 100))?;
     }
     Ok(())
 }
 
-// The number on the command line, where there is one.
-fn chosen(rt: &HostRuntime) -> io::Result<Option<u8>> {
-    let mut chosen = None;
+fn read_words(rt: &HostRuntime) -> io::Result<Wanted> {
+    let mut wanted = Wanted {
+        number: None,
+        stage: Stage::Cycles,
+    };
     for word in env::args(rt)?.skip(1) {
-        chosen = match word.as_str() {
-            "1" => Some(1),
-            "2" => Some(2),
-            "3" => Some(3),
-            _ => None,
-        };
+        match word.as_str() {
+            "1" => wanted.number = Some(1),
+            "2" => wanted.number = Some(2),
+            "3" => wanted.number = Some(3),
+            "net" => wanted.stage = Stage::Net,
+            "sim" => wanted.stage = Stage::Simulator,
+            _ => {}
+        }
     }
-    Ok(chosen)
+    Ok(wanted)
 }
 
-fn is_wanted(chosen: Option<u8>, number: u8) -> bool {
-    match chosen {
+fn is_wanted(wanted: Wanted, number: u8) -> bool {
+    match wanted.number {
         Some(k) => k == number,
         None => true,
     }
 }
 
-// Runs a net of so many turns of 5 wires for so many cycles.
-fn show(rt: &HostRuntime, width: u8, turns: u32, ticks: u32) -> io::Result<()>
+// How many cycles a net runs that has a simulator.
+fn ticks(wanted: Wanted, count: u32) -> Option<u32> {
+    match wanted.stage {
+        Stage::Net => None,
+        Stage::Simulator => Some(0),
+        Stage::Cycles => Some(count),
+    }
+}
+
+// Runs a net of so many turns of 5 wires for so many cycles, or makes it alone.
+fn show(rt: &HostRuntime, width: u8, turns: u32, ticks: Option<u32>) -> io::Result<()>
     requires wide { 8 ≤ width }
     requires most { width ≤ 128 }
     requires few { turns < 700000000 }
@@ -55,6 +83,7 @@ fn show(rt: &HostRuntime, width: u8, turns: u32, ticks: u32) -> io::Result<()>
         return println!(rt; "out of memory");
     };
     let wires = shown.wires;
+    let ticks = ticks.unwrap_or(0);
     let steps = u64::from(wires) * u64::from(ticks);
     let bits = shown.bits;
     println!(rt; "{wires} wires of {width} bits, {ticks} cycles, {steps} steps: {bits}")

@@ -55,14 +55,17 @@ fn mixed(alloc: Global, width: u8, turns: u32) -> Result<(Net, Sig), NoMemory>
     Ok((net, last))
 }
 
-/// Runs a net of so many turns for so many cycles. Widths are from 8 to 128 bits.
-pub fn run(alloc: Global, width: u8, turns: u32, ticks: u32) -> Result<Shown, NoMemory>
+/// Runs a net of so many turns for so many cycles, or makes the net alone. Widths are from 8 to 128 bits.
+pub fn run(alloc: Global, width: u8, turns: u32, ticks: Option<u32>) -> Result<Shown, NoMemory>
     requires wide { 8 ≤ width }
     requires most { width ≤ 128 }
     requires few { turns < 700000000 }
 {
     let (net, last) = mixed(alloc, width, turns)?;
     let wires = net.signals().saturating_sub(1);
+    let Some(ticks) = ticks else {
+        return Ok(Shown { wires, bits: 0 });
+    };
     let Ok(ordered) = order(alloc, net) else {
         return Err(NoMemory);
     };
