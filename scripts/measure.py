@@ -1,7 +1,8 @@
 """What the speed scripts share: how long a command takes, what a built file has, and tables.
 
 A time is read from the clock before a command is started and after it has ended, so the start of its process counts. A figure
-is the median of several runs. Figures mean something only on a quiet machine.
+is the median of several runs, and where it is called so the least: what disturbs a run only makes it longer. Figures mean
+something only on a quiet machine.
 """
 import os
 import re
@@ -15,7 +16,8 @@ from bench import bench
 from files import read, written
 from program import NO_RESULT, PROGRAM, Ended, ended, told
 
-SECONDS_ENOUGH = 0.5
+SECONDS_ENOUGH = 0.1
+RUNS = 25
 LIMIT_MAX = 1_000_000_000
 
 
@@ -24,6 +26,11 @@ def seconds(words, statuses=(0, NO_RESULT)):
     first = ended(words, statuses).seconds
     times = 41 if first < 0.02 else 15 if first < 0.2 else 5 if first < 5 else 3
     return statistics.median([ended(words, statuses).seconds for _ in range(times - 1)] + [first])
+
+
+def least_seconds(words, statuses=(0, NO_RESULT), times=RUNS):
+    """The least time of a command."""
+    return min(ended(words, statuses).seconds for _ in range(times))
 
 
 def seconds_between(words, others, statuses=(0, NO_RESULT)):
@@ -44,15 +51,18 @@ def peak(words):
 
 
 class Rate:
-    """What a turn of a command takes that is told how many turns to go: the difference between two limits."""
+    """What a turn of a command takes that is told how many turns to go: the difference between the least times of two limits. The
+    runs are many and short, so that some of them are not disturbed.
+    """
 
-    def __init__(self, words_of, turns_of=lambda limit: limit, first=1_000):
+    def __init__(self, words_of, turns_of=lambda limit: limit, first=1_000, runs=RUNS):
         self.limit = first
         begun = seconds(words_of(1))
         while ended(words_of(self.limit)).seconds - begun < SECONDS_ENOUGH and self.limit < LIMIT_MAX:
             self.limit = min(self.limit * 4, LIMIT_MAX)
         self.turns = turns_of(self.limit) - turns_of(1)
-        self.turn = (statistics.median(ended(words_of(self.limit)).seconds for _ in range(3)) - begun) / self.turns
+        longer, shorter = (least_seconds(words_of(limit), times=runs) for limit in (self.limit, 1))
+        self.turn = (longer - shorter) / self.turns
         self.begun = begun
 
 
@@ -62,13 +72,13 @@ def cycles_of(words, limit):
     return int(found[1]) + 1 if found else limit
 
 
-def rate_of(words_of, first=1_000):
+def rate_of(words_of, first=1_000, runs=RUNS):
     """What a cycle of a simulation takes that is told how many cycles to go at most."""
-    return Rate(words_of, lambda limit: 1 if limit == 1 else cycles_of(words_of(limit), limit), first)
+    return Rate(words_of, lambda limit: 1 if limit == 1 else cycles_of(words_of(limit), limit), first, runs)
 
 
-def rate_of_sim(path, args, *options):
-    return rate_of(lambda limit: [PROGRAM, "sim", path, "--cycles", str(limit), *options, *args])
+def rate_of_sim(path, args, *options, runs=RUNS):
+    return rate_of(lambda limit: [PROGRAM, "sim", path, "--cycles", str(limit), *options, *args], runs=runs)
 
 
 def icarus(folder, built, args, dump=None):
@@ -85,7 +95,7 @@ def icarus(folder, built, args, dump=None):
             subprocess.run(["iverilog", "-o", made, path, built], check=True)
         return ["vvp", "-n", made]
 
-    return rate_of(words_of, 250).turn
+    return rate_of(words_of, 250, 3).turn
 
 
 def signals_of(path):

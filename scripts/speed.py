@@ -18,14 +18,15 @@ import tempfile
 import time
 
 from files import TOP, read, write
-from measure import as_memory, as_nanoseconds, as_time, depth_of, icarus, peak, rate_of, rate_of_sim, seconds, seconds_between, signals_of
-from measure import table
+from measure import as_memory, as_nanoseconds, as_time, depth_of, icarus, least_seconds, peak, rate_of, rate_of_sim, seconds
+from measure import seconds_between, signals_of, table
 from program import PROGRAM, Ended, ended, knows, lacks, program_of
 from speed_sources import busy, sized, work
 from verilate import verilate
 
 PLAN = program_of("PLAN", "safl_bench_plan")
 NETS = program_of("NETS", "safl_bench_sim")
+RUNS = 100
 
 
 def sources():
@@ -70,7 +71,7 @@ def verilator(room, functions):
     if not verilate(room.built, room.made):
         return None, None
     took = time.perf_counter() - begun
-    return rate_of(lambda limit: [room.made, str(limit), *room.source.args]).turn, took
+    return rate_of(lambda limit: [room.made, str(limit), *room.source.args], runs=RUNS).turn, took
 
 
 def ratio(other, own):
@@ -84,7 +85,7 @@ def ratio(other, own):
 def simulate_row(source, functions):
     with tempfile.TemporaryDirectory() as folder:
         room = Room(folder, source)
-        own = rate_of_sim(room.path, source.args)
+        own = rate_of_sim(room.path, source.args, runs=RUNS)
         verilated, took = verilator(room, functions)
         others = (ratio(icarus(folder, room.built, source.args), own.turn), ratio(verilated, own.turn), as_time(took) if took else "-")
         return source.name, f"{signals_of(room.built):,}", as_nanoseconds(own.turn), f"{own.turns:,}", as_time(own.begun), *others
@@ -110,9 +111,9 @@ def net_row(folder, number, line):
     if read(out) != line:
         raise SystemExit(f"speed: net {number} does not print {line}")
     wires, width, cycles, steps = map(int, re.findall(r"\d+", line)[:4])
-    took, most = seconds([NETS, str(number)]), peak([NETS, str(number)])
+    took, most = least_seconds([NETS, str(number)], times=9), peak([NETS, str(number)])
     signal = f"{most / wires:.0f}" if most and wires >= 1_000_000 else "-"
-    made, ready = seconds_between([NETS, str(number), "net"], [NETS, str(number), "sim"])
+    made, ready = (least_seconds([NETS, str(number), stage], times=9) for stage in ("net", "sim"))
     set_up = as_time(ready - made), f"{(ready - made) / wires * 1e9:.0f}"
     return f"{wires:,}", width, f"{cycles:,}", as_time(took), f"{steps / took / 1e6:,.0f}", signal, *set_up
 
