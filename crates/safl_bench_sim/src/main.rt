@@ -73,7 +73,7 @@ fn ticks(wanted: Wanted, count: u32) -> Option<u32> {
     }
 }
 
-// Runs a net of so many turns of 5 wires for so many cycles, or makes it alone.
+// Runs a net of so many turns of 5 wires for so many cycles, or only makes it.
 fn show(rt: &HostRuntime, width: u8, turns: u32, ticks: Option<u32>) -> io::Result<()>
     requires wide { 8 ≤ width }
     requires most { width ≤ 128 }

@@ -55,7 +55,7 @@ fn mixed(alloc: Global, width: u8, turns: u32) -> Result<(Net, Sig), NoMemory>
     Ok((net, last))
 }
 
-/// Runs a net of so many turns for so many cycles, or makes the net alone. Widths are from 8 to 128 bits.
+/// Runs a net of so many turns for so many cycles, or only makes the net. Widths are from 8 to 128 bits.
 pub fn run(alloc: Global, width: u8, turns: u32, ticks: Option<u32>) -> Result<Shown, NoMemory>
     requires wide { 8 ≤ width }
     requires most { width ≤ 128 }

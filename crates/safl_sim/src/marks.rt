@@ -113,8 +113,9 @@ impl Marks {
         ensures { self.new ≡ slice_set self.old word (bit_or (slice_index self.old word) marks) }
     {
         if word < self.words.len() {
-            let all = self.words[word] | marks;
-            self.put(word, all);
+            let group = word / 64;
+            self.words[word] |= marks;
+            self.filled[group] |= 1u64 << (word % 64);
         }
     }
 

@@ -19,7 +19,7 @@ ghost use Rattle.safl_sim.specs.Writes.{HasPut, HasShown, Shows, KeepsOn, after_
 use crate::marks::{Marks, take_held, word_count};
 use crate::plan::Plan;
 use crate::readers::{mark_group, mark_readers};
-use crate::step::{Group, Register, Step, act, act_low};
+use crate::step::{Action, Group, Register, Step, act, act_low, choose};
 use safl_halves::{Numbers, low_half};
 use safl_net::Sig;
 use safl_word::{Raw, Word};
@@ -340,6 +340,16 @@ pub fn evaluate(values: &mut Numbers, marks: &mut Marks, plan: &Plan, step: &Ste
         → HasGiven plan.now.steps.items plan.now.starts.items plan.now.readers.items step.now.wire.0 (action_number (slice_index values.old) step.now.action) values.old values.new
         (holding marks.old (i / 64) held) (holding marks.new (i / 64) (bit_or held result)) }
 {
+    // A choice, as most steps are, has the rest of the way for itself: no jump leads from it to what all others share.
+    if let Action::Choose(c, a, b) = step.action {
+        let chosen = choose(Raw::from(values.get_low(c as usize)), a, b);
+        let number = values.get_low(chosen as usize);
+        if !renew_low(values, step.wire.0 as usize, number) {
+            return 0;
+        }
+        mark_readers(values, marks, plan, step.first, step.end);
+        return near;
+    }
     if !act_anew(values, step) {
         return 0;
     }
@@ -474,6 +484,7 @@ pub fn run_steps(values: &mut Numbers, marks: &mut Marks, plan: &Plan, pace: Pac
 
 /// The rest of a cycle in which the inputs have their words. It evaluates all steps, or those that are marked, and
 /// answers how many were marked, if they are counted.
+#[inline(always)]
 pub fn proceed(
     values: &mut Numbers,
     state: &mut [Raw],

@@ -21,7 +21,8 @@ pub fn mark_readers(values: &Numbers, marks: &mut Marks, plan: &Plan, from: u32,
     requires known { (j k : ℕ) → slice_get plan.now.readers.items j ≡ Some k → k / 64 < length marks.old }
     ensures { (p : ℕ) → IsPart plan.now.starts.items p from to → HasMarked plan.now.steps.items plan.now.readers.items from to p values.now marks.old marks.new }
 {
-    if from == to {
+    // Not `==`: so the compiler knows that the loop has a first reader.
+    if from >= to {
         return;
     }
     if to - from >= MANY {

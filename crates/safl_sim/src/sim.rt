@@ -123,6 +123,8 @@ impl Sim {
     }
 
     /// A cycle in which the inputs keep their words.
+    // It stands apart, so that each program has the same code for it.
+    #[inline(never)]
     pub fn tick_again(&mut self)
         ensures { (words : List Word) → HasWords self.old.net self.old.values words → Ticks self.old self.new words }
     {

@@ -1,44 +1,82 @@
-use Rattle.std.proofs.Common.{ℕ, ◌+◌, ◌/◌, ◌<◌, ◌≤◌, List, length, set, slice_index, sym, subst, arith}
+use Rattle.std.proofs.Common.{◌≡◌, ℕ, ◌+◌, ◌/◌, ◌<◌, List, length, set, slice_index, sym, ap, subst, ◌∙◌, arith}
+use Rattle.safl_word.specs.Words.{pick}
 use Rattle.std.specs.Int.RustNames.{bit_or}
+use Rattle.safl_sim.specs.declared.step.Action.{Action}
+use Rattle.safl_sim.specs.declared.step.Action.TheVariants.{Choose}
 use Rattle.safl_sim.specs.declared.step.Near.{Near}
+use Rattle.safl_sim.specs.declared.step.Step.{Step}
 use Rattle.safl_sim.specs.Marks.{holding}
-use Rattle.safl_sim.specs.Readers.{HasMarked, HasGiven}
+use Rattle.safl_sim.specs.Nears.{NearOf}
+use Rattle.safl_sim.specs.Readers.{IsPart, HasMarked, HasGiven}
 use Rattle.safl_sim.specs.Steps.{action_number}
+use Rattle.safl_sim.proofs.Actions.{picked_number}
 use Rattle.safl_sim.proofs.Nearing.{near_same, near_new}
 use Rattle.safl_sim.proofs.phases.evaluate.Goals as goal
+
+-- a step whose number is not new
+kept : (steps : List Step) (starts readers : List ℕ) (step : Step) (i x : ℕ) (values values' marks : List ℕ) (held : ℕ) → values' ≡ set values step.wire.0 x → slice_index values step.wire.0 ≡ x
+    → HasGiven steps starts readers step.wire.0 x values values' (holding marks (i / 64) held) (holding marks (i / 64) (bit_or held 0))
+kept steps starts readers step i x values values' marks held is same =
+    subst (λ (l : List ℕ). HasGiven steps starts readers step.wire.0 x values l (holding marks (i / 64) held) (holding marks (i / 64) (bit_or held 0))) (sym is)
+    (near_same steps starts readers step i x values marks held same)
+
+-- its readers that are not near are a part of those of its wire
+part : (starts readers : List ℕ) (step : Step) (i near : ℕ) → NearOf starts readers i step near → step.wire.0 + 1 < length starts → IsPart starts step.wire.0 step.first step.end
+part starts readers step i near n inside = (inside, n.least, let a = n.last in omega (arith, a))
+
+-- a step whose number is new, after these are marked
+changed : (steps : List Step) (starts readers : List ℕ) (step : Step) (i x near : ℕ) (values values' marks marks' : List ℕ) (held : ℕ) → i / 64 < length marks → NearOf starts readers i step near → values' ≡ set values step.wire.0 x
+    → HasMarked steps readers step.first step.end step.wire.0 values' marks marks' → HasGiven steps starts readers step.wire.0 x values values' (holding marks (i / 64) held) (holding marks' (i / 64) (bit_or held near))
+changed steps starts readers step i x near values values' marks marks' held h n is marked =
+    let p = step.wire.0 in
+    let g : Near = record { mask = near; first = step.first; end = step.end } in
+    subst (λ (l : List ℕ). HasGiven steps starts readers p x values l (holding marks (i / 64) held) (holding marks' (i / 64) (bit_or held g.mask))) (sym is)
+    (near_new steps starts readers step i x values marks held g marks' h n
+    (subst (λ (e : ℕ). HasMarked steps readers g.first e p (set values p x) marks marks') n.last
+    (subst (λ (l : List ℕ). HasMarked steps readers g.first g.end p l marks marks') is marked)))
+
+-- what is read at the place that a choice picks is the choice's number
+chosen : (f : ℕ → ℕ) (action : Action) (c a b x place number : ℕ) → action ≡ Choose c a b → x ≡ f c → place ≡ pick x a b → number ≡ f place → number ≡ action_number f action
+chosen f action c a b x place number is condition at read =
+    subst (λ (t : Action). number ≡ action_number f t) (sym is)
+    (read ∙ ap f at ∙ picked_number f x a b ∙ ap (λ y. pick y (f a) (f b)) condition)
+
+pub returns-then-not-renew_low-clause-given : goal.returns-then-not-renew_low-clause-given
+returns-then-not-renew_low-clause-given d = λ i held h near.
+    let plan = d.args.plan.now in
+    let step = d.args.step.now in
+    let f = slice_index d.args.values.now in
+    let is = chosen f step.action d.in-Choose.c d.in-Choose.a d.in-Choose.b d.from.result d.choose-chosen.result d.get_low-number.result d.in-Choose.is (d.from.ensures ∙ d.get_low.ensures) d.choose-chosen.ensures d.get_low-number.ensures in
+    kept plan.steps.items plan.starts.items plan.readers.items step i (action_number f step.action) d.args.values.now d.renew_low.new.values d.args.marks.now held
+    (d.renew_low.ensures.is ∙ ap (set d.args.values.now step.wire.0) is) (d.renew_low.ensures.new d.if-not-renew_low.true ∙ is)
+
+pub returns-in-Choose-clause-given : goal.returns-in-Choose-clause-given
+returns-in-Choose-clause-given d = λ i held h near.
+    let plan = d.args.plan.now in
+    let step = d.args.step.now in
+    let f = slice_index d.args.values.now in
+    let is = chosen f step.action d.in-Choose.c d.in-Choose.a d.in-Choose.b d.from.result d.choose-chosen.result d.get_low-number.result d.in-Choose.is (d.from.ensures ∙ d.get_low.ensures) d.choose-chosen.ensures d.get_low-number.ensures in
+    let inside : step.wire.0 + 1 < length plan.starts.items = (let a = d.requires.lists.long in let b = d.requires.within in omega (arith, a, b)) in
+    changed plan.steps.items plan.starts.items plan.readers.items step i (action_number f step.action) d.args.near d.args.values.now d.renew_low.new.values d.args.marks.now d.mark_readers.new.marks held h near
+    (d.renew_low.ensures.is ∙ ap (set d.args.values.now step.wire.0) is) (d.mark_readers.ensures step.wire.0 (part plan.starts.items plan.readers.items step i d.args.near near inside))
 
 pub returns-then-not-act_anew-clause-given : goal.returns-then-not-act_anew-clause-given
 returns-then-not-act_anew-clause-given c = λ i held h near.
     let plan = c.args.plan.now in
     let step = c.args.step.now in
-    let x = action_number (slice_index c.args.values.now) step.action in
-    let marks = c.args.marks.now in
-    subst (λ (l : List ℕ). HasGiven plan.steps.items plan.starts.items plan.readers.items step.wire.0 x c.args.values.now l (holding marks (i / 64) held) (holding marks (i / 64) (bit_or held 0))) (sym c.act_anew.ensures.is)
-    (near_same plan.steps.items plan.starts.items plan.readers.items step i x c.args.values.now marks held (c.act_anew.ensures.new c.if-not-act_anew.true))
+    kept plan.steps.items plan.starts.items plan.readers.items step i (action_number (slice_index c.args.values.now) step.action) c.args.values.now c.act_anew.new.values c.args.marks.now held c.act_anew.ensures.is (c.act_anew.ensures.new c.if-not-act_anew.true)
 
 pub returns-clause-long : goal.returns-clause-long
 returns-clause-long c =
-    let p = c.args.step.now.wire.0 in
-    let near = c.requires.near.1 in
-    let inside : p + 1 < length c.args.plan.now.starts.items = (let a = c.requires.lists.long in let b = c.requires.within in omega (arith, a, b)) in
-    let most : c.args.step.now.end ≤ slice_index c.args.plan.now.starts.items (p + 1) = (let a = near.last in omega (arith, a)) in
-    (c.mark_readers.ensures p (inside, near.least, most)).long
+    let plan = c.args.plan.now in
+    let step = c.args.step.now in
+    let inside : step.wire.0 + 1 < length plan.starts.items = (let a = c.requires.lists.long in let b = c.requires.within in omega (arith, a, b)) in
+    (c.mark_readers-2.ensures step.wire.0 (part plan.starts.items plan.readers.items step c.requires.near.0 c.args.near c.requires.near.1 inside)).long
 
 pub returns-clause-given : goal.returns-clause-given
 returns-clause-given c = λ i held h near.
     let plan = c.args.plan.now in
-    let steps = plan.steps.items in
-    let starts = plan.starts.items in
-    let readers = plan.readers.items in
     let step = c.args.step.now in
-    let p = step.wire.0 in
-    let g : Near = record { mask = c.args.near; first = step.first; end = step.end } in
-    let x = action_number (slice_index c.args.values.now) step.action in
-    let marks = c.args.marks.now in
-    let marks' = c.mark_readers.new.marks in
-    let inside : p + 1 < length starts = (let a = c.requires.lists.long in let b = c.requires.within in omega (arith, a, b)) in
-    let most : g.end ≤ slice_index starts (p + 1) = (let a = near.last in omega (arith, a)) in
-    subst (λ (l : List ℕ). HasGiven steps starts readers p x c.args.values.now l (holding marks (i / 64) held) (holding marks' (i / 64) (bit_or held g.mask))) (sym c.act_anew.ensures.is)
-    (near_new steps starts readers step i x c.args.values.now marks held g marks' h near
-    (subst (λ (e : ℕ). HasMarked steps readers g.first e p (set c.args.values.now p x) marks marks') near.last
-    (subst (λ (l : List ℕ). HasMarked steps readers g.first g.end p l marks marks') c.act_anew.ensures.is (c.mark_readers.ensures p (inside, near.least, most)))))
+    let inside : step.wire.0 + 1 < length plan.starts.items = (let a = c.requires.lists.long in let b = c.requires.within in omega (arith, a, b)) in
+    changed plan.steps.items plan.starts.items plan.readers.items step i (action_number (slice_index c.args.values.now) step.action) c.args.near c.args.values.now c.act_anew.new.values c.args.marks.now c.mark_readers-2.new.marks held h near c.act_anew.ensures.is
+    (c.mark_readers-2.ensures step.wire.0 (part plan.starts.items plan.readers.items step i c.args.near near inside))

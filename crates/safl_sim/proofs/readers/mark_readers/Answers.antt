@@ -6,7 +6,7 @@ use Rattle.safl_sim.proofs.readers.mark_readers.Goals as goal
 
 pub returns-then-from-to : goal.returns-then-from-to
 returns-then-from-to c = λ p part.
-    subst (λ k. HasMarked c.args.plan.now.steps.items c.args.plan.now.readers.items c.args.from k p c.args.values.now c.args.marks.now c.args.marks.now) c.if-from-to.true
+    subst (λ k. HasMarked c.args.plan.now.steps.items c.args.plan.now.readers.items c.args.from k p c.args.values.now c.args.marks.now c.args.marks.now) (let a = c.if-from-to.true in let b = c.requires.ordered in omega (arith, a, b))
     (marked_none c.args.plan.now.steps.items c.args.plan.now.readers.items c.args.from p c.args.values.now c.args.marks.now)
 
 pub readers-init : goal.readers-init
