@@ -1,6 +1,5 @@
 pub mod Rest
 pub mod Codes
-pub mod Digits
 pub mod Looks
 pub mod Spots
 pub mod Changes

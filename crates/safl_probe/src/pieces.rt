@@ -1,10 +1,9 @@
 //! Pieces of text, appended to a buffer.
 
-ghost use Rattle.std.specs.Prelude.{◌≡◌, ◌+◌, ◌/◌, ◌%◌, ◌<◌, [], ◌∷◌, ◌++◌, OnOk, OnErr};
-ghost use Rattle.safl_word.specs.Numerals.{binary};
+ghost use Rattle.std.specs.Prelude.{◌≡◌, ◌++◌, OnOk, OnErr};
 ghost use Rattle.safl_probe.specs.Texts.{code, value, time};
 
-use safl_word::{NoMemory, Raw, push_decimal};
+use safl_word::{NoMemory, Raw, push_binary, push_decimal};
 
 /// Appends a piece, or nothing where memory runs out.
 pub(crate) fn push(out: &mut Vec<u8>, piece: &[u8]) -> Result<(), NoMemory>
@@ -37,38 +36,6 @@ pub(crate) fn push_code(out: &mut Vec<u8>, i: usize) -> Result<(), NoMemory>
     Ok(())
 }
 
-/// Appends the shortest binary digits of a number.
-pub(crate) fn push_binary(out: &mut Vec<u8>, number: Raw) -> Result<(), NoMemory>
-    ensures { OnOk result (out.new.items ≡ out.old.items ++ binary number) }
-{
-    if number < 2 {
-        out.push(b'0' + number as u8)?;
-        return Ok(());
-    }
-    if number < 16 {
-        push_binary(out, number / 2)?;
-        out.push(b'0' + (number % 2) as u8)?;
-        return Ok(());
-    }
-    push_binary(out, number / 16)?;
-    push_four(out, (number % 16) as u8)
-}
-
-// Appends four binary digits.
-#[inline(always)]
-fn push_four(out: &mut Vec<u8>, number: u8) -> Result<(), NoMemory>
-    requires { number < 16 }
-    ensures { OnOk result (out.new.items ≡ out.old.items ++ (48 + number / 8) ∷ (48 + number / 4 % 2) ∷ (48 + number / 2 % 2) ∷ (48 + number % 2) ∷ []) }
-{
-    let digits = [
-        b'0' + number / 8,
-        b'0' + number / 4 % 2,
-        b'0' + number / 2 % 2,
-        b'0' + number % 2,
-    ];
-    push(out, &digits)
-}
-
 /// Appends the line of a number of the i-th watched signal.
 pub(crate) fn push_value(
     out: &mut Vec<u8>,
@@ -79,12 +46,12 @@ pub(crate) fn push_value(
     ensures { OnOk result (out.new.items ≡ out.old.items ++ value i width number) }
 {
     if width == 1 {
-        push_binary(out, number)?;
+        push_binary(number, out)?;
         push_code(out, i)?;
         return push(out, b"\n");
     }
     push(out, b"b")?;
-    push_binary(out, number)?;
+    push_binary(number, out)?;
     push(out, b" ")?;
     push_code(out, i)?;
     push(out, b"\n")

@@ -12,7 +12,7 @@ pub mod token;
 pub mod word;
 
 pub use crate::fault::{Fault, NoMemory, Rule};
-pub use crate::numbers::{argument, decimal, numeral, push_decimal};
+pub use crate::numbers::{argument, decimal, numeral, push_binary, push_decimal};
 pub use crate::operators::{apply, result_width};
 pub use crate::primitive::Primitive;
 pub use crate::report::push_fault;

@@ -1,8 +1,8 @@
 //! Numbers in text.
 
-ghost use Rattle.std.specs.Prelude.{◌≡◌, ◌↔◌, ◌+◌, ◌*◌, ◌^◌, ◌<◌, ◌≤◌, ◌++◌, true, is_some, IsSome, IfSome, OnOk, OnErr, decimal};
+ghost use Rattle.std.specs.Prelude.{◌≡◌, ◌↔◌, ◌+◌, ◌*◌, ◌/◌, ◌%◌, ◌^◌, ◌<◌, ◌≤◌, [], ◌∷◌, ◌++◌, true, length, take, is_some, IsSome, IfSome, OnOk, OnErr, decimal};
 ghost use Rattle.safl_word.specs.declared.word.TheConstants.{ARGUMENT_MAX, DECIMAL_MAX, WIDTH_MAX};
-ghost use Rattle.safl_word.specs.Numerals.{digit, is_digit, value, IsBounded};
+ghost use Rattle.safl_word.specs.Numerals.{binary, digit, is_digit, value, IsBounded};
 
 use crate::bytes::{digit, is_digit};
 use crate::fault::NoMemory;
@@ -67,5 +67,52 @@ pub fn push_decimal(n: Raw, out: &mut Vec<u8>) -> Result<(), NoMemory>
     ensures err { OnErr result (out.new.items ≡ out.old.items) }
 {
     out.extend_from_slice(Buffer::new().format(n).as_bytes())?;
+    Ok(())
+}
+
+/// Appends the shortest binary digits of a number, and nothing where memory runs out.
+pub fn push_binary(n: Raw, out: &mut Vec<u8>) -> Result<(), NoMemory>
+    ensures ok { OnOk result (out.new.items ≡ out.old.items ++ binary n) }
+    ensures err { OnErr result (out.new.items ≡ out.old.items) }
+{
+    let before = out.len();
+    let pushed = push_bits(out, n);
+    if pushed.is_err() {
+        out.truncate(before);
+    }
+    pushed
+}
+
+// Appends the shortest binary digits of a number, four at a time, and where memory runs out maybe some of them.
+fn push_bits(out: &mut Vec<u8>, number: Raw) -> Result<(), NoMemory>
+    ensures ok { OnOk result (out.new.items ≡ out.old.items ++ binary number) }
+    ensures err { OnErr result (take (length out.old.items) out.new.items ≡ out.old.items) }
+{
+    if number < 2 {
+        out.push(b'0' + number as u8)?;
+        return Ok(());
+    }
+    if number < 16 {
+        push_bits(out, number / 2)?;
+        out.push(b'0' + (number % 2) as u8)?;
+        return Ok(());
+    }
+    push_bits(out, number / 16)?;
+    push_four(out, (number % 16) as u8)
+}
+
+// Appends four binary digits, or nothing where memory runs out.
+#[inline(always)]
+fn push_four(out: &mut Vec<u8>, number: u8) -> Result<(), NoMemory>
+    requires { number < 16 }
+    ensures ok { OnOk result (out.new.items ≡ out.old.items ++ (48 + number / 8) ∷ (48 + number / 4 % 2) ∷ (48 + number / 2 % 2) ∷ (48 + number % 2) ∷ []) }
+    ensures err { OnErr result (out.new.items ≡ out.old.items) }
+{
+    out.extend_from_slice(&[
+        b'0' + number / 8,
+        b'0' + number / 4 % 2,
+        b'0' + number / 2 % 2,
+        b'0' + number % 2,
+    ])?;
     Ok(())
 }

@@ -11,11 +11,6 @@ binary_of : (n : ℕ) → 0 < n → binary n ≡ map (λ d. 48 + d) (digits_of 2
 binary_of zero pos = absurd (omega (arith, pos))
 binary_of (suc n) pos = ap (λ (b : Bool). if b then codes "0" else map (λ d. 48 + d) (digits_of 2 (suc n))) (eqb-suc-zero n)
 
-pub binary_less : (n : ℕ) → n < 2 → binary n ≡ (48 + n) ∷ []
-binary_less zero small = refl
-binary_less (suc zero) small = refl
-binary_less (suc (suc n)) small = absurd (omega (arith, small))
-
 pub binary_more : (n : ℕ) → 2 ≤ n → binary n ≡ binary (n / 2) ++ (48 + n % 2) ∷ []
 binary_more n many =
     binary_of n (omega (arith, many))

@@ -1,4 +1,0 @@
-use Rattle.safl_probe.proofs.pieces.+push_binary.Given as goal
-
-abbrev pub decreases-push_binary : goal.decreases-push_binary
-decreases-push_binary l = l.number
