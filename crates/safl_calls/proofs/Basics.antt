@@ -1,8 +1,9 @@
 -- Lists of events, sweeps over numbers, and first places.
-use Rattle.std.proofs.Common.{◌≡◌, ℕ, zero, suc, ◌<◌, ◌≤◌, List, [], ◌∷◌, ◌++◌, Option, Some, None, Bool, true, false, cond, ◌&&◌, nat_lt, is_some, refl, sym, ap, ◌∙◌, subst, ⊎_elim, arith, append-nil}
+use Rattle.std.proofs.Common.{◌≡◌, ℕ, zero, suc, ◌+◌, ◌<◌, ◌≤◌, List, [], ◌∷◌, ◌++◌, Option, Some, None, Bool, true, false, cond, ◌&&◌, nat_lt, is_some, refl, sym, ap, ◌∙◌, subst, ⊎_elim, arith, append-nil}
 use Rattle.std.proofs.lemmas.Bool.{cases_Bool, cases_eq, true≢false, false≢true, lt-ltb, le-ltb, ltb-true, ltb-false, and_right, eq-eqb, ne_eqb}
 use Rattle.safl_calls.specs.Machine.{Mode, Idle, Runs, Delivers, is_unsent, State, Event, Enabled, fire, Legal, after, last_word, put}
 use Rattle.safl_calls.specs.Picks.{first, picks}
+use Rattle.safl_calls.specs.Moves.{moves_count}
 use Rattle.safl_term.specs.Readiness.{or_else, Stage, Unsent, Sent, Returned}
 use Rattle.safl_term.specs.Program.{Program}
 use Rattle.safl_word.specs.Words.{Word}
@@ -18,6 +19,11 @@ put_at f i j x e = rw (eq-eqb i j e)
 
 pub put_off : {A : Type 0} (f : ℕ → A) (i j : ℕ) (x : A) → (i ≡ j → ⊥) → put f i x j ≡ f j
 put_off f i j x e = rw (ne_eqb i j e)
+
+pub moves_append : (xs ys : List Event) → moves_count (xs ++ ys) ≡ moves_count xs + moves_count ys
+unfolding moves_count
+moves_append [] ys = omega arith
+moves_append (x ∷ xs) ys = let e = moves_append xs ys in omega (arith, e)
 
 module _ (C : Program) (args : List Word) where
   pub after_append : (s : State) (xs ys : List Event) → after C args s (xs ++ ys) ≡ after C args (after C args s xs) ys

@@ -21,3 +21,4 @@ pub mod Spared
 pub mod Effects
 pub mod Positions
 pub mod KeptWords
+pub mod Sequential

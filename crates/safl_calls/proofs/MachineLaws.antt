@@ -19,6 +19,7 @@ use Rattle.safl_calls.proofs.Activities.{Activity, Free, Active, Giving, Scene, 
 use Rattle.safl_calls.proofs.Picture.{own, own_at, activity, picture, trail, own_answer, own_wanted, step_of}
 use Rattle.safl_calls.proofs.PictureLaws as law
 use Rattle.safl_calls.specs.Starts.{starts_count}
+use Rattle.safl_calls.specs.Moves.{moves_count}
 
 abbrev member_in : Activity → ℕ
 member_in Free = 0
@@ -177,3 +178,9 @@ module _ (C : Program) (n : ℕ) (good : Numbered C) (wf : IsNumbered C n) (args
 
   pub started : (v w : Word) (d : Main C args w) → (after C args opening es).site 0 ≡ Returned v → starts_count es ≡ main_cost C args d
   started v w d e = law.started C n wf args es (picture C (after C args opening es)) v w d path e
+
+  pub few_moves : (v : Word) (d : Main C args v) → moves_count es + loops C d ≤ 2 * main_cost C args d
+  few_moves v d = law.few_moves C n wf args es (picture C (after C args opening es)) v d path
+
+  pub all_moves : (v w : Word) (d : Main C args w) → (after C args opening es).site 0 ≡ Returned v → moves_count es + loops C d ≡ 2 * main_cost C args d
+  all_moves v w d e = law.all_moves C n wf args es (picture C (after C args opening es)) v w d path e

@@ -4,6 +4,7 @@ use Rattle.std.specs.Prelude.{◌≢◌}
 use Rattle.std.specs.List.Sorted.{IsPermutation}
 use Rattle.std.proofs.lemmas.List.Sums.{sum_by-append}
 use Rattle.safl_calls.specs.Starts.{start_count, starts_count}
+use Rattle.safl_calls.specs.Moves.{move_count, moves_count}
 use Rattle.safl_calls.proofs.Activities.{fresh, Scene, Trail, l_none, l_more, applied, applied_by}
 use Rattle.safl_calls.proofs.Holds.{Outside}
 use Rattle.safl_calls.proofs.Preserved.{fine_opening, fine_legal}
@@ -145,3 +146,42 @@ pub started : (p : Program) (n : ℕ) → IsNumbered p n → (args : List Word) 
 started p n wf args es s v w d l r =
     let all = counted_all p starting n args w d wf v l r in
     omega (arith, all, counted_starting p l, owed_starting p d)
+
+-- each event but a Return counts one
+abbrev moving : Weights
+moving = record { accept = λ f ws. 1; loop = λ f ws. 1; finish = 1; give = 0 }
+
+mutual
+  owed_moving : (p : Program) {env : List Word} {t : Term} {v : Word} (d : Gives p env t v) → owed p moving fresh d + loops p d ≡ 2 * cost p d
+  owed_moving p gives_const = refl
+  owed_moving p gives_var = refl
+  owed_moving p (gives_op ds) = owed_moving_all p ds
+  owed_moving p (gives_if c d) = omega (arith, owed_moving p c, owed_moving p d)
+  owed_moving p (gives_let ds d) = omega (arith, owed_moving_all p ds, owed_moving p d)
+  owed_moving p (gives_call ds d) = omega (arith, owed_moving_all p ds, owed_moving p d)
+  owed_moving p (gives_loop ds d) = omega (arith, owed_moving_all p ds, owed_moving p d)
+
+  owed_moving_all : (p : Program) {env : List Word} {ts : _} {vs : List Word} (d : GivesAll p env ts vs) → owed_all p moving fresh d + loops_all p d ≡ 2 * costs p d
+  owed_moving_all p gives_nil = refl
+  owed_moving_all p (gives_cons d ds) = omega (arith, owed_moving p d, owed_moving_all p ds)
+
+counts_move : (p : Program) (e : Event) (t : Scene) → counts p moving e t ≡ move_count e
+counts_move p (Accept k) t = refl
+counts_move p (Finish f) t = refl
+counts_move p (Return k) t = refl
+counts_move p (LoopInto h) t = refl
+
+counted_moving : (p : Program) {args : List Word} {s t : Scene} {es : List Event} (l : Trail p args s es t) → counted p moving l ≡ moves_count es
+unfolding moves_count
+counted_moving p l_none = refl
+counted_moving p (l_more {t = t} {e = e} q l) = omega (arith, counts_move p e t, counted_moving p l)
+
+pub few_moves : (p : Program) (n : ℕ) → IsNumbered p n → (args : List Word) (events : List Event) (s : Scene) (v : Word) (d : Main p args v) → Trail p args opening events s → moves_count events + loops p d ≤ 2 * main_cost p args d
+few_moves p n wf args es s v d l =
+    let most = counted_at_most p moving n args v d wf l in
+    omega (arith, most, counted_moving p l, owed_moving p d)
+
+pub all_moves : (p : Program) (n : ℕ) → IsNumbered p n → (args : List Word) (events : List Event) (s : Scene) (v w : Word) (d : Main p args w) → Trail p args opening events s → s.outside ≡ Returned v → moves_count events + loops p d ≡ 2 * main_cost p args d
+all_moves p n wf args es s v w d l r =
+    let all = counted_all p moving n args w d wf v l r in
+    omega (arith, all, counted_moving p l, owed_moving p d)

@@ -7,6 +7,7 @@ use Rattle.safl_term.specs.Readiness.{Unsent, Returned}
 use Rattle.safl_term.specs.Meaning.{Main, main_cost, main_calls, loops}
 use Rattle.safl_calls.specs.Machine.{Event, opening, Enabled, CallerRests, after, EachList}
 use Rattle.safl_calls.specs.Starts.{starts_of, starts_count}
+use Rattle.safl_calls.specs.Moves.{moves_count}
 
 -- after these events main has returned v
 abbrev pub HasReturned : Program → List Word → List Event → Word → Type 0
@@ -30,6 +31,14 @@ Stops C = EachList C (λ args es. (v : Word) (e : Event) → HasReturned C args 
 abbrev pub Bounded : Program → Type 0
 Bounded C = EachList C (λ args es. (v : Word) (d : Main C args v) → length es + 2 * loops C d ≤ 3 * main_cost C args d)
 
+-- where main has a value, a legal list has at most two events besides Returns for each call, but one less for each tail call
+abbrev pub FewMoves : Program → Type 0
+FewMoves C = EachList C (λ args es. (v : Word) (d : Main C args v) → moves_count es + loops C d ≤ 2 * main_cost C args d)
+
+-- and exactly so many where main has returned
+abbrev pub AllMoves : Program → Type 0
+AllMoves C = EachList C (λ args es. (v w : Word) (d : Main C args w) → HasReturned C args es v → moves_count es + loops C d ≡ 2 * main_cost C args d)
+
 -- where main has returned, each function was started with the argument lists of the evaluation, in some order
 abbrev pub SameCalls : Program → Type 0
 SameCalls C =
@@ -43,3 +52,7 @@ SameNumber C = EachList C (λ args es. (v w : Word) (d : Main C args w) → HasR
 -- a site of a function that does not run is unsent
 abbrev pub SitesRest : Program → Type 0
 SitesRest C = EachList C (λ args es. (k : ℕ) → 0 < k → CallerRests C (after C args opening es) k → (after C args opening es).site k ≡ Unsent)
+
+-- at most one event is enabled
+abbrev pub OneEvent : Program → Type 0
+OneEvent C = EachList C (λ args es. (d e : Event) → Enabled C args (after C args opening es) d → Enabled C args (after C args opening es) e → d ≡ e)

@@ -5,7 +5,8 @@ ghost use Rattle.safl_term.specs.Program.{Program};
 ghost use Rattle.safl_term.specs.WellFormed.{IsWellFormed};
 ghost use Rattle.safl_sites.specs.Plan.{Suffices};
 ghost use Rattle.safl_calls.specs.Interference.{BusySitesConflict, OneInUse, ShownWordsServe};
-ghost use Rattle.safl_calls.specs.Laws.{Bounded, GoesOn, Right, SameCalls, SameNumber, SitesRest, Stops};
+ghost use Rattle.safl_calls.specs.Laws.{AllMoves, Bounded, FewMoves, GoesOn, OneEvent, Right, SameCalls, SameNumber, SitesRest, Stops};
+ghost use Rattle.safl_sites.specs.Conflicts.{IsSequential};
 
 /// What main has returned is its value, and the list has three events for each call but two less for each
 /// tail call.
@@ -22,6 +23,13 @@ pub fn progress_law()
 /// Where main has a value, no list of events is longer than its calls allow.
 pub fn bound_law()
     ensures { (C : Program) → IsWellFormed C → Bounded C }
+{}
+
+/// Where main has a value, no list has more events besides Returns than two for each call but one less for each
+/// tail call, and where main has returned the list has as many.
+pub fn moves_law()
+    ensures most { (C : Program) → IsWellFormed C → FewMoves C }
+    ensures all { (C : Program) → IsWellFormed C → AllMoves C }
 {}
 
 /// Where main has returned, each function was started with the argument lists of the evaluation, and all of them
@@ -50,4 +58,9 @@ pub fn arbiter_law()
 /// wants as all the words that were returned.
 pub fn kept_law()
     ensures { (C : Program) (arbiter kept : ℕ → Bool) → IsWellFormed C → Suffices C arbiter kept → ShownWordsServe C kept }
+{}
+
+/// Where no two calls of a program can overlap, at most one event is enabled.
+pub fn sequence_law()
+    ensures { (C : Program) → IsWellFormed C → IsSequential C → OneEvent C }
 {}

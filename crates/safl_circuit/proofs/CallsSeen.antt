@@ -1,11 +1,11 @@
 -- The words on the argument registers are the argument lists of the evaluation.
-use Rattle.std.proofs.Common.{◌≡◌, ℕ, zero, suc, ◌+◌, ◌-◌, ◌*◌, ◌<◌, ◌≤◌, List, [], ◌∷◌, ◌++◌, length, Bool, true, cond, refl, sym, ap, ◌∙◌, subst, arith, ⊎_elim, append-nil, append_assoc}
+use Rattle.std.proofs.Common.{◌≡◌, ℕ, zero, suc, ◌+◌, ◌-◌, ◌<◌, ◌≤◌, List, [], ◌∷◌, ◌++◌, length, Bool, true, cond, refl, sym, ap, ◌∙◌, subst, arith, ⊎_elim, append-nil, append_assoc}
 use Rattle.std.specs.List.Sorted.{IsPermutation}
 use Rattle.std.proofs.lemmas.Bool.{cases_eq}
 use Rattle.safl_word.specs.Words.{Word}
 use Rattle.safl_term.specs.Program.{Program, unit_for, arity}
 use Rattle.safl_term.specs.Readiness.{Returned}
-use Rattle.safl_term.specs.Meaning.{Main, main_cost, main_calls}
+use Rattle.safl_term.specs.Meaning.{Main, main_calls}
 use Rattle.safl_term.specs.WellFormed.{IsWellFormed}
 use Rattle.safl_calls.specs.Machine.{State, Event, Return, Delivers, opening, give_back, Enabled, Legal, after, fire}
 use Rattle.safl_calls.specs.Picks.{picks}
@@ -22,6 +22,7 @@ use Rattle.safl_circuit.proofs.Cycle.{steps}
 use Rattle.safl_circuit.proofs.Once.{in_time, after_done, stays}
 use Rattle.safl_circuit.proofs.Arguments.{arguments_seen, starts_append}
 use Rattle.safl_circuit.proofs.CoreOf.{core_of}
+use Rattle.safl_circuit.specs.Correct.{latest}
 
 picks_front : (p : ℕ → Bool) (e : ℕ → Event) (n : ℕ) → p 0 ≡ true → (rest : List Event) × (picks p e (suc n) ≡ e 0 ∷ rest)
 unfolding picks
@@ -54,10 +55,10 @@ module _ (C : Program) (P : Choice) (wf : IsWellFormed C) (h1 : OneInUse C P.arb
   over_empty es (f ∷ fs) v h over =
       absurd (stops C C.functions (numbered C wf) wf.numbered args es (legal_front C args opening es (f ∷ fs) h) v f over (first_enabled C args (after C args opening es) f fs (legal_back C args opening es (f ∷ fs) h)))
 
-  -- in the cycle of done nothing starts
-  done_starts : (c f : ℕ) → ret C (registers_at C P r0 args later c) 0 ≡ true → starts_of C args opening (history C P r0 args later (suc c)) f ≡ starts_of C args opening (history C P r0 args later c) f
-  unfolding history starts_of
-  done_starts c f up =
+  -- the cycle of done has no other event
+  pub done_events : (c : ℕ) → ret C (registers_at C P r0 args later c) 0 ≡ true → cycle_events C P (registers_at C P r0 args later c) (input_at args later c) ≡ Return 0 ∷ []
+  unfolding history
+  done_events c up =
       let r = registers_at C P r0 args later c in
       let i = input_at args later c in
       let front = picks_front (ret C r) Return C.sites up in
@@ -69,13 +70,19 @@ module _ (C : Program) (P : Choice) (wf : IsWellFormed C) (h1 : OneInUse C P.arb
       let enabled = first_enabled C args (after C args opening (hist c)) (Return 0) rest (legal_back C args opening (hist c) (Return 0 ∷ rest) all) in
       let over : (after C args opening (hist c ++ (Return 0 ∷ []))).site 0 ≡ Returned enabled.0 = ap (λ s. s.site 0) (after_append C args opening (hist c) (Return 0 ∷ [])) ∙ after_return C args (after C args opening (hist c)) enabled.0 enabled.1 in
       let none : rest ≡ [] = over_empty (hist c ++ (Return 0 ∷ [])) rest enabled.0 moved over in
-      ap (λ l. starts_of C args opening (hist c ++ l) f) (events ∙ ap (λ l. Return 0 ∷ l) none)
+      events ∙ ap (λ l. Return 0 ∷ l) none
+
+  -- nothing starts there
+  done_starts : (c f : ℕ) → ret C (registers_at C P r0 args later c) 0 ≡ true → starts_of C args opening (history C P r0 args later (suc c)) f ≡ starts_of C args opening (history C P r0 args later c) f
+  unfolding history starts_of
+  done_starts c f up =
+      ap (λ l. starts_of C args opening (hist c ++ l) f) (done_events c up)
       ∙ starts_append C args opening (hist c) (Return 0 ∷ []) f
       ∙ append-nil (starts_of C args opening (hist c) f)
 
-  pub calls_seen : (v : Word) (d : Main C args v) (f c : ℕ) → f < C.functions → 3 * main_cost C args d ≤ suc c → IsPermutation (main_calls C args d f) (words_seen C P r0 args later f c)
+  pub calls_seen : (v : Word) (d : Main C args v) (f c : ℕ) → f < C.functions → latest C args d ≤ c → IsPermutation (main_calls C args d f) (words_seen C P r0 args later f c)
   calls_seen v d f c lt long =
-      let t : DoneOnce C P r0 args later v (3 * main_cost C args d) = in_time C P (numbered C wf) h1 h2 r0 quiet args sized later v (3 * main_cost C args d) (core_of C wf args sized v d) in
+      let t : DoneOnce C P r0 args later v (suc (latest C args d)) = in_time C P (numbered C wf) h1 h2 r0 quiet args sized later v (latest C args d) (core_of C wf args sized v d) in
       let w = (registers_at C P r0 args later t.cycle).res (unit_for C 0) in
       let returned = after_done C P (numbered C wf) h1 h2 r0 quiet args sized later t.cycle t.done in
       subst (λ l. IsPermutation (main_calls C args d f) l) (sym (arguments_seen C P (numbered C wf) h1 h2 r0 quiet args sized later f c lt))

@@ -1,5 +1,5 @@
 -- What is proved of the circuit without names, where the plan serves it.
-use Rattle.std.specs.Prelude.{◌≡◌, ℕ, ◌<◌, ◌≤◌, List, length, true}
+use Rattle.std.specs.Prelude.{◌≡◌, ℕ, suc, ◌<◌, ◌≤◌, List, length, true}
 use Rattle.safl_word.specs.Words.{Word}
 use Rattle.safl_term.specs.Program.{Program, arity}
 use Rattle.safl_calls.specs.Machine.{opening}
@@ -16,7 +16,7 @@ Steps = (C : Program) (P : Choice) → Numbered C → OneInUse C P.arbiter → S
 
 -- done comes once, in time, with main's value
 abbrev pub InTime : Type 0
-InTime = (C : Program) (P : Choice) → Numbered C → OneInUse C P.arbiter → ShownWordsServe C P.kept → (r0 : Registers) → Quiet r0 → (args : List Word) → length args ≡ arity C C.main → (later : ℕ → List Word) (v : Word) (n : ℕ) → Core C args v n → DoneOnce C P r0 args later v n
+InTime = (C : Program) (P : Choice) → Numbered C → OneInUse C P.arbiter → ShownWordsServe C P.kept → (r0 : Registers) → Quiet r0 → (args : List Word) → length args ≡ arity C C.main → (later : ℕ → List Word) (v : Word) (n : ℕ) → Core C args v n → DoneOnce C P r0 args later v (suc n)
 
 -- after done the state is quiet for good
 abbrev pub QuietAfter : Type 0

@@ -1,17 +1,18 @@
 -- The machine's laws, as the circuit uses them.
-use Rattle.std.proofs.Common.{◌≡◌, ◌*◌, List, length, arith}
+use Rattle.std.proofs.Common.{◌≡◌, List, length, arith}
 use Rattle.safl_word.specs.Words.{Word}
 use Rattle.safl_term.specs.Program.{Program, arity}
-use Rattle.safl_term.specs.Meaning.{Main, main_cost}
+use Rattle.safl_term.specs.Meaning.{Main}
 use Rattle.safl_term.specs.WellFormed.{IsWellFormed}
 use Rattle.safl_calls.proofs.FromWellFormed.{numbered}
 use Rattle.safl_calls.proofs.PictureLaws.{one_meaning}
-use Rattle.safl_calls.proofs.MachineLaws.{right, goes_on, bounded}
+use Rattle.safl_calls.proofs.MachineLaws.{right, goes_on, few_moves}
 use Rattle.safl_circuit.proofs.DoneOnce.{Core}
+use Rattle.safl_circuit.specs.Correct.{latest}
 
-pub core_of : (C : Program) → IsWellFormed C → (args : List Word) → length args ≡ arity C C.main → (v : Word) (d : Main C args v) → Core C args v (3 * main_cost C args d)
+pub core_of : (C : Program) → IsWellFormed C → (args : List Word) → length args ≡ arity C C.main → (v : Word) (d : Main C args v) → Core C args v (latest C args d)
 core_of C wf args sized v d = record {
   value = λ es legal w over. let r = right C C.functions (numbered C wf) wf.numbered args es legal w over in (one_meaning C args w v r.0 d).0;
-  most = λ es legal. let b = bounded C C.functions (numbered C wf) wf.numbered args es legal v d in omega (arith, b);
+  most = λ es legal. let b = few_moves C C.functions (numbered C wf) wf.numbered args es legal v d in omega (arith, b);
   lively = λ es legal not_yet. goes_on C C.functions (numbered C wf) wf.numbered args es legal sized (λ w e. absurd (not_yet w e));
 }

@@ -1,5 +1,5 @@
 -- A cycle of the circuit is a list of events of the machine.
-use Rattle.std.proofs.Common.{◌≡◌, ℕ, zero, suc, ◌+◌, ◌<◌, List, [], ◌∷◌, ◌++◌, Bool, true, false, cond, ◌||◌, refl, sym, ap, ◌∙◌, subst, ⊎_elim, arith, append-nil, length, length-append}
+use Rattle.std.proofs.Common.{◌≡◌, ℕ, zero, suc, ◌+◌, ◌<◌, List, [], ◌∷◌, ◌++◌, Bool, true, false, cond, ◌||◌, refl, sym, ap, ◌∙◌, subst, ⊎_elim, arith, length}
 use Rattle.std.proofs.lemmas.Bool.{and_parts, false≢true}
 use Rattle.safl_circuit.proofs.Accepts.{Meets, Started, accepted, go_one, go_idle}
 use Rattle.safl_circuit.proofs.Claims.{Steps}
@@ -7,16 +7,17 @@ use Rattle.safl_circuit.proofs.Edge.{edge_run, edge_fin, edge_res, edge_at, edge
 use Rattle.safl_circuit.proofs.Ends.{Ended, Moved, finished_to, moved_all, last_end}
 use Rattle.safl_circuit.proofs.Fate.{Holds}
 use Rattle.safl_circuit.proofs.Middle.{quiet, unit_quiet, site_came, says_it, wants_it, last_returns}
-use Rattle.safl_circuit.proofs.Progress.{picks_none, picks_some, some_up, moves}
+use Rattle.safl_circuit.proofs.Progress.{moves}
 use Rattle.safl_circuit.proofs.Start.{Back, returned, ret_delivers}
 use Rattle.safl_circuit.specs.Equations.{Registers, Inputs, Choice, ret, go, returns, accepts, finishes, goes_on, cycle_events, next, ends, or_word, end_in}
 use Rattle.safl_circuit.specs.Steps.{Shows, Quiet, is_running, is_delivering, was_sent, is_returned, input_at, registers_at, history}
-use Rattle.safl_calls.proofs.Basics.{after_append, legal_append, last_append, mask_all}
+use Rattle.safl_calls.proofs.Basics.{moves_append, after_append, legal_append, last_append, mask_all}
 use Rattle.safl_calls.proofs.Invariant.{Inv, inv_after, unsent_at_rest}
 use Rattle.safl_calls.proofs.Numbered.{Numbered}
-use Rattle.safl_calls.specs.Machine.{State, Mode, Idle, Runs, Delivers, Event, Accept, Return, LoopInto, opening, Enabled, CallerRests, Legal, after, last_word, finished}
+use Rattle.safl_calls.specs.Machine.{State, Mode, Idle, Runs, Delivers, Event, Accept, LoopInto, opening, Enabled, Legal, after, last_word, finished}
 use Rattle.safl_calls.proofs.Basics.{serves}
 use Rattle.safl_calls.specs.Picks.{picks, first}
+use Rattle.safl_calls.specs.Moves.{moves_count}
 use Rattle.safl_calls.specs.Interference.{OneInUse, ShownWordsServe}
 use Rattle.safl_term.specs.Readiness.{Stage, Unsent, Sent, Returned}
 use Rattle.safl_term.specs.Program.{Program, unit_for, arity}
@@ -91,7 +92,7 @@ module _ (C : Program) (P : Choice) (args : List Word) (good : Numbered C) (h1 :
   pub t_is : t ≡ after C args (after C args opening es) (returns C r (suc C.sites))
   t_is = after_append C args opening es (returns C r (suc C.sites))
 
-  legal_all : Legal C args opening all
+  pub legal_all : Legal C args opening all
   legal_all = legal_append C args opening es (returns C r (suc C.sites)) legal back_home.0
 
   b : Back C P args good r (after C args opening es) inv shows (suc C.sites) t
@@ -222,28 +223,21 @@ module _ (C : Program) (P : Choice) (args : List Word) (good : Numbered C) (h1 :
       ∙ mask_all (suc C.sites) 0 (go C P r i 0) Sent (t.site 0) (λ up. omega arith)
       ∙ ap (cond (go C P r i 0) Sent) (came 0)
 
-  -- a cycle has an event where one is enabled at its start
-  pub progress : (e : Event) → Enabled C args (after C args opening es) e → (e ≡ Accept 0 → go C P r i 0 ≡ true) → 0 < length (cycle_events C P r i)
+  -- a cycle has an event besides its Returns where one is enabled after them
+  pub progress : (e : Event) → Enabled C args t e → (e ≡ Accept 0 → go C P r i 0 ≡ true) → 0 < moves_count (cycle_events C P r i)
   progress e on main = ⊎_elim
-      (λ up. let p = picks_some (ret C r) Return (suc C.sites) up.0 up.1 up.2 in omega (arith, p, len))
-      (λ none.
-      let no_returns : returns C r (suc C.sites) ≡ [] = picks_none (ret C r) Return (suc C.sites) none in
-      let t_s : t ≡ after C args opening es = ap (λ l. after C args opening (es ++ l)) no_returns ∙ ap (after C args opening) (append-nil es) in
-      let on_t : Enabled C args t e = subst (λ q. Enabled C args q e) (sym t_s) on in
-      ⊎_elim
-      (λ a. omega (arith, a, len, len_late, len_ends))
-      (λ b. ⊎_elim (λ f. omega (arith, f, len, len_late, len_ends)) (λ g. omega (arith, g, len, len_late, len_ends)) b)
-      (moves C P args good r i t inv_t meets e on_t main))
-      (some_up (ret C r) (suc C.sites))
+      (λ a. omega (arith, a, all_sum, late_sum, end_sum))
+      (λ b. ⊎_elim (λ f. omega (arith, f, all_sum, late_sum, end_sum)) (λ g. omega (arith, g, all_sum, late_sum, end_sum)) b)
+      (moves C P args good r i t inv_t meets e on main)
     where
-      len : length (cycle_events C P r i) ≡ length (returns C r (suc C.sites)) + length late
-      len = length-append (returns C r (suc C.sites)) late
+      all_sum : moves_count (cycle_events C P r i) ≡ moves_count (returns C r (suc C.sites)) + moves_count late
+      all_sum = moves_append (returns C r (suc C.sites)) late
 
-      len_late : length late ≡ length (accepts C P r i (suc C.sites)) + length (finishes C P r C.functions ++ goes_on C P r C.functions)
-      len_late = length-append (accepts C P r i (suc C.sites)) (finishes C P r C.functions ++ goes_on C P r C.functions)
+      late_sum : moves_count late ≡ moves_count (accepts C P r i (suc C.sites)) + moves_count (finishes C P r C.functions ++ goes_on C P r C.functions)
+      late_sum = moves_append (accepts C P r i (suc C.sites)) (finishes C P r C.functions ++ goes_on C P r C.functions)
 
-      len_ends : length (finishes C P r C.functions ++ goes_on C P r C.functions) ≡ length (finishes C P r C.functions) + length (goes_on C P r C.functions)
-      len_ends = length-append (finishes C P r C.functions) (goes_on C P r C.functions)
+      end_sum : moves_count (finishes C P r C.functions ++ goes_on C P r C.functions) ≡ moves_count (finishes C P r C.functions) + moves_count (goes_on C P r C.functions)
+      end_sum = moves_append (finishes C P r C.functions) (goes_on C P r C.functions)
 
   pub shows_next : Shows C P (after C args opening (es ++ cycle_events C P r i)) (next C P i r)
   shows_next = subst (λ q. Shows C P q (next C P i r)) (sym z_is) shows_z

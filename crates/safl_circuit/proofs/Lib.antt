@@ -19,6 +19,8 @@ pub mod Typed
 pub mod NetSteps
 pub mod CoreOf
 pub mod CallsSeen
+pub mod OneMove
+pub mod Exact
 pub mod NetRuns
 pub mod Theorem
 pub mod Samples

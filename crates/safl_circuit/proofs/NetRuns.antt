@@ -2,13 +2,12 @@
 use Rattle.std.proofs.Common.{◌≡◌, ◌≢◌, ℕ, zero, suc, ◌+◌, ◌*◌, ◌<◌, ◌≤◌, List, [], ◌∷◌, ◌++◌, length, Option, Some, None, Bool, true, false, cond, ◌&&◌, ◌||◌, ◌==◌, is_some, refl, sym, ap, ◌∙◌, subst, arith, get_or}
 use Rattle.std.specs.Prelude.{slice_get, codes}
 use Rattle.std.specs.List.Sorted.{IsPermutation}
-use Rattle.std.proofs.lemmas.Option.{slice_get-get_or}
+use Rattle.std.proofs.lemmas.Option.{slice_get-get_or, slice_get_within}
 use Rattle.std.proofs.lemmas.Bool.{false≢true, true≢false, and_from, lt-ltb, eq-eqb}
 use Rattle.safl_word.specs.Words.{Word}
 use Rattle.safl_term.specs.Program.{Program, unit_for, arity}
 use Rattle.safl_term.specs.Readiness.{Returned, or_else}
 use Rattle.safl_term.specs.Meaning.{Main, main_cost, main_calls}
-use Rattle.safl_term.specs.Fuel.{GivesInCalls}
 use Rattle.safl_term.specs.WellFormed.{IsWellFormed, AreWordsOf}
 use Rattle.safl_term.proofs.Fuelled.{agree_from}
 use Rattle.safl_calls.specs.Machine.{opening, after}
@@ -29,7 +28,7 @@ use Rattle.safl_circuit.specs.Names.{Names, of_function, one, bit, is_unit, as_w
 use Rattle.safl_circuit.specs.Scheme.{Scheme, go_up}
 use Rattle.safl_circuit.proofs.WordsSeen.{words_seen}
 use Rattle.safl_circuit.proofs.DoneOnce.{DoneOnce, Exclusive}
-use Rattle.safl_circuit.specs.Correct.{DoneIn, is_started, go_at, seen_at, words_seen_in, IsQuietState}
+use Rattle.safl_circuit.specs.Correct.{DoneIn, IsResult, latest, is_started, go_at, seen_at, words_seen_in, IsQuietState}
 use Rattle.safl_circuit.proofs.Same.{Same}
 use Rattle.safl_circuit.proofs.Typed.{edge_same, as_numbers, as_many}
 use Rattle.safl_circuit.proofs.Cycle.{steps}
@@ -39,6 +38,12 @@ use Rattle.safl_circuit.proofs.Agree.{ret_same, go_same, next_same, loop_words_s
 use Rattle.safl_circuit.proofs.NetSteps.{regs_on, same_then}
 use Rattle.safl_circuit.proofs.CoreOf.{core_of}
 use Rattle.safl_circuit.proofs.CallsSeen.{calls_seen}
+use Rattle.safl_circuit.proofs.Exact.{exactly}
+
+at_most_or : (a b : ℕ) → (b < a → ⊥) → a ≤ b
+at_most_or zero b h = omega arith
+at_most_or (suc a) zero h = absurd (h (omega arith))
+at_most_or (suc a) (suc b) h = let r = at_most_or a b (λ l. h (omega (arith, l))) in omega (arith, r)
 
 one_is : (w : ℕ) (b : Bool) → w ≡ bit b → one w ≡ b
 one_is w true e = ap one e
@@ -144,9 +149,9 @@ module _ (C : Program) (D : Names) (P : Choice) (n : Netlist) (wf : IsWellFormed
         by zero le = let a = agreed c w e in one_is _ _ (scheme.wires w a.state a.fits).goes_main
         by (suc k) le = let a = agreed c w e in one_is _ _ ((scheme.wires w a.state a.fits).goes (suc k) (omega arith) le)
 
-    pub comes : (v : Word) (d : Main C args v) → 3 * main_cost C args d ≤ length (v0 ∷ vs) → DoneIn n (v0 ∷ vs) v (3 * main_cost C args d)
-    comes v d long =
-        let t : DoneOnce C P r0 args later v (3 * main_cost C args d) = in_time C P good h1 h2 r0 quiet args many later v (3 * main_cost C args d) (core_of C wf args many v d) in
+    pub prompt : (v : Word) (d : Main C args v) → latest C args d < length (v0 ∷ vs) → DoneIn n (v0 ∷ vs) v (suc (latest C args d))
+    prompt v d long =
+        let t : DoneOnce C P r0 args later v (suc (latest C args d)) = in_time C P good h1 h2 r0 quiet args many later v (latest C args d) (core_of C wf args many v d) in
         let w = get_or (v0 ∷ vs) t.cycle [] in
         let there : slice_get (v0 ∷ vs) t.cycle ≡ Some w = slice_get-get_or (v0 ∷ vs) t.cycle [] (omega (arith, t.in_time, long)) in
         record {
@@ -162,7 +167,13 @@ module _ (C : Program) (D : Names) (P : Choice) (n : Netlist) (wf : IsWellFormed
     is_done : (c : ℕ) (w : Valuation) → slice_get (v0 ∷ vs) c ≡ Some w → read_output n w (codes "done") ≡ 1 → ret C (r c) 0 ≡ true
     is_done c w e up = sym (one_is _ _ (done_is c w e)) ∙ ap one up
 
-    pub only : (c : ℕ) (w : Valuation) → slice_get (v0 ∷ vs) c ≡ Some w → read_output n w (codes "done") ≡ 1 → (m : ℕ) × GivesInCalls C args (as_word (C.result C.main) (read_output n w (codes "result"))) m × (m ≤ C.functions * (c + 1))
+    not_early : (v : Word) (d : Main C args v) (c : ℕ) (w : Valuation) → slice_get (v0 ∷ vs) c ≡ Some w → read_output n w (codes "done") ≡ 1 → latest C args d < c → ⊥
+    not_early v d c w e up late =
+        let y : DoneIn n (v0 ∷ vs) v (suc (latest C args d)) = prompt v d (let l = slice_get_within (v0 ∷ vs) c w e in omega (arith, l, late)) in
+        let z : read_output n w (codes "done") ≡ 0 = y.once c w e (λ same. let t = y.in_time in omega (arith, same, t, late)) in
+        cc
+
+    pub only : (c : ℕ) (w : Valuation) → slice_get (v0 ∷ vs) c ≡ Some w → read_output n w (codes "done") ≡ 1 → IsResult C args (as_word (C.result C.main) (read_output n w (codes "result"))) c
     only c w e up =
         let is = is_done c w e up in
         let es = history C P r0 args later (suc c) in
@@ -173,7 +184,15 @@ module _ (C : Program) (D : Names) (P : Choice) (n : Netlist) (wf : IsWellFormed
         let count = started C C.functions good wf.numbered args es legal x x d over in
         let sum = total C args good opening es (inv_open C args good) legal in
         let few = at_most C args good opening es (suc c) C.functions (omega arith) (λ f lt. one_start C P good h1 h2 r0 quiet args many later f (suc c) lt) in
-        (main_cost C args d, agree_from C args x d, subst (λ k. main_cost C args d ≤ C.functions * k) (plus_one c) (omega (arith, count, sum, few)))
+        let prompt : c ≤ latest C args d = at_most_or c (latest C args d) (not_early x d c w e up) in
+        record {
+          by = d;
+          gives = agree_from C args x d;
+          prompt = prompt;
+          soon = omega (arith, prompt);
+          exact = λ seq. exactly C P wf seq h1 h2 r0 quiet args many later x d c is;
+          few = subst (λ k. main_cost C args d ≤ C.functions * k) (plus_one c) (omega (arith, count, sum, few));
+        }
       where
         plus_one : (c : ℕ) → suc c ≡ c + 1
         plus_one c = omega arith
@@ -252,6 +271,6 @@ module _ (C : Program) (D : Names) (P : Choice) (n : Netlist) (wf : IsWellFormed
         ∙ ap (λ b. words_seen C P r0 args later f c ++ cond b ((registers_now C D n w).arg f ∷ []) []) (started_is c v ev f lt)
         ∙ ap (λ x. words_seen C P r0 args later f c ++ cond (starts_it C P (r c) (input_at args later c) f) (x ∷ []) []) ((agreed (suc c) w ew).same.arg f lt)
 
-    pub same_lists : (v : Word) (d : Main C args v) (c : ℕ) → c < length (v0 ∷ vs) → 3 * main_cost C args d ≤ suc c → (f : ℕ) → f < C.functions → IsPermutation (main_calls C args d f) (words_seen_in C D n (v0 ∷ vs) f c)
+    pub same_lists : (v : Word) (d : Main C args v) (c : ℕ) → c < length (v0 ∷ vs) → latest C args d ≤ c → (f : ℕ) → f < C.functions → IsPermutation (main_calls C args d f) (words_seen_in C D n (v0 ∷ vs) f c)
     same_lists v d c le long f lt =
         subst (λ l. IsPermutation (main_calls C args d f) l) (sym (seen_is f lt c le)) (calls_seen C P wf h1 h2 r0 quiet args many later v d f c lt long)

@@ -1,19 +1,20 @@
 -- done comes once, in time.
-use Rattle.std.proofs.Common.{◌≡◌, ◌≢◌, ℕ, zero, suc, ◌+◌, ◌-◌, ◌<◌, ◌≤◌, List, [], ◌∷◌, ◌++◌, length, Bool, true, false, cond, not, refl, sym, ap, ◌∙◌, subst, ⊎_elim, arith, length-append}
+use Rattle.std.proofs.Common.{◌≡◌, ◌≢◌, ℕ, zero, suc, ◌+◌, ◌-◌, ◌<◌, ◌≤◌, List, ◌++◌, length, Bool, true, false, cond, not, refl, sym, ap, ◌∙◌, subst, ⊎_elim, arith}
 use Rattle.std.proofs.lemmas.Bool.{cases_order, and_parts, false≢true, false_from_ne_true}
 use Rattle.safl_circuit.proofs.Claims.{InTime, QuietAfter, NoTwoStarts}
-use Rattle.safl_circuit.proofs.Cycle.{steps, start_at, outer_next, progress, one_start, start_rests}
+use Rattle.safl_circuit.proofs.Cycle.{steps, start_at, outer_next, legal_all, came, progress, one_start, start_rests}
 use Rattle.safl_circuit.proofs.Progress.{some_up}
 use Rattle.safl_circuit.proofs.Rest.{quiet_if}
 use Rattle.safl_circuit.proofs.Start.{ret_delivers}
-use Rattle.safl_circuit.specs.Equations.{Registers, Choice, ret, go, cycle_events}
+use Rattle.safl_circuit.specs.Equations.{Registers, Choice, ret, go, returns, cycle_events}
 use Rattle.safl_circuit.proofs.DoneOnce.{Core, DoneOnce, Exclusive}
 use Rattle.safl_circuit.specs.Steps.{StepsAt, Quiet, input_at, registers_at, history}
-use Rattle.safl_calls.proofs.Basics.{legal_append, legal_one, cond_some}
+use Rattle.safl_calls.proofs.Basics.{moves_append, cond_some}
 use Rattle.safl_calls.proofs.Invariant.{Inv, inv_after}
 use Rattle.safl_calls.proofs.Numbered.{Numbered}
 use Rattle.safl_calls.specs.Machine.{State, Event, Accept, opening, Enabled, after, is_unsent}
 use Rattle.safl_calls.proofs.Basics.{serves}
+use Rattle.safl_calls.specs.Moves.{moves_count}
 use Rattle.safl_calls.specs.Interference.{OneInUse, ShownWordsServe}
 use Rattle.safl_term.specs.Readiness.{Stage, Unsent, Sent, Returned}
 use Rattle.safl_term.specs.Program.{Program, unit_for, arity}
@@ -129,7 +130,7 @@ module _ (C : Program) (P : Choice) (good : Numbered C) (h1 : OneInUse C P.arbit
       quiet_if C good (s c) (inv c) _ there P (r c) (at c).shows
 
   module _ (v : Word) (n : ℕ) (core : Core C args v n) where
-    -- while done has not come, main has not returned and each cycle has an event
+    -- while done has not come, main has not returned
     not_returned : (c : ℕ) → ((k : ℕ) → k < c → ret C (r k) 0 ≡ false) → (w : Word) → (s c).site 0 ≡ Returned w → ⊥
     unfolding history after
     not_returned zero down w e = unsent_returned w e
@@ -138,34 +139,41 @@ module _ (C : Program) (P : Choice) (good : Numbered C) (h1 : OneInUse C P.arbit
         not_returned (suc c) (λ k lt. down k (omega (arith, lt))) w
         (sym (step c ∙ ap (λ b. cond b (Returned ((r (suc c)).res (unit_for C 0))) ((s (suc c)).site 0)) (down (suc c) (omega arith))) ∙ e)
 
-    main_goes : (c : ℕ) (e : Event) → Enabled C args (s c) e → e ≡ Accept 0 → go C P (r c) (input_at args later c) 0 ≡ true
-    main_goes zero e on is = go_first
-    main_goes (suc c) e on is =
-        let on' : Enabled C args (s (suc c)) (Accept 0) = subst (λ e. Enabled C args (s (suc c)) e) is on in
-        absurd (not_unsent c (unsent_if _ (and_parts _ _ (cond_some _ _ _ on'.1).0).0))
+    main_goes : (c : ℕ) (q : State) → q.site 0 ≡ (s c).site 0 → (e : Event) → Enabled C args q e → e ≡ Accept 0 → go C P (r c) (input_at args later c) 0 ≡ true
+    main_goes zero q same e on is = go_first
+    main_goes (suc c) q same e on is =
+        let on' : Enabled C args q (Accept 0) = subst (λ e. Enabled C args q e) is on in
+        absurd (not_unsent c (sym same ∙ unsent_if _ (and_parts _ _ (cond_some _ _ _ on'.1).0).0))
 
-    grows : (c : ℕ) → ((k : ℕ) → k < c → ret C (r k) 0 ≡ false) → c ≤ length (history C P r0 args later c)
+    -- so some event is enabled after the Returns of the cycle, and it is no Return
+    moves_on : (c : ℕ) → ((k : ℕ) → k < suc c → ret C (r k) 0 ≡ false) → 0 < moves_count (cycle_events C P (r c) (input_at args later c))
+    moves_on c down =
+        let es = history C P r0 args later c in
+        let start = start_at C P r0 args sized later c in
+        let back = es ++ returns C (r c) (suc C.sites) in
+        let legal = legal_all C P args good h1 h2 r0.res es (at c).legal (r c) (input_at args later c) (at c).shows (at c).res start in
+        let same : (after C args opening back).site 0 ≡ (s c).site 0 =
+        came C P args good h1 h2 r0.res es (at c).legal (r c) (input_at args later c) (at c).shows (at c).res start 0
+        ∙ ap (λ b. cond b (Returned ((r c).res (unit_for C 0))) ((s c).site 0)) (down c (omega arith)) in
+        let on = core.lively back legal (λ w over. not_returned c (λ k lt. down k (omega (arith, lt))) w (sym same ∙ over)) in
+        progress C P args good h1 h2 r0.res es (at c).legal (r c) (input_at args later c) (at c).shows (at c).res start on.0 on.1 (main_goes c (after C args opening back) same on.0 on.1)
+
+    grows : (c : ℕ) → ((k : ℕ) → k < c → ret C (r k) 0 ≡ false) → c ≤ moves_count (history C P r0 args later c)
     unfolding history
     grows zero down = omega arith
     grows (suc c) down =
         let before = grows c (λ k lt. down k (omega (arith, lt))) in
-        let on = core.lively (history C P r0 args later c) (at c).legal (not_returned c (λ k lt. down k (omega (arith, lt)))) in
-        let more = progress C P args good h1 h2 r0.res (history C P r0 args later c) (at c).legal (r c) (input_at args later c) (at c).shows (at c).res (start_at C P r0 args sized later c) on.0 on.1 (main_goes c on.0 on.1) in
-        let len = length-append (history C P r0 args later c) (cycle_events C P (r c) (input_at args later c)) in
-        omega (arith, before, more, len)
+        let more = moves_on c down in
+        let sum = moves_append (history C P r0 args later c) (cycle_events C P (r c) (input_at args later c)) in
+        omega (arith, before, more, sum)
 
-    too_long : ((k : ℕ) → k < n → ret C (r k) 0 ≡ false) → ⊥
+    too_long : ((k : ℕ) → k < suc n → ret C (r k) 0 ≡ false) → ⊥
     too_long down =
-        let es = history C P r0 args later n in
-        let on = core.lively es (at n).legal (not_returned n down) in
-        let legal = legal_append C args opening es (on.0 ∷ []) (at n).legal (legal_one C args (after C args opening es) on.0 on.1) in
-        let most = core.most (es ++ on.0 ∷ []) legal in
-        let long = grows n down in
-        let len = length-append es (on.0 ∷ []) in
-        let one : length (on.0 ∷ []) ≡ 1 = refl in
-        omega (arith, most, long, len, one)
+        let most = core.most (history C P r0 args later (suc n)) (at (suc n)).legal in
+        let long = grows (suc n) down in
+        omega (arith, most, long)
 
-    pub done_once : DoneOnce C P r0 args later v n
+    pub done_once : DoneOnce C P r0 args later v (suc n)
     done_once = ⊎_elim
         (λ up. record {
           cycle = up.0;
@@ -175,7 +183,7 @@ module _ (C : Program) (P : Choice) (good : Numbered C) (h1 : OneInUse C P.arbit
           once = once up.0 up.2;
         })
         (λ none. absurd (too_long none))
-        (some_up (λ c. ret C (r c) 0) n)
+        (some_up (λ c. ret C (r c) 0) (suc n))
 
 pub in_time : InTime
 in_time C P good h1 h2 r0 quiet args sized later v n core = done_once C P good h1 h2 r0 quiet args sized later v n core

@@ -1,37 +1,32 @@
--- Where an event is enabled, the next cycle has one.
-use Rattle.std.proofs.Common.{◌≡◌, ℕ, zero, suc, ◌<◌, ◌≤◌, List, [], ◌∷◌, ◌++◌, length, Option, Some, None, Bool, true, false, cond, not, ◌&&◌, is_some, refl, sym, ap, ◌∙◌, inl, inr, ⊎_elim, ◌⊎◌, arith, length-append}
+-- Where an event is enabled after the Returns of a cycle, the cycle has another event.
+use Rattle.std.proofs.Common.{◌≡◌, ℕ, zero, suc, ◌<◌, ◌≤◌, List, [], ◌∷◌, ◌+◌, Option, Some, None, Bool, true, false, cond, not, ◌&&◌, is_some, refl, sym, ap, ◌∙◌, inl, inr, ⊎_elim, ◌⊎◌, arith}
 use Rattle.std.proofs.lemmas.Bool.{cases_Bool, cases_eq, eqb-true, eq-eqb, and_parts, and_from, true≢false}
 use Rattle.safl_circuit.proofs.Accepts.{Meets, asked_parts}
 use Rattle.safl_circuit.proofs.Middle.{member_says}
 use Rattle.safl_circuit.specs.Equations.{Registers, Inputs, Choice, accepts, finishes, goes_on, body_says, want, wants_at, go, end_word, loop_from, loop_words}
 use Rattle.safl_circuit.specs.Steps.{is_running, is_delivering}
-use Rattle.safl_calls.proofs.Basics.{first_none, some_none, cond_some}
+use Rattle.safl_calls.proofs.Basics.{moves_append, first_none, some_none, cond_some}
 use Rattle.safl_calls.proofs.Bodies.{goes_stands}
 use Rattle.safl_calls.proofs.Invariant.{Inv}
 use Rattle.safl_calls.proofs.Numbered.{Numbered}
 use Rattle.safl_calls.specs.Machine.{State, Mode, Idle, Runs, Delivers, Event, Accept, Finish, Return, LoopInto, Enabled, says_as, asked, back}
 use Rattle.safl_calls.specs.Picks.{picks, first}
+use Rattle.safl_calls.specs.Moves.{move_count, moves_count}
 use Rattle.safl_term.specs.Readiness.{Ready, LoopTo, NotYet, answer, word_of, or_else}
 use Rattle.safl_term.specs.Program.{Program, unit_for}
 use Rattle.safl_word.specs.Words.{Word}
 
-pub picks_none : (p : ℕ → Bool) (e : ℕ → Event) (n : ℕ) → ((k : ℕ) → k < n → p k ≡ false) → picks p e n ≡ []
-unfolding picks
-picks_none p e zero h = refl
-picks_none p e (suc n) h =
-    ap (λ l. l ++ cond (p n) (e n ∷ []) []) (picks_none p e n (λ k lt. h k (omega arith)))
-    ∙ ap (λ b. [] ++ cond b (e n ∷ []) []) (h n (omega arith))
-
-pub picks_some : (p : ℕ → Bool) (e : ℕ → Event) (n k : ℕ) → k < n → p k ≡ true → 0 < length (picks p e n)
-unfolding picks
-picks_some p e zero k lt up = absurd (omega arith)
-picks_some p e (suc n) k lt up =
-    let len = length-append (picks p e n) (cond (p n) (e n ∷ []) []) in
+-- where a number passes, and its event is no Return, there is a move
+picks_move : (p : ℕ → Bool) (e : ℕ → Event) → ((k : ℕ) → move_count (e k) ≡ 1) → (n k : ℕ) → k < n → p k ≡ true → 0 < moves_count (picks p e n)
+unfolding picks moves_count
+picks_move p e move zero k lt up = absurd (omega arith)
+picks_move p e move (suc n) k lt up =
+    let sum = moves_append (picks p e n) (cond (p n) (e n ∷ []) []) in
     ⊎_elim
     (λ same.
-    let one : length (cond (p n) (e n ∷ []) []) ≡ 1 = ap (λ b. length (cond b (e n ∷ []) [])) (ap p (sym same) ∙ up) in
-    omega (arith, len, one))
-    (λ other. let h = picks_some p e n k (omega (arith, other)) up in omega (arith, len, h))
+    let one : moves_count (cond (p n) (e n ∷ []) []) ≡ move_count (e n) + 0 = ap (λ b. moves_count (cond b (e n ∷ []) [])) (ap p (sym same) ∙ up) in
+    omega (arith, sum, one, move n))
+    (λ other. let h = picks_move p e move n k (omega (arith, other)) up in omega (arith, sum, h))
     (cases_eq k n)
 
 -- some number below n passes, or none
@@ -93,25 +88,29 @@ module _ (C : Program) (P : Choice) (args : List Word) (good : Numbered C) (r : 
       by true arbiter = lowest arbiter _ refl
       by false no_arb = (suc k, le, ap (λ b. cond b (want C P r (suc k) && (not (r.run w) && not (is_some (first (wants_at C P r w) (suc k))))) (want C P r (suc k))) no_arb ∙ wants_k)
 
+  -- the cycle has an Accept, a Finish or a Loop
+  abbrev pub Moving : Type 0
+  Moving = (0 < moves_count (accepts C P r i (suc C.sites))) ⊎ ((0 < moves_count (finishes C P r C.functions)) ⊎ (0 < moves_count (goes_on C P r C.functions)))
+
   -- after the Returns an enabled event makes one of the others
-  pub moves : (e : Event) → Enabled C args t e → (e ≡ Accept 0 → go C P r i 0 ≡ true) → (0 < length (accepts C P r i (suc C.sites))) ⊎ ((0 < length (finishes C P r C.functions)) ⊎ (0 < length (goes_on C P r C.functions)))
+  pub moves : (e : Event) → Enabled C args t e → (e ≡ Accept 0 → go C P r i 0 ≡ true) → Moving
   moves (Return k) h main = absurd (true≢false (sym (ap is_delivering h.1) ∙ meets.rest (unit_for C k)))
-  moves (Accept zero) h main = inl (picks_some (go C P r i) Accept (suc C.sites) 0 (omega arith) (main refl))
+  moves (Accept zero) h main = inl (picks_move (go C P r i) Accept (λ k. refl) (suc C.sites) 0 (omega arith) (main refl))
   moves (Accept (suc k)) h main =
       let w = asked_parts C args t k h.0 h.1 in
       let g = some_go k h.0 h.1 h.2 w.within in
-      inl (picks_some (go C P r i) Accept (suc C.sites) g.0 (omega (arith, g.1)) g.2)
+      inl (picks_move (go C P r i) Accept (λ k. refl) (suc C.sites) g.0 (omega (arith, g.1)) g.2)
   moves (Finish f) h main =
       let m = inv.member (C.unit f) f h.0 h.1 h.3 in
       let ready : answer (back t) h.1 (C.body f) ≡ Ready h.2 = sym (ap (says_as C (back t)) h.3) ∙ h.4 in
       let says' : body_says C P r f ≡ Ready h.2 = meets.says f m.1 ∙ ap (λ m. member_says C (back t) m f) h.3 ∙ ap (λ b. cond b (answer (back t) h.1 (C.body f)) NotYet) (eq-eqb f f refl) ∙ ready in
-      inr (inl (picks_some (λ f. is_some (end_word C P r f)) Finish C.functions f m.1 (ap (λ a. is_some (word_of a)) says')))
+      inr (inl (picks_move (λ f. is_some (end_word C P r f)) Finish (λ f. refl) C.functions f m.1 (ap (λ a. is_some (word_of a)) says')))
   moves (LoopInto h') h main = by (t.unit (C.unit h')) refl
     where
       goes_not : NotYet ≡ LoopTo h' h.0 → ⊥
       goes_not e = grind arith
 
-      by : (m : Mode) → t.unit (C.unit h') ≡ m → (0 < length (accepts C P r i (suc C.sites))) ⊎ ((0 < length (finishes C P r C.functions)) ⊎ (0 < length (goes_on C P r C.functions)))
+      by : (m : Mode) → t.unit (C.unit h') ≡ m → Moving
       by Idle e = absurd (goes_not (sym (ap (says_as C (back t)) e) ∙ h.1))
       by (Delivers k v) e = absurd (goes_not (sym (ap (says_as C (back t)) e) ∙ h.1))
       by (Runs g k ws) e =
@@ -120,4 +119,4 @@ module _ (C : Program) (P : Choice) (args : List Word) (good : Numbered C) (r : 
           let says' : body_says C P r g ≡ LoopTo h' h.0 = meets.says g m.1 ∙ ap (λ m. member_says C (back t) m g) (ap t.unit m.0 ∙ e) ∙ ap (λ b. cond b (answer (back t) ws (C.body g)) NotYet) (eq-eqb g g refl) ∙ body in
           let from : loop_from C P r h' g ≡ Some h.0 = rw (eq-eqb (C.unit g) (C.unit h') m.0, says', eq-eqb h' h' refl) refl in
           let some : is_some (loop_words C P r h') ≡ true = there (loop_words C P r h') (λ none. some_none h.0 (sym from ∙ first_none (loop_from C P r h') C.functions none g m.1)) in
-          inr (inr (picks_some (λ j. is_some (loop_words C P r j)) LoopInto C.functions h' (good.loops g h' m.1 (goes_stands (back t) ws (C.body g) h' h.0 body)).0 some))
+          inr (inr (picks_move (λ j. is_some (loop_words C P r j)) LoopInto (λ j. refl) C.functions h' (good.loops g h' m.1 (goes_stands (back t) ws (C.body g) h' h.0 body)).0 some))

@@ -1,8 +1,9 @@
 -- The last theorem, from its parts.
-use Rattle.std.proofs.Common.{◌≡◌, ◌≢◌, ℕ, ◌+◌, ◌*◌, ◌≤◌, List, [], ◌∷◌, length, Some, true, sym, subst, arith, inl, inr, cond, ap, refl, ◌++◌, suc, ◌<◌}
+use Rattle.std.proofs.Common.{◌≡◌, ◌≢◌, ℕ, ◌*◌, ◌≤◌, List, [], ◌∷◌, length, Some, true, sym, subst, arith, inl, inr, cond, ap, refl, ◌++◌, suc, ◌<◌}
 use Rattle.std.specs.Prelude.{slice_get, codes}
 use Rattle.safl_word.specs.Words.{Word}
 use Rattle.safl_term.specs.Program.{Program, unit_for}
+use Rattle.safl_term.specs.Meaning.{Main}
 use Rattle.safl_term.specs.Fuel.{GivesInCalls}
 use Rattle.safl_term.specs.WellFormed.{IsWellFormed, AreWordsOf}
 use Rattle.safl_term.proofs.Fuelled.{agree_to}
@@ -17,8 +18,8 @@ use Rattle.safl_net.specs.Valuations.{Valuation, read, read_output, reset_state}
 use Rattle.safl_net.specs.Runs.{RunFrom}
 use Rattle.safl_circuit.specs.Names.{Names, of_function, as_word, numbers, of_site}
 use Rattle.safl_circuit.specs.Scheme.{Scheme, go_up}
-use Rattle.safl_circuit.specs.Correct.{DoneIn, QuietAfterDone, SameCalls, Behaves, IsQuietState}
-use Rattle.safl_circuit.specs.Theorem.{IsCircuit, SchemesAreCircuits, ServingSchemesAreCircuits, CyclesAreEvents, Runs}
+use Rattle.safl_circuit.specs.Correct.{DoneIn, IsResult, latest, QuietAfterDone, SameCalls, Behaves, IsQuietState}
+use Rattle.safl_circuit.specs.Theorem.{IsCircuit, SchemesAreCircuits, ServingSchemesAreCircuits, CyclesAreEvents, LatestIsSoon, Runs}
 use Rattle.safl_circuit.proofs.Cycle as cycle
 use Rattle.safl_circuit.proofs.NetSteps.{first_run, first_quiet}
 use Rattle.safl_circuit.proofs.NetRuns as run
@@ -29,16 +30,18 @@ use Rattle.safl_circuit.proofs.Laid.{has_left, has_right, lines_has, in_unit, un
 
 module _ (C : Program) (D : Names) (P : Choice) (n : Netlist) (wf : IsWellFormed C) (h1 : OneInUse C P.arbiter) (h2 : ShownWordsServe C P.kept) (scheme : Scheme C D P n) where
   module _ (state : ℕ → ℕ) (quiet0 : IsQuietState C D n state) where
-    comes : (args : List Word) → AreWordsOf args (C.params C.main) → (vs : List Valuation) → RunFrom n state (numbers args) vs → (v : Word) (m : ℕ) → GivesInCalls C args v m → 3 * m ≤ length vs → DoneIn n vs v (3 * m)
-    comes args sized [] r v m gives long =
-        let d = agree_to C args v m gives in
-        absurd (omega (arith, d.1, long))
-    comes args sized (v0 ∷ vs) r v m gives long =
-        let d = agree_to C args v m gives in
-        subst (λ k. 3 * k ≤ length (v0 ∷ vs) → DoneIn n (v0 ∷ vs) v (3 * k)) d.1 (λ l. run.comes C D P n wf h1 h2 scheme args sized state quiet0 v0 vs r v d.0 l) long
+    prompt : (args : List Word) → AreWordsOf args (C.params C.main) → (vs : List Valuation) → RunFrom n state (numbers args) vs → (v : Word) (d : Main C args v) → latest C args d < length vs → DoneIn n vs v (suc (latest C args d))
+    prompt args sized [] r v d long = absurd (omega (arith, long))
+    prompt args sized (v0 ∷ vs) r v d long = run.prompt C D P n wf h1 h2 scheme args sized state quiet0 v0 vs r v d long
 
-    only : (args : List Word) → AreWordsOf args (C.params C.main) → (vs : List Valuation) → RunFrom n state (numbers args) vs → (c : ℕ) (w : Valuation) → slice_get vs c ≡ Some w → read_output n w (codes "done") ≡ 1
-        → (m : ℕ) × GivesInCalls C args (as_word (C.result C.main) (read_output n w (codes "result"))) m × (m ≤ C.functions * (c + 1))
+    comes : (args : List Word) → AreWordsOf args (C.params C.main) → (vs : List Valuation) → RunFrom n state (numbers args) vs → (v : Word) (m : ℕ) → GivesInCalls C args v m → 3 * m ≤ length vs → DoneIn n vs v (3 * m)
+    comes args sized vs r v m gives long =
+        let d = agree_to C args v m gives in
+        let cost = d.1 in
+        let y : DoneIn n vs v (suc (latest C args d.0)) = prompt args sized vs r v d.0 (omega (arith, cost, long)) in
+        record { cycle = y.cycle; in_time = (let t = y.in_time in omega (arith, cost, t)); words = y.words; there = y.there; done = y.done; result = y.result; once = y.once }
+
+    only : (args : List Word) → AreWordsOf args (C.params C.main) → (vs : List Valuation) → RunFrom n state (numbers args) vs → (c : ℕ) (w : Valuation) → slice_get vs c ≡ Some w → read_output n w (codes "done") ≡ 1 → IsResult C args (as_word (C.result C.main) (read_output n w (codes "result"))) c
     only args sized [] r c w e up = absurd (some_none w (sym e))
     only args sized (v0 ∷ vs) r c w e up = run.only C D P n wf h1 h2 scheme args sized state quiet0 v0 vs r c w e up
 
@@ -59,7 +62,7 @@ module _ (C : Program) (D : Names) (P : Choice) (n : Netlist) (wf : IsWellFormed
     calls args sized (v0 ∷ vs) r v d c le long f lt = run.same_lists C D P n wf h1 h2 scheme args sized state quiet0 v0 vs r v d c le long f lt
 
     behaves : Behaves C D n state
-    behaves = record { comes = comes; only = only; alone = alone; rests = rests }
+    behaves = record { comes = comes; prompt = prompt; only = only; alone = alone; rests = rests }
 
     runs : Runs C D n state
     runs = record { behaves = behaves; quiet = quiet; calls = calls }
@@ -111,3 +114,6 @@ schemes_are_circuits C D P n wf enough scheme =
 
 pub cycles_are_events : CyclesAreEvents
 cycles_are_events C P wf h1 h2 r0 quiet args sized later c = cycle.steps C P (numbered C wf) h1 h2 r0 quiet args sized later c
+
+pub latest_is_soon : LatestIsSoon
+latest_is_soon C args v d = omega arith

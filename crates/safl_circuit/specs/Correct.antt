@@ -1,11 +1,12 @@
 -- What a netlist does in its runs, by its ports and names.
-use Rattle.std.specs.Prelude.{◌≡◌, ◌≢◌, ℕ, zero, suc, ◌+◌, ◌*◌, ◌<◌, ◌≤◌, List, [], ◌∷◌, ◌++◌, length, Option, Some, None, Bool, true, cond, is_some, slice_get, codes, ◌==◌, ◌&&◌, ◌||◌}
+use Rattle.std.specs.Prelude.{◌≡◌, ◌≢◌, ℕ, zero, suc, ◌+◌, ◌-◌, ◌*◌, ◌<◌, ◌≤◌, List, [], ◌∷◌, ◌++◌, length, Option, Some, None, Bool, true, cond, is_some, slice_get, codes, ◌==◌, ◌&&◌, ◌||◌}
 use Rattle.std.specs.List.Sorted.{IsPermutation}
 use Rattle.safl_word.specs.Words.{Word}
 use Rattle.safl_term.specs.Program.{Program, unit_for}
-use Rattle.safl_term.specs.Meaning.{Main, main_cost, main_calls}
+use Rattle.safl_term.specs.Meaning.{Main, main_cost, main_calls, loops}
 use Rattle.safl_term.specs.Fuel.{GivesInCalls}
 use Rattle.safl_term.specs.WellFormed.{AreWordsOf}
+use Rattle.safl_sites.specs.Conflicts.{IsSequential}
 use Rattle.safl_calls.specs.Machine.{Event, opening, Legal, after, last_word}
 use Rattle.safl_calls.specs.Picks.{first}
 use Rattle.safl_net.specs.Netlist.{Netlist, AllSet}
@@ -39,13 +40,28 @@ pub record DoneIn (n : Netlist) (vs : List Valuation) (v : Word) (bound : ℕ) :
   pub result : read_output n words (codes "result") ≡ v.bits
   pub once : (c : ℕ) (w : Valuation) → slice_get vs c ≡ Some w → c ≢ cycle → is_done n w ≡ 0
 
+-- the last cycle in which done may come: twice the calls of the evaluation, less those that are loops
+abbrev pub latest : (C : Program) (args : List Word) {v : Word} → Main C args v → ℕ
+latest C args d = 2 * main_cost C args d - loops C d
+
+-- main gives the word by an evaluation of m calls, of which l are loops, and the cycle is at most 2m - l, so below 3m; where no
+-- two calls of the program can overlap it is just that, and in any program the cycle bounds the calls
+pub record IsResult (C : Program) (args : List Word) (v : Word) (cycle : ℕ) : Type 0 where
+  pub by : Main C args v
+  pub gives : GivesInCalls C args v (main_cost C args by)
+  pub prompt : cycle ≤ latest C args by
+  pub soon : cycle < 3 * main_cost C args by
+  pub exact : IsSequential C → cycle ≡ latest C args by
+  pub few : main_cost C args by ≤ C.functions * (cycle + 1)
+
 -- of all runs from a state
 pub record Behaves (C : Program) (D : Names) (n : Netlist) (state : ℕ → ℕ) : Type 0 where
   -- where main gives v in m calls, done comes once, before cycle 3m, with v
   pub comes : EachRun C n state (λ args vs. (v : Word) (m : ℕ) → GivesInCalls C args v m → 3 * m ≤ length vs → DoneIn n vs v (3 * m))
-  -- where done comes, main gives that cycle's result, in a number of calls that the cycle bounds
-  pub only : EachCycle C n state (λ args c w. is_done n w ≡ 1
-      → (m : ℕ) × GivesInCalls C args (as_word (C.result C.main) (read_output n w (codes "result"))) m × (m ≤ C.functions * (c + 1)))
+  -- sharply: where main gives v by an evaluation of m calls of which l are loops, done comes in no cycle after 2m - l
+  pub prompt : EachRun C n state (λ args vs. (v : Word) (d : Main C args v) → latest C args d < length vs → DoneIn n vs v (suc (latest C args d)))
+  -- where done comes, it has that cycle's result
+  pub only : EachCycle C n state (λ args c w. is_done n w ≡ 1 → IsResult C args (as_word (C.result C.main) (read_output n w (codes "result"))) c)
   -- no unit is started by two sites at once, main's call from outside counted
   pub alone : EachCycle C n state (λ args c w. (j k : ℕ) → j ≤ C.sites → k ≤ C.sites
       → go_up n w j ≡ true → go_up n w k ≡ true → unit_for C j ≡ unit_for C k → j ≡ k)
@@ -108,5 +124,5 @@ words_seen_in C D n vs f (suc c) = words_seen_in C D n vs f c ++ seen_at C D n f
 -- where main has a value and the run is long enough, they are the argument lists of the evaluation, in some order
 abbrev pub SameCalls : Program → Names → Netlist → (ℕ → ℕ) → Type 0
 SameCalls C D n state =
-    EachRun C n state (λ args vs. (v : Word) (d : Main C args v) (c : ℕ) → c < length vs → 3 * main_cost C args d ≤ suc c
+    EachRun C n state (λ args vs. (v : Word) (d : Main C args v) (c : ℕ) → c < length vs → latest C args d ≤ c
     → (f : ℕ) → f < C.functions → IsPermutation (main_calls C args d f) (words_seen_in C D n vs f c))

@@ -1,7 +1,8 @@
 -- The main theorem: a netlist with the scheme of a well-formed program does what the program means.
-use Rattle.std.specs.Prelude.{◌≡◌, ℕ, List, length}
+use Rattle.std.specs.Prelude.{◌≡◌, ℕ, ◌*◌, ◌<◌, List, length}
 use Rattle.safl_word.specs.Words.{Word}
 use Rattle.safl_term.specs.Program.{Program, arity}
+use Rattle.safl_term.specs.Meaning.{Main, main_cost}
 use Rattle.safl_term.specs.WellFormed.{IsWellFormed}
 use Rattle.safl_sites.specs.Plan.{Suffices}
 use Rattle.safl_calls.specs.Interference.{OneInUse, ShownWordsServe}
@@ -11,7 +12,7 @@ use Rattle.safl_net.specs.Netlist.{Netlist}
 use Rattle.safl_net.specs.Valuations.{reset_state}
 use Rattle.safl_circuit.specs.Names.{Names}
 use Rattle.safl_circuit.specs.Scheme.{Scheme}
-use Rattle.safl_circuit.specs.Correct.{Behaves, Correct, IsQuietState, Steps, QuietAfterDone, SameCalls}
+use Rattle.safl_circuit.specs.Correct.{Behaves, Correct, IsQuietState, Steps, QuietAfterDone, SameCalls, latest}
 
 -- From a state: done comes once, in time, with main's value, and never without one, and no unit starts while it runs or
 -- twice at once; after done all is quiet; the argument registers see the calls of the evaluation
@@ -42,3 +43,7 @@ abbrev pub CyclesAreEvents : Type 0
 CyclesAreEvents =
     (C : Program) (P : Choice) → IsWellFormed C → OneInUse C P.arbiter → ShownWordsServe C P.kept → (r0 : Registers) → Quiet r0
     → (args : List Word) → length args ≡ arity C C.main → (later : ℕ → List Word) (c : ℕ) → StepsAt C P r0 args later c
+
+-- the last cycle in which done may come is below three cycles for each call
+abbrev pub LatestIsSoon : Type 0
+LatestIsSoon = (C : Program) (args : List Word) (v : Word) (d : Main C args v) → latest C args d < 3 * main_cost C args d

@@ -1,6 +1,6 @@
 //! Laws of circuits, over the definitions alone.
 
-ghost use Rattle.safl_circuit.specs.Theorem.{CyclesAreEvents, SchemesAreCircuits, ServingSchemesAreCircuits};
+ghost use Rattle.safl_circuit.specs.Theorem.{CyclesAreEvents, LatestIsSoon, SchemesAreCircuits, ServingSchemesAreCircuits};
 
 /// A netlist with the scheme of a well-formed program, whose arbiters and kept words suffice, does what the program
 /// means.
@@ -16,4 +16,9 @@ pub fn serving_law()
 /// The cycles of the registers are events of the call machine, from any quiet state.
 pub fn cycle_law()
     ensures { CyclesAreEvents }
+{}
+
+/// The last cycle in which done may come, `2n - l` for `n` calls of which `l` are loops, is below `3n`.
+pub fn latest_law()
+    ensures { LatestIsSoon }
 {}

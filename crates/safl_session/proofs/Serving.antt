@@ -1,11 +1,10 @@
 -- A circuit serves one call after another.
-use Rattle.std.proofs.Common.{◌≡◌, ℕ, zero, suc, ◌+◌, ◌*◌, ◌<◌, ◌≤◌, ◌⊎◌, List, [], ◌∷◌, ◌++◌, length, Option, None, Some, slice_get, slice_index, refl, sym, ap, subst, ◌∙◌, arith, inl, inr, codes}
+use Rattle.std.proofs.Common.{◌≡◌, ℕ, suc, ◌+◌, List, [], ◌∷◌, ◌++◌, length, Option, None, Some, slice_get, slice_index, refl, sym, ap, subst, ◌∙◌, arith, codes}
 use Rattle.std.specs.Prelude.{All}
 use Rattle.std.proofs.lemmas.Nat.{pow_pos}
 use Rattle.std.proofs.lemmas.List.Elements.{All-head, All-tail}
 use Rattle.safl_word.specs.Words.{Word}
 use Rattle.safl_term.specs.Program.{Program}
-use Rattle.safl_term.specs.Fuel.{GivesInCalls}
 use Rattle.safl_term.specs.WellFormed.{AreWordsOf}
 use Rattle.safl_net.specs.Laws.{FitWidths}
 use Rattle.safl_net.specs.Making.{kind_at, kind_in}
@@ -22,23 +21,18 @@ use Rattle.safl_circuit.specs.Equations.{Choice}
 use Rattle.safl_circuit.specs.Names.{Names, as_word, registers_now}
 use Rattle.safl_circuit.specs.Scheme.{Scheme}
 use Rattle.safl_circuit.specs.Steps.{Quiet}
-use Rattle.safl_circuit.specs.Correct.{IsQuietState, DoneIn}
+use Rattle.safl_circuit.specs.Correct.{IsQuietState, IsResult, DoneIn, latest}
 use Rattle.safl_circuit.specs.Theorem.{IsCircuit, Runs}
 use Rattle.safl_session.specs.declared.session.Reply.{Reply}
 use Rattle.safl_session.specs.Replies.{Replies, IsSilent, AreReplies}
 use Rattle.safl_session.specs.Circuits.{IsMainReply, Serves, IsInTime, CircuitsServe, CircuitsReply}
-use Rattle.safl_session.proofs.WordsOfLines.{list_long, in_front, at_seam}
+use Rattle.safl_session.proofs.WordsOfLines.{at_seam}
 use Rattle.safl_session.proofs.QuietStates.{quiet_alike}
 use Rattle.safl_session.proofs.OneListOfReplies.{next_fits, fits_along}
 
 word_bits : (n : Netlist) (v : Valuation) (o : Option ℕ) → (word_at n v o).bits ≡ number_at v o
 word_bits n v None = refl
 word_bits n v (Some s) = refl
-
-below_or : (a b : ℕ) → (a < b) ⊎ (b ≤ a)
-below_or a zero = inr (omega arith)
-below_or zero (suc b) = inl (omega arith)
-below_or (suc a) (suc b) = elim (below_or a b) [ inl h ↦ inl (omega (arith, h)) | inr h ↦ inr (omega (arith, h)) ]
 
 -- a run with one cycle more, in which `start` is 0
 goes_more : (n : Netlist) (state : ℕ → ℕ) (vs : List Valuation) (v u : Valuation) → GoesOn n state (vs ++ v ∷ []) → Fits n (next_state n v) u → start_number n u ≡ 0 → GoesOn n state (vs ++ v ∷ u ∷ [])
@@ -79,22 +73,9 @@ module _ (C : Program) (D : Names) (P : Choice) (n : Netlist) (scheme : Scheme C
       main_reply : IsMainReply C args r
       main_reply =
           let x = runs.behaves.only args sized cycles p.call.run (length p.before) p.last (at_seam p.before p.last [] (length p.before) refl) p.done in
+          let given : Word = as_word (C.result C.main) (read_output n p.last (codes "result")) in
           let same : read_output n p.last (codes "result") ≡ r.result.bits = sym (ap (λ (w : Word). w.bits) p.result ∙ word_bits n p.last (output_place n.outputs (codes "result"))) in
-          let size = list_long p.before (p.last ∷ []) in
-          let pl = p.long in
-          let early : 3 * x.0 ≤ r.cycle → ⊥ = λ h.
-          let y : DoneIn n cycles (as_word (C.result C.main) (read_output n p.last (codes "result"))) (3 * x.0) =
-          runs.behaves.comes args sized cycles p.call.run (as_word (C.result C.main) (read_output n p.last (codes "result"))) x.0 x.1 (omega (arith, h, size, pl)) in
-          let t = y.in_time in
-          let b = in_front p.before (p.last ∷ []) y.cycle (omega (arith, h, t, pl)) in
-          let z = p.not_done y.cycle y.words (omega (arith, h, t)) (sym b ∙ y.there) in
-          let e = y.done in cc in
-          record {
-            calls = x.0;
-            gives = subst (λ k. GivesInCalls C args (as_word (C.result C.main) k) x.0) same x.1;
-            soon = elim (below_or r.cycle (3 * x.0)) [ inl h ↦ h | inr h ↦ absurd (early h) ];
-            few = subst (λ k. x.0 ≤ C.functions * (k + 1)) p.long x.2;
-          }
+          subst (λ k. IsResult C args (as_word (C.result C.main) k) r.cycle) same (subst (λ k. IsResult C args given k) p.long x)
 
       quiet_after : IsQuietState C D n after
       quiet_after w fits =
@@ -118,8 +99,8 @@ module _ (C : Program) (D : Names) (P : Choice) (n : Netlist) (scheme : Scheme C
     not_silent : IsInTime C limit args → IsSilent n limit state args → ⊥
     not_silent g s =
         let l = s.long in
-        let h = g.3 in
-        let y : DoneIn n s.cycles g.0 (3 * g.1) = runs.behaves.comes args sized s.cycles s.call.run g.0 g.1 g.2 (omega (arith, h, l)) in
+        let h = g.2 in
+        let y : DoneIn n s.cycles g.0 (suc (latest C args g.1)) = runs.behaves.prompt args sized s.cycles s.call.run g.0 g.1 (omega (arith, h, l)) in
         let t = y.in_time in
         let z = s.not_done y.cycle y.words (omega (arith, t, h)) y.there in
         let e = y.done in

@@ -1,8 +1,8 @@
 -- Sessions of circuits: the replies are main's values, and each call starts in a quiet state.
-use Rattle.std.specs.Prelude.{◌≡◌, ℕ, ◌+◌, ◌*◌, ◌<◌, ◌≤◌, List, [], ◌∷◌, length, All}
+use Rattle.std.specs.Prelude.{◌≡◌, ℕ, ◌<◌, List, [], ◌∷◌, length, All}
 use Rattle.safl_word.specs.Words.{Word}
 use Rattle.safl_term.specs.Program.{Program}
-use Rattle.safl_term.specs.Fuel.{GivesInCalls}
+use Rattle.safl_term.specs.Meaning.{Main}
 use Rattle.safl_term.specs.WellFormed.{AreWordsOf}
 use Rattle.safl_net.specs.Netlist.{Netlist}
 use Rattle.safl_net.specs.Rules.{IsNetlist}
@@ -11,17 +11,14 @@ use Rattle.safl_net.specs.Whole.{IsWhole}
 use Rattle.safl_circuit.specs.Equations.{Choice}
 use Rattle.safl_circuit.specs.Names.{Names, as_word}
 use Rattle.safl_circuit.specs.Scheme.{Scheme}
-use Rattle.safl_circuit.specs.Correct.{IsQuietState}
+use Rattle.safl_circuit.specs.Correct.{IsQuietState, IsResult, latest}
 use Rattle.safl_circuit.specs.Theorem.{IsCircuit}
 use Rattle.safl_session.specs.declared.session.Reply.{Reply}
 use Rattle.safl_session.specs.Replies.{Replies, IsSilent, AreReplies}
 
--- main gives the reply's word from the arguments, in a number of calls that the cycle bounds, and that bounds the cycle
-pub record IsMainReply (C : Program) (args : List Word) (r : Reply) : Type 0 where
-  pub calls : ℕ
-  pub gives : GivesInCalls C args (as_word (C.result C.main) r.result.bits) calls
-  pub soon : r.cycle < 3 * calls
-  pub few : calls ≤ C.functions * (r.cycle + 1)
+-- the reply is main's from the arguments, in time
+abbrev pub IsMainReply : Program → List Word → Reply → Type 0
+IsMainReply C args r = IsResult C args (as_word (C.result C.main) r.result.bits) r.cycle
 
 -- from a state, one after the other: each call starts in a quiet state, and its reply is main's
 abbrev pub Serves : Program → Names → Netlist → ℕ → (ℕ → ℕ) → List (List Word) → List Reply → Type 0
@@ -38,9 +35,9 @@ CircuitsServe =
     → (limit : ℕ) (state : ℕ → ℕ) → IsQuietState C D n state → (calls : List (List Word)) → All (λ args. AreWordsOf args (C.params C.main)) calls
     → (rs : List Reply) → AreReplies n limit state calls rs → Serves C D n limit state calls rs
 
--- main gives a value, in so few calls that three cycles for each are at most the limit
+-- main gives a value, and the last cycle in which done may come is below the limit
 abbrev pub IsInTime : Program → ℕ → List Word → Type 0
-IsInTime C limit args = (v : Word) × (m : ℕ) × GivesInCalls C args v m × (3 * m ≤ limit)
+IsInTime C limit args = (v : Word) × (d : Main C args v) × (latest C args d < limit)
 
 -- and replies to each of the calls from which main gives a value in time
 abbrev pub CircuitsReply : Type 0

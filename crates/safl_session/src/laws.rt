@@ -18,9 +18,9 @@ pub fn script_law()
 {}
 
 /// A circuit serves calls one after another, from any quiet state: each call starts in a quiet state, and main gives the
-/// reply's word from the call's arguments in `n` calls, where the reply's cycle is below `3n`. Where main gives a value
-/// from each of the arguments in so few calls that `3n` is at most the limit, each call has a reply. The state at reset
-/// is quiet.
+/// reply's word from the call's arguments in `n` calls of which `l` are loops, where the reply's cycle is at most
+/// `2n - l`. Where main gives a value from each of the arguments by an evaluation for which `2n - l` is below the limit,
+/// each call has a reply. The state at reset is quiet.
 pub fn session_law()
     ensures serves { CircuitsServe }
     ensures replies { CircuitsReply }

@@ -40,3 +40,7 @@ pub record Conflict (C : Program) (j k : ℕ) : Type 0 where
   pub body : ℕ
   pub is_body : body < C.functions
   pub apart : Apart C j k (C.body body)
+
+-- in no body do two parallel terms both have a site in reach: no two of the program's calls can overlap
+abbrev pub IsSequential : Program → Type 0
+IsSequential C = (f j k : ℕ) → f < C.functions → Apart C j k (C.body f) → ⊥

@@ -5,9 +5,8 @@ use Rattle.safl_io.specs.Sink.{SinkState}
 use Rattle.safl_probe.specs.Probing.{ProbeState}
 use Rattle.safl_term.specs.Program.{Program}
 use Rattle.safl_term.specs.Checked.{program_of}
-use Rattle.safl_circuit.specs.Names.{names_of}
-use Rattle.safl_term.specs.Fuel.{GivesInCalls}
-use Rattle.safl_term.specs.Laws.{OneAnswer}
+use Rattle.safl_circuit.specs.Names.{Names, names_of}
+use Rattle.safl_term.specs.Meaning.{Main}
 use Rattle.safl_net.specs.Netlist.{Netlist}
 use Rattle.safl_net.specs.Valuations.{IsAcyclic}
 use Rattle.safl_sim.specs.Arguments.{argument_widths}
@@ -24,7 +23,7 @@ use Rattle.safl_tool.specs.Tracing.{have_probes}
 use Rattle.safl_tool.specs.Sources.{IsAccepted}
 use Rattle.safl_session.specs.Lines.{IsArgument, AreArguments}
 use Rattle.safl_tool.specs.Arguments.{HaveFault}
-use Rattle.safl_tool.specs.Simulating.{Simulates, IsMisgiven, Evaluates}
+use Rattle.safl_tool.specs.Simulating.{Simulates, IsMisgiven, Limited, InCycles, InEvents, Evaluates}
 use Rattle.safl_tool.specs.Walking.{MainGives, Walks}
 use Rattle.safl_tool.specs.Running.{RunsText, IsMisrun, IsUnrunnable, faulty, looped, Finishes}
 use Rattle.safl_task.specs.Tasks.{Given, Only, Both}
@@ -36,7 +35,7 @@ use Rattle.safl_session.specs.Circuits.{CircuitsReply, ResetIsQuiet}
 use Rattle.safl_session.specs.Laws as sessions
 use Rattle.safl_tree.specs.Laws.{OneProgram as OneTree}
 use Rattle.safl_check.specs.Numbered.{program_in}
-use Rattle.safl_source.specs.Sources.{names_in}
+use Rattle.safl_source.specs.Sources.{names_in, IsSourceOf}
 use Rattle.safl_tool.specs.Reshaping.{Reshaping, copies, unfolds, IsReshapable, GivesReshaped}
 use Rattle.safl_tool.proofs.Reshaped.{IsOnce, copying_once, unfolding_once, reshapable_not_refused}
 use Rattle.safl_tool.specs.Reporting.{GivesReport, RefusesCount, Measures, made_source, made_args}
@@ -86,38 +85,39 @@ no_fault widths args vs line r f = elim f [
 ]
 
 -- main gives a value in time, so done comes
-comes_in_time : OneProgram → (source : List ℕ) (args : List (List ℕ)) (limit : ℕ) → Simulates source args limit None → Evaluates source args limit → ⊥
+-- the same evaluation, of the same program with the same words
+abbrev Fitting : Program → List Word → Word → Limited → Type 0
+Fitting C words v Fits = (d : Main C words v) × Fits C words v d
+
+fitting : OneProgram → (source : List ℕ) (args : List (List ℕ)) (Fits : Limited) (e : Evaluates source args Fits) (C : Program) (D : Names) → IsSourceOf source C D → (words : List Word) → AreArguments (C.params C.main) args words → Fitting C words e.value Fits
+fitting once source args Fits e C D of words read =
+    let same : e.program ≡ C = (once source e.program C e.names D e.source_of of).0 in
+    let given : AreArguments (C.params C.main) args e.words = subst (λ (x : Program). AreArguments (x.params x.main) args e.words) same e.read in
+    let here : (d : Main C e.words e.value) × Fits C e.words e.value d = subst (λ (x : Program). (d : Main x e.words e.value) × Fits x e.words e.value d) same (e.by, e.enough) in
+    subst (λ l. (d : Main C l e.value) × Fits C l e.value d) (same_words (C.params C.main) args e.words words given read) here
+
+comes_in_time : OneProgram → (source : List ℕ) (args : List (List ℕ)) (limit : ℕ) → Simulates source args limit None → Evaluates source args (InCycles limit) → ⊥
 comes_in_time once source args limit s e =
-    let C : s.program ≡ e.program = (once source s.program e.program s.names e.names s.source_of e.source_of).0 in
-    let read : AreArguments (s.program.params s.program.main) args e.words = subst (λ (x : Program). AreArguments (x.params x.main) args e.words) (sym C) e.read in
-    let gives : GivesInCalls s.program e.words e.value e.calls = subst (λ (x : Program). GivesInCalls x e.words e.value e.calls) (sym C) e.gives in
-    let same : e.words ≡ s.words = same_words (s.program.params s.program.main) args e.words s.words read s.read in
-    let here : GivesInCalls s.program s.words e.value e.calls = subst (λ l. GivesInCalls s.program l e.value e.calls) same gives in
+    let f = fitting once source args (InCycles limit) e s.program s.names s.source_of s.words s.read in
     let o = s.outcome in
-    let d = s.circuit.circuit.correct.behaves.comes s.words (read_words (s.program.params s.program.main) args s.words s.read) o.run o.only.is.run e.value e.calls here (let a = o.only.long in let b = e.enough in omega (arith, a, b)) in
-    let off = o.never d.cycle d.words (let a = d.in_time in let b = e.enough in omega (arith, a, b)) d.there in
+    let d = s.circuit.circuit.correct.behaves.prompt s.words (read_words (s.program.params s.program.main) args s.words s.read) o.run o.only.is.run e.value f.0 (let a = o.only.long in let b = f.1 in omega (arith, a, b)) in
+    let off = o.never d.cycle d.words (let a = d.in_time in let b = f.1 in omega (arith, a, b)) d.there in
     let on = d.done in
     absurd (cc)
 
-misgiven_not : OneProgram → (source : List ℕ) (args : List (List ℕ)) (limit : ℕ) → ((line : List ℕ) × IsMisgiven source args line) → Evaluates source args limit → ⊥
-misgiven_not once source args limit m e =
+misgiven_not : OneProgram → (source : List ℕ) (args : List (List ℕ)) (Fits : Limited) → ((line : List ℕ) × IsMisgiven source args line) → Evaluates source args Fits → ⊥
+misgiven_not once source args Fits m e =
     let C : m.1.program ≡ e.program = (once source m.1.program e.program m.1.names e.names m.1.source_of e.source_of).0 in
     no_fault (m.1.program.params m.1.program.main) args e.words m.0 (subst (λ (x : Program). AreArguments (x.params x.main) args e.words) (sym C) e.read) m.1.fault
 
 -- main gives a value in time, so it returns
-returns_in_time : OneProgram → ((C : Program) → OneAnswer C) → (source : List ℕ) (args : List (List ℕ)) (seed steps : ℕ) (w : Walked) → Walks source args seed steps w → w.result ≡ None → Evaluates source args steps → ⊥
-returns_in_time once meaning source args seed steps w s none e =
-    let C : s.program ≡ e.program = (once source s.program e.program s.names e.names s.source_of e.source_of).0 in
-    let read : AreArguments (s.program.params s.program.main) args e.words = subst (λ (x : Program). AreArguments (x.params x.main) args e.words) (sym C) e.read in
-    let gives : GivesInCalls s.program e.words e.value e.calls = subst (λ (x : Program). GivesInCalls x e.words e.value e.calls) (sym C) e.gives in
-    let same : e.words ≡ s.words = same_words (s.program.params s.program.main) args e.words s.words read s.read in
-    let here : GivesInCalls s.program s.words e.value e.calls = subst (λ l. GivesInCalls s.program l e.value e.calls) same gives in
-    let d = (meaning s.program s.words e.value e.calls).0 here in
+returns_in_time : OneProgram → (source : List ℕ) (args : List (List ℕ)) (seed steps : ℕ) (w : Walked) → Walks source args seed steps w → w.result ≡ None → Evaluates source args (InEvents steps) → ⊥
+returns_in_time once source args seed steps w s none e =
+    let f = fitting once source args (InEvents steps) e s.program s.names s.source_of s.words s.read in
     let short : MainGives s.program s.words steps w.events None = subst (λ (r : Option Word). MainGives s.program s.words steps w.events r) none s.walk.gives in
-    let a = short.1 e.value d.0 in
-    let b = d.1 in
-    let f = e.enough in
-    omega (arith, a, b, f)
+    let a = short.1 e.value f.0 in
+    let b = f.1 in
+    omega (arith, a, b)
 
 -- of a file whose netlist finishes no other thing is said
 never_finishes : verilog.OneNetlist → (text : List ℕ) (args : List (List ℕ)) (limit : ℕ) → RunsText text args limit None → Finishes text args limit → ⊥
@@ -170,23 +170,23 @@ optimise_kept apart input output = record {
   gives = λ contents g. only IsAccepted (λ source. GivesOptimised source g) (g.comes ≡ true) (λ source a h. ap (λ (x : Given). x.comes) h.1.is) contents;
 }
 
-given_not_refused : OneProgram → NotBoth → (name : List ℕ) (args : List (List ℕ)) (limit : ℕ) (s : Status) (line source : List ℕ) → Evaluates source args limit → RefusesGiven name args source s line → ⊥
-given_not_refused once apart name args limit s line source e r = elim r [
+given_not_refused : OneProgram → NotBoth → (name : List ℕ) (args : List (List ℕ)) (Fits : Limited) (s : Status) (line source : List ℕ) → Evaluates source args Fits → RefusesGiven name args source s line → ⊥
+given_not_refused once apart name args Fits s line source e r = elim r [
   | inl f ↦ apart source e.program e.names f.1.0 e.source_of f.1.1
-  | inr m ↦ misgiven_not once source args limit (line, m.1) e
+  | inr m ↦ misgiven_not once source args Fits (line, m.1) e
 ]
 
-outcome_comes : OneProgram → (args : List (List ℕ)) (limit : ℕ) (g : Given) (source : List ℕ) → Evaluates source args limit → GivesOutcome args limit source g → g.comes ≡ true
+outcome_comes : OneProgram → (args : List (List ℕ)) (limit : ℕ) (g : Given) (source : List ℕ) → Evaluates source args (InCycles limit) → GivesOutcome args limit source g → g.comes ≡ true
 outcome_comes once args limit g source e (None, s, is) = absurd (comes_in_time once source args limit s e)
 outcome_comes once args limit g source e (Some d, s, is) = ap (λ (x : Given). x.comes) is
 
 sim_kept : OneProgram → NotBoth → (input : List ℕ) (limit : ℕ) (args : List (List ℕ)) → IsKept (sim_task input limit args)
 sim_kept once apart input limit args = record {
-  refuses = λ contents s line. only (λ source. Evaluates source args limit) (λ source. RefusesGiven input args source s line) ⊥ (given_not_refused once apart input args limit s line) contents;
-  gives = λ contents g. only (λ source. Evaluates source args limit) (λ source. GivesOutcome args limit source g) (g.comes ≡ true) (outcome_comes once args limit g) contents;
+  refuses = λ contents s line. only (λ source. Evaluates source args (InCycles limit)) (λ source. RefusesGiven input args source s line) ⊥ (given_not_refused once apart input args (InCycles limit) s line) contents;
+  gives = λ contents g. only (λ source. Evaluates source args (InCycles limit)) (λ source. GivesOutcome args limit source g) (g.comes ≡ true) (outcome_comes once args limit g) contents;
 }
 
-traces_come : OneProgram → (traces : Traces) (args : List (List ℕ)) (limit : ℕ) (g : Given) (source : List ℕ) → Evaluates source args limit → GivesTraces traces args limit source g → g.comes ≡ true
+traces_come : OneProgram → (traces : Traces) (args : List (List ℕ)) (limit : ℕ) (g : Given) (source : List ℕ) → Evaluates source args (InCycles limit) → GivesTraces traces args limit source g → g.comes ≡ true
 traces_come once traces args limit g source e h = by h.answer h.simulates (ap (λ (x : Given). x.comes) h.is)
   where
     by : (answer : Option Done) → Simulates source args limit answer → g.comes ≡ is_some answer → g.comes ≡ true
@@ -195,21 +195,21 @@ traces_come once traces args limit g source e h = by h.answer h.simulates (ap (�
 
 trace_kept : OneProgram → NotBoth → (input : List ℕ) (limit : ℕ) (traces : Traces) (args : List (List ℕ)) (kinds : List ℕ) → IsKept (trace_task input limit traces args kinds)
 trace_kept once apart input limit traces args kinds = record {
-  refuses = λ contents s line. only (λ source. Evaluates source args limit) (λ source. RefusesGiven input args source s line) ⊥ (given_not_refused once apart input args limit s line) contents;
-  gives = λ contents g. only (λ source. Evaluates source args limit) (λ source. GivesTraces traces args limit source g) (g.comes ≡ true) (traces_come once traces args limit g) contents;
+  refuses = λ contents s line. only (λ source. Evaluates source args (InCycles limit)) (λ source. RefusesGiven input args source s line) ⊥ (given_not_refused once apart input args (InCycles limit) s line) contents;
+  gives = λ contents g. only (λ source. Evaluates source args (InCycles limit)) (λ source. GivesTraces traces args limit source g) (g.comes ≡ true) (traces_come once traces args limit g) contents;
 }
 
-walk_comes : OneProgram → ((C : Program) → OneAnswer C) → (args : List (List ℕ)) (seed steps : ℕ) (g : Given) (source : List ℕ) → Evaluates source args steps → GivesWalk args seed steps source g → g.comes ≡ true
-walk_comes once meaning args seed steps g source e (w, walks, is) = by w.result refl is
+walk_comes : OneProgram → (args : List (List ℕ)) (seed steps : ℕ) (g : Given) (source : List ℕ) → Evaluates source args (InEvents steps) → GivesWalk args seed steps source g → g.comes ≡ true
+walk_comes once args seed steps g source e (w, walks, is) = by w.result refl is
   where
     by : (r : Option Word) → w.result ≡ r → g ≡ end_of_walk steps w r → g.comes ≡ true
-    by None none is = absurd (returns_in_time once meaning source args seed steps w walks none e)
+    by None none is = absurd (returns_in_time once source args seed steps w walks none e)
     by (Some v) some is = ap (λ (x : Given). x.comes) is
 
-walk_kept : OneProgram → NotBoth → ((C : Program) → OneAnswer C) → (input : List ℕ) (seed steps : ℕ) (args : List (List ℕ)) → IsKept (walk_task input seed steps args)
-walk_kept once apart meaning input seed steps args = record {
-  refuses = λ contents s line. only (λ source. Evaluates source args steps) (λ source. RefusesGiven input args source s line) ⊥ (given_not_refused once apart input args steps s line) contents;
-  gives = λ contents g. only (λ source. Evaluates source args steps) (λ source. GivesWalk args seed steps source g) (g.comes ≡ true) (walk_comes once meaning args seed steps g) contents;
+walk_kept : OneProgram → NotBoth → (input : List ℕ) (seed steps : ℕ) (args : List (List ℕ)) → IsKept (walk_task input seed steps args)
+walk_kept once apart input seed steps args = record {
+  refuses = λ contents s line. only (λ source. Evaluates source args (InEvents steps)) (λ source. RefusesGiven input args source s line) ⊥ (given_not_refused once apart input args (InEvents steps) s line) contents;
+  gives = λ contents g. only (λ source. Evaluates source args (InEvents steps)) (λ source. GivesWalk args seed steps source g) (g.comes ≡ true) (walk_comes once args seed steps g) contents;
 }
 
 text_not_refused : verilog.OneNetlist → verilog.NotBoth → (name : List ℕ) (args : List (List ℕ)) (limit : ℕ) (s : Status) (line text : List ℕ) → Finishes text args limit → RefusesText name args text s line → ⊥
@@ -254,7 +254,7 @@ measured_run source args limit head answer m = record {
   value = m.value;
 }
 
-measure_comes : OneProgram → (args : List (List ℕ)) (limit : ℕ) (g : Given) (source : List ℕ) → Evaluates source args limit → GivesMeasure args limit source g → g.comes ≡ true
+measure_comes : OneProgram → (args : List (List ℕ)) (limit : ℕ) (g : Given) (source : List ℕ) → Evaluates source args (InCycles limit) → GivesMeasure args limit source g → g.comes ≡ true
 measure_comes once args limit g source e (head, None, m, is) = absurd (comes_in_time once source args limit (measured_run source args limit head None m) e)
 measure_comes once args limit g source e (head, Some d, m, is) = ap (λ (x : Given). x.comes) is
 
@@ -262,7 +262,7 @@ bench_kept : OneProgram → NotBoth → (seed count limit : ℕ) → IsKept (ben
 bench_kept once apart seed count limit = record {
   refuses = λ contents s line p r. elim r [
     | inl n ↦ count_not_refused count s line p.0 n
-    | inr f ↦ given_not_refused once apart (codes "bench") (made_args seed count) limit s line (made_source seed count) p.1 f
+    | inr f ↦ given_not_refused once apart (codes "bench") (made_args seed count) (InCycles limit) s line (made_source seed count) p.1 f
   ];
   gives = λ contents g p h. measure_comes once (made_args seed count) limit g (made_source seed count) p.1 h;
 }
@@ -313,7 +313,6 @@ session_kept once apart replies reset script_once misread input script limit = r
 pub record Laws : Type 1 where
   pub once : OneProgram
   pub apart : NotBoth
-  pub meaning : (C : Program) → OneAnswer C
   pub one : verilog.OneNetlist
   pub free : verilog.NotBoth
   pub trees : OneTree
@@ -330,7 +329,7 @@ plain_kept l (Some (Build input output)) = build_kept l.apart input output
 plain_kept l (Some (Optimise input output)) = optimise_kept l.apart input output
 plain_kept l (Some (Sim input limit args)) = sim_kept l.once l.apart input limit args
 plain_kept l (Some (Trace input limit traces args)) = usage_kept
-plain_kept l (Some (Walk input seed steps args)) = walk_kept l.once l.apart l.meaning input seed steps args
+plain_kept l (Some (Walk input seed steps args)) = walk_kept l.once l.apart input seed steps args
 plain_kept l (Some (Run input limit args)) = run_kept l.one l.free input limit args
 plain_kept l (Some (Report input)) = report_kept l.apart input
 plain_kept l (Some (Gen seed count)) = gen_kept seed count

@@ -1,5 +1,5 @@
 -- What a run of a compiled source says.
-use Rattle.std.proofs.Common.{◌≡◌, ℕ, zero, suc, ◌*◌, ◌<◌, ◌≤◌, ◌⊎◌, List, [], ◌∷◌, map, Option, Some, None, false, refl, sym, ap, subst, ◌∙◌, arith, inl, inr, codes}
+use Rattle.std.proofs.Common.{◌≡◌, ℕ, zero, suc, ◌+◌, ◌*◌, ◌<◌, ◌≤◌, ◌⊎◌, List, [], ◌∷◌, map, Option, Some, None, false, refl, sym, ap, subst, ◌∙◌, arith, inl, inr, codes}
 use Rattle.safl_word.specs.Words.{Word}
 use Rattle.safl_net.specs.Netlist.{Netlist, output_place}
 use Rattle.safl_net.specs.Valuations.{Valuation, number_at, read_output}
@@ -7,11 +7,10 @@ use Rattle.safl_sim.specs.declared.done.Done.{Done}
 use Rattle.safl_sim.specs.Arguments.{argument_widths, AreArguments}
 use Rattle.safl_sim.specs.Outcomes.{IsDone, IsOutcome, word_at}
 use Rattle.safl_term.specs.Program.{Program}
-use Rattle.safl_term.specs.Fuel.{GivesInCalls}
 use Rattle.safl_term.specs.WellFormed.{AreWordsOf}
 use Rattle.safl_term.specs.Checked.{CheckedProgram, program_of}
 use Rattle.safl_circuit.specs.Names.{Names, names_of, as_word}
-use Rattle.safl_circuit.specs.Correct.{Correct}
+use Rattle.safl_circuit.specs.Correct.{Correct, IsResult}
 use Rattle.safl_source.specs.Sources.{IsSourceOf}
 use Rattle.safl_source.specs.Circuits.{IsCircuitOf}
 use Rattle.safl_tool.specs.Sources.{IsCompiled}
@@ -52,11 +51,6 @@ read_words (w ∷ ws) [] vs r = absurd r
 read_words (w ∷ ws) (t ∷ ts) [] r = absurd r
 read_words (w ∷ ws) (t ∷ ts) (v ∷ vs) r = (r.0.word, ap (λ (x : Word). x.width) r.0.is, read_words ws ts vs r.1)
 
-below_or : (a b : ℕ) → (a < b) ⊎ (b ≤ a)
-below_or a zero = inr (omega arith)
-below_or zero (suc b) = inl (omega arith)
-below_or (suc a) (suc b) = elim (below_or a b) [ inl h ↦ inl (omega (arith, h)) | inr h ↦ inr (omega (arith, h)) ]
-
 word_bits : (n : Netlist) (v : Valuation) (o : Option ℕ) → (word_at n v o).bits ≡ number_at v o
 word_bits n v None = refl
 word_bits n v (Some s) = refl
@@ -66,16 +60,7 @@ pub is_value : (C : Program) (D : Names) (n : Netlist) → Correct C D n → (wo
 is_value C D n correct words are limit d o =
     let x = correct.behaves.only words are o.run o.only.is.run d.cycle o.last o.there o.done in
     let same : read_output n o.last (codes "result") ≡ d.result.bits = sym (ap (λ (w : Word). w.bits) o.result ∙ word_bits n o.last (output_place n.outputs (codes "result"))) in
-    let early : 3 * x.0 ≤ d.cycle → ⊥ = λ h.
-    let y = correct.behaves.comes words are o.run o.only.is.run (as_word (C.result C.main) (read_output n o.last (codes "result"))) x.0 x.1 (let l = o.only.long in omega (arith, h, l)) in
-    let z = o.before y.cycle y.words (let t = y.in_time in omega (arith, h, t)) y.there in
-    let e = y.done in cc in
-    record {
-      calls = x.0;
-      gives = subst (λ k. GivesInCalls C words (as_word (C.result C.main) k) x.0) same x.1;
-      soon = elim (below_or d.cycle (3 * x.0)) [ inl h ↦ h | inr h ↦ absurd (early h) ];
-      few = x.2;
-    }
+    subst (λ k. IsResult C words (as_word (C.result C.main) k) d.cycle) same x
 
 pub has_value : (C : Program) (D : Names) (n : Netlist) → Correct C D n → (words : List Word) → AreWordsOf words (C.params C.main) → (limit : ℕ) (answer : Option Done) → IsOutcome n words limit answer → HasValue C words answer
 has_value C D n correct words are limit None o = tt

@@ -56,8 +56,8 @@ pub record IsMisscripted (source script line : List ℕ) : Type 0 where
   pub first : IsScriptFault (program.params program.main) script fault
   pub is : line ≡ script_line (program.params program.main) fault
 
--- the source is a program's, and from the words of each line main gives a value, in so few calls that three cycles for each are at
--- most the limit
+-- the source is a program's, and from the words of each line main gives a value, where the last cycle in which done may come is
+-- below the limit
 pub record EvaluatesEach (source script : List ℕ) (limit : ℕ) : Type 0 where
   pub program : Program
   pub names : Names

@@ -30,7 +30,7 @@ use Rattle.safl_tool.specs.Running.{RunsText, IsMisrun, IsUnrunnable, Finishes}
 use Rattle.safl_tool.specs.Reporting.{GivesReport, RefusesCount, Measures, made_source, made_args}
 use Rattle.safl_command.specs.Limits.{functions_max}
 use Rattle.safl_tool.specs.Reshaping.{Reshaping, copies, unfolds, IsUnshaped, IsReshapable, GivesReshaped}
-use Rattle.safl_tool.specs.Simulating.{Simulates, IsMisgiven, Evaluates}
+use Rattle.safl_tool.specs.Simulating.{Simulates, IsMisgiven, InCycles, InEvents, Evaluates}
 use Rattle.safl_tool.specs.Walking.{Walks}
 use Rattle.safl_task.specs.Tasks.{Given, Task, Only, Both}
 use Rattle.safl_task.specs.declared.status.Status.{Status}
@@ -144,7 +144,7 @@ sim_task input limit args = record {
   asks = [];
   Refuses = λ files s line. Only (λ source. RefusesGiven input args source s line) files;
   Gives = λ files g. Only (λ source. GivesOutcome args limit source g) files;
-  Promises = Only (λ source. Evaluates source args limit);
+  Promises = Only (λ source. Evaluates source args (InCycles limit));
 }
 
 abbrev pub end_of_walk : ℕ → Walked → Option Word → Given
@@ -162,7 +162,7 @@ walk_task input seed steps args = record {
   asks = [];
   Refuses = λ files s line. Only (λ source. RefusesGiven input args source s line) files;
   Gives = λ files g. Only (λ source. GivesWalk args seed steps source g) files;
-  Promises = Only (λ source. Evaluates source args steps);
+  Promises = Only (λ source. Evaluates source args (InEvents steps));
 }
 
 -- what a run of the netlist of a text gives
@@ -218,7 +218,7 @@ bench_task seed count limit = record {
   asks = [];
   Refuses = λ files s line. RefusesBench seed count s line;
   Gives = λ files g. GivesMeasure (made_args seed count) limit (made_source seed count) g;
-  Promises = λ files. IsCount count × Evaluates (made_source seed count) (made_args seed count) limit;
+  Promises = λ files. IsCount count × Evaluates (made_source seed count) (made_args seed count) (InCycles limit);
 }
 
 -- the source has a fault, or its program is not reshaped at the site
@@ -304,7 +304,7 @@ trace_task input limit traces args kinds = record {
   asks = asked_by traces kinds;
   Refuses = λ files s line. Only (λ source. RefusesGiven input args source s line) files;
   Gives = λ files g. Only (λ source. GivesTraces traces args limit source g) files;
-  Promises = Only (λ source. Evaluates source args limit);
+  Promises = Only (λ source. Evaluates source args (InCycles limit));
 }
 
 -- one task or the other

@@ -5,19 +5,17 @@ use Rattle.safl_net.specs.Netlist.{Netlist}
 use Rattle.safl_sim.specs.declared.done.Done.{Done}
 use Rattle.safl_sim.specs.Outcomes.{IsOutcome}
 use Rattle.safl_term.specs.Program.{Program}
-use Rattle.safl_term.specs.Fuel.{GivesInCalls}
+use Rattle.safl_term.specs.Meaning.{Main, main_cost, loops}
 use Rattle.safl_circuit.specs.Names.{Names, as_word}
+use Rattle.safl_circuit.specs.Correct.{IsResult, latest}
 use Rattle.safl_source.specs.Sources.{IsSourceOf}
 use Rattle.safl_source.specs.Circuits.{IsCircuitOf}
 use Rattle.safl_session.specs.Lines.{AreArguments}
 use Rattle.safl_tool.specs.Arguments.{HaveFault}
 
--- main gives the result of that cycle in a number of calls that the cycle bounds, and that bounds the cycle
-pub record IsValue (C : Program) (words : List Word) (d : Done) : Type 0 where
-  pub calls : ℕ
-  pub gives : GivesInCalls C words (as_word (C.result C.main) d.result.bits) calls
-  pub soon : d.cycle < 3 * calls
-  pub few : calls ≤ C.functions * (d.cycle + 1)
+-- it is main's result, in time
+abbrev pub IsValue : Program → List Word → Done → Type 0
+IsValue C words d = IsResult C words (as_word (C.result C.main) d.result.bits) d.cycle
 
 abbrev pub HasValue : Program → List Word → Option Done → Type 0
 HasValue C words None = Unit {0}
@@ -43,15 +41,25 @@ pub record IsMisgiven (source : List ℕ) (args : List (List ℕ)) (line : List 
   pub source_of : IsSourceOf source program names
   pub fault : HaveFault (program.params program.main) args line
 
--- the source is a program's, the arguments are read, and main gives a value from them in so few calls that three cycles, or
--- three events, for each are at most the limit
-pub record Evaluates (source : List ℕ) (args : List (List ℕ)) (limit : ℕ) : Type 0 where
+-- what an evaluation of main has to be
+abbrev pub Limited : Type 1
+Limited = (C : Program) (words : List Word) (v : Word) → Main C words v → Type 0
+
+-- the last cycle in which done may come is below the limit
+abbrev pub InCycles : ℕ → Limited
+InCycles limit C words v d = latest C words d < limit
+
+-- the limit has three events for each call, but two less for each tail call
+abbrev pub InEvents : ℕ → Limited
+InEvents limit C words v d = 3 * main_cost C words d ≤ limit + 2 * loops C d
+
+-- the source is a program's, the arguments are read, and main gives a value from them by such an evaluation
+pub record Evaluates (source : List ℕ) (args : List (List ℕ)) (Fits : Limited) : Type 0 where
   pub program : Program
   pub names : Names
   pub source_of : IsSourceOf source program names
   pub words : List Word
   pub read : AreArguments (program.params program.main) args words
   pub value : Word
-  pub calls : ℕ
-  pub gives : GivesInCalls program words value calls
-  pub enough : 3 * calls ≤ limit
+  pub by : Main program words value
+  pub enough : Fits program words value by

@@ -17,7 +17,6 @@ use safl_probe::Probe;
 use safl_session::laws as sessions;
 use safl_source::laws::{not_both_law, one_program_law};
 use safl_task::{Refusal, Status};
-use safl_term::laws::meaning_law;
 use safl_tree::laws as trees;
 use safl_verilog::laws as verilog;
 use safl_word::NoMemory;
@@ -65,7 +64,6 @@ pub fn run<S: Shelf, O: Sink, E: Sink>(
     one_program_law();
     not_both_law();
     trees::one_program_law();
-    meaning_law();
     verilog::one_netlist_law();
     verilog::not_both_law();
     no_fault_law();

@@ -63,5 +63,5 @@ returns-clause-completes g c =
     let new : Outside = outside (g.S.Shelf.told c.dispatch.new.shelf) (g.O.Sink.told c.dispatch.new.out) in
     let before : SinkState = g.E.Sink.told c.args.err.now in
     let after : SinkState = g.E.Sink.told c.dispatch.new.err in
-    kept.completes (record { once = c.one_program_law.ensures; apart = c.not_both_law.ensures; meaning = c.meaning_law.ensures.same; one = c.one_netlist_law.ensures; free = c.not_both_law-2.ensures; trees = c.one_program_law-2.ensures; sound = c.no_fault_law.ensures; replies = c.session_law.ensures.replies; reset = c.session_law.ensures.reset; script = c.script_law.ensures.script; misread = c.script_law.ensures.not_both })
+    kept.completes (record { once = c.one_program_law.ensures; apart = c.not_both_law.ensures; one = c.one_netlist_law.ensures; free = c.not_both_law-2.ensures; trees = c.one_program_law-2.ensures; sound = c.no_fault_law.ensures; replies = c.session_law.ensures.replies; reset = c.session_law.ensures.reset; script = c.script_law.ensures.script; misread = c.script_law.ensures.not_both })
     (kinds_of ps) (command_of (map string_bytes c.args.words.now)) old new ps qs before after c.dispatch.result c.dispatch.ensures.ends

@@ -1,0 +1,14 @@
+-- The events besides Returns: a cycle of a circuit has at least one of them.
+use Rattle.std.specs.Prelude.{ℕ, ◌+◌, List, [], ◌∷◌}
+use Rattle.safl_calls.specs.Machine.{Event, Accept, Finish, Return, LoopInto}
+
+-- how many events of a list are an Accept, a Finish or a Loop
+abbrev pub move_count : Event → ℕ
+move_count (Accept k) = 1
+move_count (Finish f) = 1
+move_count (Return k) = 0
+move_count (LoopInto h) = 1
+
+unfoldable pub moves_count : List Event → ℕ
+moves_count [] = 0
+moves_count (e ∷ es) = move_count e + moves_count es
