@@ -6,6 +6,7 @@ use Rattle.std.proofs.lemmas.List.Elements.{All-head, All-tail}
 use Rattle.safl_word.specs.Words.{Word}
 use Rattle.safl_term.specs.Program.{Program}
 use Rattle.safl_term.specs.WellFormed.{AreWordsOf}
+use Rattle.safl_term.proofs.Fuelled.{agree_to}
 use Rattle.safl_net.specs.Laws.{FitWidths}
 use Rattle.safl_net.specs.Making.{kind_at, kind_in}
 use Rattle.safl_net.specs.Netlist.{Netlist, Input, output_place}
@@ -25,7 +26,7 @@ use Rattle.safl_circuit.specs.Correct.{IsQuietState, IsResult, DoneIn, latest}
 use Rattle.safl_circuit.specs.Theorem.{IsCircuit, Runs}
 use Rattle.safl_session.specs.declared.session.Reply.{Reply}
 use Rattle.safl_session.specs.Replies.{Replies, IsSilent, AreReplies}
-use Rattle.safl_session.specs.Circuits.{IsMainReply, Serves, IsInTime, CircuitsServe, CircuitsReply}
+use Rattle.safl_session.specs.Circuits.{IsMainReply, Serves, IsInTime, BudgetsAreInTime, CircuitsServe, CircuitsReply}
 use Rattle.safl_session.proofs.WordsOfLines.{at_seam}
 use Rattle.safl_session.proofs.QuietStates.{quiet_alike}
 use Rattle.safl_session.proofs.OneListOfReplies.{next_fits, fits_along}
@@ -128,3 +129,9 @@ circuits_serve C D P n scheme circuit made whole limit state quiet calls sized_a
 
 pub circuits_reply : CircuitsReply
 circuits_reply C D P n scheme circuit made whole limit state quiet calls sized_all time rs a = reply C D P n scheme circuit made whole limit state quiet calls sized_all time rs a
+
+pub budgets_in_time : BudgetsAreInTime
+budgets_in_time C args v n limit gives long =
+    let d = agree_to C args v n gives in
+    let cost = d.1 in
+    (v, d.0, omega (arith, cost, long))

@@ -1,8 +1,9 @@
 -- Sessions of circuits: the replies are main's values, and each call starts in a quiet state.
-use Rattle.std.specs.Prelude.{◌≡◌, ℕ, ◌<◌, List, [], ◌∷◌, length, All}
+use Rattle.std.specs.Prelude.{◌≡◌, ℕ, ◌*◌, ◌<◌, ◌≤◌, List, [], ◌∷◌, length, All}
 use Rattle.safl_word.specs.Words.{Word}
 use Rattle.safl_term.specs.Program.{Program}
 use Rattle.safl_term.specs.Meaning.{Main}
+use Rattle.safl_term.specs.Fuel.{GivesInCalls}
 use Rattle.safl_term.specs.WellFormed.{AreWordsOf}
 use Rattle.safl_net.specs.Netlist.{Netlist}
 use Rattle.safl_net.specs.Rules.{IsNetlist}
@@ -38,6 +39,10 @@ CircuitsServe =
 -- main gives a value, and the last cycle in which done may come is below the limit
 abbrev pub IsInTime : Program → ℕ → List Word → Type 0
 IsInTime C limit args = (v : Word) × (d : Main C args v) × (latest C args d < limit)
+
+-- which is so where main gives a value in as many calls as there are three cycles for below the limit
+abbrev pub BudgetsAreInTime : Type 0
+BudgetsAreInTime = (C : Program) (args : List Word) (v : Word) (n limit : ℕ) → GivesInCalls C args v n → 3 * n ≤ limit → IsInTime C limit args
 
 -- and replies to each of the calls from which main gives a value in time
 abbrev pub CircuitsReply : Type 0

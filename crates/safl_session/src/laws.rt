@@ -1,6 +1,6 @@
 //! Laws of sessions and scripts, over the definitions alone.
 
-ghost use Rattle.safl_session.specs.Circuits.{CircuitsReply, CircuitsServe, ResetIsQuiet};
+ghost use Rattle.safl_session.specs.Circuits.{BudgetsAreInTime, CircuitsReply, CircuitsServe, ResetIsQuiet};
 ghost use Rattle.safl_session.specs.Laws.{NotBoth, OneFault, OneScript, RepliesExist, RepliesJoin, RepliesOnce};
 
 /// A whole net without loops has one list of replies to calls, and more calls add to it.
@@ -25,4 +25,9 @@ pub fn session_law()
     ensures serves { CircuitsServe }
     ensures replies { CircuitsReply }
     ensures reset { ResetIsQuiet }
+{}
+
+/// Where main gives a value in `n` calls and `3n` is at most the limit, a reply comes below the limit.
+pub fn budget_law()
+    ensures { BudgetsAreInTime }
 {}
