@@ -15,7 +15,7 @@ class Plan:
         self.groups_reach = []
         for members in program.groups:
             self.groups_reach.append(set().union(*(self.reach(f.body) for f in members)))
-        self.conflicts = set()
+        self.conflicts, self.sequential = set(), True
         for f in program.functions:
             for e in all_parts(f.body):
                 self.parallel(e)
@@ -42,6 +42,8 @@ class Plan:
             sides = [self.reach(part) for part in e.parts]
         else:
             return
+        if sum(map(bool, sides)) > 1:
+            self.sequential = False
         for i, left in enumerate(sides):
             for right in sides[:i]:
                 for k in left:
@@ -156,11 +158,20 @@ class Circuit:
         for cycle in range(cycles):
             after = Cycle(self, registers, 1 if cycle == 0 else 0, args if cycle == 0 else [0] * len(args)).edge()
             if registers[f"fin${u}"]:
+                self.check_cycle(args, registers[f"res${u}"], cycle)
                 return registers[f"res${u}"], cycle, after
             if after == registers and cycle > 0:
                 return None
             registers = after
         return None
+
+    def check_cycle(self, args, result, cycle):
+        """Fails unless main has this value, by n calls of which l are tail calls, and done came by cycle 2n - l: in a sequential
+        program just then."""
+        value, calls, tails = meaning(self.program, args, len(self.program.functions) * (cycle + 1)) or (None, 0, 0)
+        latest = 2 * calls - tails
+        if value != result or cycle > latest or (self.plan.sequential and cycle != latest):
+            raise AssertionError(f"{result} in cycle {cycle}, where main has {value} by {calls} calls, {tails} of them tail calls")
 
 
 class Cycle:
