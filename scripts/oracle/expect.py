@@ -130,7 +130,7 @@ class CaseFile:
             return head, self.lines_of(rest)
         elif word == "failing":
             return head, self.failing_rows(rest, body)
-        elif word in ("none", "part", "folder", "shown"):
+        elif word in ("none", "part", "text", "lean", "folder", "shown"):
             raise Open
         else:
             return head, [self.row(word, rest, row) for row in body]
@@ -221,6 +221,8 @@ class CaseFile:
             wanted, semicolon, state = wanted.partition("; ")
             if which == "end" or what == "err":
                 text = row_text(*whole)
+            elif what in KINDS:
+                text = f"9 probe {KINDS.index(what) + 1} failed"
             elif wanted in [f"3 cannot read {name}" for name in inputs] + [f"4 cannot write {name}" for name in traces]:
                 text = wanted
             else:

@@ -4,6 +4,7 @@ use crate::calls::{EACH_KIND, call, plain_call};
 use crate::entries::Entry;
 use crate::failing::{Failing, fail_in_turn};
 use crate::folder::{compare_with_folder, show_calls};
+use crate::netlists::{is_lean, is_text_of_net};
 use crate::shelves::{Placed, joined, repeated, split_at_piece, spread};
 use crate::tables::{Rows, run_rows};
 use crate::tally::Tally;
@@ -56,7 +57,7 @@ pub fn run_entries(
             "folder" => compare_with_folder(rt, &case.placed, entry, tally)?,
             "shown" => show_calls(rt, &entry.body)?,
             "failing" => run_failing(alloc, &case, rest, entry, tally)?,
-            "begins" | "ends" | "holds" | "is" | "part" | "none" => {
+            "begins" | "ends" | "holds" | "is" | "part" | "none" | "text" | "lean" => {
                 let agrees = stands(alloc, &case.shelf, word, rest, &entry.body)?;
                 tally.count(entry.number, agrees, entry.head)?;
             }
@@ -142,7 +143,7 @@ fn run_call(
 }
 
 // Whether a file begins with the lines, ends with them, holds each of them or is they; begins as another one, with so
-// many bytes; or isn't there.
+// many bytes; isn't there; or reads as a netlist, whose text it is, or which is lean.
 fn stands(
     alloc: Global,
     shelf: &MemShelf,
@@ -159,6 +160,8 @@ fn stands(
     let text = shelf.file(rest).unwrap_or(b"");
     let wanted = joined(alloc, lines, true)?;
     Ok(match word {
+        "text" => is_text_of_net(alloc, text),
+        "lean" => is_lean(alloc, text),
         "begins" => text.starts_with(&wanted),
         "ends" => text.ends_with(&wanted),
         "is" => text == wanted.as_slice(),
@@ -195,7 +198,9 @@ fn run_failing(
     let failing = match what {
         "shelf" => Failing::Shelf,
         "out" => Failing::Out,
-        _ => Failing::Err,
+        "err" => Failing::Err,
+        "vcd" | "starts" | "toggles" => Failing::Probe(what),
+        _ => return tally.count(entry.number, false, "no such entry"),
     };
     fail_in_turn(alloc, &case.placed, failing, words, entry, tally)
 }

@@ -1,4 +1,4 @@
-//! Calls of the program in which the calls of its shelf or of a sink fail in turn.
+//! Calls of the program in which the calls of its shelf, of a sink or of a probe fail in turn.
 
 use crate::calls::{EACH_KIND, Ended, call, plain_call};
 use crate::entries::Entry;
@@ -11,10 +11,12 @@ use std::alloc::Global;
 
 /// What fails.
 #[derive(Clone, Copy)]
-pub enum Failing {
+pub enum Failing<'a> {
     Shelf,
     Out,
     Err,
+    /// The probe of this kind.
+    Probe(&'a str),
 }
 
 // The most calls that fail in turn.
@@ -24,7 +26,7 @@ const CALLS_MAX: u64 = 10_000;
 // undisturbed, with the shelf then.
 #[derive(Drop)]
 struct Trial<'a> {
-    failing: Failing,
+    failing: Failing<'a>,
     words: &'a str,
     placed: &'a [Placed],
     whole: Ended,
@@ -43,7 +45,7 @@ struct Disturbed {
 pub fn fail_in_turn(
     alloc: Global,
     placed: &[Placed],
-    failing: Failing,
+    failing: Failing<'_>,
     words: &str,
     entry: &Entry<'_>,
     tally: &mut Tally,
@@ -67,7 +69,7 @@ pub fn fail_in_turn(
             return Ok(());
         }
         let again = plain_call(alloc, words, &mut disturbed.shelf)?;
-        let agrees = again.is_same(&trial.whole) && has_same_file(&trial, &disturbed.shelf);
+        let agrees = again.is_same(&trial.whole) && has_same_files(&trial, &disturbed.shelf);
         tally.count_call(entry.number, agrees, &again)?;
     }
     tally.count(entry.number, false, "something fails at each call")
@@ -76,13 +78,21 @@ pub fn fail_in_turn(
 fn disturb(alloc: Global, trial: &Trial<'_>, number: u64) -> Result<Disturbed, NoMemory> {
     let mut shelf = shelf_of(alloc, trial.placed)?;
     let (mut out, mut err) = (MemSink::new(alloc), MemSink::new(alloc));
+    let mut probes = String::from_str(alloc, EACH_KIND)?;
     match trial.failing {
         Failing::Shelf => shelf.fail_call(number)?,
         Failing::Out => out.fail_call(number)?,
         Failing::Err => err.fail_call(number)?,
+        Failing::Probe(kind) => probes = with_stub(alloc, kind, number)?,
     }
-    let ended = call(alloc, trial.words, EACH_KIND, &mut shelf, out, err)?;
+    let ended = call(alloc, trial.words, probes.as_str(), &mut shelf, out, err)?;
     Ok(Disturbed { ended, shelf })
+}
+
+// One probe of each kind, with a stub in place of the one of this kind, whose call of this number fails.
+fn with_stub(alloc: Global, kind: &str, number: u64) -> Result<String, NoMemory> {
+    let (before, after) = EACH_KIND.split_once(kind).unwrap_or((EACH_KIND, ""));
+    Ok(format!(in alloc; "{before}{kind}:{number}{after}")?)
 }
 
 // The row of this number: that in whose list it stands, or the one of `more`; and the one of `end` where nothing fails.
@@ -104,7 +114,7 @@ fn row_of<'a>(rows: &[&'a str], number: u64, is_over: bool) -> &'a str {
     ""
 }
 
-// Whether a call ended as its row says: a status and a line, and after `; ` what stands in the output file.
+// Whether a call ended as its row says: a status and a line, and after `; ` what is in the files that it writes.
 fn judge(
     alloc: Global,
     trial: &Trial<'_>,
@@ -116,7 +126,7 @@ fn judge(
     let wanted = Wanted::of_row(alloc, row)?;
     let ended = &disturbed.ended;
     if is_over {
-        return Ok(ended.agrees(&wanted) && has_state(trial, disturbed, state));
+        return Ok(ended.agrees(&wanted) && has_state(trial, &disturbed.shelf, state));
     }
     let told = ended.err.bytes();
     let fits = match trial.failing {
@@ -128,7 +138,7 @@ fn judge(
         Failing::Out => is_cut(out, trial.whole.out.bytes()),
         _ => out.is_empty(),
     };
-    Ok(ended.status == wanted.status && fits && begins && has_state(trial, disturbed, state))
+    Ok(ended.status == wanted.status && fits && begins && has_state(trial, &disturbed.shelf, state))
 }
 
 // Whether these bytes are the first ones of the others, and not all.
@@ -136,37 +146,55 @@ fn is_cut(bytes: &[u8], whole: &[u8]) -> bool {
     bytes.len() < whole.len() && whole.starts_with(bytes)
 }
 
-// What stands in the output file: `none`, what stood there `before`, the text `cut` off, or the `whole` text.
-fn has_state(trial: &Trial<'_>, disturbed: &Disturbed, state: &str) -> bool {
-    let name = output_of(trial.words);
-    let now = disturbed.shelf.file(name);
-    let before = trial
-        .placed
-        .iter()
-        .find(|file| file.name.as_str() == name)
-        .map(|file| file.bytes.as_slice());
-    match (now, trial.left.file(name)) {
-        (None, _) => state == "none" || state.is_empty(),
-        (Some(text), _) if state == "before" => before == Some(text),
-        (Some(text), Some(whole)) if state == "cut" => is_cut(text, whole),
-        (Some(text), Some(whole)) => state == "whole" && text == whole,
-        (Some(_), None) => false,
+// Whether this is in the files that the call writes: `none` is there, what was there `before`, the `whole` texts, or texts that
+// are `cut` off: each file is as before or has a prefix of its text, and some file has changed and some isn't whole. The other
+// files that the call names are as before.
+fn has_state(trial: &Trial<'_>, shelf: &MemShelf, state: &str) -> bool {
+    let mut are_missing = true;
+    let mut are_before = true;
+    let mut are_prefixes = true;
+    let mut are_whole = true;
+    for name in trial.words.split_whitespace() {
+        let (before, now, whole) = (
+            text_before(trial, name),
+            shelf.file(name),
+            trial.left.file(name),
+        );
+        if before == whole {
+            if now != before {
+                return false;
+            }
+        } else {
+            are_missing = are_missing && now.is_none();
+            are_before = are_before && now == before;
+            are_prefixes = are_prefixes && (now == before || is_prefix(now, whole));
+            are_whole = are_whole && now == whole;
+        }
+    }
+    match state {
+        "before" => are_before,
+        "cut" => are_prefixes && !are_before && !are_whole,
+        "whole" => are_whole && !are_before,
+        _ => are_missing,
     }
 }
 
-// The file that a command writes, if it writes one: the word after that of its input, or the word after `--vcd`.
-fn output_of(words: &str) -> &str {
-    let (verb, names) = words.split_once(' ').unwrap_or((words, ""));
-    let separator = match verb {
-        "build" | "reshape" | "aig" => " ",
-        "sim" => " --vcd ",
-        _ => return "",
-    };
-    let (_, rest) = names.split_once(separator).unwrap_or((names, ""));
-    rest.split_once(' ').map(|pair| pair.0).unwrap_or(rest)
+// What is in a file before the call.
+fn text_before<'a>(trial: &Trial<'a>, name: &str) -> Option<&'a [u8]> {
+    let file = trial.placed.iter().find(|file| file.name.as_str() == name)?;
+    Some(&file.bytes)
 }
 
-fn has_same_file(trial: &Trial<'_>, shelf: &MemShelf) -> bool {
-    let name = output_of(trial.words);
-    trial.left.file(name) == shelf.file(name)
+fn is_prefix(now: Option<&[u8]>, whole: Option<&[u8]>) -> bool {
+    match (now, whole) {
+        (Some(now), Some(whole)) => whole.starts_with(now),
+        _ => false,
+    }
+}
+
+fn has_same_files(trial: &Trial<'_>, shelf: &MemShelf) -> bool {
+    trial
+        .words
+        .split_whitespace()
+        .all(|name| trial.left.file(name) == shelf.file(name))
 }

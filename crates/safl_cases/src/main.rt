@@ -6,6 +6,7 @@ mod calls;
 mod entries;
 mod failing;
 mod folder;
+mod netlists;
 mod plans;
 mod shelves;
 mod tables;
