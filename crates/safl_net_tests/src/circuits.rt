@@ -10,9 +10,9 @@ use safl_word::{Primitive, Word};
 use std::alloc::{AllocError, Global};
 use std::test::Fail;
 
-// Why a net is not built, or made no circuit.
+/// Why a net is not built, or made no circuit.
 #[derive(Clone, Copy, Debug, PartialEq, Eq)]
-enum Fault {
+pub enum Fault {
     Unfit,
     Memory,
     Name(NetErr),
@@ -20,14 +20,16 @@ enum Fault {
     Refused(BlastErr),
 }
 
-fn add_wire(net: &mut Net, name: &str, width: u8) -> Result<Sig, Fault> {
+/// The next signal: a wire of this width, without a cell.
+pub fn add_wire(net: &mut Net, name: &str, width: u8) -> Result<Sig, Fault> {
     if width == 0 || width > 128 || net.signals() == u32::MAX {
         return Err(Fault::Unfit);
     }
     net.wire(name, width).map_err(Fault::Name)
 }
 
-fn set(net: &mut Net, s: Sig, op: Op, operands: &[Sig]) -> Result<(), Fault> {
+/// Gives a wire its cell.
+pub fn set(net: &mut Net, s: Sig, op: Op, operands: &[Sig]) -> Result<(), Fault> {
     let count = net.signals();
     if s.0 >= count || net.kind(s) != SigKind::Wire || net.cell(s).is_some() {
         return Err(Fault::Unfit);

@@ -1,4 +1,5 @@
-//! Traces of nets, their files, bit-level circuits and their texts, and a sink over a writer.
+//! Nets in order and in cycles, their traces, their texts and files, bit-level circuits and their texts, and a sink over a
+//! writer.
 //!
 //! Tests are in a crate above the libraries, since a library with tests is proved twice.
 #![tactic(auto)]
@@ -9,6 +10,8 @@ mod aig_texts;
 mod circuits;
 #[cfg(test)]
 mod files;
+#[cfg(test)]
+mod nets;
 #[cfg(test)]
 mod sinks;
 #[cfg(test)]
