@@ -8,7 +8,11 @@ use safl_word::Word;
 use std::alloc::Global;
 use std::test::Fail;
 
-const PRODUCT: &[u8] = b"fun main(a:8, b:8):8 = a * b";
+// Multiplication by shifts and sums.
+const PRODUCT: &[u8] = b"fun mul(x:8, y:8, acc:8):8 =
+  if (x==0)|(y==0) then acc
+  else mul(x<<1, y>>1, if bits(y,0,0)==1 then acc+x else acc)
+fun main(a:8, b:8):8 = mul(a, b, 0)";
 
 const LEVELS: &[u8] =
     b"fun f(x:8):8 = x + 1 fun g(x:8):8 = f(x) fun h(x:8):8 = f(x + 1) fun main(a:8):8 = g(a) + h(a)";
