@@ -32,6 +32,7 @@ COMMANDS = {
     "reshape --copy": ["reshape", "p", "v", "--copy", "1"],
     "reshape --unfold": ["reshape", "p", "v", "--unfold", "1"],
     "sim": ["sim", "p", "--cycles", "100"],
+    "sim with traces": ["sim", "p", "--cycles", "100", "--vcd", "t", "--starts", "s", "--toggles", "g"],
     "walk": ["walk", "p", "--order", "1", "--steps", "100"],
     "run": ["run", "built", "--cycles", "100"],
     "session": ["session", "p", "script", "--cycles", "100"],
@@ -42,16 +43,31 @@ MAKERS = {
     "gen": ["gen", "1", "3"],
     "bench": ["bench", "1", "3", "--cycles", "100"],
 }
+WITH_ARGUMENTS = ("sim", "sim with traces", "walk", "run")
+OUTPUTS = ("v", "t", "s", "g")
 NO_MEMORY, NO_WORDS = 5, 20
+
+
+def begins(text, usual):
+    """Whether a file is missing, or has a prefix of its usual text."""
+    return text is None or usual is not None and usual.startswith(text)
 
 
 def is_right(now, usual):
     """Whether a run with a refused allocation ended as it may."""
-    status, out, err, written = now
+    status, out, err, files = now
     if status == usual[0]:
         return now == usual
-    begins = usual[1].startswith(out) and (written is None or usual[3] is not None and usual[3].startswith(written))
-    return status in (NO_MEMORY, NO_WORDS) and begins and b"out of memory\n".startswith(err)
+    are_prefixes = usual[1].startswith(out) and all(map(begins, files, usual[3]))
+    return status in (NO_MEMORY, NO_WORDS) and are_prefixes and b"out of memory\n".startswith(err)
+
+
+def bytes_of(path):
+    """What is in a file, or None if there is none."""
+    if not os.path.exists(path):
+        return None
+    with open(path, "rb") as file:
+        return file.read()
 
 
 class Command:
@@ -59,19 +75,15 @@ class Command:
 
     def __init__(self, refuser, title, words):
         self.refuser, self.title, self.words = refuser, title, words
-        self.output = f"{refuser.room}/v"
         self.usual, _ = self.run(0)
 
     def run(self, number):
         """The status, what is printed, told and written, and whether the allocation of this number was asked for."""
-        if os.path.exists(self.output):
-            os.remove(self.output)
+        outputs = [os.path.join(self.refuser.room, name) for name in OUTPUTS]
+        for path in filter(os.path.exists, outputs):
+            os.remove(path)
         ran, is_refused = self.refuser.run(self.words, number)
-        written = None
-        if os.path.exists(self.output):
-            with open(self.output, "rb") as file:
-                written = file.read()
-        return (ran.returncode, ran.stdout, ran.stderr, written), is_refused
+        return (ran.returncode, ran.stdout, ran.stderr, [bytes_of(path) for path in outputs]), is_refused
 
     def fault(self, number, now, is_refused):
         """Whether a run ended wrongly; a line says so."""
@@ -88,7 +100,7 @@ def refuse_commands(refuser, program, title, commands, args):
     """How many refusals were tried in these commands, and how many ended wrongly; a line says how many were tried in each."""
     counts, wrong = {}, 0
     for name, words in commands.items():
-        given = args if name in ("sim", "walk", "run") else []
+        given = args if name in WITH_ARGUMENTS else []
         counts[name], more = Command(refuser, f"{name}, {title}", [program, *words, *given]).refuse_all()
         wrong += more
     print(f"refusals: {title}: {', '.join(f'{name} {count}' for name, count in counts.items())}", flush=True)
