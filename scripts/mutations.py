@@ -16,7 +16,9 @@ import re
 import subprocess
 import sys
 
-TOP = pathlib.Path(__file__).resolve().parent.parent
+import files
+
+TOP = pathlib.Path(files.TOP)
 ENTRY = re.compile(r"^## (\w+)\n\n((?:    .*\n)+)", re.M)
 HEADING = re.compile(r"^## .*$", re.M)
 OUTCOME = re.compile(r"^rt: must-fail \w+/(\w+)\.edit: (refused, as it must be|NOT REFUSED|BAD EDIT)")
@@ -54,7 +56,7 @@ class Mutation:
                 path = crate / file
                 if not path.is_file():
                     return f"there is no {file}"
-                texts[file] = path.read_text(encoding="utf-8")
+                texts[file] = files.read(path)
             count = texts[file].count(old)
             if count != 1:
                 return f"stands {count} times in {file}: {old.strip()}"
@@ -64,21 +66,20 @@ class Mutation:
 
 def crates():
     """The folders of the crates that have mutations, lowest first."""
-    lines = (TOP / "crates.txt").read_text(encoding="utf-8").splitlines()
-    names = [line.split(":")[0].strip() for line in lines if line and not line.startswith("#")]
+    names = re.findall(r"^(\w+):", files.text("crates.txt"), re.M)
     return [TOP / "crates" / name for name in names if (TOP / "crates" / name / "must-fail").is_dir()]
 
 
 def tried_by_gate(crate):
     """The mutations of a crate that the gate tries."""
     for path in sorted((crate / "must-fail").glob("*.edit")):
-        yield Mutation(path, path.stem, path.read_text(encoding="utf-8"))
+        yield Mutation(path, path.stem, files.read(path))
 
 
 def more_text(crate):
     """The text of more.md, or nothing."""
     path = crate / "must-fail" / "more.md"
-    return path.read_text(encoding="utf-8") if path.exists() else ""
+    return files.read(path) if path.exists() else ""
 
 
 def left_out(crate):
@@ -123,7 +124,7 @@ def laid_out(crate, word=""):
             path = crate / "must-fail" / f"{mutation.name}.edit"
             if word in mutation.name and not path.exists():
                 made.append(path)
-                path.write_text(mutation.text, encoding="utf-8")
+                files.write(path, mutation.text)
         yield
     finally:
         for path in made:
