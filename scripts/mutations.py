@@ -21,7 +21,7 @@ import files
 TOP = pathlib.Path(files.TOP)
 ENTRY = re.compile(r"^## (\w+)\n\n((?:    .*\n)+)", re.M)
 HEADING = re.compile(r"^## .*$", re.M)
-OUTCOME = re.compile(r"^rt: must-fail \w+/(\w+)\.edit: (refused, as it must be|NOT REFUSED|BAD EDIT)")
+OUTCOME = re.compile(r"^rt: must-fail \w+/(\w+)\.edit: (refused, as it must be|NOT REFUSED|BAD EDIT|NOT TRIED)")
 
 
 @dataclasses.dataclass
