@@ -1,12 +1,16 @@
 # make                      builds the program, with all its proofs
 # make check                runs the gate: proofs, mutations, tests, programs, other tools
 # make examples             checks the numbers of the gallery, and compares its files with other tools
-# make install PREFIX=DIR   installs the program, its manual page, completions, Vim files, documents and examples
+# make install PREFIX=DIR   installs the program, the tools, their manual pages, completions, Vim files, documents and examples
 
+# the day and the name of the commit, or what you say; a tree without git has none
+VERSION ?= $(or $(shell git log -1 --format=%cd-%h --date=format:%Y.%m.%d 2>/dev/null),unknown)
 PREFIX ?= /usr/local
 PROGRAM ?= crates/safl/out/safl
 INSTALL ?= install
 to = $(DESTDIR)$(PREFIX)
+tools = $(wildcard tools/safl-*)
+folders = $(shell find tools -type d -not -name __pycache__)
 
 .PHONY: all check examples install
 
@@ -25,15 +29,31 @@ examples: $(PROGRAM)
 install: $(PROGRAM)
 	$(INSTALL) -d $(to)/bin $(to)/share/man/man1 $(to)/share/bash-completion/completions $(to)/share/zsh/site-functions
 	$(INSTALL) -m 755 $(PROGRAM) $(to)/bin/safl
-	$(INSTALL) -m 644 man/safl.1 $(to)/share/man/man1/safl.1
+	sed -e '1s/"Pongurike"/"Pongurike $(VERSION)"/' -e 's|/usr/local/share/doc/safl|$(PREFIX)/share/doc/safl|g' man/safl.1 >$(to)/share/man/man1/safl.1
+	chmod 644 $(to)/share/man/man1/safl.1
 	$(INSTALL) -m 644 completion/safl.bash $(to)/share/bash-completion/completions/safl
 	$(INSTALL) -m 644 completion/_safl $(to)/share/zsh/site-functions/_safl
 	for part in syntax ftdetect ftplugin; do \
 	  $(INSTALL) -d $(to)/share/vim/vimfiles/$$part && \
 	  $(INSTALL) -m 644 editors/vim/$$part/safl.vim $(to)/share/vim/vimfiles/$$part/safl.vim || exit 1; \
 	done
+	for folder in $(folders); do \
+	  $(INSTALL) -d $(to)/share/safl/$$folder && \
+	  find $$folder -maxdepth 1 -type f -not -name '*.pyc' -exec $(INSTALL) -m 644 {} $(to)/share/safl/$$folder \; || exit 1; \
+	done
+	for tool in $(notdir $(tools)); do \
+	  chmod 755 $(to)/share/safl/tools/$$tool && \
+	  ln -sf ../share/safl/tools/$$tool $(to)/bin/$$tool && \
+	  $(INSTALL) -m 644 man/$$tool.1 $(to)/share/man/man1 && \
+	  $(INSTALL) -m 644 completion/$$tool.bash $(to)/share/bash-completion/completions/$$tool && \
+	  $(INSTALL) -m 644 completion/_$$tool $(to)/share/zsh/site-functions/_$$tool || exit 1; \
+	done
 	$(INSTALL) -d $(to)/share/doc/safl/docs/tutorial
 	$(INSTALL) -m 644 README.md LICENSE $(to)/share/doc/safl
 	$(INSTALL) -m 644 docs/*.md $(to)/share/doc/safl/docs
 	$(INSTALL) -m 644 docs/tutorial/* $(to)/share/doc/safl/docs/tutorial
 	cp -R examples $(to)/share/doc/safl
+	$(INSTALL) -d $(to)/share/doc/safl/editors
+	$(INSTALL) -m 644 editors/README.md editors/textmate/safl.tmLanguage.json $(to)/share/doc/safl/editors
+	echo $(VERSION) >$(to)/share/doc/safl/VERSION
+	chmod 644 $(to)/share/doc/safl/VERSION

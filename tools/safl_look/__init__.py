@@ -1,0 +1,2 @@
+"""What safl-look is made of."""
+NAME = "safl-look"
