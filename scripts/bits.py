@@ -1,6 +1,6 @@
 #!/usr/bin/env python3
-"""Compares the bit-level circuits that the program writes with the netlists of their Verilog files: bits.py PROGRAM FILE.v..
-Or has ABC look at the map of products that it hands to Yosys: bits.py --products
+"""Compares the bit-level circuits that the program writes with the netlists of their Verilog files, or
+has ABC look at the map of products that it hands to Yosys.
 
 The circuit's text is read, and the netlist is run, by the programs of scripts/oracle. In each of 1,000 cycles with random inputs,
 every bit of every output and register has to be the same.
@@ -14,7 +14,6 @@ No tool is good at comparing two multipliers that are built in different ways. S
 does, row by row (scripts/products.v); --products has ABC compare these with Yosys's own, for widths of 1 to 8 bits. Nor does Yosys
 share operators (-noshare), which would move shifters behind choices. All else is what Yosys makes of the text by itself.
 """
-import os
 import random
 import re
 import shutil
@@ -24,6 +23,7 @@ import tempfile
 
 import yosys
 from files import TOP, read, write
+from given import a_file, a_program, parser
 from program import told
 
 sys.path.insert(0, f"{TOP}/scripts/oracle")
@@ -162,15 +162,21 @@ def compare(program, path, folder):
 
 
 def main():
-    if sys.argv[1:] == ["--products"]:
+    reader = parser(__doc__)
+    reader.add_argument("--products", action="store_true", help="compare products, and no file")
+    reader.add_argument("program", nargs="?", type=a_program, metavar="PROGRAM")
+    reader.add_argument("files", nargs="*", type=a_file, metavar="FILE.v")
+    given = reader.parse_args()
+    if given.products == bool(given.files):
+        reader.error("a program and files are needed, or --products alone")
+    if given.products:
         verdict = verdict_on_products()
         print(f"bits: products of 1 to {WIDEST} bits by scripts/products.v and by Yosys alone: {verdict} by ABC")
         sys.exit(verdict != "equal")
-    program, paths = os.path.abspath(sys.argv[1]), sys.argv[2:]
     failed = 0
-    for path in paths:
+    for path in given.files:
         with tempfile.TemporaryDirectory() as folder:
-            found, line = compare(program, path, folder)
+            found, line = compare(given.program, path, folder)
         print(f"bits: {path}: {line}")
         for fault in found:
             failed += 1

@@ -1,5 +1,5 @@
 #!/usr/bin/env python3
-"""Has Yosys count the cells of circuits, and prints them as a table: cells.py [PROGRAM] [NAME..]
+"""Has Yosys count the cells of circuits, and prints them as a table.
 
 The circuits are the examples, those of examples/by_hand, and units with 4, 16, 64 and 256 call sites, or those that are named; as
 `build` writes them, with --opt if the program knows it, and by hand. What is counted is said in scripts/yosys.py. The program is
@@ -12,6 +12,7 @@ import tempfile
 
 import yosys
 from files import TOP
+from given import a_program, parser
 from measure import table
 from program import PROGRAM, ended, knows, lacks
 from speed_sources import with_units
@@ -42,15 +43,19 @@ def circuits(folder, program, chosen):
 
 
 def main():
-    program = os.path.abspath(sys.argv[1]) if sys.argv[1:] else PROGRAM
+    reader = parser(__doc__)
+    reader.add_argument("program", nargs="?", type=a_program, metavar="PROGRAM")
+    reader.add_argument("names", nargs="*", metavar="NAME")
+    given = reader.parse_args()
+    program = given.program or PROGRAM
     if lacks(program):
         return 0
     with tempfile.TemporaryDirectory() as folder:
-        made = list(circuits(folder, program, sys.argv[2:]))
+        made = list(circuits(folder, program, given.names))
         with concurrent.futures.ThreadPoolExecutor(os.cpu_count()) as pool:
             rows = list(pool.map(row_of, [file for *_, file in made]))
     refused = [f"{name}, {how}" for (name, how, _), row in zip(made, rows) if not row]
-    head = ("circuit", "made by", "flip-flops", "gates", "choices", "XORs", "ANDs", "path in ANDs", "longest path", "from .. to")
+    head = ("circuit", "made by", "flip-flops", "gates", "multiplexers", "XORs", "ANDs", "path in ANDs", "longest path", "from .. to")
     table("Cells", head, [(name, how, *row) for (name, how, _), row in zip(made, rows) if row])
     for what in refused:
         print(f"cells: Yosys refuses {what}")

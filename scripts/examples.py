@@ -1,20 +1,22 @@
 #!/usr/bin/env python3
 """The gallery in examples/: works out every number that its pages and its cases hold, and writes them there.
 
-    examples.py             writes crates/safl_cases/data/examples.case and what stands between the marker lines of the pages
-    examples.py --check     writes nothing, says what differs, and ends with 1 where something does
-    examples.py --cells X   has Yosys count the cells of the files that the program X builds, and writes that too
-    examples.py --rows      prints a line for each example and arguments: name, limit of cycles, arguments
-    examples.py --report X  prints the report of an example: its functions, sites and registers
-    examples.py --random X [COUNT [SEED]]  compares the program X with the libraries on drawn arguments, and with the bound 3n
-    examples.py --pictures  draws the units of each example with an arbiter, with Graphviz, to units.svg in its folder
-    examples.py --waves X [--check]  draws the waveforms of each page from the trace that the program X writes, to waves.svg in its
-                            folder, and those of shared.safl; with --check it says which pictures differ
+    examples.py                     writes crates/safl_cases/data/examples.case and what stands between the marker lines of the pages
+    examples.py --check             writes nothing, says what differs, and ends with 1 where something does
+    examples.py --rows              prints a line for each example and arguments: name, limit of cycles, arguments
+    examples.py --report X          prints the report of an example: its functions, sites and registers
+    examples.py --random P [COUNT [SEED]]  compares the program P with the libraries on drawn arguments, and with the bound 2n - l
+    examples.py --units             draws the units of each example with Graphviz, to units.svg in its folder
+    examples.py --waves P [--check] draws the run of each page from what the program P writes: the chart run.svg (tools/safl-look)
+                                    and the waveforms waves.svg, and those of shared.safl; with --check it says which differ
+    examples.py --measure P [X..]   has Yosys and nextpnr place the examples that have no figures, or those that are named
+                                    (tools/safl-place), and writes examples/measured.json
 
-Results come from scripts/gallery.py, that is from Python's own libraries or from published vectors; cycles, numbers of calls,
-arbiters, kept sites and registers from scripts/oracle, which works by docs/ alone. A result of the oracle that isn't the
-library's is an error.
+Results come from scripts/references.py, that is from Python's own libraries, from published vectors, or from the same said in another
+way; cycles, numbers of calls, arbiters, kept sites and registers from scripts/oracle, which works by docs/ alone. A result of the
+oracle that isn't the library's is an error. Figures that other tools make are read from examples/measured.json.
 """
+import argparse
 import difflib
 import os
 import random
@@ -24,174 +26,21 @@ import sys
 import tempfile
 import threading
 
-import yosys
+import measured
+import pages
+import units
+from example import CALLS_MAX, Example, meaning
 from files import TOP, read, write, written
+from gallery import DRAWS, PAGES, SUBJECTS, WAVES
 from program import ended, told
-
-sys.path.insert(0, f"{TOP}/scripts/oracle")
-import aiger  # noqa: E402
-import language  # noqa: E402
-from circuit import Circuit, meaning  # noqa: E402
-from gallery import DRAWS, PAGES  # noqa: E402
-from waves import Trace, drawing  # noqa: E402
+from waves import Trace, drawing
 
 CASES = f"{TOP}/crates/safl_cases/data/examples.case"
-CALLS_MAX = 1_000_000
-BY_HAND = "by_hand"  # Verilog that was written by hand, to compare with
-DRAWN = 24  # the most cycles of a picture of waveforms
+INDEX = f"{TOP}/examples/README.md"
+PASSES = [(version, has_clock) for has_clock in (False, True) for version in ("as written", "by hand", "faster", "copies")]
+OTHER_FOLDERS = {"by_hand", "board"}  # those that are no examples of their own
+LOOK = os.environ.get("SAFL_LOOK", f"{TOP}/tools/safl-look")
 SHARED = "start in$a go$1 go$2 run$f arg$f$x res$f ret$1 ret$2 keep$1 run$main done result".split()  # the signals of shared.svg
-
-
-class Example:
-    """A source, its circuit, and for each of its arguments the library's result, the number of calls and the cycle."""
-
-    def __init__(self, name):
-        self.name = name
-        self.path = f"{TOP}/examples/{name}/{name}.safl"
-        self.page = f"{TOP}/examples/{name}/README.md"
-        self.source = read(self.path)
-        try:
-            self.program = language.accept(self.source.encode())
-        except language.Fault as fault:
-            sys.exit(language.fault_line(self.path, self.source.encode(), fault))
-        self.circuit = Circuit(self.program)
-        answer, values = PAGES[name]
-        self.rows = [self.row(*answer(*each)) for each in values]
-        self.limit = 100
-        while self.limit <= max(cycle for *_, cycle in self.rows):
-            self.limit *= 10
-
-    def row(self, title, args, result):
-        value, calls, _ = meaning(self.program, args, CALLS_MAX)
-        found = self.circuit.run(args, 3 * calls)
-        if found is None or (value, found[0]) != (result, result) or found[1] >= 3 * calls:
-            sys.exit(f"{self.name}, {title}: the library gives {result:#x}, the meaning {value:#x}, the circuit {found}")
-        return title, args, result, calls, found[1]
-
-    def report(self):
-        program, plan = self.program, self.circuit.plan
-        sites = program.sites[1:]
-        lines = []
-        for f in program.functions:
-            count = sum(site.callee is f for site in sites)
-            lines.append(f"function {f.name} sites {count} arbiter {'yes' if f.group in plan.arbiters else 'no'}")
-        for k, site in enumerate(sites, 1):
-            lines.append(f"site {k} {site.callee.name} in {site.caller.name} kept {'yes' if k in plan.kept else 'no'}")
-        registers = self.circuit.registers()
-        return lines + [f"registers {len(registers)} bits {sum(width for _, width in registers)}"]
-
-    def apart(self):
-        """The source with a copy of its own for each site that conflicts with another one, and the names of what was copied."""
-        program, plan = self.program, self.circuit.plan
-        clashing = {k for pair in plan.conflicts for k in pair}
-        edits, copies, named = [], {}, []
-        for f in program.functions:
-            sites = [k for k in range(1, len(program.sites)) if k in clashing and program.sites[k].callee is f]
-            for i, k in enumerate(sites[1:], 2):
-                edits.append((program.sites[k].text_place, f"{f.name}_{i}"))
-                copies.setdefault(f.name, []).append(f"{f.name}_{i}")
-            if sites:
-                named.append(f"`{f.name}` for each of its {len(sites)} sites that may be called at once")
-        text = self.source
-        for place, name in sorted(edits, reverse=True):
-            text = text[:place] + name + text[place + name.rindex("_"):]
-        for name, others in copies.items():
-            definition = re.search(rf"^fun {name}\(.*?(?=^(?:fun|//))", self.source, re.M | re.S)[0]
-            added = "".join(re.sub(rf"\b{name}\(", f"{other}(", definition) for other in others)
-            text = text.replace(definition, definition + added)
-        return text, " and of ".join(named)
-
-    def apart_lines(self):
-        text, named = self.apart()
-        program = language.accept(text.encode())
-        circuit = Circuit(program)
-        if circuit.plan.arbiters:
-            sys.exit(f"{self.name}: an arbiter is left in\n{text}")
-        _, args, result, calls, cycle = max(self.rows, key=lambda row: row[4])
-        found = circuit.run(args, 3 * calls)
-        if found[0] != result:
-            sys.exit(f"{self.name}: the copies give {found[0]}")
-        bits = [sum(width for _, width in c.registers()) for c in (circuit, self.circuit)]
-        after = f"in cycle {found[1]}, as before" if found[1] == cycle else f"in cycle {found[1]} instead of {cycle}"
-        return [
-            "![The units and their calls](units.svg)",
-            "",
-            f"With a copy of {named} no unit has an arbiter. Then there are {bits[0]} bits of registers instead of {bits[1]},",
-            f"and the longest of the runs below is done {after}.",
-        ]
-
-    def shown_run(self):
-        """The row whose command stands on the page."""
-        return self.rows[1]
-
-    def waves(self):
-        """The signals of the picture of waveforms, unit by unit from main on, and how many cycles it has."""
-        program, plan = self.program, self.circuit.plan
-        names = ["start", "go$main"]
-        for u in reversed(range(1 + max(f.group for f in program.functions))):
-            names += [f"go${k}" for k in self.circuit.sites if plan.unit(k) == u] + [f"run${self.circuit.unit_name(u)}"]
-        cycles = self.shown_run()[4] + 1
-        return names + ["done"] + ["result"] * (cycles <= DRAWN), min(cycles, DRAWN)
-
-    def waves_lines(self):
-        _, count = self.waves()
-        cycles = self.shown_run()[4] + 1
-        which = "all cycles of that run" if count == cycles else f"the first {count} of the {cycles} cycles of that run"
-        return [f"The calls that are accepted and the units that run, in {which}:", "", "![Waveforms of that run](waves.svg)"]
-
-    def case_lines(self):
-        def answer(row):
-            return f"    {' '.join(str(a) for a in row[1])} -> 0 result {row[2]}, cycle {row[4]}"
-
-        rows = [answer(row) for row in self.rows]
-        counts = f"functions {len(self.program.functions)}, sites {len(self.program.sites) - 1}"
-        lines = [f"# {self.name}", "file p"] + [f"    {line}" for line in self.source.splitlines()]
-        lines += ["words:", f"    check p -> 0 {counts}", f"words: sim p --cycles {self.limit}"] + rows
-        lines += ["safl build p o --opt -> 0", f"words: run o --cycles {self.limit}"] + rows
-        lines += ["safl build p v -> 0", f"words: run v --cycles {self.limit}"] + rows
-        places = ", ".join(aiger.Blasted.of_circuit(self.circuit).counts())
-        return lines + ["safl aig v a -> 0", "words:", f"    aigstat a -> 0 {places}, ands .."]
-
-    def case_count(self):
-        return 5 + 3 * len(self.rows)
-
-    def blocks(self):
-        """What stands between the markers of the page, by the markers' names."""
-        rows = ["| what | arguments | result | calls n | cycle | 3n |", "|---|---|---|---|---|---|"]
-        widths = [width for _, _, width in self.program.main.params]
-        for title, args, result, calls, cycle in self.rows:
-            words = " ".join(shown(a, w) for a, w in zip(args, widths))
-            rows.append(f"| {title} | {words} | {shown(result, self.program.main.width)} | {calls} | {cycle} | {3 * calls} |")
-        title, args, result, _, cycle = self.shown_run()
-        words = " ".join(str(a) for a in args)
-        command = f"safl sim examples/{self.name}/{self.name}.safl --cycles {self.limit} {words}"
-        found = {"apart": self.apart_lines()} if self.circuit.plan.arbiters else {}
-        return found | {
-            "source": ["```"] + self.source.splitlines() + ["```"],
-            "circuit": ["```"] + self.report() + ["```"],
-            "cycles": rows + ["", f"    {command}", "", f"prints `result {result}` and `cycle {cycle}`."],
-            "waves": self.waves_lines(),
-        }
-
-
-def shown(value, width):
-    """A word in a table: in decimal up to 32 bits, else in hexadecimal, but zero as 0."""
-    return str(value) if width <= 32 or value == 0 else f"{value:0{(width + 3) // 4}x}"
-
-
-def cells_text(program, source, what):
-    """What Yosys makes of the file that the program builds of a source: how many cells, and the longest path."""
-    with tempfile.TemporaryDirectory() as room:
-        ended([program, "build", written(room, "source", source), f"{room}/built.v"], (0,))
-        made = yosys.synthesised(f"{room}/built.v")
-    return f"{what} {made.gates:,} gates and {made.flops:,} flip-flops. The longest path goes through {made.path} gates."
-
-
-def cells_block(program, example):
-    lines = [cells_text(program, example.source, f"`synth -flatten` of Yosys {yosys.version()} makes")]
-    if example.circuit.plan.arbiters:
-        lines.append(cells_text(program, example.apart()[0], "With copies instead of arbiters it makes"))
-    return lines
 
 
 def with_blocks(text, blocks, path):
@@ -222,25 +71,19 @@ class Target:
         else:
             write(path, text)
 
+    @property
+    def status(self):
+        return 1 if self.is_check and self.differing else 0
+
+    @property
+    def done(self):
+        return "differ" if self.is_check else "written"
+
 
 def page_text(path):
     if not os.path.exists(path):
         sys.exit(f"{path} is missing")
     return read(path)
-
-
-def index_block(examples):
-    """The table of all examples."""
-    rows = ["| example | what it is | functions | sites | arbiters | bits of registers | cycles |", "|---|---|---|---|---|---|---|"]
-    for example in examples:
-        title = page_text(example.page).splitlines()[0].removeprefix("# ")
-        cycles = sorted({row[4] for row in example.rows})
-        arbiters = ", ".join(example.circuit.unit_name(group) for group in sorted(example.circuit.plan.arbiters))
-        bits = sum(width for _, width in example.circuit.registers())
-        span = str(cycles[0]) if len(cycles) == 1 else f"{cycles[0]} to {cycles[-1]}"
-        counts = f"{len(example.program.functions)} | {len(example.program.sites) - 1} | {arbiters} | {bits}"
-        rows.append(f"| [{example.name}]({example.name}/README.md) | {title} | {counts} | {span} |")
-    return rows
 
 
 def cases_text(examples):
@@ -250,43 +93,146 @@ def cases_text(examples):
     return "\n".join(lines) + "\n"
 
 
-def pictures(examples):
+def write_pages(examples, target):
+    store = measured.Store()
     for example in examples:
-        if example.circuit.plan.arbiters:
-            with tempfile.TemporaryDirectory() as room:
-                report = written(room, "report", "\n".join(example.report()) + "\n")
-                subprocess.run([f"{TOP}/scripts/units.py", report, f"{os.path.dirname(example.path)}/units.svg"], check=True)
+        target.put(example.page, with_blocks(page_text(example.page), pages.blocks(example, store), example.page))
+    target.put(INDEX, with_blocks(page_text(INDEX), {"index": pages.index_block(examples, store)}, INDEX))
+    target.put(CASES, cases_text(examples))
+    cases = sum(example.case_count() for example in examples)
+    print(f"examples: {len(examples)} sources, {cases} cases, {target.differing} files {target.done}")
 
 
-def drawn(program, source, limit, args, names, count=None):
-    """The picture of the trace that the program writes of a run: these signals, and so many cycles or all of them."""
+def missing_folders():
+    """What folders, names and figures there are in one place only."""
+    folders = {name for name in os.listdir(f"{TOP}/examples") if os.path.isdir(f"{TOP}/examples/{name}")} - OTHER_FOLDERS
+    listed = [name for names in SUBJECTS.values() for name in names]
+    for name in sorted(folders ^ set(PAGES)):
+        yield f"{name} is {'in scripts/gallery.py' if name in PAGES else 'a folder'} only"
+    for name in sorted(set(listed) ^ set(PAGES)):
+        yield f"{name} is {'in PAGES' if name in PAGES else 'in SUBJECTS'} only"
+
+
+def figures_wanted(examples):
+    """Each version of each example that the pages have figures of."""
+    for example in examples:
+        for version, text, _ in pages.versions_of(example):
+            yield example, version, text
+        if example.by_hand():
+            yield example, measured.BY_HAND, read(example.by_hand())
+
+
+def stale_pictures(examples):
+    """The pictures that are missing, and those of units that show other units."""
+    for example in examples:
+        for name in ["units.svg", "run.svg"] + ["waves.svg"] * (example.name in WAVES):
+            if not os.path.exists(f"{example.folder}/{name}"):
+                yield f"{pages.picture_of(example, name)} is missing"
+        picture = f"{example.folder}/units.svg"
+        if os.path.exists(picture) and sorted(re.findall(r"<text[^>]*>([^<]*)</text>", read(picture))) != labels(example):
+            yield f"{pages.picture_of(example, 'units.svg')} shows other units"
+
+
+def labels(example):
+    """The texts of the picture of an example's units."""
+    graph = units.graph(units_text(example).splitlines())
+    found = [part for text in re.findall(r'\blabel="([^"]*)"', graph) for part in text.split("\\n")]
+    return sorted(found)
+
+
+def check(examples):
+    """Whether everything that needs no tool is as it should be. Figures that are still to be made are empty cells, and no fault."""
+    target, store = Target(True), measured.Store()
+    write_pages(examples, target)
+    faults = list(stale_pictures(examples))
+    for fault in faults:
+        print(f"examples: {fault}")
+    missing = [f"{each.name} {version}" for each, version, text in figures_wanted(examples) if not store.figures(each.name, version, text)]
+    if missing:
+        print(f"examples: SKIPPED figures that --measure still has to make: {', '.join(missing)}")
+    return 1 if target.status or faults else 0
+
+
+def measure_one(program, example, version, text, has_clock):
+    print(f"examples: {'places' if has_clock else 'synthesises'} {example.name}, {version}", flush=True)
+    if version == measured.BY_HAND:
+        return measured.placed_by_hand(example.by_hand(), example.longest.args, example.limit, has_clock)
+    return measured.placed_source(program, text, has_clock)
+
+
+def measure(examples, program, names):
+    """Places or synthesises what has no figures yet, or all versions of the examples that are named, in the order of PASSES."""
+    store, wanted = measured.Store(), list(figures_wanted(examples))
+    for chosen, has_clock in PASSES:
+        for example, version, text in wanted:
+            there = store.figures(example.name, version, text)
+            known = there and (not has_clock or there.fits is not None)
+            if version == chosen and (example.name in names if names else not known):
+                store.put(example.name, version, measure_one(program, example, version, text, has_clock))
+    store.keep({(example.name, version) for example, version, _ in wanted})
+    return 0
+
+
+def units_text(example):
+    """The report with the tail calls, for scripts/units.py."""
+    return "\n".join(example.report() + [f"tail {callee} in {caller}" for caller, callee in example.tails()]) + "\n"
+
+
+def draw_units(examples):
+    for example in examples:
+        with tempfile.TemporaryDirectory() as room:
+            words = [f"{TOP}/scripts/units.py", written(room, "report", units_text(example)), f"{example.folder}/units.svg"]
+            subprocess.run(words, check=True, stdout=subprocess.DEVNULL)
+    print(f"examples: {len(examples)} pictures of units")
+    return 0
+
+
+def drawn(program, source, limit, args, names, first=0, last=None):
+    """The picture of the trace that the program writes of a run: these signals, in all cycles or in some of them."""
     with tempfile.TemporaryDirectory() as room:
         words = [program, "sim", source, "--cycles", str(limit), "--vcd", f"{room}/trace.vcd"] + [str(a) for a in args]
         ended(words, (0,))
         trace = Trace(read(f"{room}/trace.vcd"))
-    numbers = range(trace.end if count is None else count)
+    numbers = range(first, trace.end if last is None else last + 1)
     return drawing(trace, names, numbers, list(numbers))
 
 
-def waveforms(examples, program, target):
+def chart(example, program):
+    """The chart of the run of the page."""
+    with tempfile.TemporaryDirectory() as room:
+        args = [str(a) for a in example.shown.args]
+        found = told([sys.executable, LOOK, "--safl", program, "--chart", f"{room}/run.svg", example.path, *args])
+        if found.returncode:
+            sys.exit(f"examples: {found.stderr.strip()}")
+        return read(f"{room}/run.svg")
+
+
+def draw_runs(examples, program, target):
+    """The charts and the waveforms; without safl-look only the waveforms."""
+    has_look = os.path.exists(LOOK)
     for example in examples:
-        names, count = example.waves()
-        picture = drawn(program, example.path, example.limit, example.shown_run()[1], names, count)
-        target.put(f"{os.path.dirname(example.path)}/waves.svg", picture)
+        if has_look:
+            target.put(f"{example.folder}/run.svg", chart(example, program))
+        if example.name in WAVES:
+            names, first, last = WAVES[example.name][0], *pages.waves_range(example)
+            picture = drawn(program, example.path, example.limit, example.shown.args, names, first, last)
+            target.put(f"{example.folder}/waves.svg", picture)
     target.put(f"{TOP}/examples/shared.svg", drawn(program, f"{TOP}/examples/shared.safl", 100, [5], SHARED))
-    print(f"examples: {len(examples) + 1} pictures of waveforms, {target.differing} {'differ' if target.is_check else 'written'}")
-    return 1 if target.is_check and target.differing else 0
+    count = len(WAVES) + 1 + len(examples) * has_look
+    without = "" if has_look else ", the charts SKIPPED: there is no tools/safl-look"
+    print(f"examples: {count} pictures of runs, {target.differing} {target.done}{without}")
+    return target.status
 
 
 def compare_drawn(examples, program, count, seed):
-    """Whether the program's results are the libraries' for so many drawn arguments of each example, in less than 3n cycles."""
-    drawing, tried, wrong = random.Random(seed), 0, 0
+    """Whether the program's results are the libraries' for so many drawn arguments of each example, by cycle 2n - l."""
+    drawing_from, tried, wrong = random.Random(seed), 0, 0
     for example in examples:
         for _ in range(count if example.name in DRAWS else 0):
             answer, _ = PAGES[example.name]
-            title, args, result = answer(*DRAWS[example.name](drawing))
-            _, calls, _ = meaning(example.program, args, CALLS_MAX)
-            words = [program, "sim", example.path, "--cycles", str(3 * calls)] + [str(a) for a in args]
+            title, args, result = answer(*DRAWS[example.name](drawing_from))
+            _, calls, tails = meaning(example.program, args, CALLS_MAX)
+            words = [program, "sim", example.path, "--cycles", str(2 * calls - tails + 1)] + [str(a) for a in args]
             printed = told(words).stdout.splitlines()
             tried += 1
             if printed[:1] != [f"result {result}"]:
@@ -296,48 +242,83 @@ def compare_drawn(examples, program, count, seed):
     return 1 if wrong else 0
 
 
-def main(words):
-    examples = [Example(name) for name in PAGES]
-    if words[:1] == ["--rows"]:
-        for example in examples:
-            for row in example.rows:
-                print(example.name, example.limit, *row[1])
-        return 0
-    if words[:1] == ["--report"]:
-        print("\n".join(next(e for e in examples if e.name == words[1]).report()))
-        return 0
-    if words[:1] == ["--random"]:
-        count, seed = [int(word) for word in words[2:4]] + [20, 1][len(words[2:4]):]
-        return compare_drawn(examples, os.path.abspath(words[1]), count, seed)
-    if words[:1] == ["--pictures"]:
-        pictures(examples)
-        return 0
-    if words[:1] == ["--waves"]:
-        return waveforms(examples, os.path.abspath(words[1]), Target(words[2:] == ["--check"]))
-    target = Target(words == ["--check"])
-    missing = set(name for name in os.listdir(f"{TOP}/examples") if os.path.isdir(f"{TOP}/examples/{name}")) - set(PAGES) - {BY_HAND}
-    if missing:
-        sys.exit(f"no arguments for {', '.join(sorted(missing))}")
+def print_rows(examples):
     for example in examples:
-        blocks = example.blocks()
-        if words[:1] == ["--cells"]:
-            blocks["cells"] = cells_block(os.path.abspath(words[1]), example)
-        target.put(example.page, with_blocks(page_text(example.page), blocks, example.page))
-    index = f"{TOP}/examples/README.md"
-    target.put(index, with_blocks(page_text(index), {"index": index_block(examples)}, index))
-    target.put(CASES, cases_text(examples))
-    cases = sum(example.case_count() for example in examples)
-    print(f"examples: {len(examples)} sources, {cases} cases, {target.differing} files {'differ' if target.is_check else 'written'}")
-    return 1 if target.is_check and target.differing else 0
+        for row in example.rows:
+            print(example.name, example.limit, *row.args)
+    return 0
 
 
-STATUS = []
+class Words(argparse.ArgumentParser):
+    """The words of the command line; a wrong one is told in one line."""
+
+    def error(self, message):
+        sys.exit(f"examples: {message}")
+
+
+def given(words):
+    parser = Words(description="Works out the numbers of the gallery.", allow_abbrev=False)
+    what = parser.add_mutually_exclusive_group()
+    what.add_argument("--rows", action="store_true", help="print the arguments of all examples")
+    what.add_argument("--report", metavar="EXAMPLE", choices=PAGES, help="print the report of an example")
+    what.add_argument("--random", nargs="+", metavar="WORD", help="PROGRAM [COUNT [SEED]]: compare on drawn arguments")
+    what.add_argument("--units", action="store_true", help="draw the units")
+    what.add_argument("--waves", metavar="PROGRAM", help="draw the runs")
+    what.add_argument("--measure", nargs="+", metavar="WORD", help="PROGRAM [EXAMPLE..]: place the examples")
+    parser.add_argument("--check", action="store_true", help="write nothing, and say what differs")
+    chosen = parser.parse_args(words)
+    if chosen.check and (chosen.rows or chosen.report or chosen.random or chosen.units or chosen.measure):
+        parser.error("--check goes alone or with --waves")
+    if chosen.random and (len(chosen.random) > 3 or not all(word.isdecimal() for word in chosen.random[1:])):
+        parser.error("--random takes PROGRAM [COUNT [SEED]]")
+    for name in chosen.measure[1:] if chosen.measure else ():
+        if name not in PAGES:
+            parser.error(f"there is no example {name}")
+    return chosen
+
+
+def run(chosen):
+    for fault in missing_folders():
+        sys.exit(f"examples: {fault}")
+    examples = [Example(name) for name in PAGES]
+    if chosen.rows:
+        return print_rows(examples)
+    if chosen.report:
+        print("\n".join(next(e for e in examples if e.name == chosen.report).report()))
+        return 0
+    if chosen.random:
+        count, seed = [int(word) for word in chosen.random[1:]] + [20, 1][len(chosen.random) - 1:]
+        return compare_drawn(examples, os.path.abspath(chosen.random[0]), count, seed)
+    if chosen.units:
+        return draw_units(examples)
+    if chosen.waves:
+        return draw_runs(examples, os.path.abspath(chosen.waves), Target(chosen.check))
+    if chosen.measure:
+        return measure(examples, os.path.abspath(chosen.measure[0]), chosen.measure[1:])
+    if chosen.check:
+        return check(examples)
+    write_pages(examples, Target(False))
+    return 0
+
+
+def main():
+    """Runs on a thread with a large stack, since expressions may be nested deeply; a fault ends with its line and status 1."""
+    status = []
+
+    def work():
+        try:
+            status.append(run(chosen))
+        except SystemExit as end:
+            status.append(end.code)
+
+    chosen = given(sys.argv[1:])
+    sys.setrecursionlimit(1_000_000)
+    threading.stack_size(512 * 1024 * 1024)
+    thread = threading.Thread(target=work)
+    thread.start()
+    thread.join()
+    sys.exit(status[0] if status else 2)
 
 
 if __name__ == "__main__":
-    sys.setrecursionlimit(1_000_000)
-    threading.stack_size(512 * 1024 * 1024)
-    thread = threading.Thread(target=lambda: STATUS.append(main(sys.argv[1:])))
-    thread.start()
-    thread.join()
-    sys.exit(STATUS[0] if STATUS else 2)
+    main()

@@ -28,6 +28,7 @@ def written(folder, name, text):
 
 
 def examples():
-    """The names and files of the sources of examples/."""
+    """The names and files of the sources of examples/, but for those of by_hand, which are tuned forms of others."""
     paths = sorted(glob.glob(f"{TOP}/examples/*.safl") + glob.glob(f"{TOP}/examples/*/*.safl"))
+    paths = [path for path in paths if os.path.basename(os.path.dirname(path)) != "by_hand"]
     return [(os.path.basename(path).removesuffix(".safl"), path) for path in paths]

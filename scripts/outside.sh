@@ -1,11 +1,11 @@
 #!/bin/bash
 # Compares the Verilog that the program writes for all examples with what other tools make of it: Icarus Verilog has to print
-# the same result in the same cycle, Yosys has to synthesise it (scripts/cells.py, which prints what it makes), Verilator to
-# read it without an error, and ABC has to find its bit-level circuit equal to what Yosys makes of it (scripts/bits.py). The
-# same goes for what `build --opt` writes. ABC also has to find the products right that Yosys is told to make for this
-# comparison. One session has to draw the picture of examples/mandelbrot (scripts/picture.py). Traces have to be those of Icarus
+# the same result in the same cycle, Verilator has to read it without an error, Yosys has to synthesise it, and ABC has to find
+# its bit-level circuit equal to what Yosys makes of it (scripts/bits.py). The same goes for what `build --opt` writes. The cells
+# of those that were also written by hand are printed (scripts/cells.py). ABC also has to find the products right that Yosys is
+# told to make for this comparison. One session has to draw the picture of examples/mandelbrot (scripts/picture.py). Traces have to be those of Icarus
 # Verilog, for both files, and vcd2fst has to read them; the pictures of waveforms have to be drawn from them. The circuits of
-# examples/by_hand have to give the same results. A refusal has to come on the error output. The arguments of the gallery are
+# examples/by_hand have to give the same results, and so have the tuned sources there (scripts/by_hand.py). A refusal has to come on standard error. The arguments of the gallery are
 # those of scripts/examples.py, which also looks at its pages and cases. The last line says how much was compared, and what is
 # missing. The program is built if it is missing (SAFL names another one).
 set -u
@@ -16,13 +16,16 @@ if [ ! -x "$program" ]; then
     (cd crates/safl && rt run -- check ../../examples/seven.safl) >/dev/null || { echo "outside: the program can't be built"; exit 1; }
 fi
 folder=$(mktemp -d)
+mkdir "$folder/bits"
 trap 'rm -rf "$folder"' EXIT
 failed=0
 tried=0
 rows=0
 sources=0
 last=""
+tuned=""
 seen=""
+by_hand=()
 
 say() {
     echo "outside: $1"
@@ -48,7 +51,7 @@ simulate() {
         vvp -n "$folder/simulated" | grep -v -e 'finish called' -e 'VCD info'
 }
 
-# Builds a source, and has Verilator read the files.
+# Builds a source, and has Verilator read the files. They are kept for the comparison of bit-level circuits.
 build() {
     local source=$1 option
     seen="$seen $source "
@@ -56,14 +59,22 @@ build() {
     for option in "${options[@]}"; do
         # shellcheck disable=SC2086
         "$program" build "$source" "$folder/built$option.v" $option || { say "build $option of $source failed"; return 1; }
+        cp "$folder/built$option.v" "$folder/bits/$(basename "$source" .safl)$option.v"
         if has verilator; then
             verilator --lint-only -Wno-fatal --top-module safl "$folder/built$option.v" >"$folder/log" 2>&1 ||
                 say "verilator refuses $source $option"
         fi
-        if has python3; then
-            python3 scripts/bits.py "$program" "$folder/built$option.v" >"$folder/log" 2>&1 ||
-                say "bit-level circuit of $source $option: $(tail -n 3 "$folder/log")"
-        fi
+    done
+}
+
+# Compares the bit-level circuits of all built files, as many at once as there are processors.
+compare_bits() {
+    local file
+    # shellcheck disable=SC2016
+    find "$folder/bits" -name '*.v' -print0 |
+        xargs -0 -P "$(nproc)" -I{} sh -c 'python3 scripts/bits.py "$0" {} >{}.log 2>&1 || touch {}.differs' "$program"
+    for file in "$folder"/bits/*.differs; do
+        [ ! -e "$file" ] || say "bit-level circuit of $(basename "$file" .v.differs): $(tail -n 3 "${file%.differs}.log")"
     done
 }
 
@@ -88,7 +99,7 @@ same_trace() {
     python3 scripts/same_traces.py "$folder/trace.vcd" "$folder/icarus.vcd" >"$folder/log" 2>&1 || say "$*: $(tail -n 1 "$folder/log")"
 }
 
-# Whether a refusal is told on the error output alone, with its status.
+# Whether a refusal is told on standard error alone, with its status.
 refuse() {
     local told status
     printf 'fun main(x:8):8 = 1 + main(x)\n' >"$folder/wrong.safl"
@@ -98,9 +109,25 @@ refuse() {
     [ ! -s "$folder/printed" ] || say "check of a wrong source prints $(cat "$folder/printed")"
 }
 
+# Compares the result of a tuned source with the plain one's, for a limit of cycles and arguments: tune SOURCE RESULT LIMIT ARGS
+tune() {
+    local source=$1 wanted=$2 limit=$3
+    shift 3
+    if [ "$source" != "$tuned" ]; then
+        tuned=$source
+        seen="$seen $source "
+        "$program" build "$source" "$folder/tuned.v" || { say "build of $source failed"; return; }
+    fi
+    same "$source $*" "$wanted" "$("$program" sim "$source" --cycles "$limit" "$@" | head -n 1)" "sim"
+    same "$source $*" "$wanted" "$("$program" run "$folder/tuned.v" --cycles "$limit" "$@" | head -n 1)" "run"
+    if has iverilog && has python3; then
+        same "$source $*" "$wanted" "$(simulate "$folder/tuned.v" "$limit" "$@" | head -n 1)" "Icarus Verilog"
+    fi
+}
+
 # Compares the files of a source, which are built if the last call was for another one, with a limit of cycles and arguments.
 compare() {
-    local source=$1 limit=$2 wanted option hand
+    local source=$1 limit=$2 wanted option hand name
     shift 2
     rows=$((rows + 1))
     if [ "$source" != "$last" ]; then
@@ -112,8 +139,12 @@ compare() {
         same "$source $option $*" "$wanted" "$("$program" run "$folder/built$option.v" --cycles "$limit" "$@")" "the built file"
     done
     [ ${#dump[@]} -eq 0 ] || trace "$source" "$limit" "$@"
+    name=$(basename "$source" .safl)
+    if [ -f "examples/by_hand/${name}_tuned.safl" ]; then
+        tune "examples/by_hand/${name}_tuned.safl" "${wanted%%$'\n'*}" "$limit" "$@"
+    fi
     has iverilog && has python3 || return
-    hand=examples/by_hand/$(basename "$source" .safl).v
+    hand=examples/by_hand/$name.v
     if [ -f "$hand" ]; then
         same "$hand $*" "${wanted%%$'\n'*}" "$(simulate "$hand" "$limit" "$@" | head -1)" "Icarus Verilog"
     fi
@@ -145,23 +176,35 @@ compare examples/shared.safl 1000 5
 compare examples/even_odd.safl 1000 3
 compare examples/even_odd.safl 1000 200
 if has python3; then
-    python3 scripts/examples.py --check || say "the gallery's pages or cases hold other numbers"
-    [ ${#dump[@]} -eq 0 ] || python3 scripts/examples.py --waves "$program" --check || say "a picture of waveforms is another one"
+    python3 scripts/examples.py --check || say "the gallery's pages, cases or pictures hold something else"
+    [ ${#dump[@]} -eq 0 ] || python3 scripts/examples.py --waves "$program" --check || say "a picture of a run is another one"
     python3 scripts/examples.py --rows >"$folder/rows" || say "scripts/examples.py gives no arguments"
     while read -r name limit arguments <&3; do
         # shellcheck disable=SC2086
         compare "examples/$name/$name.safl" "$limit" $arguments
     done 3<"$folder/rows"
+    python3 scripts/by_hand.py --check || say "the page of examples/by_hand has other tables"
+    python3 scripts/guide.py "$program" --check || say "docs/GUIDE.md has other figures"
     python3 scripts/picture.py "$program" || say "the picture of the Mandelbrot set differs"
     for source in examples/*.safl examples/*/*.safl; do
         [[ "$seen" == *" $source "* ]] || say "$source has no arguments here"
     done
+    compare_bits
 fi
 if has yosys && has berkeley-abc && has python3; then
     python3 scripts/bits.py --products || say "the products of scripts/products.v are not those of Yosys"
 fi
 if has yosys && has python3; then
-    python3 scripts/cells.py "$program" || say "yosys refuses a file"
+    for hand in examples/by_hand/*.v; do
+        by_hand+=("$(basename "$hand" .v)")
+    done
+    python3 scripts/cells.py "$program" "${by_hand[@]}" || say "yosys refuses a file"
+fi
+if has python3; then
+    SAFL=$program python3 scripts/tutorial.py || say "a command of the documents prints something else"
+    for script in scripts/tools_*.py; do
+        SAFL=$program python3 "$script" || say "$script finds a difference"
+    done
 fi
 for name in iverilog yosys verilator vcd2fst berkeley-abc python3; do
     has "$name" || skipped="$skipped, SKIPPED $name"

@@ -1,5 +1,5 @@
 #!/usr/bin/env python3
-"""Draws the picture of examples/mandelbrot by one session of calls: picture.py [PROGRAM] [--write]
+"""Draws the picture of examples/mandelbrot by one session of calls.
 
 `safl session` calls the circuit once for each point of a grid, row by row, and the result gives the point's colour. Each result n
 has to be the one that Python's integers give for the same steps, and to come in cycle 7n + 10. The picture has to be the one of the
@@ -13,6 +13,7 @@ import tempfile
 import zlib
 
 from files import TOP, read, written
+from given import a_program, parser
 from program import PROGRAM, told
 
 FOLDER = f"{TOP}/examples/mandelbrot"
@@ -110,10 +111,13 @@ def faults(results, picture):
 
 
 def main(words):
-    named = [each for each in words if each != "--write"]
-    results = replies(os.path.abspath(named[0]) if named else PROGRAM)
+    reader = parser(__doc__)
+    reader.add_argument("--write", action="store_true", help="put the picture into the folder of the page")
+    reader.add_argument("program", nargs="?", type=a_program, metavar="PROGRAM")
+    given = reader.parse_args(words)
+    results = replies(given.program or PROGRAM)
     picture = png([n for n, _ in results])
-    if "--write" in words:
+    if given.write:
         with open(PICTURE, "wb") as file:
             file.write(picture)
     found = list(faults(results, picture))

@@ -1,8 +1,8 @@
 #!/usr/bin/env python3
 """Draws waveforms: waves.py TRACE.vcd [--signals NAME,NAME,..] [--cycles FIRST-LAST] [--period P] [--at O] >OUT.svg
 
-A trace is a value change dump. Signals of one bit are drawn as lines, others as boxes with their values, in decimal up to
-16 bits and else in hexadecimal. All signals are drawn if none are named, and all cycles if no range is given. Cycle c
+A trace is a value change dump. Signals of one bit are drawn as lines, others as boxes with their values, in decimal if
+none of them has more than ten digits, and else in hexadecimal, as 0x.. All signals are drawn if none are named, and all cycles if no range is given. Cycle c
 shows the values at time c * P + O; P is 1 and O is 0 if they aren't given, as in the traces of `safl`.
 """
 import argparse
@@ -12,8 +12,11 @@ import re
 import sys
 
 from files import read
+from given import a_file
+from program import script
 
 ROW, HIGH, LEFT_CHARACTER, CHARACTER, TOP = 26, 16, 7.3, 6.7, 24
+DECIMALS_MOST = 10
 INK, LIGHT, UNKNOWN, FILL = "#222", "#ddd", "#e8c9c9", "#eef3fa"
 
 
@@ -73,10 +76,10 @@ class Trace:
         return int(values[at], 2)
 
 
-def shown(value, width):
-    if value is None:
-        return "?"
-    return str(value) if width <= 16 else f"{value:x}"
+def shown(values):
+    """The values of a signal as texts."""
+    is_decimal = max((value for value in values if value is not None), default=0) < 10**DECIMALS_MOST
+    return ["?" if value is None else str(value) if is_decimal else f"{value:#x}" for value in values]
 
 
 def runs(values):
@@ -104,16 +107,16 @@ def bit_row(values, left, step, y):
     return patches + [line(points)]
 
 
-def bus_row(values, width, left, step, y):
+def bus_row(values, left, step, y):
     """A signal of several bits: a box for each value, with the value in it if it fits."""
-    found = []
+    found, texts = [], shown(values)
     for first, last, value in runs(values):
         a, b, slope = left + first * step, left + last * step, min(3, step / 4)
         corners = [(a, y + HIGH / 2), (a + slope, y), (b - slope, y), (b, y + HIGH / 2), (b - slope, y + HIGH), (a + slope, y + HIGH)]
         text = " ".join(f"{x:g},{z:g}" for x, z in corners)
         fill = UNKNOWN if value is None else "none" if value == 0 else FILL
         found.append(f'<polygon points="{text}" fill="{fill}" stroke="{INK}" stroke-width="1"/>')
-        label, room = shown(value, width), int((b - a - 2 * slope) / CHARACTER)
+        label, room = texts[first], int((b - a - 2 * slope) / CHARACTER)
         if len(label) > room:
             label = label[:room - 1] + "\u2026" if room > 2 else ""
         found.append(f'<text x="{(a + b) / 2:g}" y="{y + HIGH - 4:g}" text-anchor="middle">{label}</text>')
@@ -125,8 +128,8 @@ def step_of(trace, names, cycles):
     longest = 2
     for name in names:
         if trace.widths[name] > 1:
-            labels = [len(shown(trace.value(name, time), trace.widths[name])) for time in cycles]
-            longest = max([longest] + labels)
+            labels = shown([trace.value(name, time) for time in cycles])
+            longest = max([longest] + [len(label) for label in labels])
     return min(max(26, CHARACTER * longest + 10), 96)
 
 
@@ -146,24 +149,34 @@ def drawing(trace, names, numbers, times):
         y = TOP + row * ROW + (ROW - HIGH) / 2
         values = [trace.value(name, time) for time in times]
         found.append(f'<text x="6" y="{y + HIGH - 4:g}">{html.escape(name)}</text>')
-        found += bit_row(values, left, step, y) if trace.widths[name] == 1 else bus_row(values, trace.widths[name], left, step, y)
+        found += bit_row(values, left, step, y) if trace.widths[name] == 1 else bus_row(values, left, step, y)
     return "\n".join(found + ["</svg>"]) + "\n"
+
+
+def trace_of(path):
+    """The trace in a file, or the end of the script if it is none."""
+    text = read(path)
+    if "$enddefinitions" not in text:
+        sys.exit(f"{script()}: {path} is no value change dump")
+    return Trace(text)
 
 
 def main():
     parser = argparse.ArgumentParser(description="Draws waveforms of a value change dump as SVG.")
-    parser.add_argument("trace", metavar="TRACE.vcd")
+    parser.add_argument("trace", type=a_file, metavar="TRACE.vcd")
     parser.add_argument("--signals", metavar="NAME,NAME,..", help="the signals to draw, in this order")
     parser.add_argument("--cycles", metavar="FIRST-LAST", help="the cycles to draw, both counted in")
     parser.add_argument("--period", type=int, default=1, metavar="P", help="units of time in a cycle")
     parser.add_argument("--at", type=int, default=0, metavar="O", help="the time in a cycle at which its values are taken")
     words = parser.parse_args()
-    trace = Trace(read(words.trace))
+    trace = trace_of(words.trace)
     names = words.signals.split(",") if words.signals else list(trace.widths)
     for name in names:
         if name not in trace.widths:
             sys.exit(f"waves: there is no signal {name}")
     last = max(0, (trace.end - 1 - words.at) // words.period)
+    if words.cycles and not re.fullmatch(r"\d+-\d+", words.cycles):
+        parser.error(f"{words.cycles} is no range of cycles")
     first, last = (int(word) for word in words.cycles.split("-")) if words.cycles else (0, last)
     if last < first:
         sys.exit("waves: no cycle to draw")
