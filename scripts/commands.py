@@ -1,10 +1,11 @@
 #!/usr/bin/env python3
-"""Says where the commands and their options differ between README.md's table, the manual page, the completions for bash and zsh,
-and the oracle. The status is 1 where they do."""
+"""Says where the commands and their options differ between the table of docs/COMMANDS.md, the manual page, the completions for bash
+and zsh, and the oracle; and which command has no section in docs/COMMANDS.md. The status is 1 where they do."""
 import re
 import sys
 
 from files import TOP, text
+from given import parser
 
 sys.path.insert(0, f"{TOP}/scripts/oracle")
 from words import FORMS, TRACES  # noqa: E402
@@ -22,8 +23,15 @@ def gathered(pairs):
     return found
 
 
-def readme():
-    return gathered((verb, options(rest)) for verb, rest in re.findall(r"^\| `safl (\w+)([^`]*)` \|", text("README.md"), re.M))
+def page():
+    return gathered((verb, options(rest)) for verb, rest in re.findall(r"^\| \[`safl (\w+)([^`]*)`\]\(#\1\) \|", text("docs/COMMANDS.md"), re.M))
+
+
+def sections():
+    """The commands that have a section, and those that README.md lists."""
+    listed = re.search(r"^The commands: (.*) \(\[", text("README.md"), re.M)[1]
+    return [("docs/COMMANDS.md's sections", set(re.findall(r"^## (\w+)$", text("docs/COMMANDS.md"), re.M)) - {"Words"}),
+            ("README.md's list", set(re.findall(r"`(\w+)`", listed)))]
 
 
 def manual():
@@ -57,8 +65,13 @@ def oracle():
 
 
 def main():
+    parser(__doc__).parse_args()
     wanted, differing = oracle(), 0
-    for where, found in (("README.md", readme()), ("man/safl.1", manual()), ("completion/safl.bash", bash()), ("completion/_safl", zsh())):
+    for where, found in sections():
+        if found != wanted.keys():
+            differing += 1
+            print(f"commands: {where} and the oracle differ in {', '.join(sorted(found ^ wanted.keys()))}")
+    for where, found in (("docs/COMMANDS.md", page()), ("man/safl.1", manual()), ("completion/safl.bash", bash()), ("completion/_safl", zsh())):
         for verb in sorted(wanted.keys() | found.keys()):
             if found.get(verb) != wanted.get(verb):
                 differing += 1

@@ -1,26 +1,29 @@
 #!/usr/bin/env python3
-"""Checks that README.md and docs/ have the numbers that the repository has, and names each crate: the crates, the cases by file, and
-the definitions that the contract of `run` reaches (scripts/trusted.py), whose tables docs/THEOREMS.md has. The signals with and without
-`--opt` in README.md have to be those of docs/SPEED.md, which scripts/speed_tools.py prints."""
+"""Checks that the documents have the numbers that the repository has, and no other ones: a row of docs/CRATES.md for each crate; the
+cases by file, in docs/CASES.md, and of all, there and in README.md; the definitions that the contract of
+`run` reaches, in docs/TRUSTED.md, as scripts/trusted.py prints them, and their number in README.md; and README.md's figures of size
+and speed, which have to be those of the tables of docs/SPEED.md. Also checks that no link leads nowhere (scripts/links.py). --write
+puts the numbers into the documents; what is then still missing is printed."""
 import re
-import subprocess
 import sys
 
-from files import TOP, text
+import links
+import trusted
+from files import TOP, text, write
+from given import parser
+
+# the figures of README.md: what they are, how they are written, and for each number the column and the row of docs/SPEED.md
+FIGURES = [
+    ("`build` of 900 functions with calls", "{} for {} signals", [("`build`", ["900 functions with calls"]), ("signals", ["900 functions with calls"])]),
+    ("a cycle of `sim`, one multiplication without an end", "{} ns", [("`sim`, ns a cycle", ["one multiplication without an end"])]),
+    ("a cycle of `sim`, 900 functions with calls", "{} ns", [("`sim`, ns a cycle", ["900 functions with calls"])]),
+    ("gates of gcd, by `build` and by hand", "{} and {}", [("gates", ["gcd", "`build`"]), ("gates", ["gcd", "by hand"])]),
+    ("flip-flops of gcd, by `build` and by hand", "{} and {}", [("flip-flops", ["gcd", "`build`"]), ("flip-flops", ["gcd", "by hand"])]),
+]
 
 
 def crates():
     return re.findall(r"^(safl\w*):", text("crates.txt"), re.M)
-
-
-def trusted():
-    """The tables of the definitions that the contract of `run` reaches, as docs/THEOREMS.md has them."""
-    return subprocess.run([sys.executable, f"{TOP}/scripts/trusted.py"], capture_output=True, text=True, check=True).stdout
-
-
-def reached(printed):
-    """How many definitions these are, with how many lines in how many files, as README.md says it."""
-    return "{} definitions with {} lines in {} files".format(*re.search(r"^\| all commands \| (.*) \| (.*) \| (.*) \|$", printed, re.M).groups())
 
 
 def cases():
@@ -29,50 +32,96 @@ def cases():
     return [(name, f"{int(n):,}") for name, n in re.findall(r"^(\w+\.case): (\d+) cases", found, re.M)], int(re.search(r"^all: (\d+) cases", found, re.M)[1])
 
 
+def cells_of(line):
+    return [cell.strip() for cell in re.split(r"(?<!\\)\|", line.strip().strip("|"))]
+
+
 def in_table(page, name, number):
     """Whether a row of the page has the name and, in its next cell, the number at the same place in the list."""
     for row in page.splitlines():
-        cells = [cell.strip().split(", ") for cell in row.strip("|").split("|")]
+        cells = [cell.split(", ") for cell in cells_of(row)]
         if len(cells) >= 2 and name in cells[0]:
             return cells[1][cells[0].index(name)] == number
     return False
 
 
-def smaller(page):
-    """The rows of the table of signals with and without `--opt`."""
-    return page.split("\n| source | signals | with `--opt` | less |\n|---|---|---|---|\n")[1].split("\n\n")[0].splitlines()
+def with_cases(page):
+    """The rows of a table of case files, with the numbers of their cases."""
+    numbers = dict(cases()[0])
+    for row in page.splitlines():
+        names = cells_of(row)[0].split(", ")
+        if row.startswith("| ") and set(names) <= numbers.keys():
+            cells = row.split(" | ")
+            row = " | ".join([cells[0], ", ".join(numbers[name] for name in names), *cells[2:]])
+        yield row
+
+
+def measured(page, column, row):
+    """The cell in this column and in the row that begins with these cells, in the first table that has both."""
+    for table in re.findall(r"(?:^\|.*\n)+", page, re.M):
+        head, *rows = [cells_of(line) for line in table.splitlines()]
+        for cells in rows:
+            if column in head and cells[:len(row)] == row:
+                return cells[head.index(column)]
+    return None
+
+
+def figures(page):
+    """What each of README.md's figures is, and its line by docs/SPEED.md."""
+    for what, form, found in FIGURES:
+        yield what, f"| {what} | {form.format(*(measured(page, *place) for place in found))} |"
+
+
+def definitions(readme, page):
+    files, by_command = trusted.tables()
+    for table in (files, by_command):
+        if table not in page:
+            yield "docs/TRUSTED.md does not have the tables of scripts/trusted.py (scripts/trusted.py --write mends it)"
+            break
+    if trusted.in_words() not in readme:
+        yield f"README.md does not say '{trusted.in_words()}'"
 
 
 def missing():
-    readme, architecture, page = text("README.md"), text("docs/ARCHITECTURE.md"), text("docs/CASES.md")
-    measured = text("docs/SPEED.md").splitlines()
+    readme, rows, page = text("README.md"), text("docs/CRATES.md"), text("docs/CASES.md")
     by_file, total = cases()
     for crate in crates():
-        if not re.search(rf"\b{crate}\b", readme):
-            yield f"README.md does not name {crate}"
-        if f"| {crate} |" not in architecture:
-            yield f"docs/ARCHITECTURE.md has no row for {crate}"
-    if trusted() not in text("docs/THEOREMS.md"):
-        yield "docs/THEOREMS.md does not have the tables of scripts/trusted.py"
-    if reached(trusted()) not in readme:
-        yield f"README.md does not say '{reached(trusted())}'"
+        if f"\n| {crate} |" not in rows:
+            yield f"docs/CRATES.md has no row for {crate}"
     for name, where in (("README.md", readme), ("docs/CASES.md", page)):
         if f"{total:,} cases" not in where:
             yield f"{name} does not say '{total:,} cases'"
-    for row in smaller(readme):
-        if not any(line.startswith(row) for line in measured):
-            yield f"docs/SPEED.md has no row '{row}'"
     for name, number in by_file:
         if not in_table(page, name, number):
             yield f"docs/CASES.md does not say that {name} has {number} cases"
+    yield from definitions(readme, text("docs/TRUSTED.md"))
+    for _, line in figures(text("docs/SPEED.md")):
+        if line not in readme:
+            yield f"README.md does not say '{line}', which docs/SPEED.md has"
+    yield from links.broken()
+
+
+def put():
+    """Puts the numbers into the documents."""
+    trusted.put()
+    readme, total = text("README.md"), f"{cases()[1]:,} cases"
+    for what, line in figures(text("docs/SPEED.md")):
+        readme = re.sub(rf"^\| {re.escape(what)} \|.*$", lambda _, line=line: line, readme, flags=re.M)
+    write(f"{TOP}/README.md", re.sub(r"[\d,]+ cases\b", total, readme))
+    page = re.sub(r"There are \d+ files with [\d,]+ cases", f"There are {len(cases()[0])} files with {total}", text("docs/CASES.md"))
+    write(f"{TOP}/docs/CASES.md", "\n".join(with_cases(page)) + "\n")
 
 
 def main():
+    reader = parser(__doc__)
+    reader.add_argument("--write", action="store_true", help="put the numbers into the documents")
+    if reader.parse_args().write:
+        put()
     found = list(missing())
     for line in found:
         print(f"numbers: {line}")
     if not found:
-        print(f"numbers: README.md and docs/ have {len(crates())} crates, {cases()[1]:,} cases and {reached(trusted())}")
+        print(f"numbers: the documents have {len(crates())} crates, {cases()[1]:,} cases, {trusted.in_words()} and {len(FIGURES)} figures")
     sys.exit(1 if found else 0)
 
 

@@ -1,5 +1,5 @@
 #!/usr/bin/env python3
-"""Prints what circuits cost as a table: paths.py [FILE.safl ..]
+"""Prints what circuits cost as a table.
 
 The circuits are those of the named sources, or those of the examples and of units with 4, 16, 64 and 256 call sites. A row has the
 call sites, the signals, the longest path of cells in the file as it is written, and, if Yosys is there, the flip-flops, the ANDs of
@@ -8,11 +8,11 @@ once, however wide; copies, constants, slices and joined words not at all. The p
 """
 import os
 import re
-import sys
 import tempfile
 
 import yosys
 from files import read
+from given import a_file, parser
 from measure import depth_of, signals_of, table
 from program import PROGRAM, ended, lacks
 from speed_sources import with_units
@@ -31,10 +31,13 @@ def row_of(built, name, source):
 
 
 def main():
+    reader = parser(__doc__)
+    reader.add_argument("sources", nargs="*", type=a_file, metavar="FILE.safl")
+    given = reader.parse_args()
     if lacks(PROGRAM):
         return
     with tempfile.TemporaryDirectory() as folder:
-        named = [(os.path.basename(path), path) for path in sys.argv[1:]]
+        named = [(os.path.basename(path), path) for path in given.sources]
         rows = [row_of(os.path.join(folder, "built.v"), *each) for each in named or with_units(folder)]
     head = ("circuit", "sites", "signals", "longest path, in cells", "flip-flops", "ANDs", "path in ANDs")
     table("Paths", head, rows)

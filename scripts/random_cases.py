@@ -1,17 +1,15 @@
 #!/usr/bin/env python3
 """Writes the cases of programs that are made at random: crates/safl_cases/data/random_1.case and so on.
-
-    random_cases.py                             writes them
-    random_cases.py --compare X [COUNT [SEED]]  gives COUNT more programs, from SEED on, to the program X, and says what differs
+With --compare it writes nothing: COUNT more programs are made, from SEED on, and given to a program, and what differs is printed.
 
 Each program is reshaped at a site, and the text, the numbers and the result of what comes out are compared. Those of the first files
 are also reported, walked, built and run. scripts/oracle makes the programs from a number, and works out all answers.
 """
-import os
 import sys
 import tempfile
 
 from files import TOP, write
+from given import a_number, a_program, parser
 from program import told
 
 sys.path.insert(0, f"{TOP}/scripts/oracle")
@@ -148,9 +146,15 @@ def compare(program, count, first):
 
 
 def main(words):
-    if words[:1] == ["--compare"]:
-        numbers = [int(word) for word in words[2:]] + [200, 1_000_000][len(words[2:]):]
-        return compare(os.path.abspath(words[1]), *numbers)
+    reader = parser(__doc__)
+    reader.add_argument("--compare", type=a_program, metavar="PROGRAM")
+    reader.add_argument("count", nargs="?", type=a_number, default=200, metavar="COUNT")
+    reader.add_argument("seed", nargs="?", type=a_number, default=1_000_000, metavar="SEED")
+    given = reader.parse_args(words)
+    if given.compare:
+        return compare(given.compare, given.count, given.seed)
+    if words:
+        reader.error("numbers need --compare")
     return write_cases()
 
 

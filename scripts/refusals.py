@@ -10,6 +10,7 @@ import sys
 import tempfile
 
 from files import written
+from given import parser
 from program import built, ended
 from refuse import Refuser, refuse_all
 
@@ -108,6 +109,7 @@ def refuse_commands(refuser, program, title, commands, args):
 
 
 def main():
+    parser(__doc__).parse_args()
     program = built()
     with tempfile.TemporaryDirectory() as room:
         refuser = Refuser(room)

@@ -1,15 +1,17 @@
 #!/usr/bin/env python3
-"""Refuses each allocation in the tests of libraries in turn, until a test asks for no further one: refused_tests.py CRATE..
+"""Refuses each allocation in the tests of libraries in turn, until a test asks for no further one.
 
 A test whose allocation is refused must pass or end by saying that memory ran out: another answer in place of that is wrong.
 The last line says how many refusals were tried. It needs a C compiler. `rt test` builds the tests of a crate if they
 aren't there.
 """
+import os
 import subprocess
 import sys
 import tempfile
 
 from files import TOP
+from given import parser
 from program import made
 from refuse import Refuser, refuse_all
 
@@ -46,10 +48,13 @@ def refuse_test(refuser, program, test):
 
 
 def main():
+    reader = parser(__doc__)
+    reader.add_argument("crates", nargs="+", metavar="CRATE", choices=sorted(os.listdir(f"{TOP}/crates")))
+    given = reader.parse_args()
     tried = wrong = 0
     with tempfile.TemporaryDirectory() as room:
         refuser = Refuser(room)
-        for crate in sys.argv[1:]:
+        for crate in given.crates:
             program = program_of(crate)
             for test in tests_of(program):
                 found = refuse_test(refuser, program, test)

@@ -1,15 +1,14 @@
 #!/usr/bin/env python3
-"""Brings files that were written over the old names of crates to the new ones.
-
-    scripts/rename_crates.py TREE      a whole checkout at the old names: crates, modules and merges
-    scripts/rename_crates.py --text FILE..   loose files: names alone
+"""Brings files that were written over the old names of crates to the new ones: a whole checkout at the old names, with its crates,
+modules and merges, or the names alone in loose files.
 
 A crate that is merged into another keeps its files; a module whose name is taken there gets the one given here.
 """
 import os
 import re
 import shutil
-import sys
+
+from given import a_file, parser
 
 CRATES = {
     "safl_check": "safl_term",
@@ -162,11 +161,17 @@ def merge(old, into):
 
 
 def main():
-    if sys.argv[1] == "--text":
-        for path in sys.argv[2:]:
-            write(path, renamed(read(path)))
+    reader = parser(__doc__)
+    reader.add_argument("--text", nargs="+", type=a_file, default=[], metavar="FILE", help="loose files, in place of a checkout")
+    reader.add_argument("tree", nargs="?", metavar="TREE")
+    given = reader.parse_args()
+    if bool(given.tree) == bool(given.text) or not os.path.isfile(os.path.join(given.tree or TOP, "crates.txt")):
+        reader.error("a checkout is needed, or --text with files")
+    for path in given.text:
+        write(path, renamed(read(path)))
+    if given.text:
         return
-    tree = sys.argv[1]
+    tree = given.tree
     rename_files(tree)
     rename_texts(tree)
     rename_crates(tree)

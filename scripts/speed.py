@@ -131,7 +131,11 @@ def main():
     parser.add_argument("parts", nargs="*", metavar="PART", help="compile, simulate, plan or nets; all if none is named")
     parser.add_argument("--verilator", type=int, default=100, metavar="FUNCTIONS", help="the most functions for Verilator")
     words = parser.parse_args()
-    parts = words.parts or ["compile", "simulate", "plan", "nets"]
+    every = ["compile", "simulate", "plan", "nets"]
+    parts = words.parts or every
+    for part in parts:
+        if part not in every:
+            parser.error(f"there is no part {part}")
     if "compile" in parts and not lacks(PROGRAM):
         compiling()
     if "simulate" in parts and not lacks(PROGRAM):

@@ -22,6 +22,7 @@ import tempfile
 import speed_sources
 import yosys
 from files import examples, read, written
+from given import parser
 from measure import Rate, as_memory, as_nanoseconds, as_time, icarus, peak, rate_of_sim, seconds, seconds_between, signals_of, table
 from program import NO_RESULT, PROGRAM, USAGE, Ended, ended, knows, lacks, program_of, told
 
@@ -286,10 +287,12 @@ PARTS = {
 
 
 def main():
-    parts = sys.argv[1:] or list(PARTS)
+    reader = parser(__doc__)
+    reader.add_argument("parts", nargs="*", metavar="PART", help=f"{', '.join(PARTS)}; all if none is named")
+    parts = reader.parse_args().parts or list(PARTS)
     for part in parts:
         if part not in PARTS:
-            sys.exit(f"speed_tools: there is no part {part}; there are {', '.join(PARTS)}")
+            reader.error(f"there is no part {part}")
     if not lacks(PROGRAM):
         for part in parts:
             PARTS[part]()

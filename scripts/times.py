@@ -1,6 +1,6 @@
 #!/usr/bin/env python3
-"""Prints how long a run of `rt ci` took by crate, as a Markdown table: times.py LOG [HH:MM:SS]
-With --kinds in place of a time it prints one line instead: after how many seconds all work of each kind was done.
+"""Prints how long a run of `rt ci` took by crate, as a Markdown table.
+With --kinds it prints one line instead: after how many seconds all work of each kind was done.
 
 Each line of LOG begins with the time at which it was written, `HH:MM:SS `. Minutes are counted from the given time, or from
 the first line. A crate's lines come when its check has ended, so a row has the minutes from the beginning of the run until
@@ -9,7 +9,8 @@ the crate was proved, until its tests were, and until its first mutation was tri
 To make such a log: rt ci 2>&1 | while IFS= read -r line; do echo "$(date +%T) $line"; done >LOG
 """
 import re
-import sys
+
+from given import a_file, parser
 
 STAMPED = re.compile(r"(\d\d):(\d\d):(\d\d) (.*)")
 EVENTS = (
@@ -74,13 +75,17 @@ def kinds_line(crates, last):
 
 
 def main():
-    if len(sys.argv) not in (2, 3):
-        sys.exit(__doc__)
-    kinds = sys.argv[2:] == ["--kinds"]
-    start = seconds_of(*sys.argv[2].split(":")) if len(sys.argv) == 3 and not kinds else None
-    with open(sys.argv[1], encoding="utf-8", errors="replace") as log:
+    reader = parser(__doc__)
+    reader.add_argument("--kinds", action="store_true", help="one line, by kinds of work")
+    reader.add_argument("log", type=a_file, metavar="LOG")
+    reader.add_argument("start", nargs="?", metavar="HH:MM:SS", help="the time from which minutes are counted")
+    given = reader.parse_args()
+    if given.start and not re.fullmatch(r"\d\d:\d\d:\d\d", given.start):
+        reader.error(f"{given.start} is no time")
+    start = seconds_of(*given.start.split(":")) if given.start else None
+    with open(given.log, encoding="utf-8", errors="replace") as log:
         crates, last = times_of(stamped(log, start))
-    if kinds:
+    if given.kinds:
         print(kinds_line(crates, last))
         return
     print("| crate | proved after | its tests after | mutations |")

@@ -1,5 +1,5 @@
 #!/usr/bin/env python3
-"""Prints the definitions that the contract of `run` reaches, by name, as the table of docs/THEOREMS.md: a row for each file of
+"""Prints the definitions that the contract of `run` reaches, by name, as the table of docs/TRUSTED.md: a row for each file of
 specs/ with the lines of its reached definitions (with the comments above them), the lines of the whole file, and the names.
 A row stands below those of the files that it reads, and else the lower crate stands first. A second table has how much of it
 the promises of each command alone reach, with the refusal of all other words.
@@ -7,11 +7,15 @@ the promises of each command alone reach, with the refusal of all other words.
 A definition reaches each definition whose name stands in it; the name of a case stands for its list of cases. Types that the
 code declares and definitions of the standard library are not listed."""
 import dataclasses
+import functools
 import pathlib
 import re
 
+from given import parser
+
 ROOT = pathlib.Path(__file__).resolve().parent.parent
 TOP = ROOT / "crates/safl_tool/src/top.rt"
+PAGE, README = ROOT / "docs/TRUSTED.md", ROOT / "README.md"
 TASKS = ("safl_tool", "CommandTasks")
 COMMANDS = {
     "check": ["check_task"],
@@ -164,18 +168,53 @@ def sums(files, found):
             sum(files[key].size(items) for key, items in found.items()), len(found))
 
 
-def main():
-    files = {(p.parent.parent.name, p.stem): File(p) for p in ROOT.glob("crates/*/specs/*.antt")}
-    found = reached(files, COMMANDS)
-    print("| crate | file | lines | of | definitions |\n|---|---|---|---|---|")
+def table_of_files(files, found):
+    """A row for each reached file, with its reached definitions."""
+    rows = ["| crate | file | lines | of | definitions |", "|---|---|---|---|---|"]
     for crate, module in in_order(files, found):
         file, items = files[crate, module], found[crate, module]
         names = ", ".join(f"`{name}`" for name in names_in(file, items))
-        print(f"| {crate} | {module} | {file.size(items)} | {len(file.lines)} | {names} |")
-    print("\n| for | definitions | lines | files |\n|---|---|---|---|")
-    for command in COMMANDS:
-        print("| {} | {:,} | {:,} | {} |".format(command, *sums(files, reached(files, [command]))))
-    print("| all commands | {:,} | {:,} | {} |".format(*sums(files, found)))
+        rows.append(f"| {crate} | {module} | {file.size(items)} | {len(file.lines)} | {names} |")
+    return "\n".join(rows) + "\n"
+
+
+def table_of_commands(files, found):
+    """A row for each command, and one for all."""
+    rows = ["| for | definitions | lines | files |", "|---|---|---|---|"]
+    rows += ["| {} | {:,} | {:,} | {} |".format(command, *sums(files, reached(files, [command]))) for command in COMMANDS]
+    return "\n".join(rows + ["| all commands | {:,} | {:,} | {} |".format(*sums(files, found))]) + "\n"
+
+
+@functools.cache
+def tables():
+    """The two tables of docs/TRUSTED.md."""
+    files = {(p.parent.parent.name, p.stem): File(p) for p in ROOT.glob("crates/*/specs/*.antt")}
+    found = reached(files, COMMANDS)
+    return table_of_files(files, found), table_of_commands(files, found)
+
+
+def in_words():
+    """How many definitions these are, with how many lines in how many files, as README.md says it."""
+    return "{} definitions with {} lines in {} files".format(*re.search(r"^\| all commands \| (.*) \| (.*) \| (.*) \|$", tables()[1], re.M).groups())
+
+
+def put():
+    """Puts the tables into docs/TRUSTED.md, and their sum into README.md."""
+    page = PAGE.read_text()
+    for table in tables():
+        head = re.escape(table.splitlines()[0])
+        page = re.sub(rf"^{head}\n(?:\|.*\n)+", lambda _, table=table: table, page, flags=re.M)
+    PAGE.write_text(page)
+    README.write_text(re.sub(r"[\d,]+ definitions with [\d,]+ lines in [\d,]+ files", in_words(), README.read_text()))
+
+
+def main():
+    reader = parser(__doc__)
+    reader.add_argument("--write", action="store_true", help="put the tables into docs/TRUSTED.md and their sum into README.md")
+    if reader.parse_args().write:
+        put()
+    else:
+        print("\n".join(tables()), end="")
 
 
 if __name__ == "__main__":

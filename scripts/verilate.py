@@ -1,5 +1,5 @@
 #!/usr/bin/env python3
-"""Makes a program of a Verilog file with Verilator, at its highest level of optimisation: verilate.py FILE OUT
+"""Makes a program of a Verilog file with Verilator, at its highest level of optimisation.
 
 OUT CYCLES [ARG..] simulates the circuit as scripts/bench.py does, two evaluations a cycle, and prints the same lines.
 """
@@ -11,6 +11,7 @@ import sys
 import tempfile
 
 from files import read, written
+from given import a_file, parser
 
 MAIN = """#include "Vsafl.h"
 #include <cstddef>
@@ -80,5 +81,13 @@ def verilate(path, out, jobs=os.cpu_count()):
     return True
 
 
+def main():
+    reader = parser(__doc__)
+    reader.add_argument("file", type=a_file, metavar="FILE")
+    reader.add_argument("out", metavar="OUT")
+    given = reader.parse_args()
+    sys.exit(0 if verilate(given.file, given.out) else 1)
+
+
 if __name__ == "__main__":
-    sys.exit(0 if verilate(*sys.argv[1:3]) else 1)
+    main()

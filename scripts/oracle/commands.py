@@ -1,4 +1,4 @@
-"""The commands: words, the order of refusals, and what is printed. Written from README.md and the documents that it names."""
+"""The commands: words, the order of refusals, and what is printed. Written from docs/COMMANDS.md and the documents that it names."""
 import aiger
 import generator
 import language

@@ -1,9 +1,10 @@
 #!/usr/bin/env python3
-"""Works out what the cases want, from the rules alone, and says what differs from the files: expect.py FOLDER [--write] [FILE..]
+"""Works out what the cases want, from the rules alone, and says what differs from the files.
 
 With --write the files get what was worked out. docs/CASES.md says how case files are written. What rests on texts that the
 documents leave open, as how many temporaries a circuit has, is left as it is, and counted.
 """
+import argparse
 import difflib
 import os
 import re
@@ -263,8 +264,22 @@ def changed(text, changes):
     return text
 
 
-def main():
-    folder, writes, names = sys.argv[1], "--write" in sys.argv, [word for word in sys.argv[2:] if word != "--write"]
+def given():
+    """The folder of the case files, whether they are written, and which ones."""
+    reader = argparse.ArgumentParser(description=__doc__, formatter_class=argparse.RawDescriptionHelpFormatter)
+    reader.add_argument("--write", action="store_true", help="put what was worked out into the files")
+    reader.add_argument("folder", metavar="FOLDER")
+    reader.add_argument("files", nargs="*", metavar="FILE")
+    words = reader.parse_args()
+    if not os.path.isdir(words.folder):
+        reader.error(f"there is no folder {words.folder}")
+    for name in words.files:
+        if not os.path.isfile(f"{words.folder}/{name}"):
+            reader.error(f"there is no file {words.folder}/{name}")
+    return words.folder, words.write, words.files
+
+
+def main(folder, writes, names):
     differing = 0
     totals = {"worked out": 0, "left open": 0}
     for name in names or sorted(os.listdir(folder)):
@@ -294,7 +309,7 @@ if __name__ == "__main__":
     sys.setrecursionlimit(1_000_000)
     sys.set_int_max_str_digits(0)
     threading.stack_size(512 * 1024 * 1024)
-    thread = threading.Thread(target=main)
+    thread = threading.Thread(target=main, args=given())
     thread.start()
     thread.join()
     sys.exit(STATUS[0] if STATUS else 2)

@@ -1,4 +1,4 @@
-"""Scripts of calls, and the replies of a circuit to them, one call after another. Written from README.md alone."""
+"""Scripts of calls, and the replies of a circuit to them, one call after another. Written from docs/COMMANDS.md alone."""
 SCRIPT_MAX = 1_048_576
 
 

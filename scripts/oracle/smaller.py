@@ -1,11 +1,11 @@
 #!/usr/bin/env python3
-"""What crates/safl_bench_opt has to print: smaller.py [WIRES SEED]
+"""What crates/safl_bench_opt has to print.
 
-It makes the same net of single bits, by the same sequence of numbers, and makes it smaller by the rules of docs/LANGUAGE.md: an
+It makes the same net of single bits, by the same sequence of numbers, and makes it smaller by the rules of docs/COMMANDS.md: an
 operation on constants is worked out, a copy is replaced by what it copies, a choice that is known by its branch, equal cells are one,
 and a wire that nothing needs is left out.
 """
-import sys
+import argparse
 
 NEAR = 32
 OPERATORS = ("and", "or", "xor", "minus", "below")
@@ -77,8 +77,11 @@ def smaller(wires, seed):
 
 
 def main():
-    wires, seed = (int(word) for word in sys.argv[1:3] or ("1000", "1"))
-    print(f"signals {wires + 1}\nsmaller {smaller(wires, seed % 2**32)}")
+    reader = argparse.ArgumentParser(description=__doc__, formatter_class=argparse.RawDescriptionHelpFormatter)
+    reader.add_argument("wires", type=int, nargs="?", default=1000, metavar="WIRES")
+    reader.add_argument("seed", type=int, nargs="?", default=1, metavar="SEED")
+    given = reader.parse_args()
+    print(f"signals {given.wires + 1}\nsmaller {smaller(given.wires, given.seed % 2**32)}")
 
 
 if __name__ == "__main__":

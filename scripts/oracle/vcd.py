@@ -1,9 +1,11 @@
 #!/usr/bin/env python3
-"""Prints the trace of a source's circuit as a value change dump, worked out from the rules: vcd.py SOURCE [ARG..]
+"""Prints the trace of a source's circuit as a value change dump, worked out from the rules.
 
 It holds the inputs, the registers, the named wires and the outputs in this order, a unit of time for each cycle, from cycle 0
 to the one in which `done` is 1.
 """
+import argparse
+import os
 import sys
 import threading
 
@@ -97,15 +99,31 @@ def toggles(circuit, args, cycles):
 TEXTS = {"vcd": trace, "starts": starts, "toggles": toggles}
 
 
-def main():
-    with open(sys.argv[1], "rb") as file:
-        circuit = Circuit(language.accept(file.read()))
-    print("\n".join(trace(circuit, [int(word) for word in sys.argv[2:]])))
+def given():
+    """The path of the source, and the arguments of main."""
+    reader = argparse.ArgumentParser(description=__doc__, formatter_class=argparse.RawDescriptionHelpFormatter)
+    reader.add_argument("source", metavar="SOURCE")
+    reader.add_argument("args", type=int, nargs="*", metavar="ARG")
+    words = reader.parse_args()
+    if not os.path.isfile(words.source):
+        reader.error(f"there is no file {words.source}")
+    return words.source, words.args
+
+
+def main(path, args):
+    with open(path, "rb") as file:
+        source = file.read()
+    try:
+        circuit = Circuit(language.accept(source))
+    except language.Fault as fault:
+        print(language.fault_line(path, source, fault), file=sys.stderr)
+        return
+    print("\n".join(trace(circuit, args)))
 
 
 if __name__ == "__main__":
     sys.setrecursionlimit(1_000_000)
     threading.stack_size(512 * 1024 * 1024)
-    thread = threading.Thread(target=main)
+    thread = threading.Thread(target=main, args=given())
     thread.start()
     thread.join()

@@ -1,6 +1,6 @@
 """The words of a command line, as the parser clap reads them: options stand anywhere, and each is given at most once.
 
-Each command's words are put in the order of README's table, so that what follows reads them by their places.
+Each command's words are put in the order of the table of docs/COMMANDS.md, so that what follows reads them by their places.
 """
 # what stands behind a command's word: names and numbers in their order, options with a value, flags, and whether any words may follow
 FORMS = {
