@@ -6,6 +6,7 @@ pub mod dir_shelf;
 pub mod fault;
 pub mod mem_shelf;
 pub mod mem_sink;
+mod opened;
 pub mod read;
 pub mod shelf;
 pub mod sink;
