@@ -5,13 +5,19 @@ use safl_io::{DirShelf, StdSink};
 use safl_probe::{Probe, StartsProbe, ToggleProbe, VcdProbe};
 use safl_tool::{Status, run};
 use std::alloc::AllocError;
+use std::fs::File;
+use std::os::fd::AsRawFd;
 use std::process::ExitCode;
-use std::{env, io};
+use std::{env, fs, io};
 
 // The status where the words can't be had.
 const NO_WORDS: u8 = 20;
 
+// The number of standard error, the last of the three standard descriptors.
+const LAST_STANDARD: i32 = 2;
+
 fn main(rt: HostRuntime) -> ExitCode {
+    let _held = (hold_closed(&rt), hold_closed(&rt), hold_closed(&rt));
     let Ok(words) = words_of(&rt) else {
         return ExitCode::from(NO_WORDS);
     };
@@ -20,6 +26,20 @@ fn main(rt: HostRuntime) -> ExitCode {
         Err(AllocError) => Status::NoMemory,
     };
     ExitCode::from(status.number())
+}
+
+// Takes the lowest standard descriptor that is closed, if one is, so that no file that is opened later gets its number and, with
+// it, what is printed. A folder can neither be written nor read as a file, so what is printed there fails, as it should.
+fn hold_closed(rt: &HostRuntime) -> Option<File> {
+    let file = match fs::open(rt, "/") {
+        Ok(file) => file,
+        Err(_) => fs::open(rt, "/dev/null").ok()?,
+    };
+    if file.as_raw_fd() <= LAST_STANDARD {
+        Some(file)
+    } else {
+        None
+    }
 }
 
 // Does what the words ask for, with one probe of each kind.
