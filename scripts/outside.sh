@@ -1,6 +1,6 @@
 #!/bin/bash
-# Compares the Verilog that the program writes for all examples with what other tools make of it: Icarus Verilog has to print
-# the same result in the same cycle, Verilator has to read it without an error, Yosys has to synthesise it, and ABC has to find
+# Compares the Verilog that the program writes for all examples with what other tools make of it: Icarus Verilog and Verilator have
+# to print the same result in the same cycle, for programs made at random too (scripts/verilator.py), Yosys has to synthesise it, and ABC has to find
 # its bit-level circuit equal to what Yosys makes of it (scripts/bits.py). The same goes for what `build --opt` writes. The cells
 # of those that were also written by hand are printed (scripts/cells.py). ABC also has to find the products right that Yosys is
 # told to make for this comparison. One session has to draw the picture of examples/mandelbrot (scripts/picture.py). Traces have to be those of Icarus
@@ -190,6 +190,7 @@ if has python3; then
         [[ "$seen" == *" $source "* ]] || say "$source has no arguments here"
     done
     compare_bits
+    [ ${#options[@]} -eq 1 ] || python3 scripts/verilator.py "$program" || say "scripts/verilator.py finds a difference"
 fi
 if has yosys && has berkeley-abc && has python3; then
     python3 scripts/bits.py --products || say "the products of scripts/products.v are not those of Yosys"

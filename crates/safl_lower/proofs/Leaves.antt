@@ -104,7 +104,7 @@ applied p false ws None e = refl
 applied p false ws (Some vs) e = absurd (cc)
 
 pub lowers_op : {P : SiteTable} {slots : List Sig} {path s : Sig} {n0 n1 n2 : Netlist} {o0 o1 : Out} {all : LoweredAll} {p : Primitive} {ts : Terms}
-    → LowersAll P slots path n0 n1 o0 o1 all ts → Builds n1 n2 2
+    → LowersAll P slots path n0 n1 o0 o1 all ts → Builds n1 n2 5
     → ((ws : List ℕ) (w : ℕ) → AreSources n1 all.values.items ws → result_width p ws ≡ Some w → IsSource n2 s w)
     → ((v : Val) → Wired n2 v → v s.0 ≡ apply_prim p (words v all.values.items))
     → Lowers P slots path n0 n2 o0 o1 (record { ready = all.ready; value = s }) (Op p ts)

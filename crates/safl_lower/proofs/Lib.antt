@@ -18,3 +18,4 @@ pub mod Ending
 pub mod Extending
 pub mod FromProgram
 pub mod Whole
+pub mod Shifting

@@ -4,3 +4,4 @@ pub mod Entries
 pub mod Lowering
 pub mod Loads
 pub mod Bodies
+pub mod Shifts

@@ -9,6 +9,7 @@ mod merge;
 pub mod parts;
 mod primitives;
 mod ready;
+mod shifts;
 mod spread;
 mod tables;
 mod terms;

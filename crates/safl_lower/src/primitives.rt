@@ -7,6 +7,7 @@ ghost use Rattle.safl_net.specs.Names.{IsTidy};
 ghost use Rattle.safl_net.specs.Growth.{Val, words, Wired};
 ghost use Rattle.safl_gates.specs.Sources.{IsSource, AreSources, Builds, HasRoom};
 
+use crate::shifts::shift;
 use safl_gates::gates::{constant, operate};
 use safl_net::{Net, Sig};
 use safl_word::{NoMemory, Primitive, Word};
@@ -15,14 +16,15 @@ use safl_word::{NoMemory, Primitive, Word};
 pub fn apply(net: &mut Net, primitive: Primitive, operands: &[Sig]) -> Result<Sig, NoMemory>
     requires tidy { IsTidy net.old }
     requires sized { (ws : List ℕ) × (w : ℕ) × AreSources net.old operands.now ws × (result_width primitive ws ≡ Some w) }
-    requires room { HasRoom net.old 2 }
+    requires room { HasRoom net.old 5 }
     ensures tidy { IsTidy net.new }
-    ensures built { Builds net.old net.new 2 }
+    ensures built { Builds net.old net.new 5 }
     ensures fits { (ws : List ℕ) (w : ℕ) → AreSources net.old operands.now ws → result_width primitive ws ≡ Some w → IfOk result (λ s. IsSource net.new s w) }
     ensures value { IfOk result (λ s. (v : Val) → Wired net.new v → v s.0 ≡ apply_prim primitive (words v operands.now)) }
 {
     match primitive {
         Primitive::Ext(width) => extend(net, operands[0], width),
+        Primitive::Shl | Primitive::Shr => shift(net, primitive, operands),
         _ => operate(net, primitive, operands),
     }
 }

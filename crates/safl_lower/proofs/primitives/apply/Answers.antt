@@ -27,7 +27,7 @@ returns-in_default c =
     let e = c.operate.ensures in
     record {
       tidy = e.tidy;
-      built = builds_within 2 e.built (omega arith);
+      built = builds_within 5 e.built (omega arith);
       fits = λ ws w p q. e.fits ws w p (cell_width c.args.primitive ws c.in_default.not-Ext ∙ q);
       value = e.value;
     }

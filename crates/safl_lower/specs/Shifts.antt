@@ -1,0 +1,33 @@
+-- Shifts, and the signals by which cells shift.
+use Rattle.std.specs.Prelude.{◌≡◌, ℕ, ◌≤◌, ◌⊎◌, [], ◌∷◌}
+use Rattle.safl_word.specs.Words.{max_width}
+use Rattle.safl_word.specs.declared.primitive.Primitive.{Primitive}
+use Rattle.safl_word.specs.declared.primitive.Primitive.TheVariants.{Shl, Shr}
+use Rattle.safl_net.specs.declared.cell.Sig.{Sig}
+use Rattle.safl_net.specs.Netlist.{Netlist}
+use Rattle.safl_gates.specs.Sources.{IsSource}
+use Rattle.safl_gates.specs.Heights.{IsGateOf}
+
+abbrev pub IsShift : Primitive → Type 0
+IsShift p = (p ≡ Shl) ⊎ (p ≡ Shr)
+
+-- the most bits that a cell's amount has
+abbrev pub widest_amount : ℕ
+widest_amount = 32
+
+-- the amounts are equal, or both move every bit of a word out
+abbrev pub ShiftAlike : ℕ → ℕ → Type 0
+ShiftAlike a b = (a ≡ b) ⊎ ((max_width ≤ a) × (max_width ≤ b))
+
+-- a cell may shift by this signal
+pub record IsAmount (n : Netlist) (s : Sig) : Type 0 where
+  pub width : ℕ
+  pub source : IsSource n s width
+  pub some : 1 ≤ width
+  pub narrow : width ≤ widest_amount
+
+-- the cell of s shifts a, by a signal that it may shift by
+pub record ShiftsIt (n : Netlist) (s a : Sig) : Type 0 where
+  pub amount : Sig
+  pub reads : IsGateOf n s (a ∷ amount ∷ [])
+  pub narrow : IsAmount n amount

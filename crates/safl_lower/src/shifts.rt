@@ -1,0 +1,53 @@
+//! Shifts by amounts of any width.
+
+ghost use Rattle.std.specs.Prelude.{◌≡◌, ℕ, ◌≤◌, List, Some, IfOk, slice_index_or};
+ghost use Rattle.safl_word.specs.Words.{max_width};
+ghost use Rattle.safl_word.specs.Primitives.{apply_prim, result_width};
+ghost use Rattle.safl_net.specs.Names.{IsTidy};
+ghost use Rattle.safl_net.specs.Growth.{Val, words, Wired};
+ghost use Rattle.safl_gates.specs.Sources.{IsSource, AreSources, Builds, HasRoom};
+ghost use Rattle.safl_lower.specs.Shifts.{IsShift, ShiftAlike, IsAmount, ShiftsIt};
+
+use safl_gates::gates::{constant, operate};
+use safl_net::{Net, Sig};
+use safl_word::{NoMemory, Primitive, Word};
+
+// The most bits that a cell's amount has. Simulators are known that compute some shifts by wider signals wrongly.
+const WIDEST_AMOUNT: u8 = 32;
+
+/// The word of a shift, whose cell reads an amount of at most 32 bits.
+pub fn shift(net: &mut Net, primitive: Primitive, operands: &[Sig]) -> Result<Sig, NoMemory>
+    requires tidy { IsTidy net.old }
+    requires kind { IsShift primitive }
+    requires sized { (ws : List ℕ) × (w : ℕ) × AreSources net.old operands.now ws × (result_width primitive ws ≡ Some w) }
+    requires room { HasRoom net.old 5 }
+    ensures tidy { IsTidy net.new }
+    ensures built { Builds net.old net.new 5 }
+    ensures fits { (ws : List ℕ) (w : ℕ) → AreSources net.old operands.now ws → result_width primitive ws ≡ Some w → IfOk result (λ s. IsSource net.new s w) }
+    ensures value { IfOk result (λ s. (v : Val) → Wired net.new v → v s.0 ≡ apply_prim primitive (words v operands.now)) }
+    ensures narrow { IfOk result (λ s. ShiftsIt net.new s (slice_index_or operands.now 0 (record { 0 = 0 }))) }
+{
+    let amount = cut_down(net, operands[1])?;
+    operate(net, primitive, &[operands[0], amount])
+}
+
+// A signal of at most 32 bits that shifts as `b` does: `b` itself if it is as narrow, and else its low 8 bits, after a
+// bit that is 1 where they do not hold all of it. No word has 256 bits, so that bit moves each bit out.
+fn cut_down(net: &mut Net, b: Sig) -> Result<Sig, NoMemory>
+    requires tidy { IsTidy net.old }
+    requires sized { (u : ℕ) × IsSource net.old b u × (1 ≤ u) × (u ≤ max_width) }
+    requires room { HasRoom net.old 4 }
+    ensures tidy { IsTidy net.new }
+    ensures built { Builds net.old net.new 4 }
+    ensures narrow { IfOk result (λ s. IsAmount net.new s) }
+    ensures value { IfOk result (λ s. (v : Val) → Wired net.new v → ShiftAlike (v b.0).bits (v s.0).bits) }
+{
+    let width = net.width(b);
+    if width <= WIDEST_AMOUNT {
+        return Ok(b);
+    }
+    let limit = constant(net, Word::from_low_bits(width, 255))?;
+    let over = operate(net, Primitive::Gt, &[b, limit])?;
+    let low = operate(net, Primitive::Bits(7, 0), &[b])?;
+    operate(net, Primitive::Cat, &[over, low])
+}
