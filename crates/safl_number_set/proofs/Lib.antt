@@ -1,1 +1,5 @@
 pub mod SumsOfParts
+pub mod WeighedLists
+pub mod LinkedBlocks
+pub mod CountedGroups
+pub mod FreshGroups

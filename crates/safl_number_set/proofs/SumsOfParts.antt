@@ -5,7 +5,7 @@ use Rattle.std.proofs.lemmas.Bool.{cases_eq}
 use Rattle.std.proofs.lemmas.List.{get_or-set_same, get_or-set_other, get_or-take, get_or-drop, take_all, take-take, take-set-le, drop-set-lt, drop-set-add, drop-take, length-take, length-drop, length-replicate}
 use Rattle.std.proofs.lemmas.List.Sums.{sum_by-cons, sum_by-set, sum_by_more, sum_by-take-drop, sum_by-take-le, get_or-le-sum_by}
 use Rattle.std.proofs.lemmas.List.Folds.{sum_by-replicate}
-use Rattle.safl_number_set.specs.Numbers.{AreSums, IsCounted}
+use Rattle.safl_number_set.specs.Numbers.{AreSums, IsCounted, part}
 
 abbrev same : ℕ → ℕ
 same x = x
@@ -15,10 +15,6 @@ take_set zero l i a = refl
 take_set (suc n) [] i a = refl
 take_set (suc n) (x ∷ xs) zero a = refl
 take_set (suc n) (x ∷ xs) (suc i) a = ap (λ l. x ∷ l) (take_set n xs i a)
-
--- the 32 numbers of a list among which this one is
-abbrev part : ℕ → List ℕ → List ℕ
-part b low = take 32 (drop (32 * b) low)
 
 part_long : (low : List ℕ) (k : ℕ) → k < length low → k % 32 < length (part (k / 32) low)
 part_long low k lt = omega (arith, length-take 32 (drop (32 * (k / 32)) low), length-drop (32 * (k / 32)) low)
@@ -36,53 +32,57 @@ part_least low high k h lt =
     let c = h.each (k / 32) in
     omega (arith, a, b, c)
 
+-- where one number changes, its block alone does
+pub part_changed : (low : List ℕ) (k x : ℕ) → part (k / 32) (set low k x) ≡ set (part (k / 32) low) (k % 32) x
+part_changed low k x =
+    let e : k ≡ 32 * (k / 32) + k % 32 = omega arith in
+    ap (λ i. take 32 (drop (32 * (k / 32)) (set low i x))) e
+    ∙ (ap (take 32) (drop-set-add (32 * (k / 32)) low (k % 32) x) ∙ take_set 32 (drop (32 * (k / 32)) low) (k % 32) x)
+
+pub part_beside : (low : List ℕ) (k x b : ℕ) → b ≢ k / 32 → part b (set low k x) ≡ part b low
+part_beside low k x b ne = ⊎_elim before after (sides b ne)
+  where
+    sides : (b : ℕ) → b ≢ k / 32 → (k < 32 * b) ⊎ (32 * b + 32 ≤ k)
+    sides b ne = elim (cases_lt b) [ inl l ↦ inl l | inr g ↦ inr (omega (arith, g, ne)) ]
+      where
+        cases_lt : (b : ℕ) → (k < 32 * b) ⊎ (32 * b ≤ k)
+        cases_lt b = grind arith
+
+    before : k < 32 * b → part b (set low k x) ≡ part b low
+    before l = ap (take 32) (drop-set-lt (32 * b) low k x l)
+
+    after : 32 * b + 32 ≤ k → part b (set low k x) ≡ part b low
+    after g =
+        let e : k ≡ 32 * b + (k - 32 * b) = omega (arith, g) in
+        ap (λ i. take 32 (drop (32 * b) (set low i x))) e
+        ∙ (ap (take 32) (drop-set-add (32 * b) low (k - 32 * b) x) ∙ take-set-le 32 (drop (32 * b) low) (k - 32 * b) x (omega (arith, g)))
+
+pub part_sum : (low : List ℕ) (k x : ℕ) → k < length low → sum (part (k / 32) (set low k x)) + get_or low k 0 ≡ sum (part (k / 32) low) + x
+part_sum low k x lt =
+    let at = part_at low k in
+    let moved = sum_by-set same (part (k / 32) low) (k % 32) x 0 (part_long low k lt) in
+    let sums : sum (part (k / 32) (set low k x)) ≡ sum (set (part (k / 32) low) (k % 32) x) = ap (λ (l : List ℕ). sum l) (part_changed low k x) in
+    omega (arith, at, moved, sums)
+
 -- where one number changes, its sum alone does
-pub sums_set : (low high : List ℕ) (k x y : ℕ) → AreSums low high → k < length low → y + get_or low k 0 ≡ get_or high (k / 32) 0 + x → AreSums (set low k x) (set high (k / 32) y)
+pub sums_set : (low high : List ℕ) (k x y : ℕ) → AreSums low high → k < length low → y + get_or low k 0 ≡ get_or high (k / 32) 0 + x
+    → AreSums (set low k x) (set high (k / 32) y)
 sums_set low high k x y h lt balance = record {
   each = λ b. ⊎_elim (at b) (off b) (cases_eq b (k / 32));
   enough = omega (arith, length-set low k x, length-set high (k / 32) y, h.enough);
 }
   where
-    q : ℕ
-    q = k / 32
-
-    changed : part (k / 32) (set low k x) ≡ set (part (k / 32) low) (k % 32) x
-    changed =
-        let e : k ≡ 32 * (k / 32) + k % 32 = omega arith in
-        ap (λ i. take 32 (drop (32 * (k / 32)) (set low i x))) e
-        ∙ (ap (take 32) (drop-set-add (32 * (k / 32)) low (k % 32) x) ∙ take_set 32 (drop (32 * (k / 32)) low) (k % 32) x)
-
     at : (b : ℕ) → b ≡ k / 32 → get_or (set high (k / 32) y) b 0 ≡ sum (part b (set low k x))
     at b e =
-        let low_at = part_at low k in
-        let moved = sum_by-set same (part (k / 32) low) (k % 32) x 0 (part_long low k lt) in
+        let moved = part_sum low k x lt in
         let was = h.each (k / 32) in
         let within : k / 32 < length high = omega (arith, h.enough, lt) in
         let new : get_or (set high (k / 32) y) (k / 32) 0 ≡ y = get_or-set_same high (k / 32) y 0 within in
-        let sums : sum (part (k / 32) (set low k x)) ≡ sum (set (part (k / 32) low) (k % 32) x) = ap (λ (l : List ℕ). sum l) changed in
-        let here : get_or (set high (k / 32) y) (k / 32) 0 ≡ sum (part (k / 32) (set low k x)) = omega (arith, new, sums, moved, was, low_at, balance) in
+        let here : get_or (set high (k / 32) y) (k / 32) 0 ≡ sum (part (k / 32) (set low k x)) = omega (arith, new, moved, was, balance) in
         subst (λ n. get_or (set high (k / 32) y) n 0 ≡ sum (part n (set low k x))) (sym e) here
 
-    beside : (b : ℕ) → b ≢ k / 32 → part b (set low k x) ≡ part b low
-    beside b ne = ⊎_elim before after (sides b ne)
-      where
-        sides : (b : ℕ) → b ≢ k / 32 → (k < 32 * b) ⊎ (32 * b + 32 ≤ k)
-        sides b ne = elim (cases_lt b) [ inl l ↦ inl l | inr g ↦ inr (omega (arith, g, ne)) ]
-          where
-            cases_lt : (b : ℕ) → (k < 32 * b) ⊎ (32 * b ≤ k)
-            cases_lt b = grind arith
-
-        before : k < 32 * b → part b (set low k x) ≡ part b low
-        before l = ap (take 32) (drop-set-lt (32 * b) low k x l)
-
-        after : 32 * b + 32 ≤ k → part b (set low k x) ≡ part b low
-        after g =
-            let e : k ≡ 32 * b + (k - 32 * b) = omega (arith, g) in
-            ap (λ i. take 32 (drop (32 * b) (set low i x))) e
-            ∙ (ap (take 32) (drop-set-add (32 * b) low (k - 32 * b) x) ∙ take-set-le 32 (drop (32 * b) low) (k - 32 * b) x (omega (arith, g)))
-
     off : (b : ℕ) → b ≢ k / 32 → get_or (set high (k / 32) y) b 0 ≡ sum (part b (set low k x))
-    off b ne = get_or-set_other high (k / 32) b y 0 ne ∙ (h.each b ∙ sym (ap (λ (l : List ℕ). sum l) (beside b ne)))
+    off b ne = get_or-set_other high (k / 32) b y 0 ne ∙ (h.each b ∙ sym (ap (λ (l : List ℕ). sum l) (part_beside low k x b ne)))
 
 split_sum : (l : List ℕ) (a n : ℕ) → sum (take (a + n) l) ≡ sum (take a l) + sum (take n (drop a l))
 split_sum l a n =
@@ -111,7 +111,7 @@ sum_all low high h =
     ∙ (sum_to low high h (length high) (omega arith)
     ∙ ap (λ (l : List ℕ). sum l) (take_all (32 * length high) low h.enough))
 
-sum_bits : (l : List ℕ) → ((k : ℕ) → get_or l k 0 ≤ 1) → sum l ≤ length l
+pub sum_bits : (l : List ℕ) → ((k : ℕ) → get_or l k 0 ≤ 1) → sum l ≤ length l
 sum_bits [] h = omega arith
 sum_bits (x ∷ xs) h = let a = sum_by-cons same x xs in let b = h 0 in let r = sum_bits xs (λ k. h (suc k)) in omega (arith, a, b, r)
 
@@ -146,10 +146,10 @@ set_counted ones blocks tops total h k x y z t lt bit one two all = record {
 
 -- ---- no bit
 
-zeros : (n : ℕ) → sum (replicate n 0) ≡ 0
+pub zeros : (n : ℕ) → sum (replicate n 0) ≡ 0
 zeros n = let a = sum_by-replicate same n 0 in omega (arith, a)
 
-zeros_part : (n a m : ℕ) → sum (take m (drop a (replicate n 0))) ≡ 0
+pub zeros_part : (n a m : ℕ) → sum (take m (drop a (replicate n 0))) ≡ 0
 zeros_part n a m =
     let x = sum_by-take-le same (drop a (replicate n 0)) m in
     let y = sum_by-take-drop same (replicate n 0) a in
@@ -167,7 +167,7 @@ zero_at zero k = refl
 zero_at (suc n) zero = refl
 zero_at (suc n) (suc k) = zero_at n k
 
-zero_sums : (n m : ℕ) → n ≤ 32 * m → AreSums (replicate n 0) (replicate m 0)
+pub zero_sums : (n m : ℕ) → n ≤ 32 * m → AreSums (replicate n 0) (replicate m 0)
 zero_sums n m le = record {
   each = λ b. zero_at m b ∙ sym (zeros_part n (32 * b) 32);
   enough = let a : length (zeros_of n) ≡ n = length-replicate n 0 in let b : length (zeros_of m) ≡ m = length-replicate m 0 in omega (arith, a, b, le);
@@ -188,7 +188,9 @@ bit_least ones blocks tops total h k lt = let a = get_or-le-sum_by same ones k 0
 
 -- no sum is great
 pub block_few : (ones blocks tops : List ℕ) (total : ℕ) → IsCounted ones blocks tops total → (i : ℕ) → i < length blocks → get_or blocks i 0 ≤ 5000
-block_few ones blocks tops total h i lt = let f = are_few ones blocks tops total h in let a = get_or-le-sum_by same blocks i 0 lt in omega (arith, a, f.of_ones, f.of_blocks)
+block_few ones blocks tops total h i lt = let f = are_few ones blocks tops total h in let a = get_or-le-sum_by same blocks i 0 lt in
+    omega (arith, a, f.of_ones, f.of_blocks)
 
 pub top_few : (ones blocks tops : List ℕ) (total : ℕ) → IsCounted ones blocks tops total → (i : ℕ) → i < length tops → get_or tops i 0 ≤ 5000
-top_few ones blocks tops total h i lt = let f = are_few ones blocks tops total h in let a = get_or-le-sum_by same tops i 0 lt in omega (arith, a, f.of_ones, f.of_tops)
+top_few ones blocks tops total h i lt = let f = are_few ones blocks tops total h in let a = get_or-le-sum_by same tops i 0 lt in
+    omega (arith, a, f.of_ones, f.of_tops)

@@ -1,1 +1,4 @@
 pub mod Numbers
+pub mod Tallies
+pub mod Linking
+pub mod Groups

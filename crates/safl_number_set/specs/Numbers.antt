@@ -1,9 +1,13 @@
 -- Sets of numbers below a bound, as lists of bits, and the sums beside them.
 use Rattle.std.specs.Prelude.{◌≡◌, ℕ, ◌*◌, ◌≤◌, List, length, sum, take, drop, get_or}
 
+-- the 32 numbers of a list that have this place among all such blocks
+abbrev pub part : ℕ → List ℕ → List ℕ
+part b low = take 32 (drop (32 * b) low)
+
 -- the upper numbers are the sums of each 32 of the lower ones
 pub record AreSums (low high : List ℕ) : Type 0 where
-  pub each : (b : ℕ) → get_or high b 0 ≡ sum (take 32 (drop (32 * b) low))
+  pub each : (b : ℕ) → get_or high b 0 ≡ sum (part b low)
   pub enough : length low ≤ 32 * length high
 
 -- bits, the sums of each 32 of them, the sums of each 32 of those, and the sum of all

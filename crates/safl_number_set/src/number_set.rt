@@ -1,12 +1,8 @@
 //! Sets of numbers below a bound, with the number at a place in their order.
 
-ghost use Rattle.std.specs.Prelude.{◌≡◌, ◌+◌, ◌<◌, ◌≤◌, length, sum, take, slice_index};
-
+use crate::places::{SPAN, find};
 use std::alloc::{AllocError, Global};
 use std::marker::Model;
-
-/// So many neighbours have one sum.
-const SPAN: usize = 32;
 
 /// A set of numbers: 1 for each number that is in it, and 0 for the others. Beside these are the sums of each 32 of
 /// them, the sums of each 32 of those sums, and the sum of all.
@@ -110,33 +106,4 @@ impl NumberSet {
         let block = find(&self.blocks, top.at * SPAN, top.before, place);
         find(&self.ones, block.at * SPAN, block.before, place).at as u32
     }
-}
-
-// Where a number of a list lies, and the sum of those before it.
-#[derive(Clone, Copy)]
-struct Found {
-    at: usize,
-    before: u32,
-}
-
-// The number of a list, from a place on, with which the sum of the first ones passes a place.
-fn find(counts: &[u32], from: usize, before: u32, place: u32) -> Found
-    requires start { before ≡ sum (take from counts.now) }
-    requires reached { before ≤ place }
-    requires passed { place < sum counts.now }
-    requires few { sum counts.now ≤ 5000 }
-    ensures within { result.at < length counts.now }
-    ensures start { result.before ≡ sum (take result.at counts.now) }
-    ensures reached { result.before ≤ place }
-    ensures passed { place < result.before + slice_index counts.now result.at }
-{
-    let mut before = before;
-    for at in from..counts.len() {
-        let next = before + counts[at];
-        if place < next {
-            return Found { at, before };
-        }
-        before = next;
-    }
-    unreachable!()
 }

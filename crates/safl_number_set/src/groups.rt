@@ -1,0 +1,107 @@
+//! Numbers that belong to groups.
+
+ghost use Rattle.std.specs.Prelude.{◌≡◌, ℕ, ◌+◌, ◌<◌, ◌≤◌, IfOk, length, sum, take, get_or, slice_set, not};
+ghost use Rattle.std.specs.Int.{from_bool};
+ghost use Rattle.safl_number_set.specs.Groups.{AreGrouped, Puts, Tallies, counted, none_of, shown, turned};
+ghost use Rattle.safl_number_set.specs.Linking.{AreBelow};
+
+use crate::links::{Links, linked};
+use crate::places::{Found, SPAN};
+use crate::tally::{Tally, shifted};
+use std::alloc::{AllocError, Global};
+
+/// The group of each number, 1 for each number that is in the set, 1 for each group that is open, and the links of the
+/// groups. With the last number of a group in a block stands how many of the group's numbers in this block are in.
+#[derive(Drop)]
+pub struct Groups {
+    pub group: Vec<u32>,
+    pub within: Vec<u32>,
+    pub opened: Vec<u32>,
+    pub links: Links,
+    pub parts: Vec<u32>,
+}
+
+/// Numbers that belong to these groups, of so many. None is in, and all groups are open.
+pub fn grouped(alloc: Global, group: Vec<u32>, count: usize) -> Result<Groups, AllocError>
+    requires few { length group.items ≤ 5000 }
+    requires below { AreBelow count group.items }
+    ensures grouped { IfOk result (λ s. AreGrouped s) }
+    ensures shown { IfOk result (λ s. shown s ≡ none_of group.items count) }
+{
+    let numbers = group.len();
+    let within = vec![in alloc; 0; numbers]?;
+    let opened = vec![in alloc; 1; count]?;
+    let links = linked(alloc, &group, count)?;
+    let parts = vec![in alloc; 0; numbers]?;
+    Ok(Groups {
+        group,
+        within,
+        opened,
+        links,
+        parts,
+    })
+}
+
+/// Puts a number in or takes it out.
+pub fn put(s: &mut Groups, k: usize, is_in: bool)
+    requires grouped { AreGrouped s.old }
+    requires number { k < length s.old.group.items }
+    requires differs { get_or s.old.within.items k 0 ≡ from_bool (not is_in) }
+    ensures { Puts s.old k is_in s.new }
+{
+    let end = s.links.ends[k] as usize;
+    s.within[k] = bit(is_in);
+    s.parts[end] = shifted(s.parts[end], 1, is_in);
+}
+
+/// Counts the numbers of a group that are in, which was closed, or those of an open one no more.
+pub fn count(s: &Groups, g: usize, more: bool, tally: &mut Tally)
+    requires grouped { AreGrouped s.now }
+    requires group { g < length s.now.opened.items }
+    requires differs { get_or s.now.opened.items g 0 ≡ from_bool (not more) }
+    requires tallies { Tallies (counted (shown s.now)) tally.old }
+    ensures { Tallies (counted (turned (shown s.now) g more)) tally.new }
+{
+    let numbers = s.parts.len();
+    let mut k = s.links.heads[g] as usize;
+    while k < numbers {
+        tally.shift(k / SPAN, s.parts[k], more);
+        k = s.links.nexts[k] as usize;
+    }
+}
+
+/// The number, from a place on, with which the sum of the first counted ones passes a place.
+pub fn find_counted(s: &Groups, from: Found, place: u32) -> usize
+    requires grouped { AreGrouped s.now }
+    requires start { from.before ≡ sum (take from.at (counted (shown s.now))) }
+    requires reached { from.before ≤ place }
+    requires passed { place < sum (counted (shown s.now)) }
+    ensures within { get_or (counted (shown s.now)) result 0 ≡ 1 }
+    ensures below { place ≡ sum (take result (counted (shown s.now))) }
+{
+    let mut before = from.before;
+    for k in from.at..s.group.len() {
+        let next = before + counts(s, k);
+        if place < next {
+            return k;
+        }
+        before = next;
+    }
+    unreachable!()
+}
+
+/// 1 if a number is in and its group is open, else 0.
+pub fn counts(s: &Groups, k: usize) -> u32
+    requires grouped { AreGrouped s.now }
+    requires number { k < length s.now.group.items }
+    ensures { result ≡ get_or (counted (shown s.now)) k 0 }
+{
+    s.within[k] * s.opened[s.group[k] as usize]
+}
+
+/// 1 or 0.
+pub fn bit(is: bool) -> u32
+    ensures { result ≡ from_bool is }
+{
+    if is { 1 } else { 0 }
+}
