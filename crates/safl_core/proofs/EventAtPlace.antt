@@ -1,12 +1,14 @@
 -- The event at a place among the enabled ones.
-use Rattle.std.proofs.Common.{◌≡◌, ℕ, zero, suc, ◌+◌, ◌<◌, ◌≤◌, ◌⊎◌, ⊎_elim, List, [], ◌∷◌, ◌++◌, length, take, cond, get_or, Some, Bool, true, false, refl, sym, ap, ◌∙◌, arith}
+use Rattle.std.proofs.Common.{◌≡◌, ℕ, zero, suc, ◌+◌, ◌*◌, ◌<◌, ◌≤◌, ◌⊎◌, ⊎_elim, List, [], ◌∷◌, ◌++◌, length, take, cond, get_or, is_some, ◌&&◌, Some, Bool, true, false, refl, sym, ap, ◌∙◌, arith}
 use Rattle.std.specs.Prelude.{sum, slice_get, not}
 use Rattle.std.specs.Int.{from_bool}
 use Rattle.std.proofs.lemmas.List.{take_all, get_or_past}
 use Rattle.std.proofs.lemmas.List.Sums.{sum_by_more}
 use Rattle.safl_word.specs.Words.{Word}
-use Rattle.safl_term.specs.Program.{Program}
-use Rattle.safl_calls.specs.Machine.{State, Event, Accept, Finish, Return, LoopInto}
+use Rattle.safl_term.specs.Program.{Program, unit_for}
+use Rattle.safl_number_set.specs.Groups.{counted}
+use Rattle.safl_number_set.proofs.WeighedLists.{weighed_long, weighed_at}
+use Rattle.safl_calls.specs.Machine.{State, Event, Accept, Finish, Return, LoopInto, asked}
 use Rattle.safl_calls.specs.Picks.{picks}
 use Rattle.safl_core.specs.declared.enabled.Enabled.{Enabled}
 use Rattle.safl_core.specs.Listing.{listed, busy, count_below}
@@ -40,11 +42,11 @@ picked p e n s h (suc m) le =
 all_picked : (p : ℕ → Bool) (e : ℕ → Event) (n : ℕ) (s : List ℕ) → Marks p n s → length (picks p e n) ≡ sum s
 all_picked p e n s h = picked p e n s h n (omega arith) ∙ ap (λ (l : List ℕ). sum l) (take_all n s (omega (arith, h.long)))
 
-counted : (p : ℕ → Bool) (n : ℕ) (s : List ℕ) → Marks p n s → (m : ℕ) → m ≤ n → count_below p m ≡ sum (take m s)
-counted p n s h zero le = sym (count_none p)
-counted p n s h (suc m) le =
+counted_to : (p : ℕ → Bool) (n : ℕ) (s : List ℕ) → Marks p n s → (m : ℕ) → m ≤ n → count_below p m ≡ sum (take m s)
+counted_to p n s h zero le = sym (count_none p)
+counted_to p n s h (suc m) le =
     let one : suc m ≡ m + 1 = omega arith in
-    let before = counted p n s h m (omega (arith, le)) in
+    let before = counted_to p n s h m (omega (arith, le)) in
     let more = count_suc p m in
     let step = sum_by_more same s m 0 (omega (arith, le, h.long)) in
     let at : get_or s m 0 ≡ cond (p m) 1 0 = h.each m (omega (arith, le)) ∙ bit (p m) in
@@ -53,7 +55,8 @@ counted p n s h (suc m) le =
 
 pub busy_marked : {C : Program} {args : List Word} {s : State} {e : Enabled} → AreMarked C args s e → busy C s ≡ sum e.busy
 busy_marked {C} {args} {s} {e} h =
-    counted (λ u. not (is_idle (s.unit u))) C.functions e.busy h.busy C.functions (omega arith) ∙ ap (λ (l : List ℕ). sum l) (take_all C.functions e.busy (omega (arith, h.busy.long)))
+    counted_to (λ u. not (is_idle (s.unit u))) C.functions e.busy h.busy C.functions (omega arith)
+    ∙ ap (λ (l : List ℕ). sum l) (take_all C.functions e.busy (omega (arith, h.busy.long)))
 
 -- a number with its bit is picked after those below it
 picked_nth : (p : ℕ → Bool) (e : ℕ → Event) (n k i : ℕ) (s : List ℕ) → Marks p n s → k < n → get_or s k 0 ≡ 1 → i ≡ sum (take k s) → (slice_get (picks p e n) i ≡ Some (e k)) × (p k ≡ true)
@@ -81,10 +84,32 @@ long_both : (xs ys : List Event) → length (xs ++ ys) ≡ length xs + length ys
 long_both [] ys = omega arith
 long_both (x ∷ xs) ys = let r = long_both xs ys in omega (arith, r)
 
+both_bits : (a b : Bool) → from_bool a * from_bool b ≡ from_bool (a && b)
+both_bits true true = omega arith
+both_bits true false = omega arith
+both_bits false true = omega arith
+both_bits false false = omega arith
+
 module _ {C : Program} {args : List Word} {s : State} {e : Enabled} (h : AreMarked C args s e) where
+  same_long : length e.accepts.within ≡ length e.accepts.group
+  same_long = omega (arith, h.waits.long, h.called.long)
+
+  -- what is counted are the sites whose calls can be accepted
+  pub accepting : Marks (λ k. can C args s (Accept k)) (suc C.sites) (counted e.accepts)
+  accepting = record {
+    long = weighed_long (λ g. get_or e.accepts.opened g 0) e.accepts.group e.accepts.within same_long ∙ h.called.long;
+    each = λ k lt.
+        let le : k ≤ C.sites = omega (arith, lt) in
+        weighed_at (λ g. get_or e.accepts.opened g 0) e.accepts.group e.accepts.within same_long k
+        ∙ (ap (λ x. x * get_or e.accepts.opened (get_or e.accepts.group k 0) 0) (h.waits.each k lt)
+        ∙ (ap (λ g. from_bool (is_some (asked C args s k)) * get_or e.accepts.opened g 0) (h.called.each k le)
+        ∙ (ap (λ x. from_bool (is_some (asked C args s k)) * x) (h.idle.each (unit_for C k) (h.called.within k le))
+        ∙ both_bits (is_some (asked C args s k)) (is_idle (s.unit (unit_for C k))))));
+  }
+
   pub listed_long : length (listed C args s) ≡ marked e
   listed_long =
-      let a = all_picked (λ k. can C args s (Accept k)) Accept (suc C.sites) e.accepts h.accepts in
+      let a = all_picked (λ k. can C args s (Accept k)) Accept (suc C.sites) (counted e.accepts) accepting in
       let f = all_picked (λ k. can C args s (Finish k)) Finish C.functions e.finishes h.finishes in
       let r = all_picked (λ k. can C args s (Return k)) Return (suc C.sites) e.returns h.returns in
       let l = all_picked (λ k. can C args s (LoopInto k)) LoopInto C.functions e.loops h.loops in
@@ -97,26 +122,27 @@ module _ {C : Program} {args : List Word} {s : State} {e : Enabled} (h : AreMark
 
   pub nth_listed : (i : ℕ) (x : Event) → IsNth e i x → (slice_get (listed C args s) i ≡ Some x) × (can C args s x ≡ true)
   nth_listed i (Accept k) q =
-      let p = picked_nth (λ k. can C args s (Accept k)) Accept (suc C.sites) k i e.accepts h.accepts (within e.accepts k (suc C.sites) q.0 h.accepts.long) q.0 q.1 in
+      let p = picked_nth (λ k. can C args s (Accept k)) Accept (suc C.sites) k i (counted e.accepts) accepting
+      (within (counted e.accepts) k (suc C.sites) q.0 accepting.long) q.0 q.1 in
       (got_front _ _ i (Accept k) p.0, p.1)
   nth_listed i (Finish k) q =
-      let a = all_picked (λ k. can C args s (Accept k)) Accept (suc C.sites) e.accepts h.accepts in
+      let a = all_picked (λ k. can C args s (Accept k)) Accept (suc C.sites) (counted e.accepts) accepting in
       let p = picked_nth (λ k. can C args s (Finish k)) Finish C.functions k (sum (take k e.finishes)) e.finishes h.finishes (within e.finishes k C.functions q.0 h.finishes.long) q.0 refl in
-      (behind_at _ _ i (sum (take k e.finishes)) (sum e.accepts) (Finish k) a q.1 (got_front _ _ (sum (take k e.finishes)) (Finish k) p.0), p.1)
+      (behind_at _ _ i (sum (take k e.finishes)) (sum (counted e.accepts)) (Finish k) a q.1 (got_front _ _ (sum (take k e.finishes)) (Finish k) p.0), p.1)
   nth_listed i (Return k) q =
-      let a = all_picked (λ k. can C args s (Accept k)) Accept (suc C.sites) e.accepts h.accepts in
+      let a = all_picked (λ k. can C args s (Accept k)) Accept (suc C.sites) (counted e.accepts) accepting in
       let f = all_picked (λ k. can C args s (Finish k)) Finish C.functions e.finishes h.finishes in
       let p = picked_nth (λ k. can C args s (Return k)) Return (suc C.sites) k (sum (take k e.returns)) e.returns h.returns (within e.returns k (suc C.sites) q.0 h.returns.long) q.0 refl in (
-        behind_at _ _ i (sum e.finishes + sum (take k e.returns)) (sum e.accepts) (Return k) a q.1
+        behind_at _ _ i (sum e.finishes + sum (take k e.returns)) (sum (counted e.accepts)) (Return k) a q.1
             (behind_at _ _ (sum e.finishes + sum (take k e.returns)) (sum (take k e.returns)) (sum e.finishes) (Return k) f refl (got_front _ _ (sum (take k e.returns)) (Return k) p.0)),
         p.1,
       )
   nth_listed i (LoopInto k) q =
-      let a = all_picked (λ k. can C args s (Accept k)) Accept (suc C.sites) e.accepts h.accepts in
+      let a = all_picked (λ k. can C args s (Accept k)) Accept (suc C.sites) (counted e.accepts) accepting in
       let f = all_picked (λ k. can C args s (Finish k)) Finish C.functions e.finishes h.finishes in
       let r = all_picked (λ k. can C args s (Return k)) Return (suc C.sites) e.returns h.returns in
       let p = picked_nth (λ k. can C args s (LoopInto k)) LoopInto C.functions k (sum (take k e.loops)) e.loops h.loops (within e.loops k C.functions q.0 h.loops.long) q.0 refl in (
-        behind_at _ _ i (sum e.finishes + (sum e.returns + sum (take k e.loops))) (sum e.accepts) (LoopInto k) a q.1
+        behind_at _ _ i (sum e.finishes + (sum e.returns + sum (take k e.loops))) (sum (counted e.accepts)) (LoopInto k) a q.1
             (behind_at _ _ (sum e.finishes + (sum e.returns + sum (take k e.loops))) (sum e.returns + sum (take k e.loops)) (sum e.finishes) (LoopInto k) f refl
             (behind_at _ _ (sum e.returns + sum (take k e.loops)) (sum (take k e.loops)) (sum e.returns) (LoopInto k) r refl p.0)),
         p.1,

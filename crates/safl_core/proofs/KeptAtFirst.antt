@@ -16,12 +16,12 @@ use Rattle.safl_term.specs.Terms.{Const}
 use Rattle.safl_term.specs.Tree.{shown_term}
 use Rattle.safl_calls.specs.Machine as core
 use Rattle.safl_core.specs.declared.mode.Mode.{Mode}
-use Rattle.safl_core.specs.declared.stage.Stage.{Stage}
-use Rattle.safl_core.specs.Evaluating.{widths}
+use Rattle.safl_evaluate.specs.declared.stage.Stage.{Stage}
+use Rattle.safl_evaluate.specs.Evaluating.{widths}
 use Rattle.safl_core.specs.Knowing.{IsKnown, HasRoom}
 use Rattle.safl_core.specs.Modes.{unit_at, state_of}
 use Rattle.safl_core.specs.Shown.{shown_of, IsKept, IsReached}
-use Rattle.safl_core.specs.Stages.{stage_at}
+use Rattle.safl_evaluate.specs.Stages.{stage_at}
 use Rattle.safl_core.proofs.WritesAreSteps.{state_is}
 
 abbrev size : Function → ℕ

@@ -13,10 +13,11 @@ use Rattle.safl_calls.proofs.Locality.{answer_local, wanted_local}
 use Rattle.safl_calls.proofs.Numbered.{Numbered}
 use Rattle.safl_calls.proofs.FromWellFormed.{numbered}
 use Rattle.safl_core.specs.declared.mode.Mode as modes_declared
-use Rattle.safl_core.specs.declared.stage.Stage as stages_declared
+use Rattle.safl_evaluate.specs.declared.stage.Stage as stages_declared
 use Rattle.safl_core.specs.Knowing.{IsKnown, BackFits, RunsMember}
 use Rattle.safl_core.specs.Modes.{state_of}
-use Rattle.safl_core.specs.Shown.{Shown, state, IsReached, CanFire, IsKept, serves_of, word_given, args_given}
+use Rattle.safl_core.specs.Shown.{Shown, state, IsReached, CanFire, IsKept, serves_of, word_given}
+use Rattle.safl_evaluate.specs.Answers.{args_given}
 use Rattle.safl_core.proofs.WritesAreSteps.{core_state}
 use Rattle.safl_core.proofs.WordsFit.{Fits, fits_after, fits_fire}
 

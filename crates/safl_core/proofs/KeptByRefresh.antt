@@ -1,20 +1,21 @@
 -- What is kept of partial evaluation, after a unit's body was looked at anew.
-use Rattle.std.proofs.Common.{◌≡◌, ◌≢◌, ℕ, suc, ◌<◌, ◌≤◌, List, length, cond, eqb, Option, Some, None, true, get_or, slice_set, refl, sym, ap, ◌∙◌, subst, ⊎_elim, arith}
+use Rattle.std.proofs.Common.{◌≡◌, ◌≢◌, ℕ, suc, ◌<◌, ◌≤◌, List, length, cond, eqb, Option, None, true, get_or, slice_set, refl, sym, ap, ◌∙◌, subst, ⊎_elim, arith}
 use Rattle.std.proofs.lemmas.Bool.{cases_eq, eq-eqb, ne_eqb}
-use Rattle.std.proofs.lemmas.List.{get_or-set_other, get_or-set_same, with_items_is}
-use Rattle.std.specs.declared.vec.Vec.{Vec}
-use Rattle.std.specs.Vec.{with_items}
+use Rattle.std.proofs.lemmas.List.{get_or-set_other, get_or-set_same}
 use Rattle.safl_word.specs.Words.{Word}
 use Rattle.safl_term.specs.Checked.{CheckedProgram, IsChecked, program_of}
 use Rattle.safl_term.specs.Program.{Program}
-use Rattle.safl_term.specs.Readiness.{Answer, NotYet, wanted, or_else}
+use Rattle.safl_term.specs.Readiness.{Answer, NotYet, wanted}
 use Rattle.safl_term.specs.WellFormed.{HasWidth}
 use Rattle.safl_calls.specs.Machine.{State, Mode, Idle, Runs, Delivers, back, says, asked_as}
 use Rattle.safl_calls.proofs.Numbered.{Numbered}
-use Rattle.safl_core.specs.declared.stage.Stage.{Stage}
-use Rattle.safl_core.specs.Evaluating.{CanRun, Notes, Unasked, widths}
+use Rattle.safl_evaluate.specs.declared.stage.Stage.{Stage}
+use Rattle.safl_evaluate.specs.Evaluating.{CanRun, Unasked, widths}
+use Rattle.safl_core.specs.declared.spans.Span.{Span}
 use Rattle.safl_core.specs.Knowing.{IsKnown, BackFits}
-use Rattle.safl_core.proofs.RunsByParts.{not_wanted}
+use Rattle.safl_core.specs.Spans.{IsSpan}
+use Rattle.safl_core.specs.States.{ChangesWithin}
+use Rattle.safl_evaluate.proofs.RunsByParts.{not_wanted}
 
 -- a function's body may be evaluated with arguments of the widths of its parameters
 pub body_can : (c : CheckedProgram) (S : List Stage) (n : ℕ) (E : List Word) (f : ℕ) → IsChecked c → f < (program_of c).functions → widths E ≡ (program_of c).params f → BackFits (program_of c) S → length S ≡ suc (program_of c).sites → n ≡ suc (program_of c).sites → CanRun S n E ((program_of c).body f)
@@ -37,34 +38,40 @@ body_can c S n E f checked lt fits back sites places =
       back = back;
     }
 
-module _ (C : Program) (s : State) (u : ℕ) (answers : List Answer) (asks asks1 asks2 : List (Option (List Word))) (r : Answer) (w : ℕ → Option (List Word)) where
-  pub refreshed : ((k : ℕ) → 0 < k → k ≤ C.sites → get_or asks1 k None ≡ cond (eqb (C.unit (C.caller k)) u) None (get_or asks k None))
-      → Notes asks1 asks2 w
-      → ((k : ℕ) → 0 < k → k ≤ C.sites → C.unit (C.caller k) ≡ u → w k ≡ asked_as C (back s) (s.unit u) (C.caller k) k)
-      → ((k : ℕ) → (C.unit (C.caller k) ≡ u → ⊥) → w k ≡ None)
+module _ (C : Program) (s : State) (u : ℕ) (answers : List Answer) (asks asks1 : List (Option (List Word))) (r : Answer) where
+  -- the sites of the unit are wanted as its body wants them, and those of other units as before
+  pub refreshed : ((k : ℕ) → 0 < k → k ≤ C.sites → C.unit (C.caller k) ≡ u → get_or asks1 k None ≡ asked_as C (back s) (s.unit u) (C.caller k) k)
+      → ((k : ℕ) → 0 < k → k ≤ C.sites → (C.unit (C.caller k) ≡ u → ⊥) → get_or asks1 k None ≡ get_or asks k None)
       → r ≡ says C s u → u < length answers
-      → (v : ℕ) → (v ≢ u → IsKnown C s answers asks v) → IsKnown C s (slice_set answers u r) asks2 v
-  refreshed cleared notes here off is lt v before = ⊎_elim same other (cases_eq v u)
+      → (v : ℕ) → (v ≢ u → IsKnown C s answers asks v) → IsKnown C s (slice_set answers u r) asks1 v
+  refreshed here off is lt v before = ⊎_elim same other (cases_eq v u)
     where
-      or_none : (o p : Option (List Word)) → p ≡ None → or_else o p ≡ o
-      or_none None p e = e
-      or_none (Some x) p e = refl
+      same : v ≡ u → IsKnown C s (slice_set answers u r) asks1 v
+      same e = subst (λ n. IsKnown C s (slice_set answers u r) asks1 n) (sym e) (record { outcome = get_or-set_same answers u r NotYet lt ∙ is; wants = here })
 
-      same : v ≡ u → IsKnown C s (slice_set answers u r) asks2 v
-      same e = subst (λ n. IsKnown C s (slice_set answers u r) asks2 n) (sym e) (record {
-        outcome = get_or-set_same answers u r NotYet lt ∙ is;
-        wants = λ k pos le on. notes.each k ∙ (ap (λ o. or_else o (w k)) (cleared k pos le ∙ ap (λ b. cond b None (get_or asks k None)) (eq-eqb (C.unit (C.caller k)) u on)) ∙ here k pos le on);
-      })
-
-      other : (v ≡ u → ⊥) → IsKnown C s (slice_set answers u r) asks2 v
+      other : (v ≡ u → ⊥) → IsKnown C s (slice_set answers u r) asks1 v
       other ne =
           let h = before ne in
           record {
             outcome = get_or-set_other answers u v r NotYet ne ∙ h.outcome;
-            wants = λ k pos le on.
-                let apart : C.unit (C.caller k) ≡ u → ⊥ = λ q. ne (sym on ∙ q) in
-                notes.each k ∙ (or_none (get_or asks1 k None) (w k) (off k apart) ∙ (cleared k pos le ∙ (ap (λ b. cond b None (get_or asks k None)) (ne_eqb (C.unit (C.caller k)) u apart) ∙ h.wants k pos le on)));
+            wants = λ k pos le on. off k pos le (λ q. ne (sym on ∙ q)) ∙ h.wants k pos le on;
           }
+
+-- the sites of other units are wanted as before
+pub others_stay : (C : Program) (u : ℕ) (own : Span) (asks asks1 : List (Option (List Word))) → IsSpan C u own
+    → ((k : ℕ) → 0 < k → k ≤ C.sites → (C.unit (C.caller k) ≡ u → ⊥) → get_or asks1 k None ≡ get_or asks k None) → ChangesWithin C own asks asks1
+others_stay C u own asks asks1 span off = record {
+  most = span.most;
+  others = λ k pos le out. off k pos le (λ q. out (span.all k pos le q).0 (span.all k pos le q).1);
+}
+
+-- a unit that was cleared: its sites are not asked for, and those of other units as before
+module _ (C : Program) (u : ℕ) (asks asks1 : List (Option (List Word))) (clears : (k : ℕ) → 0 < k → k ≤ C.sites → get_or asks1 k None ≡ cond (eqb (C.unit (C.caller k)) u) None (get_or asks k None)) where
+  pub cleared_here : (k : ℕ) → 0 < k → k ≤ C.sites → C.unit (C.caller k) ≡ u → get_or asks1 k None ≡ None
+  cleared_here k pos le on = clears k pos le ∙ ap (λ b. cond b None (get_or asks k None)) (eq-eqb (C.unit (C.caller k)) u on)
+
+  pub cleared_off : (k : ℕ) → 0 < k → k ≤ C.sites → (C.unit (C.caller k) ≡ u → ⊥) → get_or asks1 k None ≡ get_or asks k None
+  cleared_off k pos le apart = clears k pos le ∙ ap (λ b. cond b None (get_or asks k None)) (ne_eqb (C.unit (C.caller k)) u apart)
 
 -- a running body wants its own sites alone
 pub own_wants : (C : Program) (b : ℕ → Option Word) (f j : ℕ) (args : List Word) (k : ℕ) → Numbered C → f < C.functions → wanted b args (C.body f) k ≡ asked_as C b (Runs f j args) (C.caller k) k
@@ -87,10 +94,3 @@ cleared_unasked C u f asks good lt is cleared = record {
       let own = good.own f k lt st in
       cleared k own.0 own.1 (ap C.unit own.2 ∙ is);
 }
-
--- a list that was written over another one of the same length
-pub refilled : {X Z : Type 0} (v : Vec X Z) (xs old : List X) → length xs ≡ length old → old ≡ v.items → (with_items v xs).items ≡ xs
-refilled v xs old long is = with_items_is v xs (long ∙ (ap length is ∙ sym v.ok.0))
-
-pub refilled_long : {X Z : Type 0} (v : Vec X Z) (xs : List X) → length (with_items v xs).items ≡ length v.items
-refilled_long v xs = sym (with_items v xs).ok.0 ∙ v.ok.0

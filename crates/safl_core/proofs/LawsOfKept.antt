@@ -5,8 +5,8 @@ use Rattle.std.specs.Prelude.{IsTrue}
 use Rattle.std.proofs.lemmas.List.{get_or_read}
 use Rattle.safl_calls.proofs.Basics.{serves, some_of}
 use Rattle.safl_calls.proofs.Invariant.{found}
-use Rattle.safl_core.specs.declared.stage.Stage as declared
-use Rattle.safl_core.specs.Stages.{stage_of, stage_at}
+use Rattle.safl_evaluate.specs.declared.stage.Stage as declared
+use Rattle.safl_evaluate.specs.Stages.{stage_of, stage_at}
 use Rattle.safl_word.specs.Words.{Word}
 use Rattle.safl_term.specs.Checked.{program_of}
 use Rattle.safl_term.specs.Meaning.{loops}
@@ -17,7 +17,8 @@ use Rattle.safl_calls.proofs.FromWellFormed.{numbered}
 use Rattle.safl_calls.proofs.MachineLaws as law
 use Rattle.safl_core.specs.Outcomes.{IsValue, IsBounded, GoesOn, IsOver}
 use Rattle.safl_core.specs.Shown.{Shown, state, CanFire, IsKept}
-use Rattle.safl_core.specs.Testing.{is_idle, runs, is_sent, delivers_to, is_ready, loops_to, can, wanted_at}
+use Rattle.safl_core.specs.Testing.{is_idle, runs, is_sent, delivers_to, can, wanted_at}
+use Rattle.safl_evaluate.specs.Answers.{is_ready, loops_to}
 use Rattle.safl_core.proofs.KeptByEvents.{inv}
 use Rattle.safl_core.proofs.KeptAtFirst.{widths_long}
 
@@ -140,25 +141,29 @@ module _ (C : Program) (args : List Word) (s : State) where
 -- ---- the tests of the code
 
 module _ {m : Shown} {answers : List Answer} {wants : List (Option (List Word))} {room : ℕ} (h : IsKept m answers wants room) where
-  pub accept_test : (k : ℕ) (u : ℕ) (b : Bool) → k ≤ (program_of m.program).sites
-      → b ≡ ((is_unsent ((state m).site k) && wanted_at wants k) && is_idle ((state m).unit (unit_for (program_of m.program) k)))
-      → b ≡ can (program_of m.program) m.args (state m) (Accept k)
-  accept_test zero u b le e =
-      e ∙ ap (λ x. x && is_idle ((state m).unit (unit_for (program_of m.program) 0)))
-      (first (is_unsent ((state m).site 0)) (eqb (length m.args) (arity (program_of m.program) (program_of m.program).main)) (eq-eqb _ _ (sized h)))
+  -- a site waits where it is unsent and wanted
+  pub waits_test : (k : ℕ) → k ≤ (program_of m.program).sites → (is_unsent ((state m).site k) && wanted_at wants k)
+      ≡ is_some (asked (program_of m.program) m.args (state m) k)
+  waits_test zero le =
+      first (is_unsent ((state m).site 0)) (eqb (length m.args) (arity (program_of m.program) (program_of m.program).main)) (eq-eqb _ _ (sized h))
     where
       first : (x y : Bool) → y ≡ true → (x && true) ≡ is_some (cond (x && y) (Some m.args) None)
       first true y q = ap (λ z. is_some (cond z (Some m.args) None)) (sym q)
       first false y q = refl
-  accept_test (suc k) u b le e =
+  waits_test (suc k) le =
       let C = program_of m.program in
-      e ∙ ap (λ x. x && is_idle ((state m).unit (unit_for C (suc k))))
-      (rest (is_unsent ((state m).site (suc k))) (nat_le (suc k) C.sites) (get_or wants (suc k) None) (asked_as C (back (state m)) ((state m).unit (C.unit (C.caller (suc k)))) (C.caller (suc k)) (suc k))
-      (le-leb (suc k) C.sites le) ((h.known (C.unit (C.caller (suc k)))).wants (suc k) (omega arith) le refl))
+      rest (is_unsent ((state m).site (suc k))) (nat_le (suc k) C.sites) (get_or wants (suc k) None)
+      (asked_as C (back (state m)) ((state m).unit (C.unit (C.caller (suc k)))) (C.caller (suc k)) (suc k))
+      (le-leb (suc k) C.sites le) ((h.known (C.unit (C.caller (suc k)))).wants (suc k) (omega arith) le refl)
     where
       rest : (x y : Bool) (o p : Option (List Word)) → y ≡ true → o ≡ p → (x && is_some o) ≡ is_some (cond (x && y) p None)
       rest true y o p q r = ap is_some r ∙ ap (λ z. is_some (cond z p None)) (sym q)
       rest false y o p q r = refl
+
+  pub accept_test : (k : ℕ) (u : ℕ) (b : Bool) → k ≤ (program_of m.program).sites
+      → b ≡ ((is_unsent ((state m).site k) && wanted_at wants k) && is_idle ((state m).unit (unit_for (program_of m.program) k)))
+      → b ≡ can (program_of m.program) m.args (state m) (Accept k)
+  accept_test k u b le e = e ∙ ap (λ x. x && is_idle ((state m).unit (unit_for (program_of m.program) k))) (waits_test k le)
 
   pub finish_test : (f u : ℕ) (b : Bool) → u ≡ (program_of m.program).unit f → b ≡ (runs ((state m).unit u) f && is_ready (get_or answers u NotYet)) → b ≡ can (program_of m.program) m.args (state m) (Finish f)
   finish_test f u b at e =

@@ -1,5 +1,3 @@
-pub mod RunsByParts
-pub mod AnswersByParts
 pub mod KeptByRefresh
 pub mod WritesAreSteps
 pub mod WordsFit
@@ -12,8 +10,9 @@ mod Rows
 pub mod WalksByTurns
 pub mod MembersAndSites
 pub mod SetsPutRight
-pub mod CallersLinked
 pub mod SeenByUnits
+pub mod CallsOfSites
 pub mod EventAtPlace
 pub mod SetsAtFirst
 pub mod WantsForgotten
+pub mod RemembersByUnits

@@ -1,5 +1,5 @@
 -- Sets that are put right, number by number.
-use Rattle.std.proofs.Common.{◌≡◌, ℕ, suc, ◌<◌, ◌≤◌, ◌⊎◌, Bool, Option, Some, None, is_some, true, false, List, length, set, get_or, refl, sym, ap, ◌∙◌, subst, ⊎_elim, arith, length-set}
+use Rattle.std.proofs.Common.{◌≡◌, ℕ, suc, ◌<◌, ◌≤◌, ◌⊎◌, Bool, Option, Some, None, is_some, List, length, set, get_or, refl, sym, ap, ◌∙◌, subst, ⊎_elim, arith, length-set}
 use Rattle.std.specs.Int.{from_bool}
 use Rattle.std.proofs.lemmas.Bool.{cases_eq, true≢false}
 use Rattle.std.proofs.lemmas.List.{get_or-set_same, get_or-set_other, set_past}
@@ -7,11 +7,14 @@ use Rattle.safl_word.specs.Words.{Word}
 use Rattle.safl_term.specs.Program.{Program}
 use Rattle.safl_calls.specs.Machine.{State}
 use Rattle.safl_core.specs.declared.enabled.Enabled.{Enabled}
+use Rattle.safl_core.specs.Called.{AreCalled}
 use Rattle.safl_core.specs.Marking.{IsRight, Marks, Rights, Relists, HasPlaces, AreMarked, Nothing}
-use Rattle.safl_core.specs.Testing.{is_like}
 
 pub rights_same : (p : ℕ → Bool) (s : List ℕ) → Rights p Nothing s s
 rights_same p s = record { long = refl; kept = λ k h. h; these = λ k lt h. absurd h }
+
+pub rights_is : (p : ℕ → Bool) (s t : List ℕ) → t ≡ s → Rights p Nothing s t
+rights_is p s t is = subst (λ l. Rights p Nothing s l) (sym is) (rights_same p s)
 
 -- one number is put right
 pub rights_put : (p : ℕ → Bool) (s t : List ℕ) (k : ℕ) (b : Bool) → t ≡ set s k (from_bool b) → b ≡ p k → Rights p (λ j. j ≡ k) s t
@@ -47,7 +50,9 @@ module _ {C : Program} {args : List Word} {s : State} where
   pub relists_then : {A R F U B S G V : ℕ → Type 0} {a b d : Enabled} → Relists C args s A R F U a b → Relists C args s B S G V b d
       → Relists C args s (λ k. A k ⊎ B k) (λ k. R k ⊎ S k) (λ f. F f ⊎ G f) (λ v. U v ⊎ V v) a d
   relists_then x y = record {
-    accepts = rights_then x.accepts y.accepts;
+    called = y.called ∙ x.called;
+    waits = rights_then x.waits y.waits;
+    idle = rights_then x.idle y.idle;
     finishes = rights_then x.finishes y.finishes;
     returns = rights_then x.returns y.returns;
     loops = rights_then x.loops y.loops;
@@ -57,7 +62,9 @@ module _ {C : Program} {args : List Word} {s : State} where
   pub relists_by : {A R F U B S G V : ℕ → Type 0} {a b : Enabled} → HasPlaces C a → ((k : ℕ) → k < suc C.sites → B k → A k) → ((k : ℕ) → k < suc C.sites → S k → R k)
       → ((f : ℕ) → f < C.functions → G f → F f) → ((v : ℕ) → v < C.functions → V v → U v) → Relists C args s A R F U a b → Relists C args s B S G V a b
   relists_by h i r j l x = record {
-    accepts = rights_by (λ k lt q. i k (omega (arith, lt, h.accepts)) q) x.accepts;
+    called = x.called;
+    waits = rights_by (λ k lt q. i k (omega (arith, lt, h.waits)) q) x.waits;
+    idle = rights_by (λ v lt q. l v (omega (arith, lt, h.idle)) q) x.idle;
     finishes = rights_by (λ f lt q. j f (omega (arith, lt, h.finishes)) q) x.finishes;
     returns = rights_by (λ k lt q. r k (omega (arith, lt, h.returns)) q) x.returns;
     loops = rights_by (λ f lt q. j f (omega (arith, lt, h.loops)) q) x.loops;
@@ -66,7 +73,9 @@ module _ {C : Program} {args : List Word} {s : State} where
 
   pub relists_none : (a : Enabled) → Relists C args s Nothing Nothing Nothing Nothing a a
   relists_none a = record {
-    accepts = rights_same _ a.accepts;
+    called = refl;
+    waits = rights_same _ a.accepts.within;
+    idle = rights_same _ a.accepts.opened;
     finishes = rights_same _ a.finishes;
     returns = rights_same _ a.returns;
     loops = rights_same _ a.loops;
@@ -75,7 +84,9 @@ module _ {C : Program} {args : List Word} {s : State} where
 
   pub places_after : {A R F U : ℕ → Type 0} {a b : Enabled} → HasPlaces C a → Relists C args s A R F U a b → HasPlaces C b
   places_after h x = record {
-    accepts = x.accepts.long ∙ h.accepts;
+    called = subst (λ (l : List ℕ). AreCalled C l) (sym x.called) h.called;
+    waits = x.waits.long ∙ h.waits;
+    idle = x.idle.long ∙ h.idle;
     finishes = x.finishes.long ∙ h.finishes;
     returns = x.returns.long ∙ h.returns;
     loops = x.loops.long ∙ h.loops;
@@ -83,7 +94,15 @@ module _ {C : Program} {args : List Word} {s : State} where
   }
 
 pub places_of : {C : Program} {args : List Word} {s : State} {e : Enabled} → AreMarked C args s e → HasPlaces C e
-places_of m = record { accepts = m.accepts.long; finishes = m.finishes.long; returns = m.returns.long; loops = m.loops.long; busy = m.busy.long }
+places_of m = record {
+  called = m.called;
+  waits = m.waits.long;
+  idle = m.idle.long;
+  finishes = m.finishes.long;
+  returns = m.returns.long;
+  loops = m.loops.long;
+  busy = m.busy.long;
+}
 
 -- what was right stays so where the test is the same, and the rest is put right
 pub marks_after : {p q : ℕ → Bool} {these : ℕ → Type 0} {n : ℕ} {s t : List ℕ} → Marks p n s → Rights q these s t → ((k : ℕ) → k < n → (p k ≡ q k) ⊎ these k) → Marks q n t
@@ -103,8 +122,3 @@ some_is o k j p q = ap number (sym p ∙ q)
 
 pub none_is : (o : Option ℕ) (j : ℕ) → o ≡ None → o ≡ Some j → ⊥
 none_is o j p q = true≢false (sym (ap (λ (x : Option ℕ). is_some x) q) ∙ ap (λ (x : Option ℕ). is_some x) p)
-
-pub same_of : (a b : Bool) → is_like a b ≡ true → b ≡ a
-same_of true b e = e
-same_of false true e = absurd (true≢false (sym e))
-same_of false false e = refl

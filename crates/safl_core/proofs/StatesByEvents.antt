@@ -1,17 +1,19 @@
 -- The state that the code keeps, from one event to the next.
-use Rattle.std.proofs.Common.{◌≡◌, ◌<◌, ◌≢◌, ℕ, ◌+◌, List, Option, slice_set, refl, sym, ap, ◌∙◌, subst}
+use Rattle.std.proofs.Common.{◌≡◌, ◌<◌, ◌≢◌, ℕ, ◌+◌, List, Option, None, get_or, slice_set, refl, sym, ap, ◌∙◌, subst, arith}
 use Rattle.safl_word.specs.Words.{Word}
 use Rattle.safl_term.specs.Checked.{CheckedProgram, program_of}
 use Rattle.safl_term.specs.Program.{Program}
 use Rattle.safl_calls.specs.Machine as core
 use Rattle.safl_term.specs.Readiness.{Answer}
 use Rattle.safl_core.specs.declared.mode.Mode.{Mode}
-use Rattle.safl_core.specs.declared.stage.Stage.{Stage}
+use Rattle.safl_evaluate.specs.declared.stage.Stage.{Stage}
+use Rattle.safl_core.specs.declared.spans.Span.{Span}
 use Rattle.safl_core.specs.declared.state.State.{State}
 use Rattle.safl_core.specs.Knowing.{IsKnown}
 use Rattle.safl_core.specs.Modes.{state_of}
 use Rattle.safl_core.specs.Shown.{shown_of}
-use Rattle.safl_core.specs.States.{Keeps, CanRefresh, Steps, Refreshes, Leads, Knows, calls_of}
+use Rattle.safl_core.specs.Spans.{IsSpan}
+use Rattle.safl_core.specs.States.{Keeps, CanRefresh, ChangesWithin, EndsBody, Steps, Refreshes, Leads, Knows, calls_of}
 use Rattle.safl_core.proofs.KeptByEvents.{next_reached, next_member, next_back}
 
 -- after the step of an event each unit may be looked at anew
@@ -26,33 +28,50 @@ can_refresh c args n s t h e can later step is u lt = record {
 }
 
 -- what is kept of a unit of which a step is not seen
-pub known_after : (C : Program) (s t : State) (later : core.State) (v : ℕ) → Steps C s t later → IsKnown C later s.answers.items s.wants.items v → Knows C t v
+pub known_after : (C : Program) (s t : State) (later : core.State) (v : ℕ) → Steps C s t later → IsKnown C later s.answers.items s.wants.each.items v → Knows C t v
 known_after C s t later v step h =
-    subst (λ x. IsKnown C x t.answers.items t.wants.items v) (sym step.next)
-    (subst (λ (x : List Answer). IsKnown C later x t.wants.items v) (sym step.answers)
+    subst (λ x. IsKnown C x t.answers.items t.wants.each.items v) (sym step.next)
+    (subst (λ (x : List Answer). IsKnown C later x t.wants.each.items v) (sym step.answers)
     (subst (λ (x : List (Option (List Word))). IsKnown C later s.answers.items x v) (sym step.wants) h))
 
 -- what is kept after a unit was looked at anew
 pub known_as : (C : Program) (s r : State) (u : ℕ) (a : Answer) (v : ℕ) → r.modes.items ≡ s.modes.items → r.stages.items ≡ s.stages.items → r.answers.items ≡ slice_set s.answers.items u a
-    → IsKnown C (calls_of s) (slice_set s.answers.items u a) r.wants.items v → IsKnown C (calls_of r) r.answers.items r.wants.items v
+    → IsKnown C (calls_of s) (slice_set s.answers.items u a) r.wants.each.items v → IsKnown C (calls_of r) r.answers.items r.wants.each.items v
 known_as C s r u a v modes stages answers h =
-    subst (λ (x : List Mode). IsKnown C (state_of x r.stages.items) r.answers.items r.wants.items v) (sym modes)
-    (subst (λ (x : List Stage). IsKnown C (state_of s.modes.items x) r.answers.items r.wants.items v) (sym stages)
-    (subst (λ (x : List Answer). IsKnown C (calls_of s) x r.wants.items v) (sym answers) h))
+    subst (λ (x : List Mode). IsKnown C (state_of x r.stages.items) r.answers.items r.wants.each.items v) (sym modes)
+    (subst (λ (x : List Stage). IsKnown C (state_of s.modes.items x) r.answers.items r.wants.each.items v) (sym stages)
+    (subst (λ (x : List Answer). IsKnown C (calls_of s) x r.wants.each.items v) (sym answers) h))
 
 -- a step, and the unit that sees it looked at anew
-pub leads : (c : CheckedProgram) (args : List Word) (e : core.Event) (s t r : State) (later : core.State) (u : ℕ)
-    → Steps (program_of c) s t later → Refreshes (program_of c) u t r → later ≡ core.fire (program_of c) args (calls_of s) e
-    → ((v : ℕ) → v ≢ u → IsKnown (program_of c) later s.answers.items s.wants.items v) → Leads c args e s r
-leads c args e s t r later u step anew is others = record {
+pub leads : (c : CheckedProgram) (args : List Word) (e : core.Event) (touched : Span) (s t r : State) (later : core.State) (u : ℕ)
+    → Steps (program_of c) s t later → Refreshes (program_of c) u touched t r → later ≡ core.fire (program_of c) args (calls_of s) e
+    → ((v : ℕ) → EndsBody (program_of c) e v → IsSpan (program_of c) v touched) → ((v : ℕ) → v ≢ u → IsKnown (program_of c) later s.answers.items s.wants.each.items v) → Leads c args e touched s r
+leads c args e touched s t r later u step anew is ends others = record {
   next = ap (λ (x : List Mode). state_of x r.stages.items) anew.modes ∙ (ap (λ (x : List Stage). state_of t.modes.items x) anew.stages ∙ (step.next ∙ is));
   known = λ v. anew.known v (λ ne. known_after (program_of c) s t later v step (others v ne));
+  wants = subst (λ (x : List (Option (List Word))). ChangesWithin (program_of c) touched x r.wants.each.items) step.wants anew.wants;
+  ended = ends;
   sized = anew.sized;
 }
 
-pub keeps_next : (c : CheckedProgram) (args : List Word) (n : ℕ) (s t : State) (h : Keeps c args n s) (e : core.Event) → core.Enabled (program_of c) args (calls_of s) e
-    → Leads c args e s t → Keeps c args (n + 1) t
-keeps_next c args n s t h e can l = record {
+-- a step of which no unit sees anything
+pub leads_unseen : (c : CheckedProgram) (args : List Word) (e : core.Event) (touched : Span) (s t : State) (later : core.State) → touched.end ≡ 1
+    → Steps (program_of c) s t later → later ≡ core.fire (program_of c) args (calls_of s) e → ((v : ℕ) → EndsBody (program_of c) e v → ⊥)
+    → ((v : ℕ) → IsKnown (program_of c) later s.answers.items s.wants.each.items v) → Leads c args e touched s t
+leads_unseen c args e touched s t later none step is ends others = record {
+  next = step.next ∙ is;
+  known = λ v. known_after (program_of c) s t later v step (others v);
+  wants = record {
+    most = omega (arith, none);
+    others = λ k pos le out. ap (λ (x : List (Option (List Word))). get_or x k None) step.wants;
+  };
+  ended = λ v q. absurd (ends v q);
+  sized = step.sized;
+}
+
+pub keeps_next : (c : CheckedProgram) (args : List Word) (n : ℕ) (touched : Span) (s t : State) (h : Keeps c args n s) (e : core.Event) → core.Enabled (program_of c) args (calls_of s) e
+    → Leads c args e touched s t → Keeps c args (n + 1) t
+keeps_next c args n touched s t h e can l = record {
   checked = h.checked;
   units = l.sized.units;
   sites = l.sized.sites;

@@ -10,7 +10,7 @@ use Rattle.safl_calls.specs.Machine.{State, Mode, Idle, Runs, Delivers, Event, A
 use Rattle.safl_calls.proofs.Basics.{serves, put_at, put_off, some_none, some_is, cond_some}
 use Rattle.safl_calls.proofs.Invariant.{Inv, inv_fire, inv_open}
 use Rattle.safl_calls.proofs.FromWellFormed.{numbered}
-use Rattle.safl_core.specs.Evaluating.{widths}
+use Rattle.safl_evaluate.specs.Evaluating.{widths}
 
 pub record Fits (C : Program) (s : State) : Type 0 where
   pub runs : (u f k : ℕ) (ws : List Word) → s.unit u ≡ Runs f k ws → widths ws ≡ C.params f

@@ -8,10 +8,10 @@ use Rattle.safl_term.specs.Readiness as plain
 use Rattle.safl_calls.specs.Machine as core
 use Rattle.safl_calls.specs.Machine.{State, put, ended}
 use Rattle.safl_core.specs.declared.mode.Mode as modes_declared
-use Rattle.safl_core.specs.declared.stage.Stage as stages_declared
+use Rattle.safl_evaluate.specs.declared.stage.Stage as stages_declared
 use Rattle.safl_core.specs.Modes.{mode_of, unit_at}
 use Rattle.safl_core.specs.Spans.{IsSpan}
-use Rattle.safl_core.specs.Stages.{stage_of, stage_at}
+use Rattle.safl_evaluate.specs.Stages.{stage_of, stage_at}
 use Rattle.safl_core.specs.declared.spans.Span.{Span}
 
 pub unit_put : (modes : List modes_declared.Mode) (u : ℕ) (m : modes_declared.Mode) → u < length modes → unit_at (slice_set modes u m) ≡ put (unit_at modes) u (mode_of m)

@@ -1,17 +1,18 @@
 -- What a machine keeps, with the sets of its events.
-use Rattle.std.specs.Prelude.{ℕ, List}
+use Rattle.std.specs.Prelude.{ℕ, List, length}
 use Rattle.safl_word.specs.Words.{Word}
 use Rattle.safl_term.specs.Checked.{CheckedProgram, program_of}
 use Rattle.safl_core.specs.declared.enabled.Enabled.{Enabled}
-use Rattle.safl_core.specs.declared.links.Links.{Links}
+use Rattle.safl_evaluate.specs.declared.places.Plan.{Plan}
 use Rattle.safl_core.specs.declared.state.State.{State}
-use Rattle.safl_core.specs.Linking.{AreLinked}
 use Rattle.safl_core.specs.Marking.{AreMarked}
-use Rattle.safl_core.specs.States.{Keeps, calls_of}
+use Rattle.safl_evaluate.specs.Laying.{IsPlan}
+use Rattle.safl_core.specs.States.{Keeps, Recalls, calls_of}
 
--- the state is that of a machine after so many events, the sets are those of its enabled events and busy units, and the
--- sites that call each unit are linked
-pub record IsHeld (c : CheckedProgram) (args : List Word) (events : ℕ) (s : State) (e : Enabled) (l : Links) : Type 0 where
+-- the state is that of a machine after so many events, the sets are those of its enabled events and busy units, the bodies
+-- lie as planned, and what is kept of those that run is right
+pub record IsHeld (c : CheckedProgram) (args : List Word) (events : ℕ) (s : State) (e : Enabled) (plan : Plan) : Type 0 where
   pub kept : Keeps c args events s
   pub marked : AreMarked (program_of c) args (calls_of s) e
-  pub linked : AreLinked (program_of c) l
+  pub planned : IsPlan (program_of c) plan (length s.kept.items)
+  pub recalls : (u : ℕ) → Recalls (program_of c) plan s u

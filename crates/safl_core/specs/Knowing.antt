@@ -7,10 +7,10 @@ use Rattle.safl_term.specs.Sizes.{nodes}
 use Rattle.safl_calls.specs.Machine as machine
 use Rattle.safl_calls.specs.Machine.{State, back, says, asked_as}
 use Rattle.safl_core.specs.declared.mode.Mode.{Mode}
-use Rattle.safl_core.specs.declared.stage.Stage.{Stage}
-use Rattle.safl_core.specs.Evaluating.{widths}
+use Rattle.safl_evaluate.specs.declared.stage.Stage.{Stage}
+use Rattle.safl_evaluate.specs.Evaluating.{widths}
 use Rattle.safl_core.specs.Modes.{unit_at}
-use Rattle.safl_core.specs.Stages.{back_at}
+use Rattle.safl_evaluate.specs.Stages.{back_at}
 
 -- what unit u's body comes to is kept, and so are the words with which it wants its sites
 pub record IsKnown (C : Program) (s : State) (answers : List Answer) (asks : List (Option (List Word))) (u : ℕ) : Type 0 where

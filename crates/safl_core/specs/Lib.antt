@@ -1,5 +1,3 @@
-pub mod Stages
-pub mod Evaluating
 pub mod Modes
 pub mod Knowing
 pub mod Shown
@@ -8,8 +6,9 @@ pub mod Testing
 pub mod Listing
 pub mod Picking
 pub mod Walking
+pub mod Remembering
 pub mod States
 pub mod Spans
-pub mod Linking
+pub mod Called
 pub mod Marking
 pub mod Held

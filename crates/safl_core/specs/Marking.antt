@@ -1,11 +1,14 @@
 -- The sets of enabled events that a machine keeps.
-use Rattle.std.specs.Prelude.{◌≡◌, ℕ, suc, ◌+◌, ◌<◌, ◌≤◌, ◌⊎◌, List, length, sum, take, get_or, replicate, slice_set, Bool, Some, not}
+use Rattle.std.specs.Prelude.{◌≡◌, ℕ, suc, ◌+◌, ◌<◌, ◌≤◌, ◌⊎◌, List, length, sum, take, get_or, replicate, Option, Bool, Some, true, not, is_some}
 use Rattle.std.specs.Int.{from_bool}
 use Rattle.safl_word.specs.Words.{Word}
 use Rattle.safl_term.specs.Program.{Program, unit_for}
-use Rattle.safl_calls.specs.Machine.{State, Event, Accept, Finish, Return, LoopInto}
-use Rattle.safl_core.specs.declared.check.Service.{Service}
+use Rattle.safl_number_set.specs.Groups.{counted, none_of, put_in}
+use Rattle.safl_calls.specs.Machine.{State, Event, Accept, Finish, Return, LoopInto, asked}
 use Rattle.safl_core.specs.declared.enabled.Enabled.{Enabled}
+use Rattle.safl_core.specs.declared.spans.Span.{Span}
+use Rattle.safl_core.specs.Called.{AreCalled}
+use Rattle.safl_core.specs.Spans.{InSpan}
 use Rattle.safl_core.specs.Testing.{can, is_idle, delivered}
 
 -- a number is in the set exactly if the test holds for it
@@ -17,10 +20,13 @@ pub record Marks (p : ℕ → Bool) (n : ℕ) (s : List ℕ) : Type 0 where
   pub long : length s ≡ n
   pub each : (k : ℕ) → k < n → IsRight p s k
 
--- the sets of the sites whose calls can be accepted, the functions that can finish, the sites that can get their word, the
--- members to which units can loop, and the units that are busy
+-- The sets of the sites that are unsent and wanted, each in the group of the unit that it calls, and of the idle units: what
+-- is counted are the sites whose calls can be accepted. Then the sets of the functions that can finish, the sites that can
+-- get their word, the members to which units can loop, and the units that are busy
 pub record AreMarked (C : Program) (args : List Word) (s : State) (e : Enabled) : Type 0 where
-  pub accepts : Marks (λ k. can C args s (Accept k)) (suc C.sites) e.accepts
+  pub called : AreCalled C e.accepts.group
+  pub waits : Marks (λ k. is_some (asked C args s k)) (suc C.sites) e.accepts.within
+  pub idle : Marks (λ u. is_idle (s.unit u)) C.functions e.accepts.opened
   pub finishes : Marks (λ f. can C args s (Finish f)) C.functions e.finishes
   pub returns : Marks (λ k. can C args s (Return k)) (suc C.sites) e.returns
   pub loops : Marks (λ h. can C args s (LoopInto h)) C.functions e.loops
@@ -28,7 +34,9 @@ pub record AreMarked (C : Program) (args : List Word) (s : State) (e : Enabled) 
 
 -- each set has a place for each site, or for each function
 pub record HasPlaces (C : Program) (e : Enabled) : Type 0 where
-  pub accepts : length e.accepts ≡ suc C.sites
+  pub called : AreCalled C e.accepts.group
+  pub waits : length e.accepts.within ≡ suc C.sites
+  pub idle : length e.accepts.opened ≡ C.functions
   pub finishes : length e.finishes ≡ C.functions
   pub returns : length e.returns ≡ suc C.sites
   pub loops : length e.loops ≡ C.functions
@@ -43,7 +51,9 @@ pub record Rights (p : ℕ → Bool) (which : ℕ → Type 0) (old new : List �
 -- the sets before and after these were looked at anew: the calls of some sites, the returns to others, and functions and
 -- units
 pub record Relists (C : Program) (args : List Word) (s : State) (calls backs functions units : ℕ → Type 0) (old new : Enabled) : Type 0 where
-  pub accepts : Rights (λ k. can C args s (Accept k)) calls old.accepts new.accepts
+  pub called : new.accepts.group ≡ old.accepts.group
+  pub waits : Rights (λ k. is_some (asked C args s k)) calls old.accepts.within new.accepts.within
+  pub idle : Rights (λ u. is_idle (s.unit u)) units old.accepts.opened new.accepts.opened
   pub finishes : Rights (λ f. can C args s (Finish f)) functions old.finishes new.finishes
   pub returns : Rights (λ k. can C args s (Return k)) backs old.returns new.returns
   pub loops : Rights (λ h. can C args s (LoopInto h)) functions old.loops new.loops
@@ -52,38 +62,33 @@ pub record Relists (C : Program) (args : List Word) (s : State) (calls backs fun
 abbrev pub Nothing : ℕ → Type 0
 Nothing k = ⊥
 
--- the site stands in the body of one of the unit's members
-abbrev pub IsOwn : Program → ℕ → ℕ → Type 0
-IsOwn C u k = (0 < k) × (C.unit (C.caller k) ≡ u)
-
--- the sets before and after the events of a unit's bodies were looked at anew, or those of two units
+-- the sets before and after a unit and its members were looked at anew, or two units and theirs
 abbrev pub RelistsUnit : Program → List Word → State → ℕ → Enabled → Enabled → Type 0
-RelistsUnit C args s u old new = Relists C args s (λ k. IsOwn C u k) Nothing (λ f. C.unit f ≡ u) (λ v. v ≡ u) old new
+RelistsUnit C args s u old new = Relists C args s Nothing Nothing (λ f. C.unit f ≡ u) (λ v. v ≡ u) old new
 
 abbrev pub RelistsBoth : Program → List Word → State → ℕ → ℕ → Enabled → Enabled → Type 0
-RelistsBoth C args s u w old new = Relists C args s (λ k. IsOwn C u k ⊎ IsOwn C w k) Nothing (λ f. (C.unit f ≡ u) ⊎ (C.unit f ≡ w)) (λ v. (v ≡ u) ⊎ (v ≡ w)) old new
-
--- the unit that the site calls was idle and is busy now, or the other way round
-abbrev pub Turns : Program → State → ℕ → Bool → ℕ → Type 0
-Turns C s u was_idle k = (unit_for C k ≡ u) × (was_idle ≡ is_idle (s.unit u) → ⊥)
+RelistsBoth C args s u w old new = Relists C args s Nothing Nothing (λ f. (C.unit f ≡ u) ⊎ (C.unit f ≡ w)) (λ v. (v ≡ u) ⊎ (v ≡ w)) old new
 
 -- the unit delivered to the site before, or does so now
-abbrev pub Shows : State → ℕ → Service → ℕ → Type 0
-Shows s u before k = (before.delivers ≡ Some k) ⊎ (delivered (s.unit u) ≡ Some k)
+abbrev pub Shows : State → ℕ → Option ℕ → ℕ → Type 0
+Shows s u before k = (before ≡ Some k) ⊎ (delivered (s.unit u) ≡ Some k)
 
--- the sets before and after the calls of the sites that a unit serves were looked at anew, where they turn
-abbrev pub RelistsTurned : Program → List Word → State → ℕ → Bool → Enabled → Enabled → Type 0
-RelistsTurned C args s u was_idle old new = Relists C args s (λ k. Turns C s u was_idle k) Nothing Nothing Nothing old new
-
--- the sets before and after what changes for the sites that a unit serves was looked at anew
-abbrev pub RelistsService : Program → List Word → State → ℕ → Service → Enabled → Enabled → Type 0
-RelistsService C args s u before old new = Relists C args s (λ k. Turns C s u before.is_idle k) (λ k. Shows s u before k) Nothing Nothing old new
+-- the sets before and after these sites were looked at anew
+abbrev pub RelistsService : Program → List Word → State → ℕ → Option ℕ → Enabled → Enabled → Type 0
+RelistsService C args s u before old new = Relists C args s Nothing (λ k. Shows s u before k) Nothing Nothing old new
 
 -- the sets before and after all this
-abbrev pub RelistsAfter : Program → List Word → State → ℕ → ℕ → Service → Enabled → Enabled → Type 0
-RelistsAfter C args s u w before old new =
-    Relists C args s (λ k. (IsOwn C u k ⊎ IsOwn C w k) ⊎ Turns C s u before.is_idle k) (λ k. Shows s u before k)
+abbrev pub RelistsAfter : Program → List Word → State → ℕ → ℕ → Option ℕ → Enabled → Enabled → Type 0
+RelistsAfter C args s u w before old new = Relists C args s Nothing (λ k. Shows s u before k)
     (λ f. (C.unit f ≡ u) ⊎ (C.unit f ≡ w)) (λ v. (v ≡ u) ⊎ (v ≡ w)) old new
+
+-- a site of the span, or the one whose call the event accepts
+abbrev pub Touches : Span → Event → ℕ → Type 0
+Touches touched e k = InSpan touched k ⊎ (e ≡ Accept k)
+
+-- the sets before and after the calls of these sites were looked at anew
+abbrev pub RelistsCalls : Program → List Word → State → Span → Event → Enabled → Enabled → Type 0
+RelistsCalls C args s touched e old new = Relists C args s (λ k. Touches touched e k) Nothing Nothing Nothing old new
 
 -- An event is seen by the events of these units alone: by those of the unit that serves the site, finishes or loops, and
 -- where a site gets its word, by those of the unit in whose body it stands
@@ -95,14 +100,14 @@ Concerns C (LoopInto h) u w = (u ≡ C.unit h) × (w ≡ u)
 
 -- how many events the sets have
 abbrev pub marked : Enabled → ℕ
-marked e = sum e.accepts + (sum e.finishes + (sum e.returns + sum e.loops))
+marked e = sum (counted e.accepts) + (sum e.finishes + (sum e.returns + sum e.loops))
 
 -- the event has its number in its set, and so many come before it
 abbrev pub IsNth : Enabled → ℕ → Event → Type 0
-IsNth e i (Accept k) = (get_or e.accepts k 0 ≡ 1) × (i ≡ sum (take k e.accepts))
-IsNth e i (Finish f) = (get_or e.finishes f 0 ≡ 1) × (i ≡ sum e.accepts + sum (take f e.finishes))
-IsNth e i (Return k) = (get_or e.returns k 0 ≡ 1) × (i ≡ sum e.accepts + (sum e.finishes + sum (take k e.returns)))
-IsNth e i (LoopInto h) = (get_or e.loops h 0 ≡ 1) × (i ≡ sum e.accepts + (sum e.finishes + (sum e.returns + sum (take h e.loops))))
+IsNth e i (Accept k) = (get_or (counted e.accepts) k 0 ≡ 1) × (i ≡ sum (take k (counted e.accepts)))
+IsNth e i (Finish f) = (get_or e.finishes f 0 ≡ 1) × (i ≡ sum (counted e.accepts) + sum (take f e.finishes))
+IsNth e i (Return k) = (get_or e.returns k 0 ≡ 1) × (i ≡ sum (counted e.accepts) + (sum e.finishes + sum (take k e.returns)))
+IsNth e i (LoopInto h) = (get_or e.loops h 0 ≡ 1) × (i ≡ sum (counted e.accepts) + (sum e.finishes + (sum e.returns + sum (take h e.loops))))
 
 -- the event is one of the program
 abbrev pub IsThere : Program → Event → Type 0
@@ -111,9 +116,11 @@ IsThere C (Finish f) = f < C.functions
 IsThere C (Return k) = k ≤ C.sites
 IsThere C (LoopInto h) = h < C.functions
 
--- main's call alone can be accepted, and no unit is busy
+-- main's call alone waits, and no unit is busy
 pub record OpensWith (C : Program) (e : Enabled) : Type 0 where
-  pub accepts : e.accepts ≡ slice_set (replicate (suc C.sites) 0) 0 1
+  pub units : List ℕ
+  pub called : AreCalled C units
+  pub accepts : e.accepts ≡ put_in (none_of units C.functions) 0 true
   pub finishes : e.finishes ≡ replicate C.functions 0
   pub returns : e.returns ≡ replicate (suc C.sites) 0
   pub loops : e.loops ≡ replicate C.functions 0

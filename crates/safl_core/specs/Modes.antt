@@ -1,14 +1,10 @@
--- The modes and answers that the code keeps, as those of the definitions.
+-- The modes that the code keeps, as those of the definitions.
 use Rattle.std.specs.Prelude.{ℕ, List, get_or}
-use Rattle.safl_word.specs.Words.{Word}
-use Rattle.safl_term.specs.Readiness as plain
 use Rattle.safl_calls.specs.Machine as machine
-use Rattle.safl_core.specs.declared.answer.Kind.{Kind}
-use Rattle.safl_core.specs.declared.answer.Kind.TheVariants.{Ready, Loop, NotYet}
 use Rattle.safl_core.specs.declared.mode.Mode.{Mode}
 use Rattle.safl_core.specs.declared.mode.Mode.TheVariants.{Idle, Runs, Delivers}
-use Rattle.safl_core.specs.declared.stage.Stage.{Stage}
-use Rattle.safl_core.specs.Stages.{stage_at}
+use Rattle.safl_evaluate.specs.declared.stage.Stage.{Stage}
+use Rattle.safl_evaluate.specs.Stages.{stage_at}
 
 abbrev pub mode_of : Mode → machine.Mode
 mode_of Idle = machine.Idle
@@ -21,9 +17,3 @@ unit_at modes u = mode_of (get_or modes u Idle)
 
 abbrev pub state_of : List Mode → List Stage → machine.State
 state_of modes sites = record { unit = unit_at modes; site = stage_at sites }
-
--- an answer of this kind, where a tail call has these words
-abbrev pub answer_of : Kind → List Word → plain.Answer
-answer_of (Ready v) ws = plain.Ready v
-answer_of (Loop h) ws = plain.LoopTo h ws
-answer_of NotYet ws = plain.NotYet

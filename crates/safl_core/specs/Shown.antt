@@ -2,13 +2,13 @@
 use Rattle.std.specs.Prelude.{◌≡◌, ℕ, suc, ◌+◌, List, length, Option, Some, None}
 use Rattle.safl_word.specs.Words.{Word}
 use Rattle.safl_term.specs.Checked.{CheckedProgram, IsChecked, program_of}
-use Rattle.safl_term.specs.Readiness.{Answer, Ready, LoopTo, NotYet}
+use Rattle.safl_term.specs.Readiness.{Answer}
 use Rattle.safl_calls.specs.Machine as core
 use Rattle.safl_core.specs.declared.event.Event.{Event}
 use Rattle.safl_core.specs.declared.event.Event.TheVariants.{Accept, Finish, Return, Loop}
 use Rattle.safl_core.specs.declared.mode.Mode.{Mode}
-use Rattle.safl_core.specs.declared.stage.Stage.{Stage}
-use Rattle.safl_core.specs.Evaluating.{widths}
+use Rattle.safl_evaluate.specs.declared.stage.Stage.{Stage}
+use Rattle.safl_evaluate.specs.Evaluating.{widths}
 use Rattle.safl_core.specs.Knowing.{IsKnown, HasRoom}
 use Rattle.safl_core.specs.Modes.{state_of}
 
@@ -55,12 +55,6 @@ abbrev pub word_given : core.Mode → Option Word
 word_given core.Idle = None
 word_given (core.Runs f k ws) = None
 word_given (core.Delivers k v) = Some v
-
--- the arguments of a tail call
-abbrev pub args_given : Answer → Option (List Word)
-args_given (Ready v) = None
-args_given (LoopTo h vs) = Some vs
-args_given NotYet = None
 
 -- the machine afterwards: the event was fired, and the program and the arguments are the same
 pub record Fires (m : Shown) (e : core.Event) (n : Shown) : Type 0 where

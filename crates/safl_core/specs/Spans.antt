@@ -10,6 +10,10 @@ pub record EndsMembers (C : Program) (u end : ℕ) : Type 0 where
   pub members : (f : ℕ) → u ≤ f → f < end → C.unit f ≡ u
   pub all : (f : ℕ) → f < C.functions → C.unit f ≡ u → (u ≤ f) × (f < end)
 
+-- the site is one of the span
+abbrev pub InSpan : Span → ℕ → Type 0
+InSpan s k = (s.first ≤ k) × (k < s.end)
+
 -- the sites in the bodies of the unit's members are those of the span
 pub record IsSpan (C : Program) (u : ℕ) (s : Span) : Type 0 where
   pub least : 1 ≤ s.first

@@ -5,12 +5,17 @@ use Rattle.safl_term.specs.Checked.{CheckedProgram, IsChecked, program_of}
 use Rattle.safl_term.specs.Program.{Program}
 use Rattle.safl_term.specs.Readiness.{NotYet}
 use Rattle.safl_calls.specs.Machine as core
+use Rattle.safl_core.specs.declared.spans.Span.{Span}
 use Rattle.safl_core.specs.declared.state.State.{State}
-use Rattle.safl_core.specs.Evaluating.{Notes}
+use Rattle.safl_evaluate.specs.declared.places.Plan.{Plan}
+use Rattle.safl_evaluate.specs.Asking.{Asks}
 use Rattle.safl_core.specs.Knowing.{IsKnown, BackFits, RunsMember, HasRoom}
 use Rattle.safl_core.specs.Modes.{unit_at, state_of}
-use Rattle.safl_core.specs.Shown.{shown_of, args_given, serves_of, IsKept}
-use Rattle.safl_core.specs.Stages.{stage_at}
+use Rattle.safl_core.specs.Remembering.{Remembers, MayRenew}
+use Rattle.safl_core.specs.Shown.{shown_of, serves_of, IsKept}
+use Rattle.safl_evaluate.specs.Answers.{args_given}
+use Rattle.safl_core.specs.Spans.{IsSpan}
+use Rattle.safl_evaluate.specs.Stages.{stage_at, back_at}
 
 -- the modes and stages
 abbrev pub calls_of : State → core.State
@@ -22,14 +27,14 @@ ended_with C s u m = record { unit = core.put (unit_at s.modes.items) u m; site 
 
 -- after so many events, the state is that of a machine
 abbrev pub Keeps : CheckedProgram → List Word → ℕ → State → Type 0
-Keeps c args events s = IsKept (shown_of c args s.modes.items s.stages.items events) s.answers.items s.wants.items (length s.env.items)
+Keeps c args events s = IsKept (shown_of c args s.modes.items s.stages.items events) s.answers.items s.wants.each.items (length s.env.items)
 
 -- there is one of each for each unit and for each site, and room for each body
 pub record IsSized (C : Program) (s : State) : Type 0 where
   pub units : length s.modes.items ≡ C.functions
   pub sites : length s.stages.items ≡ suc C.sites
   pub answers : length s.answers.items ≡ C.functions
-  pub wants : length s.wants.items ≡ suc C.sites
+  pub wants : length s.wants.each.items ≡ suc C.sites
   pub room : HasRoom C (length s.env.items)
 
 -- a unit may be looked at anew: if it runs, then one of its members, with words of the widths of its parameters
@@ -42,14 +47,23 @@ pub record CanRefresh (c : CheckedProgram) (u : ℕ) (s : State) : Type 0 where
 
 -- what is kept of a unit is what its body comes to and wants now
 abbrev pub Knows : Program → State → ℕ → Type 0
-Knows C s u = IsKnown C (calls_of s) s.answers.items s.wants.items u
+Knows C s u = IsKnown C (calls_of s) s.answers.items s.wants.each.items u
+
+-- what is kept of the body that a unit runs, node by node, is right now
+abbrev pub Recalls : Program → Plan → State → ℕ → Type 0
+Recalls C plan s u = Remembers C plan (back_at s.stages.items) s.modes.items s.wants.each.items s.kept.items u
+
+-- the body that a unit runs may be looked at: for the first time, or since a site has returned
+abbrev pub CanRenew : Program → Plan → Option ℕ → State → ℕ → Type 0
+CanRenew C plan news s u = MayRenew C plan (back_at s.stages.items) news s.modes.items s.wants.each.items s.kept.items u
 
 -- the state before and after a step of units and sites, which leads to these modes and stages: what is kept of
 -- partial evaluation is the same
 pub record Steps (C : Program) (s t : State) (later : core.State) : Type 0 where
   pub next : calls_of t ≡ later
   pub answers : t.answers.items ≡ s.answers.items
-  pub wants : t.wants.items ≡ s.wants.items
+  pub wants : t.wants.each.items ≡ s.wants.each.items
+  pub kept : t.kept.items ≡ s.kept.items
   pub sized : IsSized C t
 
 -- the state before and after a unit loops to a member: it runs it for the site that it serves, with the words that its
@@ -65,25 +79,45 @@ abbrev pub Clears : Program → ℕ → List (Option (List Word)) → List (Opti
 Clears C u before after = (k : ℕ) → 0 < k → k ≤ C.sites → get_or after k None ≡ cond (C.unit (C.caller k) == u) None (get_or before k None)
 
 -- the state before and after a unit's body was evaluated: what it comes to and the words with which it wants its sites
--- are noted, and the rest is the same
-pub record Evaluates (C : Program) (u : ℕ) (s t : State) : Type 0 where
+-- are noted and kept, and the rest is the same
+pub record Evaluates (C : Program) (plan : Plan) (u : ℕ) (s t : State) : Type 0 where
   pub modes : t.modes.items ≡ s.modes.items
   pub stages : t.stages.items ≡ s.stages.items
   pub answers : t.answers.items ≡ slice_set s.answers.items u (core.says C (calls_of s) u)
-  pub notes : Notes s.wants.items t.wants.items (λ k. core.asked_as C (core.back (calls_of s)) ((calls_of s).unit u) (C.caller k) k)
+  pub asks : Asks s.wants t.wants
+  pub wants : (k : ℕ) → 0 < k → k ≤ C.sites → C.unit (C.caller k) ≡ u → get_or t.wants.each.items k None ≡ core.asked_as C (core.back (calls_of s)) ((calls_of s).unit u) (C.caller k) k
+  pub others : (k : ℕ) → 0 < k → k ≤ C.sites → (C.unit (C.caller k) ≡ u → ⊥) → get_or t.wants.each.items k None ≡ get_or s.wants.each.items k None
+  pub recalls : (v : ℕ) → ((v ≡ u → ⊥) → Recalls C plan s v) → Recalls C plan t v
+  pub cells : length t.kept.items ≡ length s.kept.items
   pub sized : IsSized C t
+
+-- what was asked for before and after: only sites of the span may be wanted otherwise
+pub record ChangesWithin (C : Program) (touched : Span) (before after : List (Option (List Word))) : Type 0 where
+  pub most : touched.end ≤ suc C.sites
+  pub others : (k : ℕ) → 0 < k → k ≤ C.sites → (touched.first ≤ k → k < touched.end → ⊥) → get_or after k None ≡ get_or before k None
 
 -- the state before and after a unit was looked at anew: the modes and stages are the same, and what is kept is right
 -- for this unit, and for each other one for which it was
-pub record Refreshes (C : Program) (u : ℕ) (s t : State) : Type 0 where
+pub record Refreshes (C : Program) (u : ℕ) (touched : Span) (s t : State) : Type 0 where
   pub modes : t.modes.items ≡ s.modes.items
   pub stages : t.stages.items ≡ s.stages.items
   pub known : (v : ℕ) → ((v ≡ u → ⊥) → Knows C s v) → Knows C t v
+  pub wants : ChangesWithin C touched s.wants.each.items t.wants.each.items
   pub sized : IsSized C t
 
+-- a body of this unit ends with the event, so that its sites are unsent again
+abbrev pub EndsBody : Program → core.Event → ℕ → Type 0
+EndsBody C (core.Accept k) u = ⊥
+EndsBody C (core.Finish f) u = u ≡ C.unit f
+EndsBody C (core.Return k) u = ⊥
+EndsBody C (core.LoopInto h) u = u ≡ C.unit h
+
 -- the state before and after an event: the modes and stages are those of the next state, and what is kept of partial
--- evaluation is that of this state
-pub record Leads (c : CheckedProgram) (args : List Word) (e : core.Event) (s t : State) : Type 0 where
+-- evaluation is that of this state; only sites of the span may be wanted otherwise than before, and where a body ends, the
+-- span has the sites of its unit
+pub record Leads (c : CheckedProgram) (args : List Word) (e : core.Event) (touched : Span) (s t : State) : Type 0 where
   pub next : calls_of t ≡ core.fire (program_of c) args (calls_of s) e
   pub known : (u : ℕ) → Knows (program_of c) t u
+  pub wants : ChangesWithin (program_of c) touched s.wants.each.items t.wants.each.items
+  pub ended : (u : ℕ) → EndsBody (program_of c) e u → IsSpan (program_of c) u touched
   pub sized : IsSized (program_of c) t

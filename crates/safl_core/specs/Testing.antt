@@ -1,9 +1,10 @@
 -- Which events are enabled, by tests.
-use Rattle.std.specs.Prelude.{ℕ, zero, suc, List, Option, None, Some, Bool, true, false, not, ◌==◌, ◌&&◌, is_some, get_or}
+use Rattle.std.specs.Prelude.{ℕ, zero, suc, List, Option, None, Some, Bool, true, false, ◌==◌, ◌&&◌, is_some, get_or}
 use Rattle.safl_word.specs.Words.{Word}
 use Rattle.safl_term.specs.Program.{Program, unit_for}
-use Rattle.safl_term.specs.Readiness.{Stage, Unsent, Sent, Returned, Answer, Ready, LoopTo, NotYet}
+use Rattle.safl_term.specs.Readiness.{Stage, Unsent, Sent, Returned}
 use Rattle.safl_calls.specs.Machine.{State, Mode, Idle, Runs, Delivers, Event, Accept, Finish, Return, LoopInto, asked, says}
+use Rattle.safl_evaluate.specs.Answers.{is_ready, loops_to}
 
 abbrev pub is_idle : Mode → Bool
 is_idle Idle = true
@@ -20,11 +21,6 @@ delivers_to Idle k = false
 delivers_to (Runs f j ws) k = false
 delivers_to (Delivers j v) k = j == k
 
--- both hold, or neither
-abbrev pub is_like : Bool → Bool → Bool
-is_like true b = b
-is_like false b = not b
-
 -- the site to which a unit delivers a word
 abbrev pub delivered : Mode → Option ℕ
 delivered Idle = None
@@ -35,16 +31,6 @@ abbrev pub is_sent : Stage → Bool
 is_sent Unsent = false
 is_sent Sent = true
 is_sent (Returned v) = false
-
-abbrev pub is_ready : Answer → Bool
-is_ready (Ready v) = true
-is_ready (LoopTo h vs) = false
-is_ready NotYet = false
-
-abbrev pub loops_to : Answer → ℕ → Bool
-loops_to (Ready v) h = false
-loops_to (LoopTo g vs) h = g == h
-loops_to NotYet h = false
 
 -- whether the event is enabled
 abbrev pub can : Program → List Word → State → Event → Bool

@@ -6,13 +6,12 @@ ghost use Rattle.safl_term.specs.Program as program;
 ghost use Rattle.safl_term.specs.Readiness as plain;
 ghost use Rattle.safl_calls.specs.Machine as core;
 ghost use Rattle.safl_core.specs.Modes.{unit_at};
-ghost use Rattle.safl_core.specs.Stages.{stage_at};
+ghost use Rattle.safl_evaluate.specs.Stages.{stage_at};
 ghost use Rattle.safl_core.specs.Testing as test;
+ghost use Rattle.safl_evaluate.specs.Answers as told;
 
-use crate::answer::Answer;
 use crate::mode::Mode;
-use crate::stage::Stage;
-use crate::want::Want;
+use safl_evaluate::{Answer, Stage, Want};
 use safl_term::Checked;
 
 /// Whether a site is unsent and wanted, and its unit idle. Most units are busy, so that most sites stay unread.
@@ -23,23 +22,23 @@ pub fn accepts(c: &Checked, modes: &[Mode], stages: &[Stage], wants: &[Want], k:
     requires wants { length wants.now ≡ suc (program_of c.now).sites }
     ensures { result ≡ ((core.is_unsent (stage_at stages.now k) && test.wanted_at wants.now k) && test.is_idle (unit_at modes.now (program.unit_for (program_of c.now) k))) }
 {
-    waits_for(is_idle(modes, c.unit_for(k)), stages, wants, k)
+    is_idle(modes, c.unit_for(k)) && waits(stages, wants, k)
 }
 
-/// Whether a site is unsent and wanted, and its unit idle, as it is said to be or not.
-pub fn waits_for(idle: bool, stages: &[Stage], wants: &[Want], k: u32) -> bool
+/// Whether a site is unsent and wanted.
+pub fn waits(stages: &[Stage], wants: &[Want], k: u32) -> bool
     requires stages { k < length stages.now }
     requires wants { k < length wants.now }
-    ensures { result ≡ ((core.is_unsent (stage_at stages.now k) && test.wanted_at wants.now k) && idle) }
+    ensures { result ≡ (core.is_unsent (stage_at stages.now k) && test.wanted_at wants.now k) }
 {
-    idle && is_unsent(stages, k) && is_wanted(wants, k)
+    is_unsent(stages, k) && is_wanted(wants, k)
 }
 
 /// Whether a unit runs a member, and its body is ready.
 pub fn finishes(modes: &[Mode], answers: &[Answer], u: u32, f: u32) -> bool
     requires units { u < length modes.now }
     requires answers { u < length answers.now }
-    ensures { result ≡ (test.runs (unit_at modes.now u) f && test.is_ready (get_or answers.now u plain.NotYet)) }
+    ensures { result ≡ (test.runs (unit_at modes.now u) f && told.is_ready (get_or answers.now u plain.NotYet)) }
 {
     runs(modes, u, f) && is_ready(answers, u)
 }
@@ -69,58 +68,21 @@ fn delivers(modes: &[Mode], u: u32, k: u32) -> bool
 /// Whether a unit's body comes to a tail call of a member.
 pub fn loops(answers: &[Answer], u: u32, h: u32) -> bool
     requires { u < length answers.now }
-    ensures { result ≡ test.loops_to (get_or answers.now u plain.NotYet) h }
+    ensures { result ≡ told.loops_to (get_or answers.now u plain.NotYet) h }
 {
     answers[u as usize].loops_to(h)
 }
 
-/// Whether a unit is idle, and the site to which it delivers a word.
-#[derive(Clone, Copy)]
-pub struct Service {
-    pub is_idle: bool,
-    pub delivers: Option<u32>,
-}
-
-/// How a unit serves now.
-pub fn serving(modes: &[Mode], u: u32) -> Service
+/// The site to which a unit delivers a word.
+pub fn delivered_to(modes: &[Mode], u: u32) -> Option<u32>
     requires { u < length modes.now }
-    ensures idle { result.is_idle ≡ test.is_idle (unit_at modes.now u) }
-    ensures delivers { result.delivers ≡ test.delivered (unit_at modes.now u) }
+    ensures { result ≡ test.delivered (unit_at modes.now u) }
 {
     match &modes[u as usize] {
-        Mode::Idle => Service {
-            is_idle: true,
-            delivers: None,
-        },
-        Mode::Runs(_, _, _) => Service {
-            is_idle: false,
-            delivers: None,
-        },
-        Mode::Delivers(site, _) => Service {
-            is_idle: false,
-            delivers: Some(*site),
-        },
+        Mode::Idle => None,
+        Mode::Runs(_, _, _) => None,
+        Mode::Delivers(site, _) => Some(*site),
     }
-}
-
-/// Whether a unit is idle if and only if it was idle before.
-pub fn is_as_before(modes: &[Mode], u: u32, was_idle: bool) -> bool
-    requires { u < length modes.now }
-    ensures { result ≡ test.is_like (test.is_idle (unit_at modes.now u)) was_idle }
-{
-    match &modes[u as usize] {
-        Mode::Idle => was_idle,
-        Mode::Runs(_, _, _) => !was_idle,
-        Mode::Delivers(_, _) => !was_idle,
-    }
-}
-
-/// Whether a unit is not idle.
-pub fn is_busy(modes: &[Mode], u: u32) -> bool
-    requires { u < length modes.now }
-    ensures { result ≡ not (test.is_idle (unit_at modes.now u)) }
-{
-    !is_idle(modes, u)
 }
 
 /// Whether a unit is idle.
@@ -148,7 +110,7 @@ fn runs(modes: &[Mode], u: u32, f: u32) -> bool
 
 fn is_ready(answers: &[Answer], u: u32) -> bool
     requires { u < length answers.now }
-    ensures { result ≡ test.is_ready (get_or answers.now u plain.NotYet) }
+    ensures { result ≡ told.is_ready (get_or answers.now u plain.NotYet) }
 {
     answers[u as usize].is_ready()
 }

@@ -1,28 +1,29 @@
 //! The enabled events, as sets of numbers.
 
-ghost use Rattle.std.specs.Prelude.{◌≡◌, ℕ, ◌<◌, ◌≤◌, Some};
+ghost use Rattle.std.specs.Prelude.{◌≡◌, ℕ, suc, ◌<◌, ◌≤◌, Some};
 ghost use Rattle.safl_term.specs.Checked.{program_of};
-ghost use Rattle.safl_term.specs.Program.{unit_for};
-ghost use Rattle.safl_core.specs.Linking.{AreLinked};
-ghost use Rattle.safl_core.specs.Marking.{HasPlaces, Relists, RelistsAfter, RelistsBoth, RelistsService, RelistsTurned, RelistsUnit, IsOwn, Nothing};
+ghost use Rattle.safl_core.specs.Marking.{HasPlaces, IsThere, Relists, RelistsAfter, RelistsBoth, RelistsCalls, RelistsService, RelistsUnit, Nothing};
+ghost use Rattle.safl_core.specs.Shown.{event_of};
+ghost use Rattle.safl_core.specs.Spans.{InSpan};
 ghost use Rattle.safl_core.specs.States.{Keeps, calls_of};
 
-use crate::args::Args;
-use crate::check::{self, Service, serving};
+use crate::check::{self, delivered_to};
 use crate::concern::TwoUnits;
 use crate::event::Event;
-use crate::links::Links;
-use crate::spans::{members_end, own_sites};
+use crate::make::called;
+use crate::spans::{Span, members_end};
 use crate::state::State;
-use safl_number_set::NumberSet;
+use safl_evaluate::Args;
+use safl_number_set::{GroupedSet, NumberSet};
 use safl_term::Checked;
 use std::alloc::{AllocError, Global};
 
-/// The sites whose calls can be accepted, the functions that can finish, the sites that can get their word, the members
-/// to which units can loop, and the units that are busy.
+/// The sites that are unsent and wanted, each in the group of the unit that it calls, where the groups of idle units are
+/// open: the calls of the sites that are counted can be accepted. Then the functions that can finish, the sites that can get
+/// their word, the members to which units can loop, and the units that are busy.
 #[derive(Drop)]
 pub struct Enabled {
-    pub accepts: NumberSet,
+    pub accepts: GroupedSet,
     pub finishes: NumberSet,
     pub returns: NumberSet,
     pub loops: NumberSet,
@@ -41,12 +42,13 @@ impl Enabled {
     {
         let functions = c.functions() as usize;
         let sites = c.sites() as usize + 1;
-        let mut accepts = NumberSet::new(alloc, sites)?;
+        let units = called(alloc, c)?;
+        let mut accepts = GroupedSet::new(alloc, units, functions)?;
         let finishes = NumberSet::new(alloc, functions)?;
         let returns = NumberSet::new(alloc, sites)?;
         let loops = NumberSet::new(alloc, functions)?;
         let busy = NumberSet::new(alloc, functions)?;
-        accepts.insert(0);
+        accepts.put(0, true);
         Ok(Enabled {
             accepts,
             finishes,
@@ -87,28 +89,49 @@ impl Enabled {
     }
 }
 
-/// Finds anew which events are enabled after one that concerns these units, the first of which served like this before.
+/// Finds anew which units are idle and which events of the bodies are enabled after an event that concerns these units, and
+/// for which site there is a word. The first unit delivered to this site before.
 pub fn relist_after(
     c: &Checked,
-    links: &Links,
     opening: &Args,
     state: &State,
     concerned: TwoUnits,
-    before: Service,
+    before: Option<u32>,
     enabled: &mut Enabled,
 )
     requires kept { (n : ℕ) × Keeps c.now opening.now n state.now }
-    requires linked { AreLinked (program_of c.now) links.now }
     requires unit { concerned.unit < (program_of c.now).functions }
     requires other { concerned.other < (program_of c.now).functions }
     requires places { HasPlaces (program_of c.now) enabled.old }
     ensures { RelistsAfter (program_of c.now) opening.now (calls_of state.now) concerned.unit concerned.other before enabled.old enabled.new }
 {
     relist_both(c, opening, state, concerned, enabled);
-    relist_service(c, links, opening, state, concerned.unit, before, enabled);
+    relist_service(c, opening, state, concerned.unit, before, enabled);
 }
 
-// Finds anew which events of the bodies of two units are enabled.
+/// Finds anew which calls wait after an event: those of the sites that may be wanted otherwise than before, and one that was
+/// accepted.
+pub fn relist_calls(
+    c: &Checked,
+    opening: &Args,
+    state: &State,
+    touched: Span,
+    e: Event,
+    enabled: &mut Enabled,
+)
+    requires kept { (n : ℕ) × Keeps c.now opening.now n state.now }
+    requires span { touched.end ≤ suc (program_of c.now).sites }
+    requires there { IsThere (program_of c.now) (event_of e) }
+    requires places { HasPlaces (program_of c.now) enabled.old }
+    ensures { RelistsCalls (program_of c.now) opening.now (calls_of state.now) touched (event_of e) enabled.old enabled.new }
+{
+    relist_touched(c, opening, state, touched, enabled);
+    if let Event::Accept(k) = e {
+        relist_call(c, opening, state, k, enabled);
+    }
+}
+
+// Finds anew which units are idle and which events of the bodies of two units are enabled.
 fn relist_both(
     c: &Checked,
     opening: &Args,
@@ -129,7 +152,7 @@ fn relist_both(
     relist(c, opening, state, concerned.other, enabled);
 }
 
-// Finds anew which events of a unit's bodies are enabled: those of its members, and of their own sites.
+// Whether a unit is idle, and the events of its members.
 fn relist(c: &Checked, opening: &Args, state: &State, u: u32, enabled: &mut Enabled)
     requires kept { (n : ℕ) × Keeps c.now opening.now n state.now }
     requires unit { u < (program_of c.now).functions }
@@ -138,17 +161,18 @@ fn relist(c: &Checked, opening: &Args, state: &State, u: u32, enabled: &mut Enab
 {
     relist_unit(c, opening, state, u, enabled);
     relist_members(c, opening, state, u, enabled);
-    relist_own(c, opening, state, u, enabled);
 }
 
-// Whether a unit is busy.
+// Whether a unit is idle.
 fn relist_unit(c: &Checked, opening: &Args, state: &State, u: u32, enabled: &mut Enabled)
     requires kept { (n : ℕ) × Keeps c.now opening.now n state.now }
     requires unit { u < (program_of c.now).functions }
     requires places { HasPlaces (program_of c.now) enabled.old }
     ensures { Relists (program_of c.now) opening.now (calls_of state.now) Nothing Nothing Nothing (λ v. v ≡ u) enabled.old enabled.new }
 {
-    enabled.busy.put(u, check::is_busy(&state.modes, u));
+    let idle = check::is_idle(&state.modes, u);
+    enabled.accepts.turn(u, idle);
+    enabled.busy.put(u, !idle);
 }
 
 // The events of the members of a unit.
@@ -176,98 +200,45 @@ fn relist_member(c: &Checked, opening: &Args, state: &State, f: u32, enabled: &m
     enabled.loops.put(f, check::loops(&state.answers, unit, f));
 }
 
-// The calls of the sites in the bodies of a unit.
-fn relist_own(c: &Checked, opening: &Args, state: &State, u: u32, enabled: &mut Enabled)
+// The calls of the sites of a span.
+fn relist_touched(c: &Checked, opening: &Args, state: &State, touched: Span, enabled: &mut Enabled)
     requires kept { (n : ℕ) × Keeps c.now opening.now n state.now }
-    requires unit { u < (program_of c.now).functions }
+    requires span { touched.end ≤ suc (program_of c.now).sites }
     requires places { HasPlaces (program_of c.now) enabled.old }
-    ensures { Relists (program_of c.now) opening.now (calls_of state.now) (λ k. IsOwn (program_of c.now) u k) Nothing Nothing Nothing enabled.old enabled.new }
+    ensures { Relists (program_of c.now) opening.now (calls_of state.now) (λ k. InSpan touched k) Nothing Nothing Nothing enabled.old enabled.new }
 {
-    let own = own_sites(c, u);
-    for k in own.first..own.end {
+    for k in touched.first..touched.end {
         relist_call(c, opening, state, k, enabled);
     }
 }
 
-// What changes for the sites that a unit serves: their calls, where it has become idle or busy, and the site that it
-// delivered to and the one that it delivers to now.
-fn relist_service(
-    c: &Checked,
-    links: &Links,
-    opening: &Args,
-    state: &State,
-    u: u32,
-    before: Service,
-    enabled: &mut Enabled,
-)
-    requires kept { (n : ℕ) × Keeps c.now opening.now n state.now }
-    requires linked { AreLinked (program_of c.now) links.now }
-    requires unit { u < (program_of c.now).functions }
-    requires places { HasPlaces (program_of c.now) enabled.old }
-    ensures { RelistsService (program_of c.now) opening.now (calls_of state.now) u before enabled.old enabled.new }
-{
-    let after = serving(&state.modes, u);
-    relist_turned(c, links, opening, state, u, before.is_idle, enabled);
-    relist_return(c, opening, state, before.delivers, enabled);
-    relist_return(c, opening, state, after.delivers, enabled);
-}
-
-// The calls of the sites that a unit serves, where it has become idle or busy.
-fn relist_turned(
-    c: &Checked,
-    links: &Links,
-    opening: &Args,
-    state: &State,
-    u: u32,
-    was_idle: bool,
-    enabled: &mut Enabled,
-)
-    requires kept { (n : ℕ) × Keeps c.now opening.now n state.now }
-    requires linked { AreLinked (program_of c.now) links.now }
-    requires unit { u < (program_of c.now).functions }
-    requires places { HasPlaces (program_of c.now) enabled.old }
-    ensures { RelistsTurned (program_of c.now) opening.now (calls_of state.now) u was_idle enabled.old enabled.new }
-{
-    if check::is_as_before(&state.modes, u, was_idle) {
-        return;
-    }
-    relist_callers(c, links, opening, state, u, enabled);
-}
-
-// The calls of the sites that a unit serves.
-fn relist_callers(
-    c: &Checked,
-    links: &Links,
-    opening: &Args,
-    state: &State,
-    u: u32,
-    enabled: &mut Enabled,
-)
-    requires kept { (n : ℕ) × Keeps c.now opening.now n state.now }
-    requires linked { AreLinked (program_of c.now) links.now }
-    requires unit { u < (program_of c.now).functions }
-    requires places { HasPlaces (program_of c.now) enabled.old }
-    ensures { Relists (program_of c.now) opening.now (calls_of state.now) (λ k. unit_for (program_of c.now) k ≡ u) Nothing Nothing Nothing enabled.old enabled.new }
-{
-    let idle = check::is_idle(&state.modes, u);
-    let sites = c.sites();
-    let mut k = links.first[u as usize];
-    while k <= sites {
-        let accepts = check::waits_for(idle, &state.stages, &state.wants, k);
-        enabled.accepts.put(k, accepts);
-        k = links.next[k as usize];
-    }
-}
-
-// Whether the call of a site can be accepted.
+// Whether the call of a site waits.
 fn relist_call(c: &Checked, opening: &Args, state: &State, k: u32, enabled: &mut Enabled)
     requires kept { (n : ℕ) × Keeps c.now opening.now n state.now }
     requires site { k ≤ (program_of c.now).sites }
     requires places { HasPlaces (program_of c.now) enabled.old }
     ensures { Relists (program_of c.now) opening.now (calls_of state.now) (λ j. j ≡ k) Nothing Nothing Nothing enabled.old enabled.new }
 {
-    let accepts = check::accepts(c, &state.modes, &state.stages, &state.wants, k);
-    enabled.accepts.put(k, accepts);
+    let waits = check::waits(&state.stages, &state.wants.each, k);
+    enabled.accepts.put(k, waits);
+}
+
+// Whether there is a word for the site to which a unit delivered before, and for the one to which it delivers now.
+fn relist_service(
+    c: &Checked,
+    opening: &Args,
+    state: &State,
+    u: u32,
+    before: Option<u32>,
+    enabled: &mut Enabled,
+)
+    requires kept { (n : ℕ) × Keeps c.now opening.now n state.now }
+    requires unit { u < (program_of c.now).functions }
+    requires places { HasPlaces (program_of c.now) enabled.old }
+    ensures { RelistsService (program_of c.now) opening.now (calls_of state.now) u before enabled.old enabled.new }
+{
+    relist_return(c, opening, state, before, enabled);
+    relist_return(c, opening, state, delivered_to(&state.modes, u), enabled);
 }
 
 // Whether a site can get its word, where there is one.

@@ -5,38 +5,49 @@ ghost use Rattle.safl_term.specs.Checked.{program_of};
 ghost use Rattle.safl_term.specs.Readiness as plain;
 ghost use Rattle.safl_calls.specs.Machine as core;
 ghost use Rattle.safl_core.specs.Modes.{unit_at};
-ghost use Rattle.safl_core.specs.Shown.{serves_of, word_given, args_given, event_of};
-ghost use Rattle.safl_core.specs.States.{Keeps, Leads, calls_of};
+ghost use Rattle.safl_evaluate.specs.Laying.{IsPlan};
+ghost use Rattle.safl_core.specs.Shown.{serves_of, word_given, event_of};
+ghost use Rattle.safl_evaluate.specs.Answers.{args_given};
+ghost use Rattle.safl_core.specs.States.{Keeps, Leads, Recalls, calls_of};
 
-use crate::args::Args;
 use crate::event::Event;
 use crate::mode::Mode;
-use crate::refresh::refresh;
+use crate::refresh::{refresh, renew};
+use crate::spans::Span;
 use crate::state::State;
 use crate::step;
+use safl_evaluate::{Args, Plan};
 use safl_term::Checked;
 use safl_word::Word;
 
 /// Fires an event that is enabled: the modes and stages are those of the next state, and what is kept of partial
-/// evaluation is that of this state.
-pub fn fire(c: &Checked, opening: &Args, state: &mut State, e: Event)
+/// evaluation is that of this state. Answers the sites that may be wanted otherwise than before.
+pub fn fire(c: &Checked, plan: &Plan, opening: &Args, state: &mut State, e: Event) -> Span
     requires kept { (n : ℕ) × Keeps c.now opening.now n state.old }
+    requires plan { IsPlan (program_of c.now) plan.now (length state.old.kept.items) }
+    requires recalls { (u : ℕ) → Recalls (program_of c.now) plan.now state.old u }
     requires can { core.Enabled (program_of c.now) opening.now (calls_of state.old) (event_of e) }
-    ensures { Leads c.now opening.now (event_of e) state.old state.new }
+    ensures leads { Leads c.now opening.now (event_of e) result state.old state.new }
+    ensures recalls { (u : ℕ) → Recalls (program_of c.now) plan.now state.new u }
+    ensures cells { length state.new.kept.items ≡ length state.old.kept.items }
 {
     match e {
-        Event::Accept(k) => accept(c, opening, state, k),
-        Event::Finish(f) => finish(c, opening, state, f),
-        Event::Return(k) => give_back(c, opening, state, k),
-        Event::Loop(h) => loop_into(c, opening, state, h),
+        Event::Accept(k) => accept(c, plan, opening, state, k),
+        Event::Finish(f) => finish(c, plan, opening, state, f),
+        Event::Return(k) => give_back(c, plan, opening, state, k),
+        Event::Loop(h) => loop_into(c, plan, opening, state, h),
     }
 }
 
 // A site's call is accepted.
-fn accept(c: &Checked, opening: &Args, state: &mut State, k: u32)
+fn accept(c: &Checked, plan: &Plan, opening: &Args, state: &mut State, k: u32) -> Span
     requires kept { (n : ℕ) × Keeps c.now opening.now n state.old }
+    requires plan { IsPlan (program_of c.now) plan.now (length state.old.kept.items) }
+    requires recalls { (u : ℕ) → Recalls (program_of c.now) plan.now state.old u }
     requires can { core.Enabled (program_of c.now) opening.now (calls_of state.old) (core.Accept k) }
-    ensures { Leads c.now opening.now (core.Accept k) state.old state.new }
+    ensures leads { Leads c.now opening.now (core.Accept k) result state.old state.new }
+    ensures recalls { (u : ℕ) → Recalls (program_of c.now) plan.now state.new u }
+    ensures cells { length state.new.kept.items ≡ length state.old.kept.items }
 {
     let words = if k == 0 {
         opening.again()
@@ -45,14 +56,18 @@ fn accept(c: &Checked, opening: &Args, state: &mut State, k: u32)
     };
     step::accept(c, state, k, words);
     let unit = c.unit_for(k);
-    refresh(c, state, unit);
+    refresh(c, plan, state, unit)
 }
 
 // A function finishes.
-fn finish(c: &Checked, opening: &Args, state: &mut State, f: u32)
+fn finish(c: &Checked, plan: &Plan, opening: &Args, state: &mut State, f: u32) -> Span
     requires kept { (n : ℕ) × Keeps c.now opening.now n state.old }
+    requires plan { IsPlan (program_of c.now) plan.now (length state.old.kept.items) }
+    requires recalls { (u : ℕ) → Recalls (program_of c.now) plan.now state.old u }
     requires can { core.Enabled (program_of c.now) opening.now (calls_of state.old) (core.Finish f) }
-    ensures { Leads c.now opening.now (core.Finish f) state.old state.new }
+    ensures leads { Leads c.now opening.now (core.Finish f) result state.old state.new }
+    ensures recalls { (u : ℕ) → Recalls (program_of c.now) plan.now state.new u }
+    ensures cells { length state.new.kept.items ≡ length state.old.kept.items }
 {
     let unit = c.unit(f);
     let serves = served(state, unit);
@@ -60,42 +75,54 @@ fn finish(c: &Checked, opening: &Args, state: &mut State, f: u32)
         unreachable!()
     };
     step::end(c, state, unit, Mode::Delivers(serves, word));
-    refresh(c, state, unit);
+    refresh(c, plan, state, unit)
 }
 
-// A site gets its word.
-fn give_back(c: &Checked, opening: &Args, state: &mut State, k: u32)
+// A site gets its word. Of the body in which it stands, what the word changes is found anew.
+fn give_back(c: &Checked, plan: &Plan, opening: &Args, state: &mut State, k: u32) -> Span
     requires kept { (n : ℕ) × Keeps c.now opening.now n state.old }
+    requires plan { IsPlan (program_of c.now) plan.now (length state.old.kept.items) }
+    requires recalls { (u : ℕ) → Recalls (program_of c.now) plan.now state.old u }
     requires can { core.Enabled (program_of c.now) opening.now (calls_of state.old) (core.Return k) }
-    ensures { Leads c.now opening.now (core.Return k) state.old state.new }
+    ensures leads { Leads c.now opening.now (core.Return k) result state.old state.new }
+    ensures recalls { (u : ℕ) → Recalls (program_of c.now) plan.now state.new u }
+    ensures cells { length state.new.kept.items ≡ length state.old.kept.items }
 {
     let unit = c.unit_for(k);
     let Some(word) = delivered(state, unit) else {
         unreachable!()
     };
     step::give_back(c, state, k, word);
-    let waiting = if k == 0 { unit } else { c.unit(c.caller(k)) };
-    refresh(c, state, waiting);
+    if k == 0 {
+        return Span::none();
+    }
+    let caller = c.caller(k);
+    let waiting = c.unit(caller);
+    renew(c, plan, state, waiting, k)
 }
 
 // A unit loops to a member.
-fn loop_into(c: &Checked, opening: &Args, state: &mut State, h: u32)
+fn loop_into(c: &Checked, plan: &Plan, opening: &Args, state: &mut State, h: u32) -> Span
     requires kept { (n : ℕ) × Keeps c.now opening.now n state.old }
+    requires plan { IsPlan (program_of c.now) plan.now (length state.old.kept.items) }
+    requires recalls { (u : ℕ) → Recalls (program_of c.now) plan.now state.old u }
     requires can { core.Enabled (program_of c.now) opening.now (calls_of state.old) (core.LoopInto h) }
-    ensures { Leads c.now opening.now (core.LoopInto h) state.old state.new }
+    ensures leads { Leads c.now opening.now (core.LoopInto h) result state.old state.new }
+    ensures recalls { (u : ℕ) → Recalls (program_of c.now) plan.now state.new u }
+    ensures cells { length state.new.kept.items ≡ length state.old.kept.items }
 {
     let unit = c.unit(h);
     step::restart(c, state, unit, h);
-    refresh(c, state, unit);
+    refresh(c, plan, state, unit)
 }
 
 // The words with which a site is wanted.
 fn asked(state: &State, k: u32) -> Args
-    requires within { k < length state.now.wants.items }
-    requires some { IsSome (get_or state.now.wants.items k None) }
-    ensures { get_or state.now.wants.items k None ≡ Some result }
+    requires within { k < length state.now.wants.each.items }
+    requires some { IsSome (get_or state.now.wants.each.items k None) }
+    ensures { get_or state.now.wants.each.items k None ≡ Some result }
 {
-    match state.wants[k as usize].args() {
+    match state.wants.each[k as usize].args() {
         Some(words) => words.again(),
         None => unreachable!(),
     }

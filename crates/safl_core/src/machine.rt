@@ -1,19 +1,19 @@
 //! The call machine.
 
-use crate::args::Args;
 use crate::concern::concerned;
-use crate::enabled::{Enabled, relist_after};
+use crate::enabled::{Enabled, relist_after, relist_calls};
 use crate::event::Event;
-use crate::links::{Links, linked};
-use crate::stage::Stage;
 use crate::state::State;
 use crate::{check, fire, make};
+use safl_evaluate::{Args, Plan, Stage, Wants, planned};
 use safl_term::Checked;
 use safl_word::Word;
 use std::alloc::{AllocError, Global};
 use std::marker::Model;
 
-/// The words of the slots of any body: at most as many as its parameters and nodes.
+/// The nodes of all bodies, and the words of the slots of any body: at most as many as its parameters and nodes.
+const NODES: usize = 50_000;
+
 const ROOM: usize = 50_016;
 
 /// Why there is no machine: the arguments differ from main's parameters in number or in a width, or no memory is left.
@@ -30,7 +30,7 @@ pub struct Machine<'a> {
     opening: Args,
     state: State,
     sets: Enabled,
-    links: Links,
+    plan: Plan,
     events: u64,
 }
 
@@ -46,7 +46,7 @@ impl<'a> Model for Machine<'a> {
 
     ghost view = { λ m. shown_of m.checked.now m.opening m.state.modes.items m.state.stages.items m.events };
 
-    ghost invariant = { λ m. IsHeld m.checked.now m.opening m.events m.state m.sets m.links };
+    ghost invariant = { λ m. IsHeld m.checked.now m.opening m.events m.state m.sets m.plan };
 }
 
 impl<'a> Machine<'a> {
@@ -54,7 +54,7 @@ impl<'a> Machine<'a> {
     ghost use Rattle.safl_calls.specs.Machine as core;
     ghost use Rattle.safl_term.specs.Checked.{program_of};
     ghost use Rattle.safl_term.specs.Readiness.{back_word};
-    ghost use Rattle.safl_core.specs.Evaluating.{widths};
+    ghost use Rattle.safl_evaluate.specs.Evaluating.{widths};
     ghost use Rattle.safl_core.specs.Listing.{busy};
     ghost use Rattle.safl_core.specs.Picking.{IsPicked};
     ghost use Rattle.safl_core.specs.Outcomes.{IsValue, IsBounded, GoesOn, IsOver};
@@ -87,7 +87,8 @@ impl<'a> Machine<'a> {
         let wants = make::unwanted(alloc, sites)?;
         let env = make::room(alloc, ROOM)?;
         let sets = Enabled::new(alloc, c)?;
-        let links = linked(alloc, c)?;
+        let plan = planned(alloc, c)?;
+        let kept = make::nothing_kept(alloc, NODES)?;
         Ok(Machine {
             checked: c,
             opening: Args::new(args),
@@ -95,11 +96,12 @@ impl<'a> Machine<'a> {
                 modes,
                 stages,
                 answers,
-                wants,
+                wants: Wants::new(wants),
                 env,
+                kept,
             },
             sets,
-            links,
+            plan,
             events: 0,
         })
     }
@@ -144,7 +146,7 @@ impl<'a> Machine<'a> {
                     c,
                     &self.state.modes,
                     &self.state.stages,
-                    &self.state.wants,
+                    &self.state.wants.each,
                     k,
                 )
             }
@@ -197,15 +199,22 @@ impl<'a> Machine<'a> {
         ensures { Fires self.old (event_of e) self.new }
     {
         let concerned = concerned(self.checked, e);
-        let before = check::serving(&self.state.modes, concerned.unit);
-        fire::fire(self.checked, &self.opening, &mut self.state, e);
+        let before = check::delivered_to(&self.state.modes, concerned.unit);
+        let touched = fire::fire(self.checked, &self.plan, &self.opening, &mut self.state, e);
         relist_after(
             self.checked,
-            &self.links,
             &self.opening,
             &self.state,
             concerned,
             before,
+            &mut self.sets,
+        );
+        relist_calls(
+            self.checked,
+            &self.opening,
+            &self.state,
+            touched,
+            e,
             &mut self.sets,
         );
         self.events += 1;

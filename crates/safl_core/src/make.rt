@@ -4,14 +4,13 @@ ghost use Rattle.std.specs.Prelude.{◌≡◌, ◌↔◌, ℕ, IsTrue, IfOk, len
 ghost use Rattle.safl_term.specs.Checked.{program_of};
 ghost use Rattle.safl_term.specs.Readiness as plain;
 ghost use Rattle.safl_calls.specs.Machine as core;
-ghost use Rattle.safl_core.specs.Evaluating.{widths};
+ghost use Rattle.safl_core.specs.Called.{AreCalled};
+ghost use Rattle.safl_evaluate.specs.Evaluating.{widths};
 ghost use Rattle.safl_core.specs.Modes.{unit_at};
-ghost use Rattle.safl_core.specs.Stages.{stage_at};
+ghost use Rattle.safl_evaluate.specs.Stages.{stage_at};
 
-use crate::answer::Answer;
 use crate::mode::Mode;
-use crate::stage::Stage;
-use crate::want::Want;
+use safl_evaluate::{Answer, Kept, Stage, Want};
 use safl_term::Checked;
 use safl_word::Word;
 use std::alloc::{AllocError, Global};
@@ -81,6 +80,17 @@ pub fn unsent(alloc: Global, count: usize) -> Result<Vec<Stage>, AllocError>
     Ok(stages)
 }
 
+/// By site the unit that it calls.
+pub fn called(alloc: Global, c: &Checked) -> Result<Vec<u32>, AllocError>
+    ensures { IfOk result (λ v. AreCalled (program_of c.now) v.items) }
+{
+    let mut units = Vec::new(alloc);
+    for k in 0..c.sites() + 1 {
+        units.push(c.unit_for(k))?;
+    }
+    Ok(units)
+}
+
 /// Room for so many words.
 pub fn room(alloc: Global, count: usize) -> Result<Vec<Word>, AllocError>
     ensures { IfOk result (λ v. length v.items ≡ count) }
@@ -90,4 +100,15 @@ pub fn room(alloc: Global, count: usize) -> Result<Vec<Word>, AllocError>
         words.push(Word::from_parts(1, 0))?;
     }
     Ok(words)
+}
+
+/// So many places at which nothing is kept.
+pub fn nothing_kept(alloc: Global, count: usize) -> Result<Vec<Kept>, AllocError>
+    ensures { IfOk result (λ v. length v.items ≡ count) }
+{
+    let mut kept = Vec::new(alloc);
+    for _made in 0..count {
+        kept.push(Kept::Shut)?;
+    }
+    Ok(kept)
 }

@@ -1,6 +1,6 @@
 //! The modes of units.
 
-use crate::args::Args;
+use safl_evaluate::Args;
 use safl_word::Word;
 
 /// A unit is idle, or runs a member with its arguments for the site that it serves, or delivers a word to that

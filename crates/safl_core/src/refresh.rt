@@ -1,85 +1,113 @@
 //! What is kept of partial evaluation, found anew for a unit.
 
-ghost use Rattle.std.specs.Prelude.{◌≡◌, ℕ, suc, ◌+◌, ◌<◌, ◌≤◌, List, length, None, IfSome, IfNone, get_or};
+ghost use Rattle.std.specs.Prelude.{◌≡◌, ℕ, suc, ◌<◌, ◌≤◌, List, length, take, Some, IfSome, IfNone};
 ghost use Rattle.safl_term.specs.Checked.{program_of};
-ghost use Rattle.safl_term.specs.Readiness.{answer, wanted};
-ghost use Rattle.safl_term.specs.Sizes.{nodes};
-ghost use Rattle.safl_term.specs.Tree.{shown_term};
 ghost use Rattle.safl_calls.specs.Machine as core;
-ghost use Rattle.safl_core.specs.Evaluating.{CanRun, Unasked, Notes};
 ghost use Rattle.safl_core.specs.Modes.{unit_at};
-ghost use Rattle.safl_core.specs.Stages.{back_at};
-ghost use Rattle.safl_core.specs.States.{CanRefresh, Clears, Refreshes, Evaluates};
+ghost use Rattle.safl_evaluate.specs.Laying.{IsPlan};
+ghost use Rattle.safl_core.specs.Spans.{IsSpan, InSpan};
+ghost use Rattle.safl_evaluate.specs.Asking.{IsAsked};
+ghost use Rattle.safl_core.specs.States.{CanRefresh, CanRenew, Clears, Refreshes, Recalls, Evaluates};
 
-use crate::answer::Answer;
-use crate::args::Args;
-use crate::evaluate::evaluate;
 use crate::mode::Mode;
-use crate::spans::own_sites;
-use crate::stage::Stage;
+use crate::spans::{Span, own_sites};
 use crate::state::State;
-use crate::want::Want;
-use safl_term::{Checked, Term};
+use safl_evaluate::evaluate::{Facts, Spot, evaluate};
+use safl_evaluate::{Answer, Args, Plan, Want, Wants};
+use safl_term::Checked;
 use safl_word::Word;
 
-/// Forgets the words with which a unit wanted its sites.
-pub fn clear(c: &Checked, asks: &mut [Want], u: u32)
+/// Forgets the words with which a unit wanted its sites. Answers these sites.
+pub fn clear(c: &Checked, asks: &mut [Want], u: u32) -> Span
     requires unit { u < (program_of c.now).functions }
     requires sized { length asks.old ≡ suc (program_of c.now).sites }
-    ensures { Clears (program_of c.now) u asks.old asks.new }
+    ensures clears { Clears (program_of c.now) u asks.old asks.new }
+    ensures own { IsSpan (program_of c.now) u result }
 {
     let own = own_sites(c, u);
     for k in own.first..own.end {
         asks[k as usize].forget();
     }
+    own
 }
 
-/// Notes what a body comes to with these arguments, and the words with which it wants its sites.
-pub fn run(
-    stages: &[Stage],
-    asks: &mut [Want],
-    env: &mut [Word],
-    body: &Term,
-    args: &Args,
-    told: &mut Answer,
-)
-    requires can { CanRun stages.now (length asks.old) args.now (shown_term body.now) }
-    requires room { length args.now + nodes (shown_term body.now) ≤ length env.old }
-    requires unasked { Unasked asks.old (shown_term body.now) }
-    ensures answer { told.new ≡ answer (back_at stages.now) args.now (shown_term body.now) }
-    ensures notes { Notes asks.old asks.new (wanted (back_at stages.now) args.now (shown_term body.now)) }
+// Puts words into the first slots, and says how many they are.
+fn fill(env: &mut [Word], words: &[Word]) -> usize
+    requires { length words.now ≤ length env.old }
+    ensures count { result ≡ length words.now }
+    ensures filled { take (length words.now) env.new ≡ words.now }
 {
-    let words = args.words();
     let slots = words.len();
     env[..slots].copy_from_slice(words);
-    evaluate(stages, asks, env, slots, body, told);
+    slots
 }
 
 /// Finds anew what a unit's body comes to, and with which words it wants its sites. What is kept for the other
-/// units stays.
-pub fn refresh(c: &Checked, state: &mut State, u: u32)
-    requires { CanRefresh c.now u state.old }
-    ensures { Refreshes (program_of c.now) u state.old state.new }
+/// units stays. Answers the sites of the unit, since they alone may be wanted otherwise than before.
+pub fn refresh(c: &Checked, plan: &Plan, state: &mut State, u: u32) -> Span
+    requires can { CanRefresh c.now u state.old }
+    requires plan { IsPlan (program_of c.now) plan.now (length state.old.kept.items) }
+    ensures refreshes { Refreshes (program_of c.now) u result state.old state.new }
+    ensures own { IsSpan (program_of c.now) u result }
+    ensures recalls { (v : ℕ) → ((v ≡ u → ⊥) → Recalls (program_of c.now) plan.now state.old v) → Recalls (program_of c.now) plan.now state.new v }
+    ensures cells { length state.new.kept.items ≡ length state.old.kept.items }
 {
-    clear(c, &mut state.wants, u);
-    evaluated(c, state, u);
+    let own = clear(c, &mut state.wants.each, u);
+    evaluated(c, plan, state, u, None);
+    own
+}
+
+/// Finds anew what changes of it since site `k` of the unit has returned. Answers sites among which are all that may be
+/// wanted otherwise than before.
+pub fn renew(c: &Checked, plan: &Plan, state: &mut State, u: u32, k: u32) -> Span
+    requires can { CanRefresh c.now u state.old }
+    requires plan { IsPlan (program_of c.now) plan.now (length state.old.kept.items) }
+    requires stood { CanRenew (program_of c.now) plan.now (Some k) state.old u }
+    ensures refreshes { Refreshes (program_of c.now) u result state.old state.new }
+    ensures recalls { (v : ℕ) → ((v ≡ u → ⊥) → Recalls (program_of c.now) plan.now state.old v) → Recalls (program_of c.now) plan.now state.new v }
+    ensures cells { length state.new.kept.items ≡ length state.old.kept.items }
+{
+    state.wants.begin();
+    evaluated(c, plan, state, u, Some(k));
+    between(c, &state.wants)
+}
+
+// The sites from the first to the last one that were asked for.
+fn between(c: &Checked, wants: &Wants) -> Span
+    ensures most { result.end ≤ suc (program_of c.now).sites }
+    ensures all { (k : ℕ) → k ≤ (program_of c.now).sites → IsAsked wants.now k → InSpan result k }
+{
+    Span {
+        first: wants.first,
+        end: wants.last.min(c.sites()) + 1,
+    }
 }
 
 // Notes what a unit's body comes to, and the words with which it wants its sites.
-fn evaluated(c: &Checked, state: &mut State, u: u32)
+fn evaluated(c: &Checked, plan: &Plan, state: &mut State, u: u32, news: Option<u32>)
     requires can { CanRefresh c.now u state.old }
-    requires cleared { (k : ℕ) → 0 < k → k ≤ (program_of c.now).sites → (program_of c.now).unit ((program_of c.now).caller k) ≡ u → get_or state.old.wants.items k None ≡ None }
-    ensures { Evaluates (program_of c.now) u state.old state.new }
+    requires plan { IsPlan (program_of c.now) plan.now (length state.old.kept.items) }
+    requires stood { CanRenew (program_of c.now) plan.now news state.old u }
+    ensures { Evaluates (program_of c.now) plan.now u state.old state.new }
 {
     match running(&state.modes, u) {
-        Some((f, args)) => run(
-            &state.stages,
-            &mut state.wants,
-            &mut state.env,
-            c.body(f),
-            args,
-            &mut state.answers[u as usize],
-        ),
+        Some((f, args)) => {
+            let facts = Facts {
+                stages: &state.stages,
+                places: &plan.places,
+            };
+            let slots = fill(&mut state.env, args.words());
+            let at = plan.bodies[f as usize];
+            evaluate(
+                &facts,
+                &mut state.wants,
+                &mut state.env,
+                &mut state.kept,
+                Spot { slots, at, news },
+                c.body(f),
+                &mut state.answers[u as usize],
+            )
+        }
         None => state.answers[u as usize].settle(None),
     }
 }

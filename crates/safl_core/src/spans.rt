@@ -13,6 +13,18 @@ pub struct Span {
     pub end: u32,
 }
 
+impl Span {
+    ghost use Rattle.std.specs.Prelude.{◌≡◌};
+
+    /// No sites.
+    pub fn none() -> Span
+        ensures first { result.first ≡ 1 }
+        ensures end { result.end ≡ 1 }
+    {
+        Span { first: 1, end: 1 }
+    }
+}
+
 /// The number after the last member of a unit.
 pub fn members_end(c: &Checked, u: u32) -> u32
     requires { u < (program_of c.now).functions }

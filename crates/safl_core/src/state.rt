@@ -1,9 +1,7 @@
 //! What an event changes.
 
-use crate::answer::Answer;
 use crate::mode::Mode;
-use crate::stage::Stage;
-use crate::want::Want;
+use safl_evaluate::{Answer, Kept, Stage, Wants};
 use safl_word::Word;
 
 /// The modes of the units and the stages of the sites. Beside them is what is kept of partial evaluation: what each
@@ -13,6 +11,7 @@ pub struct State {
     pub modes: Vec<Mode>,
     pub stages: Vec<Stage>,
     pub answers: Vec<Answer>,
-    pub wants: Vec<Want>,
+    pub wants: Wants,
     pub env: Vec<Word>,
+    pub kept: Vec<Kept>,
 }

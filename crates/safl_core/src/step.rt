@@ -6,15 +6,14 @@ ghost use Rattle.safl_term.specs.Readiness as plain;
 ghost use Rattle.safl_word.specs.Words.{Word as a_word};
 ghost use Rattle.safl_calls.specs.Machine as core;
 ghost use Rattle.safl_core.specs.Modes.{mode_of, unit_at};
-ghost use Rattle.safl_core.specs.Shown.{args_given};
-ghost use Rattle.safl_core.specs.Stages.{stage_at};
+ghost use Rattle.safl_evaluate.specs.Answers.{args_given};
+ghost use Rattle.safl_evaluate.specs.Stages.{stage_at};
 ghost use Rattle.safl_core.specs.States.{IsSized, Restarts, Steps, calls_of, ended_with};
 
-use crate::args::Args;
 use crate::mode::Mode;
 use crate::spans::own_sites;
-use crate::stage::Stage;
 use crate::state::State;
+use safl_evaluate::{Args, Stage};
 use safl_term::Checked;
 use safl_word::Word;
 

@@ -5,14 +5,11 @@ use Rattle.safl_core.proofs.enabled.relist.Goals as goal
 pub relist_members-requires-clause-places : goal.relist_members-requires-clause-places
 relist_members-requires-clause-places c = places_after c.requires.places c.relist_unit.ensures
 
-pub relist_own-requires-clause-places : goal.relist_own-requires-clause-places
-relist_own-requires-clause-places c = places_after (places_after c.requires.places c.relist_unit.ensures) c.relist_members.ensures
-
 pub returns : goal.returns
 returns c =
     relists_by c.requires.places
-    (λ k lt q. inr q)
-    (λ k lt q. inr q)
-    (λ f lt q. inl (inr q))
-    (λ v lt q. inl (inl q))
-    (relists_then (relists_then c.relist_unit.ensures c.relist_members.ensures) c.relist_own.ensures)
+    (λ k lt q. inl q)
+    (λ k lt q. inl q)
+    (λ f lt q. inr q)
+    (λ v lt q. inl q)
+    (relists_then c.relist_unit.ensures c.relist_members.ensures)

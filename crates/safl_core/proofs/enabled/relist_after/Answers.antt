@@ -8,7 +8,7 @@ relist_service-requires-clause-places c = places_after c.requires.places c.relis
 pub returns : goal.returns
 returns c =
     relists_by c.requires.places
-    (λ k lt q. q)
+    (λ k lt q. inl q)
     (λ k lt q. inr q)
     (λ f lt q. inl q)
     (λ v lt q. inl q)

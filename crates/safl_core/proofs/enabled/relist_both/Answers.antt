@@ -9,7 +9,7 @@ pub returns-then-concerned : goal.returns-then-concerned
 returns-then-concerned c =
     let e = c.if-concerned.true in
     relists_by c.requires.places
-    (λ k lt q. ⊎_elim (λ x. x) (λ b. (b.0, b.1 ∙ e)) q)
+    (λ k lt q. q)
     (λ k lt q. q)
     (λ f lt q. ⊎_elim (λ x. x) (λ y. y ∙ e) q)
     (λ v lt q. ⊎_elim (λ x. x) (λ y. y ∙ e) q)
@@ -18,7 +18,7 @@ returns-then-concerned c =
 pub returns : goal.returns
 returns c =
     relists_by c.requires.places
-    (λ k lt q. q)
+    (λ k lt q. inl q)
     (λ k lt q. inl q)
     (λ f lt q. q)
     (λ v lt q. q)

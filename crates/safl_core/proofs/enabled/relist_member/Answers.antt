@@ -1,12 +1,13 @@
-use Rattle.std.proofs.Common.{◌&&◌, List, get_or, ap, ◌∙◌}
+use Rattle.std.proofs.Common.{is_some, refl, ◌&&◌, List, get_or, ap, ◌∙◌}
 use Rattle.std.specs.Prelude.{not}
 use Rattle.safl_term.specs.Checked.{program_of}
-use Rattle.safl_calls.specs.Machine.{Accept, Finish, Return, LoopInto}
+use Rattle.safl_calls.specs.Machine.{Finish, Return, LoopInto, asked}
 use Rattle.safl_term.specs.Readiness.{Answer, NotYet}
 use Rattle.safl_core.specs.declared.mode.Mode.{Mode}
 use Rattle.safl_core.specs.Modes.{unit_at}
 use Rattle.safl_core.specs.States.{calls_of}
-use Rattle.safl_core.specs.Testing.{can, is_idle, runs, is_ready, loops_to}
+use Rattle.safl_core.specs.Testing.{can, is_idle, runs}
+use Rattle.safl_evaluate.specs.Answers.{is_ready, loops_to}
 use Rattle.safl_core.proofs.SetsPutRight.{rights_same, rights_put}
 use Rattle.safl_core.proofs.LawsOfKept.{finish_test, loop_test}
 use Rattle.safl_core.proofs.enabled.relist_member.Goals as goal
@@ -25,7 +26,9 @@ returns c =
     ∙ ap (λ (x : List Answer). runs (unit_at s.modes.items u) f && is_ready (get_or x u NotYet)) c.deref-2.ensures.value) in
     let loops = c.loops.ensures ∙ ap (λ (x : List Answer). loops_to (get_or x u NotYet) f) c.deref-3.ensures.value in
     record {
-      accepts = rights_same (λ j. can C args (calls_of s) (Accept j)) e.accepts;
+      called = refl;
+      waits = rights_same (λ j. is_some (asked C args (calls_of s) j)) e.accepts.within;
+      idle = rights_same (λ v. is_idle ((calls_of s).unit v)) e.accepts.opened;
       finishes = rights_put (λ g. can C args (calls_of s) (Finish g)) e.finishes c.put.new.self f c.finishes.result c.put.ensures (finish_test h f u c.finishes.result c.unit-unit.ensures.number finishes);
       returns = rights_same (λ j. can C args (calls_of s) (Return j)) e.returns;
       loops = rights_put (λ g. can C args (calls_of s) (LoopInto g)) e.loops c.put-2.new.self f c.loops.result c.put-2.ensures (loop_test h f u c.loops.result c.unit-unit.ensures.number loops);

@@ -1,13 +1,13 @@
-use Rattle.std.proofs.Common.{◌≡◌, ◌&&◌, List, sym, ap, ◌∙◌, arith}
+use Rattle.std.proofs.Common.{is_some, refl, ◌≡◌, ◌&&◌, List, sym, ap, ◌∙◌, arith}
 use Rattle.std.specs.Prelude.{not}
 use Rattle.safl_term.specs.Checked.{program_of}
 use Rattle.safl_term.specs.Program.{unit_for}
-use Rattle.safl_calls.specs.Machine.{Accept, Finish, Return, LoopInto}
+use Rattle.safl_calls.specs.Machine.{Finish, Return, LoopInto, asked}
 use Rattle.safl_core.specs.declared.mode.Mode.{Mode}
-use Rattle.safl_core.specs.declared.stage.Stage.{Stage}
+use Rattle.safl_evaluate.specs.declared.stage.Stage.{Stage}
 use Rattle.safl_core.specs.Marking.{Relists, Nothing}
 use Rattle.safl_core.specs.Modes.{unit_at}
-use Rattle.safl_core.specs.Stages.{stage_at}
+use Rattle.safl_evaluate.specs.Stages.{stage_at}
 use Rattle.safl_core.specs.States.{calls_of}
 use Rattle.safl_core.specs.Testing.{can, is_idle, is_sent, delivers_to}
 use Rattle.safl_core.proofs.SetsPutRight.{rights_same, rights_put, relists_by, relists_none, some_is, none_is}
@@ -44,7 +44,9 @@ returns c =
     ∙ (ap (λ (x : List Mode). is_sent (stage_at c.deref-2.result.now k) && delivers_to (unit_at x (unit_for C k)) k) c.deref.ensures.value
     ∙ ap (λ (x : List Stage). is_sent (stage_at x k) && delivers_to (unit_at s.modes.items (unit_for C k)) k) c.deref-2.ensures.value) in
     let at : Relists C args (calls_of s) Nothing (λ j. j ≡ k) Nothing Nothing e (record e { returns = c.put.new.self }) = record {
-      accepts = rights_same (λ j. can C args (calls_of s) (Accept j)) e.accepts;
+      called = refl;
+      waits = rights_same (λ j. is_some (asked C args (calls_of s) j)) e.accepts.within;
+      idle = rights_same (λ v. is_idle ((calls_of s).unit v)) e.accepts.opened;
       finishes = rights_same (λ f. can C args (calls_of s) (Finish f)) e.finishes;
       returns = rights_put (λ j. can C args (calls_of s) (Return j)) e.returns c.put.new.self k c.returns-returns.result c.put.ensures (return_test h k c.returns-returns.result returns);
       loops = rights_same (λ n. can C args (calls_of s) (LoopInto n)) e.loops;

@@ -5,18 +5,15 @@ use Rattle.safl_core.specs.Testing.{delivered}
 use Rattle.safl_core.proofs.SetsPutRight.{relists_by, relists_then, places_after}
 use Rattle.safl_core.proofs.enabled.relist_service.Goals as goal
 
-pub relist_return-requires-clause-places : goal.relist_return-requires-clause-places
-relist_return-requires-clause-places c = places_after c.requires.places c.relist_turned.ensures
-
 pub relist_return-requires-2-clause-places : goal.relist_return-requires-2-clause-places
-relist_return-requires-2-clause-places c = places_after (places_after c.requires.places c.relist_turned.ensures) c.relist_return.ensures
+relist_return-requires-2-clause-places c = places_after c.requires.places c.relist_return.ensures
 
 pub returns : goal.returns
 returns c =
-    let now = c.serving-after.ensures.delivers ∙ ap (λ (x : List Mode). delivered (unit_at x c.args.u)) c.deref.ensures.value in
+    let now = c.delivered_to.ensures ∙ ap (λ (x : List Mode). delivered (unit_at x c.args.u)) c.deref.ensures.value in
     relists_by c.requires.places
-    (λ k lt q. inl (inl q))
-    (λ k lt q. ⊎_elim (λ a. inl (inr a)) (λ b. inr (now ∙ b)) q)
-    (λ f lt q. inl (inl q))
-    (λ v lt q. inl (inl q))
-    (relists_then (relists_then c.relist_turned.ensures c.relist_return.ensures) c.relist_return-2.ensures)
+    (λ k lt q. inl q)
+    (λ k lt q. ⊎_elim (λ a. inl a) (λ b. inr (now ∙ b)) q)
+    (λ f lt q. inl q)
+    (λ v lt q. inl q)
+    (relists_then c.relist_return.ensures c.relist_return-2.ensures)

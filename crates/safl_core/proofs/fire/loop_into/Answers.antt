@@ -1,8 +1,13 @@
-use Rattle.std.proofs.Common.{refl, ap, ◌∙◌, rules}
+use Rattle.std.proofs.Common.{ℕ, List, length, refl, ap, ◌∙◌, rules, subst, sym}
 use Rattle.safl_term.specs.Checked.{program_of}
 use Rattle.safl_calls.specs.Machine.{LoopInto}
+use Rattle.safl_evaluate.specs.declared.kept.Kept.{Kept}
+use Rattle.safl_evaluate.specs.Laying.{IsPlan}
+use Rattle.safl_core.specs.Spans.{IsSpan}
 use Rattle.safl_core.specs.States.{calls_of}
 use Rattle.safl_core.proofs.KeptByEvents.{inv, good, after_end, looping, loop_is}
+use Rattle.safl_core.proofs.RemembersByUnits.{recalls_step}
+use Rattle.safl_core.proofs.SeenByUnits.{local_end}
 use Rattle.safl_core.proofs.StatesByEvents.{can_refresh, leads}
 use Rattle.safl_core.proofs.fire.loop_into.Goals as goal
 
@@ -15,8 +20,8 @@ restart-requires-clause-runs c =
     let l = looping c.requires.kept.1 c.args.h c.requires.can.0 c.requires.can.1 in
     (l.member, l.site, l.args, ap s.unit c.unit-unit.ensures.number ∙ l.runs)
 
-pub refresh-requires : goal.refresh-requires
-refresh-requires c =
+pub refresh-requires-clause-can : goal.refresh-requires-clause-can
+refresh-requires-clause-can c =
     let C = program_of c.args.c.now in
     let s = calls_of c.args.state.now in
     let h = c.requires.kept.1 in
@@ -24,12 +29,26 @@ refresh-requires c =
     let is = loop_is h c.args.h can.0 can.1 c.unit-unit.result _ c.restart.ensures.args c.unit-unit.ensures.number refl c.restart.ensures.passed in
     can_refresh c.args.c.now c.args.opening.now c.requires.kept.0 c.args.state.now _ h (LoopInto c.args.h) can _ c.restart.ensures.steps is c.unit-unit.result (search rules)
 
-pub returns : goal.returns
-returns c =
+pub returns-clause-leads : goal.returns-clause-leads
+returns-clause-leads c =
     let C = program_of c.args.c.now in
     let s = calls_of c.args.state.now in
     let h = c.requires.kept.1 in
     let can = c.requires.can in
     let is = loop_is h c.args.h can.0 can.1 c.unit-unit.result _ c.restart.ensures.args c.unit-unit.ensures.number refl c.restart.ensures.passed in
-    leads c.args.c.now c.args.opening.now (LoopInto c.args.h) c.args.state.now _ _ _ _ c.restart.ensures.steps c.refresh.ensures is (λ v ne.
-    after_end C c.args.opening.now (good h) s (inv h) c.args.state.now.answers.items c.args.state.now.wants.items h.known c.unit-unit.result _ v ne)
+    leads c.args.c.now c.args.opening.now (LoopInto c.args.h) c.refresh.result c.args.state.now _ _ _ _ c.restart.ensures.steps c.refresh.ensures.refreshes is (λ v q. subst (λ n. IsSpan C n c.refresh.result) (sym (q ∙ sym c.unit-unit.ensures.number)) c.refresh.ensures.own) (λ v ne.
+    after_end C c.args.opening.now (good h) s (inv h) c.args.state.now.answers.items c.args.state.now.wants.each.items h.known c.unit-unit.result _ v ne)
+
+pub refresh-requires-clause-plan : goal.refresh-requires-clause-plan
+refresh-requires-clause-plan c = subst (λ (n : ℕ). IsPlan (program_of c.args.c.now) c.args.plan.now n) (sym (ap (λ (x : List Kept). length x) c.restart.ensures.steps.kept)) c.requires.plan
+
+pub returns-clause-recalls : goal.returns-clause-recalls
+returns-clause-recalls c =
+    let C = program_of c.args.c.now in
+    let s = calls_of c.args.state.now in
+    let h = c.requires.kept.1 in
+    let local = local_end C s c.unit-unit.result _ c.unit-unit.result in
+    λ v. c.refresh.ensures.recalls v (λ ne. recalls_step (good h) c.requires.plan c.args.state.now _ _ c.unit-unit.result c.unit-unit.result v c.restart.ensures.steps local ne ne (c.requires.recalls v))
+
+pub returns-clause-cells : goal.returns-clause-cells
+returns-clause-cells c = c.refresh.ensures.cells ∙ ap (λ (x : List Kept). length x) c.restart.ensures.steps.kept

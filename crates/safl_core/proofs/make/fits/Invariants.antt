@@ -1,6 +1,6 @@
 use Rattle.std.proofs.Common.{◌≡◌, take}
 use Rattle.safl_term.specs.Checked.{program_of}
-use Rattle.safl_core.specs.Evaluating.{widths}
+use Rattle.safl_evaluate.specs.Evaluating.{widths}
 use Rattle.safl_core.proofs.make.fits.Given as goal
 
 abbrev pub invariant-loop-i : goal.invariant-loop-i

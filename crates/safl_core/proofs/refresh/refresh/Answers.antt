@@ -1,40 +1,72 @@
-use Rattle.std.proofs.Common.{◌<◌, ◌==◌, length, List, Option, None, cond, get_or, refl, ap, ◌∙◌, subst, arith}
-use Rattle.std.proofs.lemmas.Bool.{eq-eqb}
+use Rattle.std.proofs.Common.{ℕ, ◌≡◌, ◌<◌, ◌≤◌, length, List, Option, None, get_or, refl, sym, ap, ◌∙◌, arith}
 use Rattle.safl_word.specs.Words.{Word}
 use Rattle.safl_term.specs.Checked.{program_of}
 use Rattle.safl_calls.specs.Machine as core
-use Rattle.safl_core.specs.Evaluating.{Notes}
+use Rattle.safl_calls.proofs.FromWellFormed.{numbered}
+use Rattle.safl_evaluate.specs.Stages.{back_at}
 use Rattle.safl_core.specs.States.{calls_of}
-use Rattle.safl_core.proofs.KeptByRefresh.{refreshed, asked_off, refilled}
+use Rattle.safl_core.proofs.KeptByRefresh.{refreshed, others_stay, cleared_unasked, cleared_here, cleared_off}
+use Rattle.safl_evaluate.proofs.Refilled.{refilled}
+use Rattle.safl_core.proofs.RemembersByUnits.{remembers_still}
 use Rattle.safl_core.proofs.StatesByEvents.{known_as}
 use Rattle.safl_core.proofs.refresh.refresh.Goals as goal
 
-pub evaluated-requires-clause-cleared : goal.evaluated-requires-clause-cleared
-evaluated-requires-clause-cleared c = λ k pos le on.
+pub evaluated-requires-clause-stood : goal.evaluated-requires-clause-stood
+evaluated-requires-clause-stood c =
     let C = program_of c.args.c.now in
-    let asks = refilled c.args.state.now.wants c.clear.new.asks c.deref_mut.result.now c.clear.auto.asks c.deref_mut.ensures.value in
-    ap (λ (l : List (Option (List Word))). get_or l k None) asks
-    ∙ (c.clear.ensures k pos le ∙ ap (λ b. cond b None (get_or c.deref_mut.result.now k None)) (eq-eqb (C.unit (C.caller k)) c.args.u on))
+    let asks = refilled c.args.state.now.wants.each c.clear-own.new.asks c.deref_mut.result.now c.clear-own.auto.asks c.deref_mut.ensures.value in
+    let here : (k : ℕ) → 0 < k → k ≤ C.sites → C.unit (C.caller k) ≡ c.args.u → get_or _ k None ≡ None = λ k pos le on.
+    ap (λ (l : List (Option (List Word))). get_or l k None) asks ∙ cleared_here C c.args.u c.deref_mut.result.now c.clear-own.new.asks c.clear-own.ensures.clears k pos le on in
+    record {
+      stood = λ f k ws r.
+          let m = c.requires.can.member f k ws r in
+          cleared_unasked C c.args.u f _ (numbered C c.requires.can.checked.formed) m.1 m.0 here;
+      quiet = λ j pos le own apart. here j pos le own;
+    }
 
-pub returns : goal.returns
-returns c =
+pub returns-clause-refreshes : goal.returns-clause-refreshes
+returns-clause-refreshes c =
     let C = program_of c.args.c.now in
     let s = c.args.state.now in
     let r = c.evaluated.new.state in
     let u = c.args.u in
-    let b = core.back (calls_of s) in
     let e = c.evaluated.ensures in
-    let asks = refilled s.wants c.clear.new.asks c.deref_mut.result.now c.clear.auto.asks c.deref_mut.ensures.value in
-    let within : u < length s.answers.items = omega (arith, c.requires.unit, c.requires.sized.answers) in
+    let asks = refilled s.wants.each c.clear-own.new.asks c.deref_mut.result.now c.clear-own.auto.asks c.deref_mut.ensures.value in
+    let off : (k : ℕ) → 0 < k → k ≤ C.sites → (C.unit (C.caller k) ≡ u → ⊥) → get_or r.wants.each.items k None ≡ get_or s.wants.each.items k None = λ k pos le apart.
+    e.others k pos le apart
+    ∙ (ap (λ (l : List (Option (List Word))). get_or l k None) asks
+    ∙ (cleared_off C u c.deref_mut.result.now c.clear-own.new.asks c.clear-own.ensures.clears k pos le apart
+    ∙ ap (λ (l : List (Option (List Word))). get_or l k None) c.deref_mut.ensures.value)) in
+    let within : u < length s.answers.items = omega (arith, c.requires.can.unit, c.requires.can.sized.answers) in
     record {
       modes = e.modes;
       stages = e.stages;
       known = λ v before. known_as C s r u (core.says C (calls_of s) u) v e.modes e.stages e.answers
-          (refreshed C (calls_of s) u s.answers.items s.wants.items c.clear.new.asks r.wants.items (core.says C (calls_of s) u) (λ k. core.asked_as C b ((calls_of s).unit u) (C.caller k) k)
-          (λ k pos le. c.clear.ensures k pos le ∙ ap (λ (l : List (Option (List Word))). cond (C.unit (C.caller k) == u) None (get_or l k None)) c.deref_mut.ensures.value)
-          (subst (λ (l : List (Option (List Word))). Notes l r.wants.items (λ k. core.asked_as C b ((calls_of s).unit u) (C.caller k) k)) asks e.notes)
-          (λ k pos le on. refl)
-          (λ k apart. asked_off C b u k ((calls_of s).unit u) (λ f j ws q. (c.requires.member f j ws q).0) apart)
-          refl within v before);
+          (refreshed C (calls_of s) u s.answers.items s.wants.each.items r.wants.each.items (core.says C (calls_of s) u) e.wants off refl within v before);
+      wants = others_stay C u c.clear-own.result s.wants.each.items r.wants.each.items c.clear-own.ensures.own off;
       sized = e.sized;
     }
+
+pub returns-clause-recalls : goal.returns-clause-recalls
+returns-clause-recalls c =
+    let C = program_of c.args.c.now in
+    let s = c.args.state.now in
+    let u = c.args.u in
+    let B = back_at s.stages.items in
+    let asks = refilled s.wants.each c.clear-own.new.asks c.deref_mut.result.now c.clear-own.auto.asks c.deref_mut.ensures.value in
+    λ v before. c.evaluated.ensures.recalls v (λ ne.
+    remembers_still (numbered C c.requires.can.checked.formed) c.requires.plan B B s.modes.items s.modes.items s.wants.each.items _ s.kept.items s.kept.items v refl
+    (λ j pos le own. (
+      refl,
+      ap (λ (l : List (Option (List Word))). get_or l j None) asks
+          ∙ (cleared_off C u c.deref_mut.result.now c.clear-own.new.asks c.clear-own.ensures.clears j pos le (λ q. ne (sym own ∙ q))
+          ∙ ap (λ (l : List (Option (List Word))). get_or l j None) c.deref_mut.ensures.value),
+    ))
+    (λ f q lf is x y. refl)
+    (before ne))
+
+pub returns-clause-cells : goal.returns-clause-cells
+returns-clause-cells c = c.evaluated.ensures.cells
+
+pub returns-clause-own : goal.returns-clause-own
+returns-clause-own c = c.clear-own.ensures.own

@@ -2,7 +2,7 @@ use Rattle.std.proofs.Common.{◌<◌, length, refl, ap, ◌∙◌, rules, arith
 use Rattle.safl_term.specs.Checked.{program_of}
 use Rattle.safl_calls.specs.Machine as core
 use Rattle.safl_core.specs.declared.mode.Mode.TheVariants.{Runs}
-use Rattle.safl_core.specs.declared.stage.Stage.TheVariants.{Sent}
+use Rattle.safl_evaluate.specs.declared.stage.Stage.TheVariants.{Sent}
 use Rattle.safl_core.specs.Modes.{unit_at}
 use Rattle.safl_core.proofs.WritesAreSteps.{unit_put, stage_put, state_is}
 use Rattle.safl_core.proofs.step.accept.Goals as goal
@@ -22,5 +22,6 @@ returns c =
           (stage_put s.stages.items k Sent site);
       answers = refl;
       wants = refl;
+      kept = refl;
       sized = search rules;
     }

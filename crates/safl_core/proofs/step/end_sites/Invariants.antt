@@ -1,7 +1,7 @@
 use Rattle.std.proofs.Common.{◌≡◌, ℕ, ◌<◌, ◌≤◌}
 use Rattle.safl_term.specs.Checked.{program_of}
 use Rattle.safl_calls.specs.Machine.{ended}
-use Rattle.safl_core.specs.Stages.{stage_at}
+use Rattle.safl_evaluate.specs.Stages.{stage_at}
 use Rattle.safl_core.proofs.step.end_sites.Given as goal
 
 abbrev pub invariant-loop-k : goal.invariant-loop-k

@@ -6,11 +6,12 @@ use Rattle.safl_calls.specs.Machine as core
 use Rattle.safl_term.specs.Readiness.{NotYet}
 use Rattle.safl_core.specs.declared.mode.Mode.{Mode}
 use Rattle.safl_core.specs.declared.mode.Mode.TheVariants.{Idle}
-use Rattle.safl_core.specs.declared.stage.Stage.{Stage}
+use Rattle.safl_evaluate.specs.declared.stage.Stage.{Stage}
 use Rattle.safl_core.specs.Modes.{mode_of, unit_at}
-use Rattle.safl_core.specs.Shown.{args_given, serves_of}
-use Rattle.safl_core.specs.Stages.{stage_at}
-use Rattle.safl_core.proofs.KeptByRefresh.{refilled}
+use Rattle.safl_core.specs.Shown.{serves_of}
+use Rattle.safl_evaluate.specs.Answers.{args_given}
+use Rattle.safl_evaluate.specs.Stages.{stage_at}
+use Rattle.safl_evaluate.proofs.Refilled.{refilled}
 use Rattle.safl_core.proofs.WritesAreSteps.{unit_put, state_is}
 use Rattle.safl_core.proofs.step.restart.Goals as goal
 
@@ -33,6 +34,7 @@ returns c =
         next = state_is _ _ _ _ units sites;
         answers = refl;
         wants = refl;
+        kept = refl;
         sized = search rules;
       };
     }

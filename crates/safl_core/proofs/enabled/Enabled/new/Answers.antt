@@ -1,5 +1,6 @@
-use Rattle.std.proofs.Common.{◌≡◌, ℕ, suc, ◌+◌, List, replicate, slice_set, ap, ◌∙◌, arith}
+use Rattle.std.proofs.Common.{◌≡◌, ℕ, suc, ◌+◌, true, List, replicate, ap, ◌∙◌, arith}
 use Rattle.safl_term.specs.Checked.{program_of}
+use Rattle.safl_number_set.specs.Groups.{Grouped, put_in, none_of}
 use Rattle.safl_core.proofs.enabled.Enabled.new.Goals as goal
 
 abbrev zeros_of : ℕ → List ℕ
@@ -10,7 +11,10 @@ returns c =
     let C = program_of c.args.c.now in
     let sites : c.sites.result + 1 ≡ suc C.sites = omega (arith, c.sites.ensures.count) in
     record {
-      accepts = c.insert.ensures ∙ ap (λ (l : List ℕ). slice_set l 0 1) (c.in_ok-accepts.ensures ∙ ap zeros_of sites);
+      units = c.in_ok-units.units.items;
+      called = c.in_ok-units.ensures;
+      accepts = c.put.ensures ∙ ap (λ (a : Grouped). put_in a 0 true) (c.in_ok-accepts.ensures
+          ∙ ap (λ n. none_of c.in_ok-units.units.items n) c.functions-functions.ensures.count);
       finishes = c.in_ok-finishes.ensures ∙ ap zeros_of c.functions-functions.ensures.count;
       returns = c.in_ok-returns.ensures ∙ ap zeros_of sites;
       loops = c.in_ok-loops.ensures ∙ ap zeros_of c.functions-functions.ensures.count;

@@ -1,8 +1,0 @@
-use Rattle.std.proofs.Common.{◌≡◌, ◌<◌}
-use Rattle.safl_term.specs.Checked.{program_of}
-use Rattle.safl_core.specs.Marking.{Relists, Nothing}
-use Rattle.safl_core.specs.States.{calls_of}
-use Rattle.safl_core.proofs.enabled.relist_own.Given as goal
-
-abbrev pub invariant-loop-k : goal.invariant-loop-k
-invariant-loop-k l = Relists (program_of l.c) l.opening (calls_of l.state) (λ j. (0 < j) × ((program_of l.c).unit ((program_of l.c).caller j) ≡ l.u) × (j < l.k)) Nothing Nothing Nothing l.fn.enabled l.enabled

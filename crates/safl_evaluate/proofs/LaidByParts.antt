@@ -1,0 +1,202 @@
+-- Where the nodes of a term lie, by its parts.
+use Rattle.std.proofs.Common.{◌≡◌, ℕ, ◌+◌, ◌<◌, ◌≤◌, ◌⊎◌, List, length, slice_set, inl, inr, sym, ap, ◌∙◌, subst, ⊎_elim, arith}
+use Rattle.std.proofs.lemmas.List.{get_or-set_other, get_or-set_same}
+use Rattle.safl_word.specs.Words.{Word}
+use Rattle.safl_word.specs.declared.primitive.Primitive.{Primitive}
+use Rattle.safl_term.specs.Sizes.{nodes, nodes_in}
+use Rattle.safl_term.specs.Standing.{Stands, StandsIn}
+use Rattle.safl_term.specs.Terms.{Term, Const, Var, Op, If, Let, Call, Loop, Terms, Nil, Cons}
+use Rattle.safl_sites.proofs.NodesOfTerms.{some_node}
+use Rattle.safl_evaluate.specs.declared.places.Place.{Place}
+use Rattle.safl_evaluate.specs.Laying.{nowhere, place, IsPlace, IsRoom, Laid, LaidIn, LaidBelow, SameOutside, Covers}
+
+-- ---- the same places
+
+own_frame : (P P1 : List Place) (p : ℕ) (t : Term) → IsPlace (place P p) p t → ((q : ℕ) → p ≤ q → q < p + nodes t → place P1 q ≡ place P q) → IsPlace (place P1 p) p t
+own_frame P P1 p t h c = subst (λ (x : Place). IsPlace x p t) (sym (c p (omega arith) (omega (arith, some_node t)))) h
+
+mutual
+  unfolding LaidBelow
+
+  pub laid_below_frame : (P P1 : List Place) (p : ℕ) (t : Term) → LaidBelow P p t → ((q : ℕ) → p < q → q < p + nodes t → place P1 q ≡ place P q) → LaidBelow P1 p t
+  laid_below_frame P P1 p (Const w) h c = tt
+  laid_below_frame P P1 p (Var i) h c = tt
+  laid_below_frame P P1 p (Op o ts) h c = laid_in_frame P P1 (p + 1) ts h (λ q x y. c q (omega (arith, x)) (omega (arith, y)))
+  laid_below_frame P P1 p (If d x y) h c = (
+    (own_frame P P1 (p + 1) d h.0.0 (λ q m n. c q (omega (arith, m)) (omega (arith, n))), laid_below_frame P P1 (p + 1) d h.0.1 (λ q m n. c q (omega (arith, m)) (omega (arith, n)))),
+    (own_frame P P1 (p + 1 + nodes d) x h.1.0 (λ q m n. c q (omega (arith, m)) (omega (arith, n))), laid_below_frame P P1 (p + 1 + nodes d) x h.1.1 (λ q m n. c q (omega (arith, m)) (omega (arith, n)))),
+    (own_frame P P1 (p + 1 + nodes d + nodes x) y h.2.0 (λ q m n. c q (omega (arith, m)) (omega (arith, n))), laid_below_frame P P1 (p + 1 + nodes d + nodes x) y h.2.1 (λ q m n. c q (omega (arith, m)) (omega (arith, n)))),
+  )
+  laid_below_frame P P1 p (Let ts x) h c = (
+    laid_in_frame P P1 (p + 1 + nodes x) ts h.0 (λ q m n. c q (omega (arith, m)) (omega (arith, n))),
+    own_frame P P1 (p + 1) x h.1 (λ q m n. c q (omega (arith, m)) (omega (arith, n))),
+    laid_below_frame P P1 (p + 1) x h.2 (λ q m n. c q (omega (arith, m)) (omega (arith, n))),
+  )
+  laid_below_frame P P1 p (Call f k ts) h c = laid_in_frame P P1 (p + 1) ts h (λ q x y. c q (omega (arith, x)) (omega (arith, y)))
+  laid_below_frame P P1 p (Loop m ts) h c = laid_in_frame P P1 (p + 1) ts h (λ q x y. c q (omega (arith, x)) (omega (arith, y)))
+
+  pub laid_in_frame : (P P1 : List Place) (p : ℕ) (ts : Terms) → LaidIn P p ts → ((q : ℕ) → p ≤ q → q < p + nodes_in ts → place P1 q ≡ place P q) → LaidIn P1 p ts
+  laid_in_frame P P1 p Nil h c = tt
+  laid_in_frame P P1 p (Cons t ts) h c = (
+    (own_frame P P1 p t h.0.0 (λ q m n. c q (omega (arith, m)) (omega (arith, n))), laid_below_frame P P1 p t h.0.1 (λ q m n. c q (omega (arith, m)) (omega (arith, n)))),
+    laid_in_frame P P1 (p + nodes t) ts h.1 (λ q m n. c q (omega (arith, m)) (omega (arith, n))),
+  )
+
+pub laid_frame : (P P1 : List Place) (p : ℕ) (t : Term) → Laid P p t → ((q : ℕ) → p ≤ q → q < p + nodes t → place P1 q ≡ place P q) → Laid P1 p t
+laid_frame P P1 p t h c = (own_frame P P1 p t h.0 c, laid_below_frame P P1 p t h.1 (λ q x y. c q (omega (arith, x)) y))
+
+-- what lies before what was laid, and after it
+pub laid_still : {P P1 : List Place} {f u : ℕ} (p : ℕ) (t : Term) → SameOutside f u P P1 → (p + nodes t ≤ f) ⊎ (u ≤ p) → Laid P p t → Laid P1 p t
+laid_still {P} {P1} p t o (inl e) h = laid_frame P P1 p t h (λ q x y. o.below q (omega (arith, e, y)))
+laid_still {P} {P1} p t o (inr e) h = laid_frame P P1 p t h (λ q x y. o.above q (omega (arith, e, x)))
+
+pub laid_in_still : {P P1 : List Place} {f u : ℕ} (p : ℕ) (ts : Terms) → SameOutside f u P P1 → (p + nodes_in ts ≤ f) ⊎ (u ≤ p) → LaidIn P p ts → LaidIn P1 p ts
+laid_in_still {P} {P1} p ts o (inl e) h = laid_in_frame P P1 p ts h (λ q x y. o.below q (omega (arith, e, y)))
+laid_in_still {P} {P1} p ts o (inr e) h = laid_in_frame P P1 p ts h (λ q x y. o.above q (omega (arith, e, x)))
+
+pub outside_more : {f u g v : ℕ} {P P1 : List Place} → SameOutside f u P P1 → g ≤ f → u ≤ v → SameOutside g v P P1
+outside_more o x y = record { below = λ q m. o.below q (omega (arith, m, x)); above = λ q m. o.above q (omega (arith, m, y)) }
+
+pub outside_both : {f u : ℕ} {P P1 P2 : List Place} → SameOutside f u P P1 → SameOutside f u P1 P2 → SameOutside f u P P2
+outside_both h i = record { below = λ q m. i.below q m ∙ h.below q m; above = λ q m. i.above q m ∙ h.above q m }
+
+-- ---- the place of a term, by those of its parts
+
+-- what covers a place has its sites too
+pub covered : {x y : Place} (k : ℕ) → Covers x y → (y.first ≤ k) × (k ≤ y.last) → (x.first ≤ k) × (k ≤ x.last)
+covered k c h = (omega (arith, c.first, h.0), omega (arith, c.last, h.1))
+
+pub place_if : {r ab a b d : Place} {p : ℕ} {c x y : Term} → IsPlace a (p + 1) c → IsPlace b (p + 1 + nodes c) x → IsPlace d (p + 1 + nodes c + nodes x) y
+    → Covers ab a → Covers ab b → Covers r ab → Covers r d → r.next ≡ d.next → IsPlace r p (If c x y)
+unfolding Stands
+place_if {r} {ab} {a} {b} {d} {p} {c} {x} {y} ha hb hd ca cb cab cd e = record {
+  next = omega (arith, e, hd.next);
+  sites = λ k st. ⊎_elim (λ s. covered k cab (covered k ca (ha.sites k s))) (λ r. ⊎_elim (λ s. covered k cab (covered k cb (hb.sites k s))) (λ s. covered k cd (hd.sites k s)) r) st;
+}
+
+pub place_let : {r a b : Place} {p : ℕ} {ts : Terms} {x : Term} → IsPlace a (p + 1) x → IsRoom b (p + 1 + nodes x) ts → Covers r a → Covers r b → r.next ≡ b.next → IsPlace r p (Let ts x)
+unfolding Stands
+place_let {r} {a} {b} {p} {ts} {x} ha hb ca cb e = record {
+  next = omega (arith, e, hb.next);
+  sites = λ k st. ⊎_elim (λ s. covered k cb (hb.sites k s)) (λ s. covered k ca (ha.sites k s)) st;
+}
+
+pub place_op : {r : Place} {p : ℕ} {o : Primitive} {ts : Terms} → IsRoom r (p + 1) ts → IsPlace r p (Op o ts)
+unfolding Stands
+place_op h = record { next = omega (arith, h.next); sites = λ k st. h.sites k st }
+
+pub place_loop : {r : Place} {p m : ℕ} {ts : Terms} → IsRoom r (p + 1) ts → IsPlace r p (Loop m ts)
+unfolding Stands
+place_loop h = record { next = omega (arith, h.next); sites = λ k st. h.sites k st }
+
+pub place_call : {r a : Place} {p f j : ℕ} {ts : Terms} → IsRoom a (p + 1) ts → Covers r a → r.next ≡ a.next → r.first ≤ j → j ≤ r.last → IsPlace r p (Call f j ts)
+unfolding Stands
+place_call {r} {a} {p} {f} {j} {ts} h c e first last = record {
+  next = omega (arith, e, h.next);
+  sites = λ k st. ⊎_elim (λ q. (omega (arith, first, q), omega (arith, last, q))) (λ s. covered k c (h.sites k s)) st;
+}
+
+pub room_nil : {r : Place} {p : ℕ} → r.next ≡ p → IsRoom r p Nil
+unfolding StandsIn
+room_nil e = record { next = omega (arith, e); sites = λ k st. absurd st }
+
+pub room_more : {r a b : Place} {p : ℕ} {t : Term} {ts : Terms} → IsPlace a p t → IsRoom b (p + nodes t) ts → Covers r a → Covers r b → r.next ≡ b.next → IsRoom r p (Cons t ts)
+unfolding StandsIn
+room_more {r} {a} {b} {p} {t} {ts} ha hb ca cb e = record {
+  next = omega (arith, e, hb.next);
+  sites = λ k st. ⊎_elim (λ s. covered k ca (ha.sites k s)) (λ s. covered k cb (hb.sites k s)) st;
+}
+
+-- ---- the parts of a term that were laid one after the other
+
+pub laid_if : {P1 P2 P3 : List Place} (p : ℕ) (c x y : Term) → Laid P1 (p + 1) c → Laid P2 (p + 1 + nodes c) x → Laid P3 (p + 1 + nodes c + nodes x) y
+    → SameOutside (p + 1 + nodes c) (p + 1 + nodes c + nodes x) P1 P2 → SameOutside (p + 1 + nodes c + nodes x) (p + 1 + nodes c + nodes x + nodes y) P2 P3 → LaidBelow P3 p (If c x y)
+unfolding LaidBelow
+laid_if {P1} {P2} {P3} p c x y hc hx hy o2 o3 = (
+  laid_still (p + 1) c o3 (inl (omega arith)) (laid_still (p + 1) c o2 (inl (omega arith)) hc),
+  laid_still (p + 1 + nodes c) x o3 (inl (omega arith)) hx,
+  hy,
+)
+
+pub laid_let : {P1 P2 : List Place} (p : ℕ) (ts : Terms) (x : Term) → Laid P1 (p + 1) x → LaidIn P2 (p + 1 + nodes x) ts → SameOutside (p + 1 + nodes x) (p + 1 + nodes x + nodes_in ts) P1 P2 → LaidBelow P2 p (Let ts x)
+unfolding LaidBelow
+laid_let {P1} {P2} p ts x hx hs o = let body = laid_still (p + 1) x o (inl (omega arith)) hx in (hs, body.0, body.1)
+
+pub laid_more : {P1 P2 : List Place} (p : ℕ) (t : Term) (ts : Terms) → Laid P1 p t → LaidIn P2 (p + nodes t) ts → SameOutside (p + nodes t) (p + nodes t + nodes_in ts) P1 P2 → LaidIn P2 p (Cons t ts)
+unfolding LaidBelow
+laid_more {P1} {P2} p t ts ht hs o = (laid_still p t o (inl (omega arith)) ht, hs)
+
+-- ---- a term whose own place is noted last
+
+pub laid_own : (P V : List Place) (p : ℕ) (t : Term) (x : Place) → LaidBelow P p t → IsPlace x p t → p < length P → V ≡ slice_set P p x → Laid V p t
+laid_own P V p t x below is lt e = (
+  subst (λ (y : Place). IsPlace y p t) (sym (ap (λ (l : List Place). place l p) e ∙ get_or-set_same P p x nowhere lt)) is,
+  laid_below_frame P V p t below (λ q m n. ap (λ (l : List Place). place l q) e ∙ get_or-set_other P p q x nowhere (omega (arith, m))),
+)
+
+pub outside_own : {P P1 V : List Place} (p u : ℕ) (x : Place) → SameOutside (p + 1) u P P1 → p < u → V ≡ slice_set P1 p x → SameOutside p u P V
+outside_own {P} {P1} {V} p u x o lt e = record {
+  below = λ q m. ap (λ (l : List Place). place l q) e ∙ (get_or-set_other P1 p q x nowhere (omega (arith, m)) ∙ o.below q (omega (arith, m)));
+  above = λ q m. ap (λ (l : List Place). place l q) e ∙ (get_or-set_other P1 p q x nowhere (omega (arith, m, lt)) ∙ o.above q m);
+}
+
+-- ---- a term that is known under another name, and parts that lie where others end
+
+pub below_is : (P : List Place) (p : ℕ) {t u : Term} → t ≡ u → LaidBelow P p u → LaidBelow P p t
+below_is P p e h = subst (λ (z : Term). LaidBelow P p z) (sym e) h
+
+pub in_is : (P : List Place) (p : ℕ) {ts us : Terms} → ts ≡ us → LaidIn P p us → LaidIn P p ts
+in_is P p e h = subst (λ (z : Terms). LaidIn P p z) (sym e) h
+
+pub place_is : {x : Place} {p : ℕ} {t u : Term} → t ≡ u → IsPlace x p u → IsPlace x p t
+place_is {x} {p} e h = subst (λ (z : Term). IsPlace x p z) (sym e) h
+
+pub room_is : {x : Place} {p : ℕ} {ts us : Terms} → ts ≡ us → IsRoom x p us → IsRoom x p ts
+room_is {x} {p} e h = subst (λ (z : Terms). IsRoom x p z) (sym e) h
+
+pub place_at : {x : Place} {p q : ℕ} {t : Term} → q ≡ p → IsPlace x q t → IsPlace x p t
+place_at {x} {p} {q} {t} e h = subst (λ (i : ℕ). IsPlace x i t) e h
+
+pub room_at : {x : Place} {p q : ℕ} {ts : Terms} → q ≡ p → IsRoom x q ts → IsRoom x p ts
+room_at {x} {p} {q} {ts} e h = subst (λ (i : ℕ). IsRoom x i ts) e h
+
+pub laid_at : (P : List Place) {p q : ℕ} (t : Term) → q ≡ p → Laid P q t → Laid P p t
+laid_at P t e h = subst (λ (i : ℕ). Laid P i t) e h
+
+pub laid_in_at : (P : List Place) {p q : ℕ} (ts : Terms) → q ≡ p → LaidIn P q ts → LaidIn P p ts
+laid_in_at P ts e h = subst (λ (i : ℕ). LaidIn P i ts) e h
+
+pub outside_at : {P P1 : List Place} {p q : ℕ} (n : ℕ) → q ≡ p → SameOutside q (q + n) P P1 → SameOutside p (p + n) P P1
+outside_at {P} {P1} n e h = subst (λ (i : ℕ). SameOutside i (i + n) P P1) e h
+
+pub below_const : (P : List Place) (p : ℕ) (w : Word) → LaidBelow P p (Const w)
+unfolding LaidBelow
+below_const P p w = tt
+
+pub below_var : (P : List Place) (p i : ℕ) → LaidBelow P p (Var i)
+unfolding LaidBelow
+below_var P p i = tt
+
+pub below_op : (P : List Place) (p : ℕ) (o : Primitive) (ts : Terms) → LaidIn P (p + 1) ts → LaidBelow P p (Op o ts)
+unfolding LaidBelow
+below_op P p o ts h = h
+
+pub below_call : (P : List Place) (p f k : ℕ) (ts : Terms) → LaidIn P (p + 1) ts → LaidBelow P p (Call f k ts)
+unfolding LaidBelow
+below_call P p f k ts h = h
+
+pub below_loop : (P : List Place) (p m : ℕ) (ts : Terms) → LaidIn P (p + 1) ts → LaidBelow P p (Loop m ts)
+unfolding LaidBelow
+below_loop P p m ts h = h
+
+pub in_nil : (P : List Place) (p : ℕ) → LaidIn P p Nil
+unfolding LaidIn
+in_nil P p = tt
+
+pub place_const : {r : Place} {p : ℕ} {w : Word} → r.next ≡ p + 1 → IsPlace r p (Const w)
+unfolding Stands
+place_const e = record { next = omega (arith, e); sites = λ k st. absurd st }
+
+pub place_var : {r : Place} {p i : ℕ} → r.next ≡ p + 1 → IsPlace r p (Var i)
+unfolding Stands
+place_var e = record { next = omega (arith, e); sites = λ k st. absurd st }

@@ -1,0 +1,19 @@
+use Rattle.std.proofs.Common.{◌+◌, ◌*◌}
+use Rattle.safl_term.specs.Sizes.{nodes, nodes_in}
+use Rattle.safl_term.specs.Tree.{shown_term, shown_terms}
+use Rattle.safl_evaluate.proofs.evaluate.+find.Given as goal
+
+abbrev pub decreases-look : goal.decreases-look
+decreases-look l = 4 * nodes (shown_term l.t.now)
+
+abbrev pub decreases-find : goal.decreases-find
+decreases-find l = 4 * nodes (shown_term l.t.now) + 1
+
+abbrev pub decreases-operand : goal.decreases-operand
+decreases-operand l = 4 * nodes (shown_term l.t.now) + 2
+
+abbrev pub decreases-pair : goal.decreases-pair
+decreases-pair l = 4 * nodes_in (shown_terms l.ts.now) + 3
+
+abbrev pub decreases-values : goal.decreases-values
+decreases-values l = 4 * nodes_in (shown_terms l.ts.now) + 3

@@ -1,0 +1,405 @@
+//! Partial evaluation: what a running body comes to, and which calls it wants.
+
+ghost use Rattle.std.specs.Prelude.{◌≡◌, ℕ, ◌+◌, ◌<◌, ◌≤◌, ◌^◌, length, take, drop, cond, Some, None, IsTrue};
+ghost use Rattle.safl_term.specs.Readiness.{answer, word_of};
+ghost use Rattle.safl_term.specs.Tree.{shown_term, shown_terms};
+ghost use Rattle.safl_evaluate.specs.Asking.{Asks};
+ghost use Rattle.safl_evaluate.specs.Finding.{cell_of};
+ghost use Rattle.safl_evaluate.specs.Keeping.{cell, is_open, IsSkipped};
+ghost use Rattle.safl_evaluate.specs.Looking.{CanLook, CanLookAll, HasLooked, HasFound, HasFoundAll, word_if, words_if};
+ghost use Rattle.safl_evaluate.specs.Laying.{place};
+ghost use Rattle.safl_evaluate.specs.Stages.{back_at};
+
+use crate::answer::Answer;
+use crate::kept::{Found, Kept, is_open_at, keep, keep_told, opened, ready, recall, shut};
+use crate::places::Place;
+use crate::stage::Stage;
+use crate::wants::Wants;
+use safl_term::Term;
+use safl_word::{Word, apply};
+
+/// What stays the same while terms are looked at: the stages of the sites, and the places of the nodes.
+#[derive(Clone, Copy)]
+pub struct Facts<'a> {
+    pub stages: &'a [Stage],
+    pub places: &'a [Place],
+}
+
+/// Where a term is looked at: how many slots it sees, its place, and the site that has returned since it was looked at last,
+/// None where it is looked at for the first time.
+#[derive(Clone, Copy)]
+pub struct Spot {
+    pub slots: usize,
+    pub at: usize,
+    pub news: Option<u32>,
+}
+
+/// Notes in `told` what a term comes to where the first `slots` words of `env` are those of its slots, and in `asks` the
+/// words with which it wants its sites. What is found is kept for the next time. The words of `env` from `slots` on are
+/// overwritten.
+pub fn evaluate(
+    facts: &Facts,
+    asks: &mut Wants,
+    env: &mut [Word],
+    kept: &mut [Kept],
+    spot: Spot,
+    t: &Term,
+    told: &mut Answer,
+)
+    requires { CanLook facts.now asks.old env.old kept.old spot (shown_term t.now) }
+    ensures answer { told.new ≡ answer (back_at facts.now.stages.now) (take spot.slots env.old) (shown_term t.now) }
+    ensures finds { HasFound facts.now asks.old asks.new env.old kept.old kept.new spot (shown_term t.now) (word_of told.new) }
+    ensures asks { Asks asks.old asks.new }
+{
+    match t {
+        Term::Const(word) => told.settle(Some(*word)),
+        Term::Var(slot) => told.settle(Some(env[*slot as usize])),
+        Term::If(condition, a, b) => {
+            let mut word = blank();
+            if operand(facts, asks, env, kept, part(spot), condition, &mut word) {
+                let second = branch(facts, kept, spot);
+                if word.bits() == 1 {
+                    evaluate(facts, asks, env, kept, second, a, told);
+                    keep_told(kept, spot.at, told);
+                } else {
+                    evaluate(facts, asks, env, kept, after(facts, second), b, told);
+                    keep_told(kept, spot.at, told);
+                }
+            } else {
+                shut(kept, spot.at);
+                told.settle(None);
+            }
+        }
+        Term::Let(_, bound, body) => {
+            let bound = bound.as_slice();
+            let bindings = after(facts, part(spot));
+            if values(facts, asks, env, kept, bindings, spot.slots, bound) {
+                let below = within(kept, spot, bound.len());
+                evaluate(facts, asks, env, kept, below, body, told);
+                keep_told(kept, spot.at, told);
+            } else {
+                shut(kept, spot.at);
+                told.settle(None);
+            }
+        }
+        Term::Op(_, _) | Term::Call(_, _, _) => {
+            let mut word = blank();
+            if find(facts, asks, env, kept, spot, t, &mut word) {
+                told.settle(Some(word));
+            } else {
+                told.settle(None);
+            }
+        }
+        Term::Loop(h, ts) => {
+            let passed = ts.as_slice();
+            if values(facts, asks, env, kept, part(spot), spot.slots, passed) {
+                told.pass(*h, words(env, spot.slots, passed.len()));
+                shut(kept, spot.at);
+            } else {
+                told.settle(None);
+                shut(kept, spot.at);
+            }
+        }
+    }
+}
+
+// A word that is about to be overwritten.
+fn blank() -> Word {
+    Word::from_parts(1, 0)
+}
+
+// Where the first part of a term is looked at.
+fn part(spot: Spot) -> Spot
+    requires { spot.at + 1 < 2 ^ 64 }
+    ensures slots { result.slots ≡ spot.slots }
+    ensures at { result.at ≡ spot.at + 1 }
+    ensures news { result.news ≡ spot.news }
+{
+    Spot {
+        at: spot.at + 1,
+        ..spot
+    }
+}
+
+// Where what follows a term is looked at.
+fn after(facts: &Facts, spot: Spot) -> Spot
+    requires { spot.at < length facts.now.places.now }
+    ensures slots { result.slots ≡ spot.slots }
+    ensures at { result.at ≡ (place facts.now.places.now spot.at).next }
+    ensures news { result.news ≡ spot.news }
+{
+    Spot {
+        at: next(facts, spot.at),
+        ..spot
+    }
+}
+
+// The place after the nodes of a term.
+fn next(facts: &Facts, at: usize) -> usize
+    requires { at < length facts.now.places.now }
+    ensures { result ≡ (place facts.now.places.now at).next }
+{
+    facts.places[at].next
+}
+
+// The news for what is below an if or a let: it was looked at before where the condition or the bindings were ready.
+fn news_below(kept: &[Kept], spot: Spot) -> Option<u32>
+    requires { spot.at < length kept.now }
+    ensures { result ≡ cond (is_open (cell kept.now spot.at)) spot.news None }
+{
+    if is_open_at(kept, spot.at) {
+        spot.news
+    } else {
+        None
+    }
+}
+
+// Where the first branch of an if is looked at.
+fn branch(facts: &Facts, kept: &[Kept], spot: Spot) -> Spot
+    requires places { spot.at + 1 < length facts.now.places.now }
+    requires kept { spot.at < length kept.now }
+    ensures slots { result.slots ≡ spot.slots }
+    ensures at { result.at ≡ (place facts.now.places.now (spot.at + 1)).next }
+    ensures news { result.news ≡ cond (is_open (cell kept.now spot.at)) spot.news None }
+{
+    Spot {
+        slots: spot.slots,
+        at: next(facts, spot.at + 1),
+        news: news_below(kept, spot),
+    }
+}
+
+// Where the body of a let with so many bindings is looked at.
+fn within(kept: &[Kept], spot: Spot, count: usize) -> Spot
+    requires few { spot.slots + count < 2 ^ 64 }
+    requires kept { spot.at < length kept.now }
+    ensures slots { result.slots ≡ spot.slots + count }
+    ensures at { result.at ≡ spot.at + 1 }
+    ensures news { result.news ≡ cond (is_open (cell kept.now spot.at)) spot.news None }
+{
+    Spot {
+        slots: spot.slots + count,
+        at: spot.at + 1,
+        news: news_below(kept, spot),
+    }
+}
+
+// Whether the site that has returned stands outside of a term that was looked at before, and has parts.
+fn is_skipped(facts: &Facts, spot: Spot) -> bool
+    requires { spot.at < length facts.now.places.now }
+    ensures { IsTrue result → IsSkipped facts.now.places.now spot.at spot.news }
+{
+    match spot.news {
+        Some(site) => {
+            let place = facts.places[spot.at];
+            place.next > spot.at + 1 && (site < place.first || place.last < site)
+        }
+        None => false,
+    }
+}
+
+// Writes the word that a term comes to, if it does, to `word`, and says whether. Words are written in place, since a copy
+// of one costs more than most operators. A term is passed over in which no site has returned since it was looked at.
+#[cycle(find)]
+fn find(
+    facts: &Facts,
+    asks: &mut Wants,
+    env: &mut [Word],
+    kept: &mut [Kept],
+    spot: Spot,
+    t: &Term,
+    word: &mut Word,
+) -> bool
+    requires { CanLook facts.now asks.old env.old kept.old spot (shown_term t.now) }
+    ensures finds { HasFound facts.now asks.old asks.new env.old kept.old kept.new spot (shown_term t.now) (word_if result word.new) }
+    ensures asks { Asks asks.old asks.new }
+    ensures kept { take spot.slots env.new ≡ take spot.slots env.old }
+{
+    if is_skipped(facts, spot) {
+        return recall(kept, spot.at, word);
+    }
+    let found = look(facts, asks, env, kept, spot, t, word);
+    keep(kept, spot.at, found, word)
+}
+
+// Looks at a term whose parts may have changed.
+#[cycle(find)]
+fn look(
+    facts: &Facts,
+    asks: &mut Wants,
+    env: &mut [Word],
+    kept: &mut [Kept],
+    spot: Spot,
+    t: &Term,
+    word: &mut Word,
+) -> Found
+    requires { CanLook facts.now asks.old env.old kept.old spot (shown_term t.now) }
+    ensures looks { HasLooked facts.now asks.old asks.new env.old kept.old kept.new spot (shown_term t.now) (cell_of result word.new) }
+    ensures asks { Asks asks.old asks.new }
+    ensures kept { take spot.slots env.new ≡ take spot.slots env.old }
+{
+    match t {
+        Term::Const(number) => ready(put(word, number)),
+        Term::Var(slot) => ready(put(word, &env[*slot as usize])),
+        Term::If(condition, a, b) => {
+            if operand(facts, asks, env, kept, part(spot), condition, word) {
+                let second = branch(facts, kept, spot);
+                if word.bits() == 1 {
+                    opened(operand(facts, asks, env, kept, second, a, word))
+                } else {
+                    opened(operand(facts, asks, env, kept, after(facts, second), b, word))
+                }
+            } else {
+                Found::Shut
+            }
+        }
+        Term::Let(_, bound, body) => {
+            let bound = bound.as_slice();
+            let bindings = after(facts, part(spot));
+            if values(facts, asks, env, kept, bindings, spot.slots, bound) {
+                let below = within(kept, spot, bound.len());
+                opened(operand(facts, asks, env, kept, below, body, word))
+            } else {
+                Found::Shut
+            }
+        }
+        Term::Op(p, ts) => {
+            let operands = ts.as_slice();
+            let mut words = [blank(), blank()];
+            if pair(facts, asks, env, kept, part(spot), operands, &mut words) {
+                *word = apply(*p, &words[..operands.len()]);
+                Found::Ready
+            } else {
+                Found::Shut
+            }
+        }
+        Term::Call(_, k, ts) => {
+            let args = ts.as_slice();
+            if values(facts, asks, env, kept, part(spot), spot.slots, args) {
+                asks.ask(*k, words(env, spot.slots, args.len()));
+            }
+            ready(returned(facts.stages, *k, word))
+        }
+        Term::Loop(_, ts) => {
+            let passed = ts.as_slice();
+            values(facts, asks, env, kept, part(spot), spot.slots, passed);
+            Found::Shut
+        }
+    }
+}
+
+// Writes a word that is found at once.
+fn put(word: &mut Word, found: &Word) -> bool
+    ensures { cond result (Some word.new) None ≡ Some found.now }
+{
+    *word = *found;
+    true
+}
+
+// The same as `find`, where constants and slots need no call.
+#[cycle(find)]
+fn operand(
+    facts: &Facts,
+    asks: &mut Wants,
+    env: &mut [Word],
+    kept: &mut [Kept],
+    spot: Spot,
+    t: &Term,
+    word: &mut Word,
+) -> bool
+    requires { CanLook facts.now asks.old env.old kept.old spot (shown_term t.now) }
+    ensures finds { HasFound facts.now asks.old asks.new env.old kept.old kept.new spot (shown_term t.now) (word_if result word.new) }
+    ensures asks { Asks asks.old asks.new }
+    ensures kept { take spot.slots env.new ≡ take spot.slots env.old }
+{
+    match t {
+        Term::Const(number) => put(word, number),
+        Term::Var(slot) => put(word, &env[*slot as usize]),
+        _ => find(facts, asks, env, kept, spot, t, word),
+    }
+}
+
+// The words of one operand or two, where they are ready. None of them goes by way of `env`.
+#[cycle(find)]
+fn pair(
+    facts: &Facts,
+    asks: &mut Wants,
+    env: &mut [Word],
+    kept: &mut [Kept],
+    spot: Spot,
+    ts: &[Term],
+    words: &mut [Word],
+) -> bool
+    requires may { CanLookAll facts.now asks.old env.old kept.old spot (shown_terms ts.now) }
+    requires least { 1 ≤ length ts.now }
+    requires most { length ts.now ≤ 2 }
+    requires room { length words.old ≡ 2 }
+    ensures finds { HasFoundAll facts.now asks.old asks.new env.old kept.old kept.new spot (shown_terms ts.now) (words_if result (take (length ts.now) words.new)) }
+    ensures asks { Asks asks.old asks.new }
+    ensures kept { take spot.slots env.new ≡ take spot.slots env.old }
+{
+    match ts {
+        [] => unreachable!(),
+        [only] => operand(facts, asks, env, kept, spot, only, &mut words[0]),
+        [a, b] => {
+            let first = operand(facts, asks, env, kept, spot, a, &mut words[0]);
+            let second = operand(facts, asks, env, kept, after(facts, spot), b, &mut words[1]);
+            first && second
+        }
+        [_, _, _, ..] => unreachable!(),
+    }
+}
+
+// Puts what each term comes to into `env` from place `to` on, where all of them are ready. A term may overwrite what
+// stands from `slots` on, so each word is put there after those that follow it.
+#[cycle(find)]
+fn values(
+    facts: &Facts,
+    asks: &mut Wants,
+    env: &mut [Word],
+    kept: &mut [Kept],
+    spot: Spot,
+    to: usize,
+    ts: &[Term],
+) -> bool
+    requires may { CanLookAll facts.now asks.old env.old kept.old spot (shown_terms ts.now) }
+    requires places { to + length ts.now ≤ length env.old }
+    requires after { spot.slots ≤ to }
+    ensures finds { HasFoundAll facts.now asks.old asks.new env.old kept.old kept.new spot (shown_terms ts.now) (words_if result (take (length ts.now) (drop to env.new))) }
+    ensures asks { Asks asks.old asks.new }
+    ensures kept { take spot.slots env.new ≡ take spot.slots env.old }
+{
+    let Some((first, rest)) = ts.split_first() else {
+        return true;
+    };
+    let mut word = blank();
+    let found = operand(facts, asks, env, kept, spot, first, &mut word);
+    let ready = values(facts, asks, env, kept, after(facts, spot), to + 1, rest);
+    if found {
+        env[to] = word;
+        ready
+    } else {
+        false
+    }
+}
+
+// So many words from a place on.
+fn words(env: &[Word], at: usize, count: usize) -> &[Word]
+    requires { at + count ≤ length env.now }
+    ensures { result.now ≡ take count (drop at env.now) }
+{
+    &env[at..at + count]
+}
+
+// The word of a site, where it has returned.
+fn returned(stages: &[Stage], k: u32, word: &mut Word) -> bool
+    requires least { 1 ≤ k }
+    requires within { k < length stages.now }
+    ensures { cond result (Some word.new) None ≡ back_at stages.now k }
+{
+    match &stages[k as usize] {
+        Stage::Unsent => false,
+        Stage::Sent => false,
+        Stage::Returned(back) => put(word, back),
+    }
+}

@@ -1,0 +1,20 @@
+//! Partial evaluation of running bodies. What is found of each node is kept, and looked at again only where a site has
+//! returned.
+#![tactic(auto)]
+
+pub mod answer;
+pub mod args;
+pub mod evaluate;
+pub mod kept;
+pub mod places;
+pub mod stage;
+pub mod want;
+pub mod wants;
+
+pub use crate::answer::Answer;
+pub use crate::args::Args;
+pub use crate::kept::Kept;
+pub use crate::places::{Place, Plan, planned};
+pub use crate::stage::Stage;
+pub use crate::want::Want;
+pub use crate::wants::Wants;

@@ -1,0 +1,137 @@
+//! Where the nodes of a body lie in a table.
+
+ghost use Rattle.std.specs.Prelude.{◌≡◌, ℕ, ◌+◌, ◌<◌, ◌≤◌, ◌^◌, IfOk, length};
+ghost use Rattle.safl_term.specs.Checked.{program_of};
+ghost use Rattle.safl_term.specs.Sizes.{nodes, nodes_in};
+ghost use Rattle.safl_term.specs.Tree.{shown_term, shown_terms};
+ghost use Rattle.safl_evaluate.specs.Laying.{IsPlace, IsRoom, Laid, LaidIn, LaidBelow, SameOutside, Covers};
+ghost use Rattle.safl_evaluate.specs.Laying.{IsPlan};
+
+use safl_term::{Checked, Term};
+use std::alloc::{AllocError, Global};
+
+/// The place after a term's nodes, and numbers between which all its sites are.
+#[derive(Clone, Copy)]
+pub struct Place {
+    pub next: usize,
+    pub first: u32,
+    pub last: u32,
+}
+
+/// The places of the nodes of all bodies, and by function the place of its body.
+#[derive(Drop)]
+pub struct Plan {
+    pub places: Vec<Place>,
+    pub bodies: Vec<usize>,
+}
+
+/// The plan of a program: its bodies lie one after the other in 50,000 places.
+pub fn planned(alloc: Global, c: &Checked) -> Result<Plan, AllocError>
+    ensures { IfOk result (λ plan. IsPlan (program_of c.now) plan 50000) }
+{
+    let blank = empty(0);
+    let mut places = vec![in alloc; blank; 50_000]?;
+    let mut bodies = vec![in alloc; 0; c.functions() as usize]?;
+    let mut at = 0;
+    for f in 0..c.functions() {
+        bodies[f as usize] = at;
+        at = lay(c.body(f), at, &mut places).next;
+    }
+    Ok(Plan { places, bodies })
+}
+
+/// Lays the nodes of a term from a place on, and answers its own: first the term's, then those of its parts, but for the
+/// bindings of a let, which follow its body.
+#[cycle(lay)]
+pub fn lay(t: &Term, at: usize, places: &mut [Place]) -> Place
+    requires { at + nodes (shown_term t.now) ≤ length places.old }
+    ensures laid { Laid places.new at (shown_term t.now) }
+    ensures place { IsPlace result at (shown_term t.now) }
+    ensures outside { SameOutside at (at + nodes (shown_term t.now)) places.old places.new }
+{
+    let place = lay_parts(t, at, places);
+    places[at] = place;
+    place
+}
+
+// Lays the parts of a term, and answers what its own place is to be.
+#[cycle(lay)]
+fn lay_parts(t: &Term, at: usize, places: &mut [Place]) -> Place
+    requires { at + nodes (shown_term t.now) ≤ length places.old }
+    ensures laid { LaidBelow places.new at (shown_term t.now) }
+    ensures place { IsPlace result at (shown_term t.now) }
+    ensures outside { SameOutside (at + 1) (at + nodes (shown_term t.now)) places.old places.new }
+{
+    match t {
+        Term::Const(_) => empty(at + 1),
+        Term::Var(_) => empty(at + 1),
+        Term::If(condition, a, b) => {
+            let first = lay(condition, at + 1, places);
+            let second = lay(a, first.next, places);
+            let third = lay(b, second.next, places);
+            followed(followed(first, second), third)
+        }
+        Term::Let(_, bound, body) => {
+            let below = lay(body, at + 1, places);
+            let bindings = lay_all(bound.as_slice(), below.next, places);
+            followed(below, bindings)
+        }
+        Term::Op(_, ts) => lay_all(ts.as_slice(), at + 1, places),
+        Term::Call(_, k, ts) => with_site(lay_all(ts.as_slice(), at + 1, places), *k),
+        Term::Loop(_, ts) => lay_all(ts.as_slice(), at + 1, places),
+    }
+}
+
+// Lays the nodes of several terms one after the other.
+#[cycle(lay)]
+fn lay_all(ts: &[Term], at: usize, places: &mut [Place]) -> Place
+    requires { at + nodes_in (shown_terms ts.now) ≤ length places.old }
+    ensures laid { LaidIn places.new at (shown_terms ts.now) }
+    ensures room { IsRoom result at (shown_terms ts.now) }
+    ensures outside { SameOutside at (at + nodes_in (shown_terms ts.now)) places.old places.new }
+{
+    let Some((first, rest)) = ts.split_first() else {
+        return empty(at);
+    };
+    let one = lay(first, at, places);
+    let others = lay_all(rest, one.next, places);
+    followed(one, others)
+}
+
+// No sites, and this place after them.
+fn empty(next: usize) -> Place
+    ensures { result.next ≡ next }
+{
+    Place {
+        next,
+        first: u32::MAX,
+        last: 0,
+    }
+}
+
+// The sites of both, and the place after the second one.
+fn followed(a: Place, b: Place) -> Place
+    ensures next { result.next ≡ b.next }
+    ensures first { Covers result a }
+    ensures second { Covers result b }
+{
+    Place {
+        next: b.next,
+        first: a.first.min(b.first),
+        last: a.last.max(b.last),
+    }
+}
+
+// One more site.
+fn with_site(place: Place, k: u32) -> Place
+    ensures next { result.next ≡ place.next }
+    ensures others { Covers result place }
+    ensures first { result.first ≤ k }
+    ensures last { k ≤ result.last }
+{
+    Place {
+        next: place.next,
+        first: place.first.min(k),
+        last: place.last.max(k),
+    }
+}
