@@ -110,6 +110,16 @@ def sites():
     return Source("1,000 functions with 4,000 sites", "".join(lines) + f"fun main(x:8):8 = {twenty}\n", ["5"], 1000)
 
 
+def wide(count):
+    """A main with so many call sites that are asked for at once, each with products as its argument."""
+
+    def part(size):
+        return f"({part(size // 2)} + {part(size - size // 2)})" if size > 1 else "f(a * a * a * a * a)"
+
+    text = f"fun f(x:128):128 = x + 1\nfun main(a:128):128 = {part(count)}\n"
+    return Source(f"a sum of {count:,} calls", text, ["5"], 2, 11 * count + 2)
+
+
 def largest():
     """Nearly as many functions, call sites and nodes as a source may have; its circuit is among the largest that there are,
     since each call hands on ten constants, and all calls of a function are rivals."""

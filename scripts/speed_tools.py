@@ -23,7 +23,7 @@ import speed_sources
 import yosys
 from files import examples, read, written
 from given import parser
-from measure import Rate, as_memory, as_nanoseconds, as_time, icarus, peak, rate_of_sim, seconds, seconds_between, signals_of, table
+from measure import Rate, as_memory, as_nanoseconds, as_time, icarus, least_seconds, peak, rate_of_sim, seconds, seconds_between, signals_of, table
 from program import NO_RESULT, PROGRAM, USAGE, Ended, ended, knows, lacks, program_of, told
 
 CALLS = 100_000
@@ -164,11 +164,22 @@ def walk_row(folder, source):
     return source.name, f"{rate.turns:,}", f"{rate.turn * 1e6:.2f}", as_time(rate.begun - checked), as_time(checked), wanted
 
 
+def wide_row(folder, source):
+    """A walk that ends soon: all of it but what `check` takes, by its events."""
+    path = written(folder, "source.safl", source.text)
+    checked = least_seconds([PROGRAM, "check", path])
+    begun, whole = ([PROGRAM, "walk", path, "--order", "7", "--steps", str(limit), *source.args] for limit in (1, 100_000))
+    events = int(re.search(r"^events (\d+)$", told(whole).stdout, re.M)[1])
+    each = (least_seconds(whole) - checked) / events
+    return source.name, f"{events:,}", f"{each * 1e6:.2f}", as_time(least_seconds(begun) - checked), as_time(checked), "3"
+
+
 def walk():
     large = [*map(speed_sources.calls, (100, 300, 900)), speed_sources.sites()]
     small = [speed_sources.work(), speed_sources.products(), speed_sources.busy()]
     with tempfile.TemporaryDirectory() as folder:
         rows = [walk_row(folder, source) for source in large + small]
+        rows += [wide_row(folder, speed_sources.wide(count)) for count in (1_990, 3_990)]
     table("Walks", ("source", "events", "us an event", "set-up after `check`", "`check`", "us wanted"), rows)
 
 
