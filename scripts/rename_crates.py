@@ -3,6 +3,8 @@
 modules and merges, or the names alone in loose files.
 
 A crate that is merged into another keeps its files; a module whose name is taken there gets the one given here.
+
+It is for files of that time alone: `safl_run`, which is renamed here, is the name of another crate today.
 """
 import os
 import re

@@ -7,8 +7,8 @@
     nets       the simulator on nets in which nearly all wires change in every cycle, and what it takes to order and prepare them
 
 All parts are done if none is named. Verilator is left out for sources of more than 100 functions, or of another number, as
-its C++ compiler takes more than a quarter of an hour of the processor for 900. The programs are those of the crates safl,
-safl_bench_plan and safl_bench_sim, as `rt` builds them, or SAFL, PLAN and NETS name them; one that isn't built is skipped.
+its C++ compiler takes more than a quarter of an hour of the processor for 900. The programs are those of the crates safl and
+safl_bench, as `rt` builds them, or SAFL and BENCH name them; one that isn't built is skipped.
 """
 import argparse
 import os
@@ -24,8 +24,7 @@ from program import PROGRAM, Ended, ended, knows, lacks, program_of
 from speed_sources import busy, sized, work
 from verilate import verilate
 
-PLAN = program_of("PLAN", "safl_bench_plan")
-NETS = program_of("NETS", "safl_bench_sim")
+BENCH = program_of("BENCH", "safl_bench")
 RUNS = 100
 
 
@@ -97,8 +96,8 @@ def simulating(functions):
 
 
 def plan():
-    planned, checked = seconds_between([PLAN], [PLAN, "check"])
-    after, before = peak([PLAN]), peak([PLAN, "check"])
+    planned, checked = seconds_between([BENCH, "plan"], [BENCH, "plan", "check"])
+    after, before = peak([BENCH, "plan"]), peak([BENCH, "plan", "check"])
     more = as_memory(after - before) if after else "-"
     head = ("check", "its memory", "plan", "its memory")
     table("The plan of 1,000 functions with 3,981 call sites", head, [(as_time(checked), as_memory(before), as_time(planned - checked), more)])
@@ -107,19 +106,19 @@ def plan():
 def net_row(folder, number, line):
     """A net that the benchmark knows by its number, and what it has to print."""
     out = os.path.join(folder, "printed")
-    Ended([NETS, str(number)], out)
+    Ended([BENCH, "sim", str(number)], out)
     if read(out) != line:
         raise SystemExit(f"speed: net {number} does not print {line}")
     wires, width, cycles, steps = map(int, re.findall(r"\d+", line)[:4])
-    took, most = least_seconds([NETS, str(number)], times=9), peak([NETS, str(number)])
+    took, most = least_seconds([BENCH, "sim", str(number)], times=9), peak([BENCH, "sim", str(number)])
     signal = f"{most / wires:.0f}" if most and wires >= 1_000_000 else "-"
-    made, ready = (least_seconds([NETS, str(number), stage], times=9) for stage in ("net", "sim"))
+    made, ready = (least_seconds([BENCH, "sim", str(number), stage], times=9) for stage in ("net", "sim"))
     set_up = as_time(ready - made), f"{(ready - made) / wires * 1e9:.0f}"
     return f"{wires:,}", width, f"{cycles:,}", as_time(took), f"{steps / took / 1e6:,.0f}", signal, *set_up
 
 
 def nets():
-    lines = read(f"{TOP}/crates/safl_bench_sim/stdout").splitlines(keepends=True)
+    lines = [line for line in read(f"{TOP}/crates/safl_bench/stdout").splitlines(keepends=True) if " wires of " in line]
     with tempfile.TemporaryDirectory() as folder:
         rows = [net_row(folder, number, line) for number, line in enumerate(lines, 1)]
     head = ("wires", "bits", "cycles", "time, set-up counted in", "million steps a second", "bytes a signal", "order and simulator", "ns a wire")
@@ -140,9 +139,9 @@ def main():
         compiling()
     if "simulate" in parts and not lacks(PROGRAM):
         simulating(words.verilator)
-    if "plan" in parts and not lacks(PLAN):
+    if "plan" in parts and not lacks(BENCH):
         plan()
-    if "nets" in parts and not lacks(NETS):
+    if "nets" in parts and not lacks(BENCH):
         nets()
 
 

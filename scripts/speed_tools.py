@@ -3,7 +3,7 @@
 
     commands   `gen`, `bench`, `report` and `reshape` on sources as large as the language allows
     optimise   `build --opt` less `build`, and how many signals are left, on the speed sources; the same without the rest of `build`
-               on nets of up to 3,000,000 wires that safl_bench_opt makes at random
+               on nets of up to 3,000,000 wires that safl_bench makes at random
     signals    the same number of signals for the examples
     files      `run` of a Verilog file of 1,000,000 wires: reading, the set-up of the simulator, and a cycle
     walk       what an event takes, and apart from it the set-up
@@ -12,7 +12,7 @@
     vcd        what a cycle takes with a trace and without, and in Icarus Verilog with a trace of the same signals
 
 The program is crates/safl/out/safl, or SAFL names it; a command that it doesn't have is skipped. So are the nets where
-crates/safl_bench_opt/out/safl_bench_opt isn't built, or OPT doesn't name it.
+crates/safl_bench/out/safl_bench isn't built, or BENCH doesn't name it.
 """
 import os
 import re
@@ -30,7 +30,7 @@ CALLS = 100_000
 SCRIPT_MAX = 1_048_576
 WRONG_ARGUMENT = 8
 WIRES = 1_000_000
-OPT = program_of("OPT", "safl_bench_opt")
+BENCH = program_of("BENCH", "safl_bench")
 
 
 def skipped(what):
@@ -113,7 +113,7 @@ def has_opt(folder):
 
 def net_row(wires):
     """A net of so many wires: what making and ordering it takes, and what making it smaller takes besides."""
-    words = [OPT, str(wires), "1"]
+    words = [BENCH, "opt", str(wires), "1"]
     ordered = [*words, "1"]
     before, after = (int(line.split()[1]) for line in told(words).stdout.splitlines())
     whole, part = seconds_between(words, ordered, (0,))
@@ -129,7 +129,7 @@ def optimise():
         rows = [optimise_row(folder, source) for source in speed_sources.sized() + few]
     head = ("source", "signals", "with `--opt`", "less", "`build`", "`build --opt`", "difference", "memory of `build`", "of `build --opt`")
     table("Optimising", head, rows)
-    if not lacks(OPT):
+    if not lacks(BENCH):
         head = ("signals", "made smaller", "less", "making and ordering", "making smaller", "memory of the first", "of both")
         table("Optimising nets of single bits", head, [net_row(wires) for wires in (50_000, 500_000, 3_000_000)])
     return None

@@ -22,7 +22,6 @@ COMMANDS = {
     "build": ["build_task"],
     "build --opt": ["optimise_task"],
     "sim": ["sim_task"],
-    "sim with traces": ["trace_task", "probed_task"],
     "run": ["run_task"],
     "walk": ["walk_task"],
     "report": ["report_task"],

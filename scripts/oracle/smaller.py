@@ -1,5 +1,5 @@
 #!/usr/bin/env python3
-"""What crates/safl_bench_opt has to print.
+"""What `safl_bench opt` has to print (crates/safl_bench).
 
 It makes the same net of single bits, by the same sequence of numbers, and makes it smaller by the rules of docs/COMMANDS.md: an
 operation on constants is worked out, a copy is replaced by what it copies, a choice that is known by its branch, equal cells are one,

@@ -1,211 +1,158 @@
--- Symbol lines, and the names that they set.
-use Rattle.std.proofs.Common.{◌≡◌, ◌≢◌, ℕ, zero, suc, ◌+◌, ◌-◌, ◌*◌, ◌^◌, ◌<◌, ◌≤◌, List, [], ◌∷◌, ◌++◌, length, get_or, set, replicate, slice_get, Some, decimal, codes, true, ◌&&◌, refl, sym, ap, ◌∙◌, subst, arith, append_assoc, length-append}
-use Rattle.std.specs.Int.{IsInRange}
-use Rattle.std.specs.List.{list_all}
-use Rattle.std.proofs.lemmas.Bool.{and_parts}
-use Rattle.std.proofs.lemmas.Bool.Decides.{nat_tests}
-use Rattle.std.proofs.lemmas.Fmt.{decimal_injective, decimal_digit, first_decimal, decimal-digits_value}
-use Rattle.std.proofs.lemmas.List.{map-set, length-set, map_push, replicate-append-replicate}
-use Rattle.std.proofs.lemmas.Str.Parse.{IsNumeralModel, IsDigitsTest, WeighsDigits, numerals_by_weight}
-use Rattle.safl_word.specs.Numerals.{digit, is_digit, value, IsBounded}
-use Rattle.safl_aig.specs.declared.circuit.Name.{Name}
-use Rattle.safl_aig.specs.declared.symbols.Sort.{Sort}
-use Rattle.safl_aig.specs.declared.symbols.Sort.TheVariants.{Input, Latch, Output}
-use Rattle.safl_aig.specs.declared.symbols.SymbolsErr.TheVariants.{Stopped}
-use Rattle.safl_aig.specs.Circuits.{names_of}
-use Rattle.safl_aig.specs.Reads.{Named, NamesPlace, NamePlaces, names_for, with_name, letter, symbol_line, Refuses, SymbolFault, Ends}
-use Rattle.safl_aig.specs.Symbols.{IsSmall, IsSymbolLine, Sets, NamesUpTo, SymbolsPass, SymbolsFail}
-use Rattle.safl_aig.proofs.Cutting.{Free}
-use Rattle.safl_aig.proofs.Joining.{names_at}
-use Rattle.safl_aig.proofs.Rereading.{decimal_free, is_decimal, places-append}
+-- The parts of a net's circuit make one.
+use Rattle.std.proofs.Common.{◌≡◌, ◌≢◌, ℕ, zero, suc, ◌+◌, ◌*◌, ◌%◌, ◌<◌, ◌≤◌, ◌^◌, List, [], ◌∷◌, ◌++◌, length, Bool, true, false, cond, not, ◌&&◌, ◌||◌, ◌==◌, nat_le, Option, Some, None, slice_get, decimal, refl, sym, ap, ◌∙◌, subst, arith}
+use Rattle.std.specs.List.{All}
+use Rattle.std.proofs.lemmas.List.{length-map, length_push}
+use Rattle.std.proofs.lemmas.List.Elements.{All-nil, All-cons, All-append, All-push, All-same, All-weaker}
+use Rattle.std.proofs.lemmas.Fmt.{decimal_by_steps}
+use Rattle.safl_net.specs.Netlist.{Netlist, Signal, AllSet, Kind, width_of}
+use Rattle.safl_net.specs.Making.{kind_at, name_at, name_in}
+use Rattle.safl_net.specs.Names.{is_start, is_part, are_parts, is_identifier, is_good, is_reserved}
+use Rattle.safl_net.specs.Rules.{IsNetlist}
+use Rattle.safl_aiger.specs.declared.literal.Lit.{Lit}
+use Rattle.safl_aiger.specs.declared.circuit.Names.{Names}
+use Rattle.safl_aiger.specs.Circuits.{Circuit, circuit_of, names_of, variables, base, IsLine, AreBelow, IsCircuit}
+use Rattle.safl_bits.specs.Gates.{Gates, IsGates, IsLiteral, count}
+use Rattle.safl_aig.specs.declared.table.Pins.{Pins}
+use Rattle.safl_aig.specs.Bits.{gathered, summed, of_kind, is_input, is_register, for_inputs, for_registers, output_at}
+use Rattle.safl_aig.specs.Weights.{weight, output_weight}
+use Rattle.safl_aig.specs.Tables.{lits_at, width_if, bits_before, input_count, latch_count}
+use Rattle.safl_aig.specs.Wiring.{Connected}
+use Rattle.safl_aig.specs.Places.{next_sig, next_lits, output_lits, bit_name, bit_names, signal_names, output_names, name_of_output}
+use Rattle.safl_aig.proofs.Gathering.{gathered_long, summed_same}
+use Rattle.safl_aig.proofs.Nets.{output_known, width_le}
+use Rattle.safl_aig.proofs.Connecting.{first_light}
+use Rattle.safl_aig.proofs.Mirroring.{next_fits, nexts_long}
 
--- ---- shortest decimals
+-- ---- names
 
-digit_range : (c : ℕ) → is_digit 10 c ≡ true → IsInRange 48 57 c
-digit_range c e = (
-  let low : 48 ≤ c = grind (arith, nat_tests) in low,
-  let high : c ≤ 57 = grind (arith, nat_tests) in high,
-)
+abbrev IsCode : ℕ → Type 0
+IsCode c = c ≢ 10
 
-range_digit : (c : ℕ) → 48 ≤ c → c ≤ 57 → is_digit 10 c ≡ true
-range_digit c l h = grind (arith, nat_tests)
+both_true : (a b : Bool) → (a && b) ≡ true → (a ≡ true) × (b ≡ true)
+both_true true b e = (refl, e)
+both_true false b e = absurd (cc)
 
-digit_less : (c : ℕ) → 48 ≤ c → c ≤ 57 → digit c ≡ c - 48
-digit_less c l h = grind (arith, nat_tests)
+part_code : (c : ℕ) → is_part c ≡ true → IsCode c
+part_code c e = λ z. let t = ap is_part z in cc
 
-abbrev AreDigits : List ℕ → Type 0
-AreDigits ds = list_all (is_digit 10) ds ≡ true
+start_part : (c : ℕ) → is_start c ≡ true → is_part c ≡ true
+start_part c e = ap (λ (b : Bool). (b || (nat_le 48 c && nat_le c 57)) || (c == 36)) e
 
-tests : IsDigitsTest AreDigits
-tests = record {
-  empty = refl;
-  parts = λ c cs e. let p = and_parts (is_digit 10 c) (list_all (is_digit 10) cs) e in (digit_range c p.0, p.1);
-  more = λ c cs r e. ap (λ b. b && list_all (is_digit 10) cs) (range_digit c r.0 r.1) ∙ e;
-}
+parts_line : (cs : List ℕ) → are_parts cs ≡ true → IsLine cs
+parts_line [] e = All-nil IsCode
+parts_line (c ∷ cs) e = let p = both_true (is_part c) (are_parts cs) e in All-cons IsCode c cs (part_code c p.0) (parts_line cs p.1)
 
-weighs : WeighsDigits (value 10)
-weighs = record { empty = refl; more = λ c cs r. ap (λ d. d * 10 ^ length cs + value 10 cs) (digit_less c r.0 r.1) }
+identifier_line : (cs : List ℕ) → is_identifier cs ≡ true → IsLine cs
+identifier_line [] e = absurd (cc)
+identifier_line (c ∷ cs) e = let p = both_true (is_start c) (are_parts cs) e in All-cons IsCode c cs (part_code c (start_part c p.0)) (parts_line cs p.1)
 
-own : IsNumeralModel AreDigits (value 10)
-own = numerals_by_weight AreDigits tests (value 10) weighs
+good_line : (cs : List ℕ) → is_good cs ≡ true → IsLine cs
+unfolding is_good
+good_line cs e = identifier_line cs (both_true (is_identifier cs) (nat_le (length cs) 200) (both_true (is_identifier cs && nat_le (length cs) 200) (not (is_reserved cs)) e).0).0
 
--- a numeral with no zero before other digits is the decimal of its number
-pub shortest : (w : List ℕ) → IsBounded 10 10 (2 ^ 31) w → (1 < length w → get_or w 0 0 ≡ 48 → ⊥) → w ≡ decimal (value 10 w)
-shortest [] b h = absurd (let z = b.numeral.some in omega (arith, z))
-shortest (c ∷ []) b h = sym (decimal-digits_value own (c ∷ []) b.numeral.digits (omega arith) (λ e. refl) (let z = b.small in omega (arith, z)))
-shortest (c ∷ (d ∷ w)) b h = sym (decimal-digits_value own (c ∷ (d ∷ w)) b.numeral.digits (omega arith) (λ e. absurd (h (omega arith) e)) (let z = b.small in omega (arith, z)))
+digit_code : (d : ℕ) → d < 10 → IsCode (48 + d)
+digit_code d h = λ e. omega (arith, e)
 
-pub not_padded : (w : List ℕ) (n : ℕ) → n < 2 ^ 31 → 1 < length w → get_or w 0 0 ≡ 48 → w ≢ decimal n
-not_padded w zero l long e q = let z : length w ≡ 1 = ap length (q ∙ decimal_digit 0 (omega arith)) in omega (arith, z, long)
-not_padded w (suc n) l long e q =
-    let f = first_decimal (suc n) (omega arith) (omega (arith, l)) in
-    let z : get_or (decimal (suc n)) 0 0 ≡ 48 = ap (λ x. get_or x 0 0) (sym q) ∙ e in
-    omega (arith, f, z)
+decimal_line : (n : ℕ) → n < 2 ^ 64 → IsLine (decimal n)
+decimal_line n h = decimal_by_steps (λ k ds. IsLine ds) (λ k l. All-cons IsCode (48 + k) [] (digit_code k l) (All-nil IsCode)) (λ k ds l i. All-push IsCode ds (48 + k % 10) i (digit_code (k % 10) (omega arith))) n h
 
-pub decimal_bounded : (w : List ℕ) (n : ℕ) → n < 2 ^ 31 → w ≡ decimal n → IsBounded 10 10 (2 ^ 31) w
-decimal_bounded w n l e = subst (λ (x : List ℕ). IsBounded 10 10 (2 ^ 31) x) (sym e) (is_decimal n l).bounded
+bit_line : (name : List ℕ) (b : ℕ) → IsLine name → b < 2 ^ 64 → IsLine (bit_name name b)
+bit_line name b h l =
+    All-append IsCode (name ++ 91 ∷ [] ++ decimal b) (93 ∷ [])
+    (All-append IsCode (name ++ 91 ∷ []) (decimal b) (All-append IsCode name (91 ∷ []) h (All-cons IsCode 91 [] (λ e. omega (arith, e)) (All-nil IsCode))) (decimal_line b l))
+    (All-cons IsCode 93 [] (λ e. omega (arith, e)) (All-nil IsCode))
 
--- ---- the parts of a symbol line
+bit_lines : (name : List ℕ) (k : ℕ) → IsLine name → k < 2 ^ 64 → All IsLine (bit_names name k)
+bit_lines name zero h l = All-nil IsLine
+bit_lines name (suc k) h l = All-push IsLine (bit_names name k) (bit_name name k) (bit_lines name k h (omega (arith, l))) (bit_line name k h (omega (arith, l)))
 
--- two texts that are cut at the first byte of a kind
-pub cut_once : (c : ℕ) (u v x y : List ℕ) → Free c u → Free c v → u ++ c ∷ x ≡ v ++ c ∷ y → (u ≡ v) × (x ≡ y)
-cut_once c [] [] x y f g e = (refl, let q : x ≡ y = cc in q)
-cut_once c [] (b ∷ v) x y f g e = absurd (g.0 (let q : b ≡ c = cc in q))
-cut_once c (a ∷ u) [] x y f g e = absurd (f.0 (let q : a ≡ c = cc in q))
-cut_once c (a ∷ u) (b ∷ v) x y f g e =
-    let h : a ≡ b = cc in
-    let t : u ++ c ∷ x ≡ v ++ c ∷ y = cc in
-    let r = cut_once c u v x y f.1 g.1 t in (
-      λ i. h i ∷ r.0 i,
-      r.1,
-    )
+bit_names_long : (name : List ℕ) (k : ℕ) → length (bit_names name k) ≡ k
+bit_names_long name zero = refl
+bit_names_long name (suc k) = length_push (bit_names name k) (bit_name name k) ∙ (let e = bit_names_long name k in let z : length (bit_names name k) + 1 ≡ suc k = omega (arith, e) in z)
 
-pub letter_once : (s t : Sort) → letter s ≡ letter t → s ≡ t
-letter_once Input Input e = refl
-letter_once Input Latch e = absurd (let q : 105 ≡ 108 = e in omega (arith, q))
-letter_once Input Output e = absurd (let q : 105 ≡ 111 = e in omega (arith, q))
-letter_once Latch Input e = absurd (let q : 108 ≡ 105 = e in omega (arith, q))
-letter_once Latch Latch e = refl
-letter_once Latch Output e = absurd (let q : 108 ≡ 111 = e in omega (arith, q))
-letter_once Output Input e = absurd (let q : 111 ≡ 105 = e in omega (arith, q))
-letter_once Output Latch e = absurd (let q : 111 ≡ 108 = e in omega (arith, q))
-letter_once Output Output e = refl
+gathered_all : {A : Type 0} (P : A → Type 0) (f : ℕ → List A) (k : ℕ) → ((s : ℕ) → s < k → All P (f s)) → All P (gathered f k)
+gathered_all P f zero h = All-nil P
+gathered_all P f (suc k) h = All-append P (gathered f k) (f k) (gathered_all P f k (λ s l. h s (omega (arith, l)))) (h k (omega arith))
 
-pub symbol_once : (s t : Sort) (k j : ℕ) (n m : List ℕ) → k < 2 ^ 31 → j < 2 ^ 31 → symbol_line s k n ≡ symbol_line t j m → (s ≡ t) × (k ≡ j) × (n ≡ m)
-symbol_once s t k j n m kl jl e =
-    let h : letter s ≡ letter t = cc in
-    let rest : decimal k ++ 32 ∷ n ≡ decimal j ++ 32 ∷ m = cc in
-    let c = cut_once 32 (decimal k) (decimal j) n m (decimal_free 32 k (omega arith) (omega (arith, kl))) (decimal_free 32 j (omega arith) (omega (arith, jl))) rest in
-    (letter_once s t h, decimal_injective k j (omega (arith, kl)) (omega (arith, jl)) c.0, c.1)
+cond_all : {A : Type 0} (P : A → Type 0) (b : Bool) (xs : List A) → (b ≡ true → All P xs) → All P (cond b xs [])
+cond_all P true xs h = h refl
+cond_all P false xs h = All-nil P
 
--- no symbol line is `c`
-pub symbol_not_end : (s : Sort) (k : ℕ) (n : List ℕ) → symbol_line s k n ≢ codes "c"
-symbol_not_end Input k n e = let q : 105 ≡ 99 = ap (λ x. get_or x 0 0) e in omega (arith, q)
-symbol_not_end Latch k n e = let q : 108 ≡ 99 = ap (λ x. get_or x 0 0) e in omega (arith, q)
-symbol_not_end Output k n e = let q : 111 ≡ 99 = ap (λ x. get_or x 0 0) e in omega (arith, q)
+signal_line : (n : Netlist) → IsNetlist n → (s : ℕ) → IsLine (name_at n s)
+signal_line n made s = by (slice_get n.signals s) refl
+  where
+    by : (o : Option Signal) → slice_get n.signals s ≡ o → IsLine (name_in o)
+    by None e = All-nil IsCode
+    by (Some g) e = good_line g.name (made.signals s g e).good
 
--- ---- places
+output_line : (n : Netlist) → IsNetlist n → (i : ℕ) → IsLine (name_of_output (slice_get n.outputs i))
+output_line n made i = by (slice_get n.outputs i) refl
+  where
+    by : (o : Option (List ℕ × ℕ)) → slice_get n.outputs i ≡ o → IsLine (name_of_output o)
+    by None e = All-nil IsCode
+    by (Some o) e = good_line o.0 (made.outputs i o e).0
 
-pub get_small : (xs : List (List ℕ)) (k : ℕ) (x : List ℕ) → slice_get xs k ≡ Some x → k < length xs
-get_small [] k x e = absurd (cc)
-get_small (y ∷ xs) zero x e = omega arith
-get_small (y ∷ xs) (suc k) x e = let h = get_small xs k x e in omega (arith, h)
+width_small : (n : Netlist) → IsNetlist n → (s : ℕ) → width_of n s < 2 ^ 64
+width_small n made s = let e = width_le n made s in omega (arith, e)
 
-small_for : (s : Sort) (n : Named) → IsSmall n → length (names_for s n) < 2 ^ 31
-small_for Input n h = h.inputs
-small_for Latch n h = h.latches
-small_for Output n h = h.outputs
+kind_lines : (n : Netlist) → IsNetlist n → (test : Kind → Bool) (k : ℕ) → All IsLine (gathered (of_kind test n (signal_names n)) k)
+kind_lines n made test k = gathered_all IsLine (of_kind test n (signal_names n)) k (λ s l. cond_all IsLine (test (kind_at n s)) (signal_names n s) (λ t. bit_lines (name_at n s) (width_of n s) (signal_line n made s) (width_small n made s)))
 
-pub place_small : (line : List ℕ) (old new : Named) (p : NamesPlace line old new) → IsSmall old → p.place < 2 ^ 31
-place_small line old new p h =
-    let a = get_small (names_for p.sort old) p.place [] p.free in
-    let b = small_for p.sort old h in
-    omega (arith, a, b)
+long_cond : {A : Type 0} (b : Bool) (xs : List A) (w : ℕ) → length xs ≡ w → length (cond b xs []) ≡ cond b w 0
+long_cond true xs w h = h
+long_cond false xs w h = refl
 
-with_small : (s : Sort) (k : ℕ) (name : List ℕ) (old : Named) → IsSmall old → IsSmall (with_name s k name old)
-with_small Input k name old h = record { inputs = subst (λ n. n < 2 ^ 31) (sym (length-set old.inputs k name)) h.inputs; latches = h.latches; outputs = h.outputs }
-with_small Latch k name old h = record { inputs = h.inputs; latches = subst (λ n. n < 2 ^ 31) (sym (length-set old.latches k name)) h.latches; outputs = h.outputs }
-with_small Output k name old h = record { inputs = h.inputs; latches = h.latches; outputs = subst (λ n. n < 2 ^ 31) (sym (length-set old.outputs k name)) h.outputs }
+kind_names_long : (n : Netlist) (test : Kind → Bool) (k : ℕ) → length (gathered (of_kind test n (signal_names n)) k) ≡ bits_before test n k
+kind_names_long n test k = gathered_long (of_kind test n (signal_names n)) k ∙ summed_same _ (width_if test n) k (λ s l. long_cond (test (kind_at n s)) (signal_names n s) (width_of n s) (bit_names_long (name_at n s) (width_of n s)))
 
-pub small_kept : (line : List ℕ) (old new : Named) → NamesPlace line old new → IsSmall old → IsSmall new
-small_kept line old new p h = subst (λ (n : Named). IsSmall n) (sym p.sets) (with_small p.sort p.place p.name old h)
+output_names_long : (n : Netlist) (k : ℕ) → length (gathered (output_names n) k) ≡ summed (output_weight n) k
+output_names_long n k = gathered_long (output_names n) k ∙ summed_same _ (output_weight n) k (λ i l. bit_names_long (name_of_output (slice_get n.outputs i)) (width_of n (output_at n i)))
 
-pub input_named : (line : List ℕ) (k : ℕ) (name : List ℕ) (old : Named) (l : List (List ℕ)) → line ≡ symbol_line Input k name → Sets old.inputs k name l → NamesPlace line old (record old { inputs = l })
-input_named line k name old l e s = record { sort = Input; place = k; name = name; is = e; free = s.free; some = s.some; sets = ap (λ x. record old { inputs = x }) s.sets }
+outputs_long : (n : Netlist) (g : Gates) (table : List Pins) → IsNetlist n → Connected n g table → length (output_lits n table) ≡ summed (output_weight n) (length n.outputs)
+outputs_long n g table made done = gathered_long (λ i. lits_at table (output_at n i)) (length n.outputs) ∙ summed_same _ (output_weight n) (length n.outputs) (λ i l. (done.ready (output_at n i) (output_known n made i l)).long)
 
-pub latch_named : (line : List ℕ) (k : ℕ) (name : List ℕ) (old : Named) (l : List (List ℕ)) → line ≡ symbol_line Latch k name → Sets old.latches k name l → NamesPlace line old (record old { latches = l })
-latch_named line k name old l e s = record { sort = Latch; place = k; name = name; is = e; free = s.free; some = s.some; sets = ap (λ x. record old { latches = x }) s.sets }
+-- ---- the circuit
 
-pub output_named : (line : List ℕ) (k : ℕ) (name : List ℕ) (old : Named) (l : List (List ℕ)) → line ≡ symbol_line Output k name → Sets old.outputs k name l → NamesPlace line old (record old { outputs = l })
-output_named line k name old l e s = record { sort = Output; place = k; name = name; is = e; free = s.free; some = s.some; sets = ap (λ x. record old { outputs = x }) s.sets }
+module _ (n : Netlist) (g : Gates) (table : List Pins) (nexts outputs : List Lit) (ands : List (Lit × Lit)) (names : Names) (made : IsNetlist n) (set : AllSet n) (light : weight n ≤ 1000000) (done : Connected n g table) (gates : IsGates g)
+    (nexts_are : nexts ≡ next_lits n table) (outputs_are : outputs ≡ output_lits n table) (ands_are : ands ≡ g.ands) (inputs_named : names_of names.inputs.items ≡ for_inputs n (signal_names n)) (latches_named : names_of names.latches.items ≡ for_registers n (signal_names n)) (outputs_named : names_of names.outputs.items ≡ gathered (output_names n) (length n.outputs)) where
+  abbrev made_of : Circuit
+  made_of = circuit_of nexts outputs ands names
 
--- a line that is no symbol names no place
-pub form_refuses : (line : List ℕ) (old : Named) → IsSmall old → ¬ (IsSymbolLine line) → Refuses line old
-form_refuses line old h f new p = f (record { sort = p.sort; place = p.place; name = p.name; few = place_small line old new p h; some = p.some; is = p.is })
+  pub inputs_count : length names.inputs.items ≡ input_count n
+  inputs_count = sym (length-map names.inputs.items (λ x. x.bytes.items)) ∙ ap length inputs_named ∙ kind_names_long n is_input (length n.signals)
 
--- a symbol for a place that has a name, or is none, names no place
-pub taken_refuses : (line : List ℕ) (s : Sort) (k : ℕ) (name : List ℕ) (old : Named) → IsSmall old → k < 2 ^ 31 → line ≡ symbol_line s k name → ¬ (slice_get (names_for s old) k ≡ Some []) → Refuses line old
-taken_refuses line s k name old h l e t new p =
-    let q = symbol_once s p.sort k p.place name p.name l (place_small line old new p h) (sym e ∙ p.is) in
-    t ((λ i. slice_get (names_for (q.0 i) old) (q.1 i)) ∙ p.free)
+  latches_count : length nexts ≡ latch_count n
+  latches_count = ap length nexts_are ∙ nexts_long n g table made set done
 
--- a list of names with one set
-pub sets_name : (xs : List Name) (i : ℕ) (x d : Name) (name : List ℕ) → i < length xs → (get_or xs i d).bytes.items ≡ [] → 1 ≤ length name → x.bytes.items ≡ name → Sets (names_of xs) i name (names_of (set xs i x))
-sets_name xs i x d name l e s q = record {
-  free = names_at xs i d l ∙ ap (λ y. Some y) e;
-  some = λ z. let y : length name ≡ 0 = ap length z in omega (arith, y, s);
-  sets = map-set (λ (n : Name). n.bytes.items) xs i x ∙ ap (λ y. set (names_of xs) i y) q;
-}
+  base_is : base made_of ≡ g.first
+  base_is = (λ i. 1 + inputs_count i + latches_count i) ∙ sym done.first
 
--- ---- lines one after another
+  count_is : 1 + variables made_of ≡ count g
+  count_is = let a = base_is in let b = ap length ands_are in omega (arith, a, b)
 
--- so many lines have been read, of which the symbols have set these names
-pub record Underway (ls : List (List ℕ)) (before : ℕ) (old new : Named) (left : List (List ℕ)) (count : ℕ) : Type 0 where
-  pub upto : NamesUpTo ls old new left
-  pub count_is : count ≡ before + length upto.symbols
-  pub small : IsSmall new
+  few : variables made_of < 2 ^ 30
+  few = let a = count_is in let b = done.few in let c = first_light n in let d = done.first in omega (arith, a, b, c, d, light)
 
-pub underway_start : (ls : List (List ℕ)) (before : ℕ) (old : Named) → IsSmall old → Underway ls before old old ls before
-underway_start ls before old h = record { upto = record { symbols = []; lines_are = refl; names = refl }; count_is = omega arith; small = h }
+  small : (l : Lit) → IsLiteral g l → l.0 ≤ 2 * variables made_of + 1
+  small l h = let a = count_is in omega (arith, a, h)
 
-pub underway_step : (ls : List (List ℕ)) (before : ℕ) (old mid new : Named) (line : List ℕ) (left : List (List ℕ)) (count : ℕ) → Underway ls before old mid (line ∷ left) count → NamesPlace line mid new → Underway ls before old new left (count + 1)
-underway_step ls before old mid new line left count u p =
-    let s = u.upto.symbols in
-    let e = u.count_is in
-    let a = length-append s (line ∷ []) in
-    record {
-      upto = record {
-        symbols = s ++ line ∷ [];
-        lines_are = u.upto.lines_are ∙ sym (append_assoc s (line ∷ []) left);
-        names = places-append s (line ∷ []) old mid new u.upto.names (new, p, refl);
-      };
-      count_is = omega (arith, e, a);
-      small = small_kept line mid new p u.small;
-    }
+  table_fits : (s : ℕ) → s < length n.signals → All (IsLiteral g) (lits_at table s)
+  table_fits s l = (done.ready s l).fits
 
-pub underway_room : (ls : List (List ℕ)) (before : ℕ) (old new : Named) (line : List ℕ) (left : List (List ℕ)) (count : ℕ) → Underway ls before old new (line ∷ left) count → count + 1 ≤ before + length ls
-underway_room ls before old new line left count u =
-    let e = u.count_is in
-    let a = ap length u.upto.lines_are in
-    let b = length-append u.upto.symbols (line ∷ left) in
-    omega (arith, e, a, b)
-
-symbol_fault : (symbols : List (List ℕ)) (line : List ℕ) (left : List (List ℕ)) (old mid : Named) → NamePlaces symbols old mid → line ≢ codes "c" → Refuses line mid → SymbolFault (symbols ++ line ∷ left) old (length symbols)
-symbol_fault [] line left old mid n c r = (c, subst (λ (m : Named). Refuses line m) n r)
-symbol_fault (s ∷ symbols) line left old mid n c r = (n.0, n.1, symbol_fault symbols line left n.0 mid n.2 c r)
-
-pub underway_fails : (ls : List (List ℕ)) (before : ℕ) (old mid : Named) (line : List ℕ) (left : List (List ℕ)) (count : ℕ) → Underway ls before old mid (line ∷ left) count → line ≢ codes "c" → Refuses line mid → SymbolsFail ls before old (Stopped (count + 1))
-underway_fails ls before old mid line left count u c r =
-    let s = u.upto.symbols in
-    let e = u.count_is in (
-      length s,
-      subst (λ (x : List (List ℕ)). SymbolFault x old (length s)) (sym u.upto.lines_are) (symbol_fault s line left old mid u.upto.names c r),
-      omega (arith, e),
-    )
-
-pub underway_ends : (ls : List (List ℕ)) (before : ℕ) (old new : Named) (left : List (List ℕ)) (count : ℕ) → Underway ls before old new left count → Ends left → SymbolsPass ls old new
-underway_ends ls before old new left count u e = (left, u.upto, e)
-
--- one more place without a name
-pub more_names : (xs : List Name) (x : Name) (k : ℕ) → names_of xs ≡ replicate k [] → x.bytes.items ≡ [] → names_of (xs ++ x ∷ []) ≡ replicate (k + 1) []
-more_names xs x k e q = map_push (λ (n : Name). n.bytes.items) xs x ∙ (λ i. e i ++ q i ∷ []) ∙ replicate-append-replicate k 1 []
+  pub makes_circuit : IsCircuit made_of
+  makes_circuit = record {
+    few = few;
+    nexts = All-weaker (IsLiteral g) (λ (l : Lit). l.0 ≤ 2 * variables made_of + 1) small nexts
+        (All-same (IsLiteral g) nexts (next_lits n table) nexts_are (gathered_all (IsLiteral g) (of_kind is_register n (λ s. lits_at table (next_sig n s))) (length n.signals)
+        (λ s l. cond_all (IsLiteral g) (is_register (kind_at n s)) (lits_at table (next_sig n s)) (λ t. table_fits (next_sig n s) (next_fits n made set s t).known))));
+    outputs = All-weaker (IsLiteral g) (λ (l : Lit). l.0 ≤ 2 * variables made_of + 1) small outputs
+        (All-same (IsLiteral g) outputs (output_lits n table) outputs_are (gathered_all (IsLiteral g) (λ i. lits_at table (output_at n i)) (length n.outputs) (λ i l. table_fits (output_at n i) (output_known n made i l))));
+    output_count = (let a = ap length outputs_are ∙ outputs_long n g table made done in omega (arith, a, light));
+    ands = subst (λ k. AreBelow k ands) (sym base_is) (subst (λ xs. AreBelow g.first xs) (sym ands_are) gates.below);
+    input_names = length-map names.inputs.items (λ x. x.bytes.items);
+    latch_names = ap length latches_named ∙ kind_names_long n is_register (length n.signals) ∙ sym latches_count;
+    output_names = ap length outputs_named ∙ output_names_long n (length n.outputs) ∙ sym (outputs_long n g table made done) ∙ sym (ap length outputs_are);
+    input_lines = All-same IsLine _ _ inputs_named (kind_lines n made is_input (length n.signals));
+    latch_lines = All-same IsLine _ _ latches_named (kind_lines n made is_register (length n.signals));
+    output_lines = All-same IsLine _ _ outputs_named (gathered_all IsLine (output_names n) (length n.outputs) (λ i l. bit_lines (name_of_output (slice_get n.outputs i)) (width_of n (output_at n i)) (output_line n made i) (width_small n made (output_at n i))));
+  }

@@ -1,45 +1,8 @@
-//! Laws of bit-level circuits, over the definitions alone.
+//! Laws of nets and bit-level circuits, over the definitions alone.
 
-ghost use Rattle.safl_aig.specs.ReadLaws.{OneReading, OneFault, NoFault, ReadsOrFails};
-ghost use Rattle.safl_aig.specs.RunLaws.{SomeFit, OneFit, SomeRun};
-ghost use Rattle.safl_aig.specs.TextLaws.{WrittenReads};
+ghost use Rattle.safl_aig.specs.Laws.{MirrorLaw};
 
-/// A state and inputs have values that fit.
-pub fn some_fit_law()
-    ensures { SomeFit }
-{}
-
-/// A state and inputs have no two values that fit.
-pub fn one_fit_law()
-    ensures { OneFit }
-{}
-
-/// Each list of inputs has a run.
-pub fn some_run_law()
-    ensures { SomeRun }
-{}
-
-/// What is written of a circuit reads as it.
-pub fn written_reads_law()
-    ensures { WrittenReads }
-{}
-
-/// A text is at most one circuit.
-pub fn one_reading_law()
-    ensures { OneReading }
-{}
-
-/// A text has at most one first fault.
-pub fn one_fault_law()
-    ensures { OneFault }
-{}
-
-/// A text that is a circuit has no fault.
-pub fn no_fault_law()
-    ensures { NoFault }
-{}
-
-/// A text that is no circuit has a fault.
-pub fn reads_or_fails_law()
-    ensures { ReadsOrFails }
+/// A circuit that mirrors each cycle of a net mirrors its runs, for every list of inputs.
+pub fn mirror_law()
+    ensures { MirrorLaw }
 {}

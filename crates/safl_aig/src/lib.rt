@@ -1,18 +1,18 @@
-//! Bit-level circuits: latches and ANDs over literals.
+//! From a netlist to a bit-level circuit and its text, and lines that tell of circuits. The calls of `safl_aiger` on circuits are called
+//! by this name too.
 #![tactic(auto)]
 
-pub mod circuit;
+pub mod conversion;
 pub mod laws;
 pub mod lines;
-pub mod literal;
-pub mod read;
-pub mod reading;
-pub mod sections;
-pub mod symbols;
-pub mod text;
+pub mod netlist_text;
+pub mod places;
+pub mod table;
+pub mod weights;
+pub mod wires;
+pub mod wiring;
 
-pub use crate::circuit::{Aig, Name, Names};
-pub use crate::literal::Lit;
-pub use crate::read::{AigErr, read_aig};
-pub use crate::reading::AigRule;
-pub use crate::text::aig_text;
+pub use crate::conversion::{BlastErr, blast};
+pub use crate::lines::{counts_lines, fault_line, register_line, weight_line};
+pub use crate::netlist_text::aiger_text;
+pub use safl_aiger::{Aig, AigErr, AigRule, Lit, Name, Names, aig_text, read_aig, rule_text};

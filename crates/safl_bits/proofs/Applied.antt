@@ -7,8 +7,8 @@ use Rattle.safl_word.specs.Words.{max_width}
 use Rattle.safl_word.specs.declared.primitive.Primitive.TheVariants.{Not, Cat, Bits}
 use Rattle.safl_word.specs.Primitives.{is_width, result_width, where_true}
 use Rattle.safl_word.proofs.Widths.{within}
-use Rattle.safl_aig.specs.declared.literal.Lit.{Lit}
-use Rattle.safl_aig.specs.Literals.{Assignment, shown}
+use Rattle.safl_aiger.specs.declared.literal.Lit.{Lit}
+use Rattle.safl_aiger.specs.Literals.{Assignment, shown}
 use Rattle.safl_bits.specs.Gates.{Gates, IsLiteral, AreLiterals}
 use Rattle.safl_bits.specs.Results.{Makes, MakesOne}
 use Rattle.safl_bits.proofs.Moving.{shown-append, shown_take, shown_drop}

@@ -6,8 +6,8 @@ use Rattle.std.proofs.lemmas.Nat.{pow-add, shl-shr, mod-pow-add}
 use Rattle.std.proofs.lemmas.Bool.Decides.{nat_tests}
 use Rattle.std.proofs.lemmas.Bool.{le-ltb}
 use Rattle.safl_word.specs.Primitives.{bit_of}
-use Rattle.safl_aig.specs.declared.literal.Lit.{Lit}
-use Rattle.safl_aig.specs.Literals.{Assignment, on, values, number, shown}
+use Rattle.safl_aiger.specs.declared.literal.Lit.{Lit}
+use Rattle.safl_aiger.specs.Literals.{Assignment, on, values, number, shown}
 use Rattle.safl_bits.specs.declared.words.Side.{Side}
 use Rattle.safl_bits.specs.declared.words.Side.TheVariants.{Left, Right}
 use Rattle.safl_bits.specs.Operators.{moved}

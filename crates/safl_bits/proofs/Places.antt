@@ -6,8 +6,8 @@ use Rattle.std.proofs.lemmas.List.{map_push, take_more, length-take-le, length-m
 use Rattle.std.proofs.lemmas.List.Elements.{All-weaker, All-push, All-same}
 use Rattle.std.proofs.lemmas.Nat.{and_block, or_block, xor_block}
 use Rattle.safl_word.specs.Primitives.{bit_of}
-use Rattle.safl_aig.specs.declared.literal.Lit.{Lit}
-use Rattle.safl_aig.specs.Literals.{Assignment, on, values, number, shown}
+use Rattle.safl_aiger.specs.declared.literal.Lit.{Lit}
+use Rattle.safl_aiger.specs.Literals.{Assignment, on, values, number, shown}
 use Rattle.safl_bits.specs.Gates.{Gates, IsLiteral, AreLiterals, Grows, differ}
 use Rattle.safl_bits.specs.declared.words.Gate.{Gate}
 use Rattle.safl_bits.specs.declared.words.Gate.TheVariants.{Both, Either, Differ}

@@ -3,9 +3,9 @@ use Rattle.std.proofs.Common.{◌≡◌, ℕ, zero, suc, ◌+◌, ◌*◌, ◌<�
 use Rattle.std.specs.Prelude.{if◌then◌else◌}
 use Rattle.std.specs.List.{list_any}
 use Rattle.std.proofs.lemmas.List.{append-nil}
-use Rattle.safl_aig.specs.declared.literal.Lit.{Lit}
-use Rattle.safl_aig.specs.Literals.{Assignment, on, on_number}
-use Rattle.safl_aig.specs.Circuits.{AreBelow}
+use Rattle.safl_aiger.specs.declared.literal.Lit.{Lit}
+use Rattle.safl_aiger.specs.Literals.{Assignment, on, on_number}
+use Rattle.safl_aiger.specs.Circuits.{AreBelow}
 use Rattle.safl_bits.specs.declared.graph.Operands.{Operands}
 use Rattle.safl_bits.specs.Gates.{Gates, IsGates, IsLiteral, HasRoom, Grows, Holds}
 use Rattle.safl_bits.specs.Sharing.{pairs}

@@ -1,9 +1,9 @@
 -- Graphs of ANDs, and how they grow.
 use Rattle.std.specs.Prelude.{◌≡◌, ℕ, ◌+◌, ◌*◌, ◌/◌, ◌<◌, ◌≤◌, List, ◌++◌, length, All, Bool, not, ◌&&◌, cond, false}
-use Rattle.safl_aig.specs.declared.literal.Lit.{Lit}
-use Rattle.safl_aig.specs.Literals.{Assignment, on}
-use Rattle.safl_aig.specs.Circuits.{AreBelow}
-use Rattle.safl_aig.specs.Runs.{Wired}
+use Rattle.safl_aiger.specs.declared.literal.Lit.{Lit}
+use Rattle.safl_aiger.specs.Literals.{Assignment, on}
+use Rattle.safl_aiger.specs.Circuits.{AreBelow}
+use Rattle.safl_aiger.specs.Runs.{Wired}
 
 -- ANDs, the first of which is the variable of this number
 pub record Gates : Type 0 where

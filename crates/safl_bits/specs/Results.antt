@@ -4,8 +4,8 @@ use Rattle.safl_word.specs.Words.{Word, max_width}
 use Rattle.safl_word.specs.declared.primitive.Primitive.{Primitive}
 use Rattle.safl_word.specs.declared.primitive.Primitive.TheVariants.{Not, Bits}
 use Rattle.safl_word.specs.Primitives.{result_width, apply_prim}
-use Rattle.safl_aig.specs.declared.literal.Lit.{Lit}
-use Rattle.safl_aig.specs.Literals.{Assignment, shown}
+use Rattle.safl_aiger.specs.declared.literal.Lit.{Lit}
+use Rattle.safl_aiger.specs.Literals.{Assignment, shown}
 use Rattle.safl_bits.specs.Gates.{Gates, AreLiterals, HasRoom, Grows, Holds}
 use Rattle.safl_bits.specs.Weights.{apply_weight}
 

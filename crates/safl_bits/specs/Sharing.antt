@@ -1,7 +1,7 @@
 -- The operands of ANDs as keys.
 use Rattle.std.specs.Prelude.{ℕ, List, map, ◌++◌}
 use Rattle.std.specs.Hash as fed
-use Rattle.safl_aig.specs.declared.literal.Lit.{Lit}
+use Rattle.safl_aiger.specs.declared.literal.Lit.{Lit}
 use Rattle.safl_bits.specs.declared.graph.Operands.{Operands}
 
 -- what a hash takes of them

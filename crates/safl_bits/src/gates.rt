@@ -1,11 +1,11 @@
 //! Gates over literals.
 
 ghost use Rattle.std.specs.Prelude.{◌≡◌, ℕ, ◌&&◌, ◌||◌, not, cond, IfOk};
-ghost use Rattle.safl_aig.specs.Literals.{Assignment, on};
+ghost use Rattle.safl_aiger.specs.Literals.{Assignment, on};
 ghost use Rattle.safl_bits.specs.Gates.{IsLiteral, HasRoom, Grows, Holds, differ};
 
 use crate::graph::{Graph, inverse};
-use safl_aig::Lit;
+use safl_aiger::Lit;
 use std::alloc::AllocError;
 
 /// The literal that is true where one is.

@@ -3,12 +3,12 @@
 ghost use Rattle.std.specs.Prelude.{◌≡◌, ℕ, ◌+◌, ◌*◌, ◌<◌, ◌≤◌, ◌&&◌, ◌++◌, ◌∷◌, [], not, false, length, IfOk, IfSome, OnErr, OnOk};
 ghost use Rattle.std.specs.Cmp.Rules.{hashing};
 ghost use Rattle.std.proofs.Common.{rules};
-ghost use Rattle.safl_aig.specs.Literals.{Assignment, on};
+ghost use Rattle.safl_aiger.specs.Literals.{Assignment, on};
 ghost use Rattle.safl_bits.specs.Sharing.{operands_input};
 ghost use Rattle.safl_bits.specs.Gates.{IsGates, IsLiteral, HasRoom, Grows, Holds, Folds, Inverts};
 
 use indexmap::IndexSet;
-use safl_aig::Lit;
+use safl_aiger::Lit;
 use std::alloc::{AllocError, Global};
 use std::hash::{Hash, Hasher};
 use std::marker::Model;

@@ -1,7 +1,7 @@
 //! Operators on words of literals.
 
 ghost use Rattle.std.specs.Prelude.{◌≡◌, ℕ, ◌+◌, ◌*◌, ◌%◌, ◌^◌, ◌<◌, ◌≤◌, [], ◌∷◌, ◌++◌, length, IfOk};
-ghost use Rattle.safl_aig.specs.Literals.{Assignment, on, shown};
+ghost use Rattle.safl_aiger.specs.Literals.{Assignment, on, shown};
 ghost use Rattle.safl_bits.specs.Gates.{Gates, IsLiteral, AreLiterals, HasRoom, Grows, Holds};
 ghost use Rattle.safl_bits.specs.Results.{Makes, MakesOne, MayMake, MayTake, GrowsBy};
 
@@ -9,7 +9,7 @@ use crate::graph::{Graph, inverse};
 use crate::words::{
     Gate, Side, add, bitwise, complement, covers, equal, multiply, shift, subtract,
 };
-use safl_aig::Lit;
+use safl_aiger::Lit;
 use safl_word::Primitive;
 use std::alloc::{AllocError, Global};
 

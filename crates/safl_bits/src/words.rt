@@ -1,14 +1,15 @@
 //! Words as lists of literals, the lowest bit first, and what operators make of them.
 
-ghost use Rattle.std.specs.Prelude.{◌≡◌, ℕ, ◌+◌, ◌-◌, ◌*◌, ◌/◌, ◌%◌, ◌^◌, ◌<◌, ◌≤◌, ◌==◌, ◌&&◌, ◌||◌, not, false, cond, nat_le, nat_lt, replicate, length, IfOk};
+ghost use Rattle.std.specs.Prelude.{◌≡◌, ℕ, ◌+◌, ◌-◌, ◌*◌, ◌/◌, ◌%◌, ◌^◌, ◌<◌, ◌≤◌, ◌==◌, ◌&&◌, ◌||◌, not, false, cond, nat_le, replicate, length, IfOk};
 ghost use Rattle.safl_word.specs.Primitives.{bit_of};
-ghost use Rattle.safl_aig.specs.Literals.{Assignment, on, shown};
+ghost use Rattle.safl_aiger.specs.Literals.{Assignment, on, shown};
 ghost use Rattle.safl_bits.specs.Gates.{Gates, IsLiteral, AreLiterals, HasRoom, Grows, Holds};
-ghost use Rattle.safl_bits.specs.Operators.{gate_bit, gate_number, moved};
+ghost use Rattle.safl_bits.specs.Operators.{gate_bit, gate_number};
+ghost use Rattle.safl_bits.specs.Numbers.{AddsBits, AddsWords, with_row, moved_by, shifted};
 
 use crate::gates::{differ, either, mux};
 use crate::graph::{Graph, inverse};
-use safl_aig::Lit;
+use safl_aiger::Lit;
 use safl_word::{Raw, Word};
 use std::alloc::{AllocError, Global};
 
@@ -181,7 +182,7 @@ fn add_place(g: &mut Graph, a: Lit, b: Lit, c: Lit) -> Result<Column, AllocError
     ensures built { Grows g.old g.new 9 }
     ensures bit { IfOk result (λ r. IsLiteral g.new r.bit) }
     ensures carry { IfOk result (λ r. IsLiteral g.new r.carry) }
-    ensures value { IfOk result (λ r. (m : Assignment) → Holds g.new m → bit_of (on m r.bit) + 2 * bit_of (on m r.carry) ≡ bit_of (on m a) + bit_of (on m b) + bit_of (on m c)) }
+    ensures value { IfOk result (λ r. (m : Assignment) → Holds g.new m → AddsBits m a b c r) }
 {
     let one = differ(g, a, b)?;
     let two = g.both(a, b)?;
@@ -208,8 +209,7 @@ pub fn add(
     ensures bits { IfOk result (λ r. AreLiterals g.new r.bits.items) }
     ensures carry { IfOk result (λ r. IsLiteral g.new r.carry) }
     ensures long { IfOk result (λ r. length r.bits.items ≡ length a.now) }
-    ensures value { IfOk result (λ r. (m : Assignment) → Holds g.new m →
-        shown m r.bits.items + 2 ^ length a.now * bit_of (on m r.carry) ≡ shown m a.now + shown m b.now + bit_of (on m first)) }
+    ensures value { IfOk result (λ r. (m : Assignment) → Holds g.new m → AddsWords m a.now b.now first r) }
 {
     let mut bits = Vec::new(alloc);
     let mut carry = first;
@@ -230,7 +230,8 @@ pub fn subtract(alloc: Global, g: &mut Graph, a: &[Lit], b: &[Lit]) -> Result<Ve
     ensures built { Grows g.old g.new (9 * length a.now) }
     ensures fits { IfOk result (λ r. AreLiterals g.new r.items) }
     ensures long { IfOk result (λ r. length r.items ≡ length a.now) }
-    ensures value { IfOk result (λ r. (m : Assignment) → Holds g.new m → shown m r.items ≡ (2 ^ length a.now + shown m a.now - shown m b.now) % 2 ^ length a.now) }
+    ensures value { IfOk result (λ r. (m : Assignment) → Holds g.new m
+        → shown m r.items ≡ (2 ^ length a.now + shown m a.now - shown m b.now) % 2 ^ length a.now) }
 {
     let other = complement(alloc, b)?;
     let one = inverse(g.bottom());
@@ -321,8 +322,7 @@ fn add_row(
     ensures built { Grows g.old g.new (10 * length a.now) }
     ensures fits { IfOk result (λ r. AreLiterals g.new r.items) }
     ensures long { IfOk result (λ r. length r.items ≡ length a.now) }
-    ensures value { IfOk result (λ r. (m : Assignment) → Holds g.new m →
-        shown m r.items ≡ (shown m total.now + cond (on m bit) ((shown m a.now * 2 ^ place) % 2 ^ length a.now) 0) % 2 ^ length a.now) }
+    ensures value { IfOk result (λ r. (m : Assignment) → Holds g.new m → shown m r.items ≡ with_row m total.now a.now bit place) }
 {
     let zero = g.bottom();
     let raised = raise(alloc, zero, a, place)?;
@@ -360,7 +360,7 @@ fn displace(
 ) -> Result<Vec<Lit>, AllocError>
     ensures fits { (g : Gates) → IsLiteral g zero → AreLiterals g a.now → IfOk result (λ r. AreLiterals g r.items) }
     ensures long { IfOk result (λ r. length r.items ≡ length a.now) }
-    ensures value { IfOk result (λ r. (m : Assignment) → on m zero ≡ false → shown m r.items ≡ moved side (2 ^ length a.now) (shown m a.now) (2 ^ by)) }
+    ensures value { IfOk result (λ r. (m : Assignment) → on m zero ≡ false → shown m r.items ≡ moved_by m side a.now by) }
 {
     match side {
         Side::Left => raise(alloc, zero, a, by),
@@ -383,8 +383,7 @@ fn displace_where(
     ensures built { Grows g.old g.new (3 * length a.now) }
     ensures fits { IfOk result (λ r. AreLiterals g.new r.items) }
     ensures long { IfOk result (λ r. length r.items ≡ length a.now) }
-    ensures value { IfOk result (λ r. (m : Assignment) → Holds g.new m →
-        shown m r.items ≡ cond (on m test) (moved side (2 ^ length a.now) (shown m a.now) (2 ^ by)) (shown m a.now)) }
+    ensures value { IfOk result (λ r. (m : Assignment) → Holds g.new m → shown m r.items ≡ cond (on m test) (moved_by m side a.now by) (shown m a.now)) }
 {
     let zero = g.bottom();
     let away = displace(alloc, zero, side, a, by)?;
@@ -424,8 +423,7 @@ pub fn shift(
     ensures built { Grows g.old g.new (22 * length a.now + length amount.now) }
     ensures fits { IfOk result (λ r. AreLiterals g.new r.items) }
     ensures long { IfOk result (λ r. length r.items ≡ length a.now) }
-    ensures value { IfOk result (λ r. (m : Assignment) → Holds g.new m →
-        shown m r.items ≡ cond (nat_lt (shown m amount.now) (length a.now)) (moved side (2 ^ length a.now) (shown m a.now) (2 ^ shown m amount.now)) 0) }
+    ensures value { IfOk result (λ r. (m : Assignment) → Holds g.new m → shown m r.items ≡ shifted m side a.now amount.now) }
 {
     let count = stages(a.len()).min(amount.len());
     let mut all = Vec::from_slice(alloc, a)?;

@@ -1,15 +1,19 @@
 -- The parts of an expression, and what each expression counts by itself towards a limit.
-use Rattle.std.specs.Prelude.{ℕ, ◌+◌, ◌*◌, List, [], ◌∷◌, ◌++◌, map, Option, None}
+use Rattle.std.specs.Prelude.{ℕ, ◌+◌, ◌*◌, List, [], ◌∷◌, ◌++◌, map, Option, None, nat_le}
 use denote.Ref.{Bor}
+use Rattle.safl_word.specs.declared.fault.Fault.{Fault}
+use Rattle.safl_word.specs.declared.fault.Rule.TheVariants as rules
 use Rattle.safl_tree.specs.Tree.{Tree, Number, Sized, Variable, If, Let, Cases, Op, Call, Trees, no_tree, a_tree, Binds, no_bind, a_bind, Arms, default_arm, an_arm}
 use Rattle.safl_tree.specs.Shown.{shown_tree}
 use Rattle.safl_tree.specs.declared.tree.Expr.{Expr}
 use Rattle.safl_tree.specs.declared.tree.Bind.{Bind}
 use Rattle.safl_tree.specs.declared.tree.Arm.{Arm}
+use Rattle.safl_term.specs.Readiness.{or_else}
 use Rattle.safl_term.specs.Sizes.{max_bindings}
+use Rattle.safl_typing.specs.Forms.{max_sites, max_nodes}
 use Rattle.safl_typing.specs.Heads.{Known, callee, is_site}
 use Rattle.safl_typing.specs.Rewriting.{rewritten, rewritten_binds, nodes}
-use Rattle.safl_typing.specs.Walk.{excess, placed}
+use Rattle.safl_typing.specs.Walk.{excess, fault_with, needs, placed}
 
 -- operands or arguments, one by one
 abbrev pub trees_in : Trees → List Tree
@@ -89,3 +93,9 @@ arms_of (a ∷ arms) = shown_tree a.label ∷ (shown_tree a.value ∷ arms_of ar
 abbrev pub total_nodes : List Tree → ℕ
 total_nodes [] = 0
 total_nodes (t ∷ ts) = nodes (rewritten t) + total_nodes ts
+
+-- a fault at this place, up to which too many sites or too many nodes stand
+abbrev pub sum_fault : (place in_all nodes_all : ℕ) → Option Fault
+sum_fault place in_all nodes_all =
+    or_else (needs (nat_le in_all max_sites) (fault_with rules.E16 place 4 max_sites))
+    (needs (nat_le nodes_all max_nodes) (fault_with rules.E16 place 5 max_nodes))

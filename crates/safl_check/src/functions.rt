@@ -13,7 +13,7 @@ ghost use Rattle.safl_typing.specs.Plain.{shown_expression};
 ghost use Rattle.safl_typing.specs.PlainHeads.{shown_heads, shown_slots, known};
 ghost use Rattle.safl_typing.specs.Walk.{limits, functions_from};
 ghost use Rattle.safl_check.specs.Answers.{SaysFunctions};
-ghost use Rattle.safl_check.specs.Functions.{SaysFunction, checked_function};
+ghost use Rattle.safl_check.specs.Functions.{SaysFunction, checked_with_head};
 
 use crate::form::function_of;
 use crate::groups::find_group_fault;
@@ -87,7 +87,7 @@ fn check_function(
     requires params { shown_slots head.now.params.items ≡ params_of (shown_definition def.now) }
     requires able { MayCheck heads.now head.now.unit (shown_slots head.now.params.items) first_site (shown_expression body.now) }
     requires marked { IsMarked (known heads.now head.now.unit) body.now }
-    ensures says { SaysFunction result (checked_function (known heads.now head.now.unit) (shown_slots head.now.params.items) first_site (shown_definition def.now) (shown_expression body.now)) }
+    ensures says { SaysFunction result (checked_with_head heads.now head.now first_site def.now body.now) }
     ensures slots { IfOk result BodyHasSlots }
 {
     let unit = head.unit;

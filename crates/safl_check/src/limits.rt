@@ -1,14 +1,15 @@
 //! Limits: E16 at the first place that passes one. And E15, where the last definition is not `main`.
 
-ghost use Rattle.std.specs.Prelude.{◌≡◌, ◌≤◌, length, map, nat_le, IfOk};
+ghost use Rattle.std.specs.Prelude.{◌≡◌, ◌≤◌, length, map, IfOk};
 ghost use Rattle.safl_word.specs.declared.fault.Rule.TheVariants as rules;
 ghost use Rattle.safl_tree.specs.Shown.{shown_definitions, shown_parameters};
 ghost use Rattle.safl_typing.specs.Heads.{heads};
 ghost use Rattle.safl_term.specs.Sizes.{max_bindings};
-ghost use Rattle.safl_typing.specs.Forms.{max_functions, max_params, max_sites, max_nodes};
+ghost use Rattle.safl_typing.specs.Forms.{max_functions, max_params};
 ghost use Rattle.safl_typing.specs.PlainHeads.{shown_heads};
 ghost use Rattle.safl_term.specs.Readiness.{or_else};
-ghost use Rattle.safl_typing.specs.Walk.{fault_with, needs, limit, excess, limits_from, main_fault};
+ghost use Rattle.safl_typing.specs.Walk.{fault_with, limit, excess, limits_from, main_fault};
+ghost use Rattle.safl_check.specs.Parts.{sum_fault};
 
 use crate::heads::next_unit;
 use crate::nodes::{BINDINGS_MAX, measure};
@@ -76,7 +77,7 @@ fn find_list_fault(params: &[Param], long_let: Option<u32>) -> Option<Fault>
 
 // Too many sites or nodes, up to the definition at this place.
 fn find_sum_fault(place: u32, sites: u32, nodes: u32) -> Option<Fault>
-    ensures { result ≡ or_else (needs (nat_le sites max_sites) (fault_with rules.E16 place 4 max_sites)) (needs (nat_le nodes max_nodes) (fault_with rules.E16 place 5 max_nodes)) }
+    ensures { result ≡ sum_fault place sites nodes }
 {
     if sites > SITES_MAX {
         Some(past_limit(place, 4, SITES_MAX))

@@ -27,3 +27,6 @@ pub mod Samples
 pub mod RowRuns
 pub mod Rows
 pub mod EvenRow
+pub mod MirrorLines
+pub mod MirrorNumbers
+pub mod MirrorsKeep

@@ -5,3 +5,4 @@ pub mod Layout
 pub mod Scheme
 pub mod Correct
 pub mod Theorem
+pub mod Mirrored

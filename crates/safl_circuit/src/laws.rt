@@ -1,6 +1,7 @@
 //! Laws of circuits, over the definitions alone.
 
 ghost use Rattle.safl_circuit.specs.Theorem.{CyclesAreEvents, LatestIsSoon, SchemesAreCircuits, ServingSchemesAreCircuits};
+ghost use Rattle.safl_circuit.specs.Mirrored.{MirrorsKeepPlans, MirrorsKeepSchemes};
 
 /// A netlist with the scheme of a well-formed program, whose arbiters and kept words suffice, does what the program
 /// means.
@@ -21,4 +22,14 @@ pub fn cycle_law()
 /// The last cycle in which done may come, `2n - l` for `n` calls of which `l` are loops, is below `3n`.
 pub fn latest_law()
     ensures { LatestIsSoon }
+{}
+
+/// A net that mirrors one with the scheme of a circuit has that scheme.
+pub fn scheme_carries_over()
+    ensures { MirrorsKeepSchemes }
+{}
+
+/// A net that mirrors one with what a plan has has that too.
+pub fn plan_carries_over()
+    ensures { MirrorsKeepPlans }
 {}

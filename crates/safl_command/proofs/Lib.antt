@@ -1,3 +1,12 @@
 pub mod Building
 pub mod Parsed
 pub mod Values
+pub mod Stepping
+pub mod Numbers
+pub mod Rows
+pub mod Uses
+pub mod Walking
+pub mod Arranging
+pub mod Said
+pub mod SaidLines
+pub mod SaidWords

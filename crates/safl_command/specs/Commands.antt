@@ -1,10 +1,11 @@
 -- Which words are a command.
 use Rattle.std.specs.Prelude.{ℕ, List, [], ◌∷◌, map, Option, Some, None, Bool, option_map, option_and_then}
-use Rattle.std.specs.Prelude.{bytes_eq, if◌then◌else◌, codes, string_bytes, not}
+use Rattle.std.specs.Prelude.{bytes_eq, if◌then◌else◌, codes, string_bytes}
+use Rattle.std.specs.Borrow.{Bor}
 use Rattle.clap.specs.Words.{Row, Kinds, fault_of, subcommand_of, first_of}
 use Rattle.safl_command.specs.Forms.{app}
 use Rattle.safl_command.specs.Values.{name_in, number_in, number_of, limit_in, count_in, has_flag, args_in}
-use Rattle.safl_command.specs.Traces.{Traces, shown as shown_traces, are_apart, is_any_given}
+use Rattle.safl_command.specs.Traces.{Traces, shown as shown_traces, if_apart}
 use Rattle.safl_command.specs.declared.command.Command as code
 use Rattle.safl_command.specs.declared.command.Command.TheVariants as code_of
 
@@ -15,10 +16,8 @@ pub data Command : Type 0 where
   Build : (input output : List ℕ) → Command
   -- the same with the optimised circuit
   Optimise : (input output : List ℕ) → Command
-  -- reads the source of the name, and runs its circuit for so many cycles with these arguments
-  Sim : (input : List ℕ) (limit : ℕ) (args : List (List ℕ)) → Command
-  -- the same, and writes traces of the run
-  Trace : (input : List ℕ) (limit : ℕ) (traces : Traces) (args : List (List ℕ)) → Command
+  -- reads the source of the name, runs its circuit for so many cycles with these arguments, and writes traces of the run to the files that are given
+  Sim : (input : List ℕ) (limit : ℕ) (traces : Traces) (args : List (List ℕ)) → Command
   -- reads the source of the name, and walks with these arguments for so many events at most, by the numbers that the seed begins
   Walk : (input : List ℕ) (seed steps : ℕ) (args : List (List ℕ)) → Command
   -- reads the Verilog file of the name, and runs its netlist for so many cycles with these arguments
@@ -56,19 +55,13 @@ abbrev pub build_in : List Row → Option Command
 build_in rows = files_in (codes "IN") (codes "OUT") (λ input output. Some (build_or_optimise (has_flag (codes "opt") rows) input output)) rows
 
 -- the files for traces
-abbrev pub traces_in : List Row → Traces
-traces_in rows = record { vcd = first_of (codes "vcd") rows; starts = first_of (codes "starts") rows; toggles = first_of (codes "toggles") rows }
-
--- traces are written where a file is given for them
-abbrev pub simulated : List ℕ → ℕ → List (List ℕ) → Traces → Option Command
-simulated input limit args traces =
-    if not (are_apart traces) then None
-    else if is_any_given traces then Some (Trace input limit traces args)
-    else Some (Sim input limit args)
+abbrev pub traces_in : List Row → Option Traces
+traces_in rows = if_apart (record { vcd = first_of (codes "vcd") rows; starts = first_of (codes "starts") rows; toggles = first_of (codes "toggles") rows })
 
 abbrev pub sim_in : List Row → Option Command
 sim_in rows =
-    option_and_then (λ input. option_and_then (λ limit. simulated input limit (args_in rows) (traces_in rows)) (limit_in (codes "cycles") rows))
+    option_and_then (λ input.
+    option_and_then (λ limit. option_map (λ traces. Sim input limit traces (args_in rows)) (traces_in rows)) (limit_in (codes "cycles") rows))
     (name_in (codes "IN") rows)
 
 abbrev pub walk_in : List Row → Option Command
@@ -92,6 +85,10 @@ bench_in rows =
     option_and_then (λ count. option_map (Bench seed count) (limit_in (codes "cycles") rows)) (count_in (codes "COUNT") rows))
     (number_in (codes "SEED") rows)
 
+-- the word of an option, where there is one
+abbrev pub word_of : Option (Bor (List ℕ)) → Option (List ℕ)
+word_of given = option_map (λ (w : Bor (List ℕ)). w.now) given
+
 -- exactly one of the two options is given, with the number of a site
 abbrev pub reshaped : List ℕ → List ℕ → Option (List ℕ) → Option (List ℕ) → Option Command
 reshaped input output (Some copied) None = option_map (CopySite input output) (number_of copied)
@@ -114,15 +111,6 @@ aig_in rows = files_in (codes "FILE") (codes "OUT") (λ input output. Some (Aig 
 abbrev pub aigstat_in : List Row → Option Command
 aigstat_in rows = option_map Aigstat (name_in (codes "FILE") rows)
 
--- the command of a word among the later ones, by what its arguments say
-abbrev pub other_command_in : List ℕ → List Row → Option Command
-other_command_in word rows =
-    if bytes_eq word (codes "reshape") then reshape_in rows
-    else if bytes_eq word (codes "session") then session_in rows
-    else if bytes_eq word (codes "aig") then aig_in rows
-    else if bytes_eq word (codes "aigstat") then aigstat_in rows
-    else None
-
 -- the command of a word, by what its arguments say
 abbrev pub command_in : List ℕ → List Row → Option Command
 command_in word rows =
@@ -134,7 +122,11 @@ command_in word rows =
     else if bytes_eq word (codes "report") then report_in rows
     else if bytes_eq word (codes "gen") then gen_in rows
     else if bytes_eq word (codes "bench") then bench_in rows
-    else other_command_in word rows
+    else if bytes_eq word (codes "reshape") then reshape_in rows
+    else if bytes_eq word (codes "session") then session_in rows
+    else if bytes_eq word (codes "aig") then aig_in rows
+    else if bytes_eq word (codes "aigstat") then aigstat_in rows
+    else None
 
 -- the command of the subcommand that was entered
 abbrev pub entered_command : Option (List ℕ × List Row) → Option Command
@@ -159,13 +151,12 @@ abbrev pub shown : code.Command → Command
 shown (code_of.Check input) = Check (string_bytes input)
 shown (code_of.Build input output) = Build (string_bytes input) (string_bytes output)
 shown (code_of.Optimise input output) = Optimise (string_bytes input) (string_bytes output)
-shown (code_of.Sim input limit args) = Sim (string_bytes input) limit (map string_bytes args.items)
-shown (code_of.Trace t) = Trace (string_bytes t.input) t.limit (shown_traces t.traces) (map string_bytes t.args.items)
+shown (code_of.Sim input limit traces args) = Sim (string_bytes input) limit (shown_traces traces) (map string_bytes args.items)
 shown (code_of.Walk input turns args) = Walk (string_bytes input) turns.seed turns.steps (map string_bytes args.items)
 shown (code_of.Run input limit args) = Run (string_bytes input) limit (map string_bytes args.items)
 shown (code_of.Report input) = Report (string_bytes input)
-shown (code_of.Gen seed count) = Gen seed count
-shown (code_of.Bench seed count limit) = Bench seed count limit
+shown (code_of.Gen seed count) = Gen seed count.functions
+shown (code_of.Bench seed count limit) = Bench seed count.functions limit
 shown (code_of.CopySite input output site) = CopySite (string_bytes input) (string_bytes output) site
 shown (code_of.UnfoldSite input output site) = UnfoldSite (string_bytes input) (string_bytes output) site
 shown (code_of.Session input script limit) = Session (string_bytes input) (string_bytes script) limit

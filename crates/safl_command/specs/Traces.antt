@@ -1,32 +1,11 @@
 -- The files for the traces of a run.
-use Rattle.std.specs.Prelude.{ℕ, List, [], ◌∷◌, Option, Some, None, Bool, true, false, not, ◌&&◌, ◌||◌, is_some, bytes_eq, option_map, string_bytes}
+use Rattle.std.specs.Prelude.{Option, Some, None, if◌then◌else◌}
 use Rattle.safl_command.specs.declared.traces.Traces as code
-
--- the names of the files for the traces of each kind, each of which may be left out
-pub record Traces : Type 0 where
-  pub vcd : Option (List ℕ)
-  pub starts : Option (List ℕ)
-  pub toggles : Option (List ℕ)
+pub use Rattle.safl_command.specs.Apart.{Traces, files, is_named, differ, are_apart}
 
 abbrev pub shown : code.Traces → Traces
-shown t = record { vcd = option_map string_bytes t.vcd; starts = option_map string_bytes t.starts; toggles = option_map string_bytes t.toggles }
+shown t = files t.vcd t.starts t.toggles
 
--- there is a name
-abbrev pub is_any_given : Traces → Bool
-is_any_given t = is_some t.vcd || (is_some t.starts || is_some t.toggles)
-
--- a name that is given is not empty
-abbrev pub is_named : Option (List ℕ) → Bool
-is_named None = true
-is_named (Some []) = false
-is_named (Some (c ∷ cs)) = true
-
--- two names that are given are not the same
-abbrev pub differ : Option (List ℕ) → Option (List ℕ) → Bool
-differ (Some first) (Some second) = not (bytes_eq first second)
-differ _ _ = true
-
--- no name is empty, and no two are the same
-abbrev pub are_apart : Traces → Bool
-are_apart t =
-    is_named t.vcd && (is_named t.starts && (is_named t.toggles && (differ t.vcd t.starts && (differ t.vcd t.toggles && differ t.starts t.toggles))))
+-- these files, where they are apart
+abbrev pub if_apart : Traces → Option Traces
+if_apart t = if are_apart t then Some t else None

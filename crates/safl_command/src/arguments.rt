@@ -5,7 +5,7 @@ ghost use Rattle.clap.specs.Words.{found_of, rows_of, first_of};
 ghost use Rattle.safl_word.specs.Numerals.{value};
 ghost use Rattle.safl_command.specs.Values.{name_in, filled, number_in, within_in, limit_in, count_in, has_flag, args_in, is_number, is_within};
 
-use crate::command::{CYCLES_MAX, FUNCTIONS_MAX};
+use crate::command::{CYCLES_MAX, Count, FUNCTIONS_MAX};
 use clap::ArgMatches;
 use safl_word::{NoMemory, decimal};
 use std::alloc::Global;
@@ -69,17 +69,20 @@ pub fn number_of(word: &str) -> Option<u64>
 /// The number of cycles or events that an argument gives.
 pub fn limit_in(values: &ArgMatches<'_>, id: &str) -> Option<u64>
     ensures number { result ≡ limit_in id.now (rows_of (found_of values.now)) }
-    ensures small { IfSome result (λ n. n ≤ CYCLES_MAX) }
+    ensures least { IfSome result (λ n. 1 ≤ n) }
+    ensures most { IfSome result (λ n. n ≤ CYCLES_MAX) }
 {
     within_in(values, id, CYCLES_MAX)
 }
 
 /// The number of functions that an argument gives.
-pub fn count_in(values: &ArgMatches<'_>, id: &str) -> Option<u32>
-    ensures { result ≡ count_in id.now (rows_of (found_of values.now)) }
+pub fn count_in(values: &ArgMatches<'_>, id: &str) -> Option<Count>
+    ensures { option_map (λ c. c.functions) result ≡ count_in id.now (rows_of (found_of values.now)) }
 {
     match within_in(values, id, FUNCTIONS_MAX) {
-        Some(count) => Some(count as u32),
+        Some(count) => Some(Count {
+            functions: count as u32,
+        }),
         None => None,
     }
 }
@@ -87,7 +90,8 @@ pub fn count_in(values: &ArgMatches<'_>, id: &str) -> Option<u32>
 // The number from 1 to `most` that an argument gives.
 fn within_in(values: &ArgMatches<'_>, id: &str, most: u64) -> Option<u64>
     ensures number { result ≡ within_in most id.now (rows_of (found_of values.now)) }
-    ensures small { IfSome result (λ n. n ≤ most) }
+    ensures least { IfSome result (λ n. 1 ≤ n) }
+    ensures most { IfSome result (λ n. n ≤ most) }
 {
     match values.get_str(id) {
         Some(word) => number_within(word, most),
@@ -96,9 +100,10 @@ fn within_in(values: &ArgMatches<'_>, id: &str, most: u64) -> Option<u64>
 }
 
 fn number_within(word: &str, most: u64) -> Option<u64>
-    ensures some { IsSome result ↔ (is_within most word.now ≡ true) }
+    ensures there { IsSome result ↔ (is_within most word.now ≡ true) }
     ensures number { IfSome result (λ n. n ≡ value 10 word.now) }
-    ensures small { IfSome result (λ n. n ≤ most) }
+    ensures least { IfSome result (λ n. 1 ≤ n) }
+    ensures most { IfSome result (λ n. n ≤ most) }
 {
     match decimal(word.as_bytes()) {
         Some(number) if number != 0 && number <= most => Some(number),

@@ -1,5 +1,8 @@
 //! What the words of a command line ask for.
 
+ghost use Rattle.std.specs.Prelude.{◌≤◌};
+ghost use Rattle.safl_command.specs.Limits.{functions_max};
+
 use crate::traces::Traces;
 
 /// The most cycles of a run, and events of a walk.
@@ -15,14 +18,12 @@ pub struct Turns {
     pub steps: u32,
 }
 
-/// Reads a source from `input` and runs its circuit for at most `limit` cycles, 1 to `CYCLES_MAX`, with these arguments,
-/// and writes traces of the run.
-#[derive(Drop)]
-pub struct Tracing {
-    pub input: String,
-    pub limit: u64,
-    pub traces: Traces,
-    pub args: Vec<String>,
+/// How many functions a generated source has besides main: 1 to `FUNCTIONS_MAX`.
+#[derive(Clone, Copy)]
+pub struct Count {
+    pub functions: u32,
+    pub ghost least: { 1 ≤ functions },
+    pub ghost most: { functions ≤ functions_max },
 }
 
 /// A command with its words.
@@ -43,13 +44,13 @@ pub enum Command {
         output: String,
     },
     /// Reads a source from `input` and runs its circuit for at most `limit` cycles, 1 to `CYCLES_MAX`, with these arguments.
+    /// It writes those traces of the run for which there are files.
     Sim {
         input: String,
         limit: u64,
+        traces: Traces,
         args: Vec<String>,
     },
-    /// The same with traces of the run.
-    Trace(Tracing),
     /// Reads a source from `input` and walks its call machine with these arguments.
     Walk {
         input: String,
@@ -66,15 +67,15 @@ pub enum Command {
     Report {
         input: String,
     },
-    /// Makes a source of `count` functions and main, 1 to `FUNCTIONS_MAX`, from the numbers that `seed` begins.
+    /// Makes a source of `count` functions and main from the numbers that `seed` begins.
     Gen {
         seed: u64,
-        count: u32,
+        count: Count,
     },
     /// Makes the same source, and runs its circuit for at most `limit` cycles, 1 to `CYCLES_MAX`.
     Bench {
         seed: u64,
-        count: u32,
+        count: Count,
         limit: u64,
     },
     /// Reads a source from `input` and writes it to `output` with a copy of the function that a site calls, for this site alone.

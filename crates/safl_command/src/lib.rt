@@ -4,9 +4,10 @@
 mod arguments;
 mod command;
 mod forms;
+pub mod laws;
 mod reading;
 mod traces;
 
-pub use crate::command::{CYCLES_MAX, Command, FUNCTIONS_MAX, Tracing, Turns};
+pub use crate::command::{CYCLES_MAX, Command, Count, FUNCTIONS_MAX, Turns};
 pub use crate::reading::read_words;
 pub use crate::traces::Traces;

@@ -2,14 +2,14 @@
 
 ghost use Rattle.std.specs.Prelude.{◌≡◌, ◌∷◌, IfOk, map, option_map, string_bytes, codes};
 ghost use Rattle.clap.specs.Words.{found_of, rows_of, subcommand_rows_of};
-ghost use Rattle.safl_command.specs.Commands.{command_of, command_of_line, entered_command, command_in, other_command_in, shown};
+ghost use Rattle.safl_command.specs.Commands.{command_of, command_of_line, entered_command, command_in, shown};
 ghost use Rattle.safl_command.specs.Traces.{shown as shown_traces};
-ghost use Rattle.safl_command.specs.Commands.{check_in, build_in, traces_in, simulated, sim_in, walk_in, run_in, report_in, gen_in, bench_in, reshape_in, change_in, reshaped, session_in, aig_in, aigstat_in};
+ghost use Rattle.safl_command.specs.Commands.{check_in, build_in, traces_in, sim_in, walk_in, run_in, report_in, gen_in, bench_in, reshape_in, change_in, word_of, reshaped, session_in, aig_in, aigstat_in};
 
 use crate::arguments::{
     args_in, count_in, has_flag, limit_in, name_in, number_in, number_of, word_in,
 };
-use crate::command::{Command, Tracing, Turns};
+use crate::command::{Command, Turns};
 use crate::forms::program;
 use crate::traces::Traces;
 use clap::ArgMatches;
@@ -83,19 +83,7 @@ fn command_in(
         Ok(gen_in(values))
     } else if word == "bench" {
         Ok(bench_in(values))
-    } else {
-        other_command_in(alloc, word, values)
-    }
-}
-
-fn other_command_in(
-    alloc: Global,
-    word: &str,
-    values: &ArgMatches<'_>,
-) -> Result<Option<Command>, NoMemory>
-    ensures { IfOk result (λ c. option_map shown c ≡ other_command_in word.now (rows_of (found_of values.now))) }
-{
-    if word == "reshape" {
+    } else if word == "reshape" {
         reshape_in(alloc, values)
     } else if word == "session" {
         session_in(alloc, values)
@@ -141,41 +129,26 @@ fn sim_in(alloc: Global, values: &ArgMatches<'_>) -> Result<Option<Command>, NoM
     let Some(limit) = limit_in(values, "cycles") else {
         return Ok(None);
     };
+    let Some(traces) = traces_in(alloc, values)? else {
+        return Ok(None);
+    };
     let args = args_in(alloc, values)?;
-    let traces = traces_in(alloc, values)?;
-    Ok(simulated(input, limit, args, traces))
+    Ok(Some(Command::Sim {
+        input,
+        limit,
+        traces,
+        args,
+    }))
 }
 
 // The files for traces.
-fn traces_in(alloc: Global, values: &ArgMatches<'_>) -> Result<Traces, NoMemory>
-    ensures { IfOk result (λ t. shown_traces t ≡ traces_in (rows_of (found_of values.now))) }
+fn traces_in(alloc: Global, values: &ArgMatches<'_>) -> Result<Option<Traces>, NoMemory>
+    ensures { IfOk result (λ t. option_map shown_traces t ≡ traces_in (rows_of (found_of values.now))) }
 {
     let vcd = word_in(alloc, values, "vcd")?;
     let starts = word_in(alloc, values, "starts")?;
     let toggles = word_in(alloc, values, "toggles")?;
-    Ok(Traces {
-        vcd,
-        starts,
-        toggles,
-    })
-}
-
-// A run, with traces where files are given for them.
-fn simulated(input: String, limit: u64, args: Vec<String>, traces: Traces) -> Option<Command>
-    ensures { option_map shown result ≡ simulated (string_bytes input) limit (map string_bytes args.items) (shown_traces traces) }
-{
-    if !traces.are_apart() {
-        return None;
-    }
-    if traces.is_any_given() {
-        return Some(Command::Trace(Tracing {
-            input,
-            limit,
-            traces,
-            args,
-        }));
-    }
-    Some(Command::Sim { input, limit, args })
+    Ok(Traces::new(vcd, starts, toggles))
 }
 
 fn walk_in(alloc: Global, values: &ArgMatches<'_>) -> Result<Option<Command>, NoMemory>
@@ -274,7 +247,7 @@ fn reshaped(
     copied: Option<&str>,
     unfolded: Option<&str>,
 ) -> Option<Command>
-    ensures { option_map shown result ≡ reshaped (string_bytes input) (string_bytes output) (option_map (λ w. w.now) copied.entry) (option_map (λ w. w.now) unfolded.entry) }
+    ensures { option_map shown result ≡ reshaped (string_bytes input) (string_bytes output) (word_of copied.entry) (word_of unfolded.entry) }
 {
     match (copied, unfolded) {
         (Some(word), None) => {

@@ -1,9 +1,10 @@
 //! The files for the traces of a run.
 
-ghost use Rattle.std.specs.Prelude.{◌≡◌, option_map, string_bytes};
-ghost use Rattle.safl_command.specs.Traces.{shown, is_any_given, is_named, differ, are_apart};
+ghost use Rattle.std.specs.Prelude.{◌≡◌, true, option_map, string_bytes};
+ghost use Rattle.safl_command.specs.Apart.{are_apart, files, is_named, differ};
 
-/// The names of the files for the traces of each kind, each of which may be left out.
+/// The names of the files for the traces of each kind, each of which may be left out. No name is empty, and no two are the
+/// same.
 #[derive(Drop)]
 pub struct Traces {
     /// For a value change dump.
@@ -12,26 +13,36 @@ pub struct Traces {
     pub starts: Option<String>,
     /// For the bits of registers that change.
     pub toggles: Option<String>,
+    pub ghost separate: { are_apart (files vcd starts toggles) ≡ true },
 }
 
 impl Traces {
-    /// Whether no name is empty, and no two are the same.
-    pub fn are_apart(&self) -> bool
-        ensures { result ≡ are_apart (shown self.now) }
-    {
-        is_named(&self.vcd)
-            && is_named(&self.starts)
-            && is_named(&self.toggles)
-            && differ(&self.vcd, &self.starts)
-            && differ(&self.vcd, &self.toggles)
-            && differ(&self.starts, &self.toggles)
-    }
+    ghost use Rattle.std.specs.Prelude.{◌≡◌, option_map};
+    ghost use Rattle.safl_command.specs.Apart.{files};
+    ghost use Rattle.safl_command.specs.Traces.{shown, if_apart};
 
-    /// Whether there is a name.
-    pub fn is_any_given(&self) -> bool
-        ensures { result ≡ is_any_given (shown self.now) }
+    /// The files of these names. None exactly where a name is empty or two are the same.
+    pub fn new(
+        vcd: Option<String>,
+        starts: Option<String>,
+        toggles: Option<String>,
+    ) -> Option<Traces>
+        ensures { option_map shown result ≡ if_apart (files vcd starts toggles) }
     {
-        self.vcd.is_some() || self.starts.is_some() || self.toggles.is_some()
+        let are_apart = is_named(&vcd)
+            && is_named(&starts)
+            && is_named(&toggles)
+            && differ(&vcd, &starts)
+            && differ(&vcd, &toggles)
+            && differ(&starts, &toggles);
+        if !are_apart {
+            return None;
+        }
+        Some(Traces {
+            vcd,
+            starts,
+            toggles,
+        })
     }
 }
 

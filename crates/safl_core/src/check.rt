@@ -2,10 +2,9 @@
 
 ghost use Rattle.std.specs.Prelude.{◌≡◌, ◌<◌, ◌≤◌, ◌&&◌, suc, length, get_or, not, None};
 ghost use Rattle.safl_term.specs.Checked.{program_of};
-ghost use Rattle.safl_term.specs.Program as program;
 ghost use Rattle.safl_term.specs.Readiness as plain;
 ghost use Rattle.safl_calls.specs.Machine as core;
-ghost use Rattle.safl_core.specs.Modes.{unit_at};
+ghost use Rattle.safl_core.specs.Modes.{unit_at, unit_at_site};
 ghost use Rattle.safl_evaluate.specs.Stages.{stage_at};
 ghost use Rattle.safl_core.specs.Testing as test;
 ghost use Rattle.safl_evaluate.specs.Answers as told;
@@ -20,7 +19,7 @@ pub fn accepts(c: &Checked, modes: &[Mode], stages: &[Stage], wants: &[Want], k:
     requires units { length modes.now ≡ (program_of c.now).functions }
     requires stages { length stages.now ≡ suc (program_of c.now).sites }
     requires wants { length wants.now ≡ suc (program_of c.now).sites }
-    ensures { result ≡ ((core.is_unsent (stage_at stages.now k) && test.wanted_at wants.now k) && test.is_idle (unit_at modes.now (program.unit_for (program_of c.now) k))) }
+    ensures { result ≡ ((core.is_unsent (stage_at stages.now k) && test.wanted_at wants.now k) && test.is_idle (unit_at_site c.now modes.now k)) }
 {
     is_idle(modes, c.unit_for(k)) && waits(stages, wants, k)
 }
@@ -48,7 +47,7 @@ pub fn returns(c: &Checked, modes: &[Mode], stages: &[Stage], k: u32) -> bool
     requires site { k ≤ (program_of c.now).sites }
     requires units { length modes.now ≡ (program_of c.now).functions }
     requires stages { length stages.now ≡ suc (program_of c.now).sites }
-    ensures { result ≡ (test.is_sent (stage_at stages.now k) && test.delivers_to (unit_at modes.now (program.unit_for (program_of c.now) k)) k) }
+    ensures { result ≡ (test.is_sent (stage_at stages.now k) && test.delivers_to (unit_at_site c.now modes.now k) k) }
 {
     is_sent(stages, k) && delivers(modes, c.unit_for(k), k)
 }

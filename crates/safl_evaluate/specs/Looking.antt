@@ -1,5 +1,5 @@
 -- What it means to look at terms, said of the code's own tables.
-use Rattle.std.specs.Prelude.{List, Option, Some, None, Bool, cond}
+use Rattle.std.specs.Prelude.{ℕ, List, take, drop, Option, Some, None, Bool, cond}
 use Rattle.safl_word.specs.Words.{Word}
 use Rattle.safl_term.specs.Terms.{Term, Terms}
 use Rattle.safl_evaluate.specs.declared.evaluate.Facts.{Facts}
@@ -32,3 +32,10 @@ word_if found v = cond found (Some v) None
 
 abbrev pub words_if : Bool → List Word → Option (List Word)
 words_if found vs = cond found (Some vs) None
+
+-- so many words from a place on; and these, if they are there
+abbrev pub words_at : List Word → ℕ → ℕ → List Word
+words_at env at count = take count (drop at env)
+
+abbrev pub words_if_at : Bool → List Word → ℕ → ℕ → Option (List Word)
+words_if_at found env at count = words_if found (words_at env at count)

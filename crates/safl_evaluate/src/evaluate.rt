@@ -1,12 +1,12 @@
 //! Partial evaluation: what a running body comes to, and which calls it wants.
 
-ghost use Rattle.std.specs.Prelude.{◌≡◌, ℕ, ◌+◌, ◌<◌, ◌≤◌, ◌^◌, length, take, drop, cond, Some, None, IsTrue};
+ghost use Rattle.std.specs.Prelude.{◌≡◌, ℕ, ◌+◌, ◌<◌, ◌≤◌, ◌^◌, length, take, cond, Some, None, IsTrue};
 ghost use Rattle.safl_term.specs.Readiness.{answer, word_of};
 ghost use Rattle.safl_term.specs.Tree.{shown_term, shown_terms};
 ghost use Rattle.safl_evaluate.specs.Asking.{Asks};
 ghost use Rattle.safl_evaluate.specs.Finding.{cell_of};
 ghost use Rattle.safl_evaluate.specs.Keeping.{cell, is_open, IsSkipped};
-ghost use Rattle.safl_evaluate.specs.Looking.{CanLook, CanLookAll, HasLooked, HasFound, HasFoundAll, word_if, words_if};
+ghost use Rattle.safl_evaluate.specs.Looking.{CanLook, CanLookAll, HasLooked, HasFound, HasFoundAll, word_if, words_if, words_at, words_if_at};
 ghost use Rattle.safl_evaluate.specs.Laying.{place};
 ghost use Rattle.safl_evaluate.specs.Stages.{back_at};
 
@@ -334,7 +334,8 @@ fn pair(
     requires least { 1 ≤ length ts.now }
     requires most { length ts.now ≤ 2 }
     requires room { length words.old ≡ 2 }
-    ensures finds { HasFoundAll facts.now asks.old asks.new env.old kept.old kept.new spot (shown_terms ts.now) (words_if result (take (length ts.now) words.new)) }
+    ensures finds { HasFoundAll facts.now asks.old asks.new env.old kept.old kept.new spot (shown_terms ts.now)
+        (words_if result (take (length ts.now) words.new)) }
     ensures asks { Asks asks.old asks.new }
     ensures kept { take spot.slots env.new ≡ take spot.slots env.old }
 {
@@ -365,7 +366,8 @@ fn values(
     requires may { CanLookAll facts.now asks.old env.old kept.old spot (shown_terms ts.now) }
     requires places { to + length ts.now ≤ length env.old }
     requires after { spot.slots ≤ to }
-    ensures finds { HasFoundAll facts.now asks.old asks.new env.old kept.old kept.new spot (shown_terms ts.now) (words_if result (take (length ts.now) (drop to env.new))) }
+    ensures finds { HasFoundAll facts.now asks.old asks.new env.old kept.old kept.new spot (shown_terms ts.now)
+        (words_if_at result env.new to (length ts.now)) }
     ensures asks { Asks asks.old asks.new }
     ensures kept { take spot.slots env.new ≡ take spot.slots env.old }
 {
@@ -386,7 +388,7 @@ fn values(
 // So many words from a place on.
 fn words(env: &[Word], at: usize, count: usize) -> &[Word]
     requires { at + count ≤ length env.now }
-    ensures { result.now ≡ take count (drop at env.now) }
+    ensures { result.now ≡ words_at env.now at count }
 {
     &env[at..at + count]
 }

@@ -17,3 +17,7 @@ IsFront text file = MatchOption file (text ≡ []) (λ bytes. bytes ≡ text ++ 
 -- what was read of the file of that name so far, where the shelf tells it
 unfoldable pub IsReadSoFar : Option Files → List ℕ → List ℕ → Type 0
 IsReadSoFar told name text = IfSome told (λ files. IsFront text (file_of files name))
+
+-- a read that gives no bytes comes at the end: what was read of the file of that name so far is all of it
+abbrev pub IsReadToEnd : Option Files → List ℕ → List ℕ → List ℕ → ℕ → Type 0
+IsReadToEnd told name before text count = count ≡ 0 → IsReadSoFar told name before → IfSome told (HasFile name text)

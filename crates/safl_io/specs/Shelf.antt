@@ -1,5 +1,5 @@
 -- What a shelf holds, and what its calls do to it. A name and a file are bytes.
-use Rattle.std.specs.Prelude.{ℕ, ◌≡◌, ◌≢◌, ◌<◌, ◌≤◌, ◌+◌, ◌⊎◌, List, [], ◌∷◌, ◌++◌, length, take, drop, bytes_eq, Option, Some, None, IsNone, IsSomeAnd, MatchOption, if◌then◌else◌}
+use Rattle.std.specs.Prelude.{ℕ, ◌≡◌, ◌≢◌, ◌<◌, ◌≤◌, ◌+◌, ◌⊎◌, List, [], ◌∷◌, ◌++◌, length, take, drop, bytes_eq, Option, Some, None, IsNone, OnSome, IsSomeAnd, MatchOption, if◌then◌else◌}
 use Rattle.safl_io.specs.Counts.{Rose}
 
 -- pairs of a name and the bytes of a file
@@ -66,3 +66,7 @@ IsStray (Some files) name = IsNone (file_of files name)
 abbrev pub CountsStray : Option Files → List ℕ → ℕ → ℕ → Type 0
 CountsStray None name before now = now ≡ before
 CountsStray (Some files) name before now = MatchOption (file_of files name) (Rose before now) (λ _. now ≡ before)
+
+-- where the shelf tells what it holds, no name was used of which it holds no file
+abbrev pub UsesNoStray : ShelfState → ShelfState → Type 0
+UsesNoStray old new = OnSome old.holds (new.strays ≡ old.strays)

@@ -2,7 +2,7 @@
 ghost use Rattle.std.specs.Prelude.{◌≡◌, ◌≤◌, ◌<◌, ◌+◌, length, IfOk, IfSome, OnOk, IsErrOf};
 ghost use Rattle.safl_io.specs.Counts.{Rose};
 ghost use Rattle.safl_io.specs.Shelf.{IsStray};
-ghost use Rattle.safl_io.specs.Reading.{HasFile, HasLonger, IsReadSoFar};
+ghost use Rattle.safl_io.specs.Reading.{HasFile, HasLonger, IsReadSoFar, IsReadToEnd};
 ghost use Rattle.safl_io.specs.declared.read.ReadErr.TheVariants as why;
 
 use crate::fault::Failed;
@@ -86,8 +86,7 @@ fn read_more<S: Shelf>(
     ensures longer { IfOk result (λ count. length text.new.items ≡ length text.old.items + count) }
     ensures more { OnOk result (IsReadSoFar (S.told shelf.old).holds name.now text.old.items →
         IsReadSoFar (S.told shelf.old).holds name.now text.new.items) }
-    ensures end { IfOk result (λ count. count ≡ 0 → IsReadSoFar (S.told shelf.old).holds name.now text.old.items →
-        IfSome (S.told shelf.old).holds (HasFile name.now text.new.items)) }
+    ensures end { IfOk result (IsReadToEnd (S.told shelf.old).holds name.now text.old.items text.new.items) }
     ensures not_too_long { IsErrOf result ReadErr.TooLong → ⊥ }
     ensures failed { IsErrOf result ReadErr.Failed → Rose (S.told shelf.old).read_faults (S.told shelf.new).read_faults }
     ensures same_files { (S.told shelf.new).holds ≡ (S.told shelf.old).holds }

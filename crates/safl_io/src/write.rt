@@ -1,8 +1,8 @@
 // Whole files, written to a shelf.
-ghost use Rattle.std.specs.Prelude.{◌≡◌, ◌≤◌, OnOk, OnErr, OnSome, IsErrOf};
+ghost use Rattle.std.specs.Prelude.{◌≡◌, ◌≤◌, OnOk, OnErr, IsErrOf};
 ghost use Rattle.safl_io.specs.Counts.{Rose};
 ghost use Rattle.safl_io.specs.Told.{TellsOn};
-ghost use Rattle.safl_io.specs.Shelf.{Leaves, LeavesOldOrPart};
+ghost use Rattle.safl_io.specs.Shelf.{Leaves, LeavesOldOrPart, UsesNoStray};
 
 use crate::fault::OutErr;
 use crate::shelf::Shelf;
@@ -22,7 +22,7 @@ pub fn write_file<S: Shelf>(shelf: &mut S, name: &str, bytes: &[u8]) -> Result<(
     ensures writes_later { (S.told shelf.old).write_faults ≤ (S.told shelf.new).write_faults }
 
     // A shelf that tells what it holds is asked for no stray name.
-    ensures same_strays { OnSome (S.told shelf.old).holds ((S.told shelf.new).strays ≡ (S.told shelf.old).strays) }
+    ensures same_strays { UsesNoStray (S.told shelf.old) (S.told shelf.new) }
     ensures strays_later { (S.told shelf.old).strays ≤ (S.told shelf.new).strays }
 {
     shelf.create(name)?;

@@ -22,8 +22,8 @@ use Rattle.safl_lower.proofs.Kept.{sited_kept, setting_on, setting_kept, setting
 use Rattle.safl_lower.proofs.Typing.{test_typed, yes_typed, no_typed, bound_typed, body_typed, parts_typed, args_typed, next_typed}
 use Rattle.safl_lower.proofs.Leaves.{slot_within}
 use Rattle.safl_lower.proofs.Branches.{Branches, Inner}
-use Rattle.safl_gates.specs.Sources.{IsSource, AreSources}
-use Rattle.safl_gates.proofs.Building.{source_grown, sources_grown}
+use Rattle.safl_lower.specs.Sources.{IsSource, AreSources}
+use Rattle.safl_lower.proofs.Building.{source_grown, sources_grown}
 
 there : {A : Type 0} (xs : List A) (i : ℕ) → i < length xs → (x : A) × (slice_get xs i ≡ Some x)
 there [] i h = absurd (omega arith)

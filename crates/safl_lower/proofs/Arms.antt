@@ -3,7 +3,7 @@ use Rattle.std.proofs.Common.{◌≡◌, List, [], ◌∷◌, ◌++◌, Option, 
 use Rattle.safl_word.specs.Words.{Word, choose}
 use Rattle.safl_term.specs.Readiness.{Answer, Ready, LoopTo, NotYet, word_of, select, with_all, or_else}
 use Rattle.safl_net.specs.Bits.{gate}
-use Rattle.safl_gates.proofs.BitWords.{choose_is}
+use Rattle.safl_lower.proofs.BitWords.{choose_is}
 
 -- ---- options
 

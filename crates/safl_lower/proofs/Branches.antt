@@ -24,9 +24,9 @@ use Rattle.safl_lower.proofs.Kept.{shaped_kept, setting_on, setting_below}
 use Rattle.safl_lower.proofs.Typing.{test_typed, yes_typed, no_typed, bound_typed, body_typed}
 use Rattle.safl_lower.proofs.Quiet.{no_wants, no_going}
 use Rattle.safl_lower.proofs.Gathered.{words_more, stays, and_true, pick_ap, no_goes, more_twice, out_kept, told_by, told_more, never_is, gate_is_none, if_first, if_second, let_second, mates_same}
-use Rattle.safl_gates.specs.Sources.{IsSource}
+use Rattle.safl_lower.specs.Sources.{IsSource}
 use Rattle.safl_net.specs.Settled.{Settles}
-use Rattle.safl_gates.proofs.Building.{source_grown, sources_grown}
+use Rattle.safl_lower.proofs.Building.{source_grown, sources_grown}
 use Rattle.safl_net.proofs.Settling.{settles_on}
 
 -- ---- an if

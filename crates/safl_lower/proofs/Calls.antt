@@ -28,7 +28,7 @@ use Rattle.safl_lower.proofs.Arms.{or_assoc, or_none, gate_or, gate_none}
 use Rattle.safl_lower.proofs.Kept.{shaped_all_kept}
 use Rattle.safl_lower.proofs.Typing.{args_typed, next_typed}
 use Rattle.safl_lower.proofs.Gathered.{stays_by, pick_none, no_more, more_twice, map_end, out_kept, wants_end, loops_end, told_by, told_more, never_is, taken_tells, cost_end, mates_end, mates_same}
-use Rattle.safl_gates.specs.Sources.{AreSources}
+use Rattle.safl_lower.specs.Sources.{AreSources}
 use Rattle.safl_net.specs.Settled.{Settles}
 use Rattle.safl_net.proofs.Settling.{settles_on}
 

@@ -3,10 +3,10 @@ use Rattle.std.proofs.Common.{◌≡◌, ℕ, zero, suc, ◌+◌, ◌≤◌, Lis
 use Rattle.std.proofs.lemmas.Bool.{eq-eqb, ne_eqb, eqb-true}
 use Rattle.safl_net.specs.declared.cell.Sig.{Sig}
 use Rattle.safl_net.specs.Netlist.{Netlist}
-use Rattle.safl_gates.specs.declared.loads.Load.{Load}
-use Rattle.safl_gates.specs.Sources.{AreSources}
-use Rattle.safl_gates.specs.Tables.{load_in, FitsIn, LoadFits, SomeFit}
-use Rattle.safl_gates.proofs.Cells.{sources_length}
+use Rattle.safl_lower.specs.declared.loads.Load.{Load}
+use Rattle.safl_lower.specs.Sources.{AreSources}
+use Rattle.safl_lower.specs.Tables.{load_in, FitsIn, LoadFits, SomeFit}
+use Rattle.safl_lower.proofs.Cells.{sources_length}
 use Rattle.safl_lower.specs.Loads.{load_cost, loads_cost}
 
 pub no_cost : (xs : List (Option Load)) → ((i : ℕ) → load_in (slice_get xs i) ≡ None) → loads_cost xs ≡ 0

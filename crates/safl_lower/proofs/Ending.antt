@@ -5,10 +5,10 @@ use Rattle.safl_net.specs.declared.cell.Sig.{Sig}
 use Rattle.safl_net.specs.Netlist.{Netlist}
 use Rattle.safl_net.specs.Growth.{Val, words}
 use Rattle.safl_net.specs.Bits.{on, gate}
-use Rattle.safl_gates.specs.declared.loads.Load.{Load}
-use Rattle.safl_gates.specs.Sources.{IsSource, AreSources}
-use Rattle.safl_gates.specs.Tables.{taken, one_word, LoadFits}
-use Rattle.safl_gates.proofs.Cells.{one_source}
+use Rattle.safl_lower.specs.declared.loads.Load.{Load}
+use Rattle.safl_lower.specs.Sources.{IsSource, AreSources}
+use Rattle.safl_lower.specs.Tables.{taken, one_word, LoadFits}
+use Rattle.safl_lower.proofs.Cells.{one_source}
 
 pub one_load_fits : {n : Netlist} {bit value : Sig} {w : ℕ} (l : Load) → l.bit ≡ bit → l.words.items ≡ value ∷ [] → IsSource n bit 1 → IsSource n value w → LoadFits n l (w ∷ [])
 one_load_fits {n} {bit} {value} {w} l e f b s = record { bit = subst (λ (x : Sig). IsSource n x 1) (sym e) b; words = subst (λ (xs : List Sig). AreSources n xs (w ∷ [])) (sym f) (one_source s) }

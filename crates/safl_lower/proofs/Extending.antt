@@ -11,7 +11,7 @@ use Rattle.safl_net.specs.Netlist.{Netlist}
 use Rattle.safl_net.specs.Widths.{prim_width}
 use Rattle.safl_net.specs.Growth.{Val, words, Wired, Grows}
 use Rattle.safl_net.proofs.Growth.{fits, wired_before}
-use Rattle.safl_gates.specs.Sources.{IsSource, AreSources}
+use Rattle.safl_lower.specs.Sources.{IsSource, AreSources}
 
 -- every other primitive has a cell of its width
 pub cell_width : (p : Primitive) (ws : List ℕ) → ((x : ℕ) → p ≡ Ext x → ⊥) → prim_width p ws ≡ result_width p ws

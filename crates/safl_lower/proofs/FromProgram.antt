@@ -7,7 +7,7 @@ use Rattle.safl_term.specs.WellFormed.{IsWellFormed}
 use Rattle.safl_term.specs.Checked.{CheckedProgram, IsChecked, program_of, first_site_of}
 use Rattle.safl_net.specs.declared.cell.Sig.{Sig}
 use Rattle.safl_net.specs.Netlist.{Netlist}
-use Rattle.safl_gates.specs.Sources.{HasRoom}
+use Rattle.safl_lower.specs.Sources.{HasRoom}
 use Rattle.safl_lower.specs.declared.parts.Ports.{Ports}
 use Rattle.safl_lower.specs.declared.parts.SiteTable.{SiteTable}
 use Rattle.safl_lower.specs.Typing.{Owner, Typed}

@@ -17,7 +17,7 @@ use Rattle.safl_net.specs.Bits.{gate}
 use Rattle.safl_lower.specs.Entries.{Told, WantFits, LoopFits, WantsFit, LoopsFit, OutFits, member_of, Mates, cost}
 use Rattle.safl_lower.specs.Lowering.{goes_of}
 use Rattle.safl_lower.proofs.Arms.{or_none, gate_none, if_wants, let_wants}
-use Rattle.safl_gates.proofs.Building.{source_grown, sources_grown}
+use Rattle.safl_lower.proofs.Building.{source_grown, sources_grown}
 
 pub words_more : (v : Val) (xs ys : List Sig) → words v (xs ++ ys) ≡ words v xs ++ words v ys
 words_more v [] ys = refl

@@ -8,10 +8,10 @@ use Rattle.safl_net.specs.Netlist.{Netlist}
 use Rattle.safl_net.specs.Growth.{Val, words, Wired}
 use Rattle.safl_net.specs.Bits.{on, gate}
 use Rattle.safl_net.proofs.Growth.{wired_before}
-use Rattle.safl_gates.specs.declared.loads.Load.{Load}
-use Rattle.safl_gates.specs.Sources.{IsSource, AreSources, Builds, HasRoom}
-use Rattle.safl_gates.specs.Tables.{taken_in, taken_from, load_in, SomeFit}
-use Rattle.safl_gates.proofs.Building.{builds_same, builds_on, builds_within, source_kept, sources_kept}
+use Rattle.safl_lower.specs.declared.loads.Load.{Load}
+use Rattle.safl_lower.specs.Sources.{IsSource, AreSources, Builds, HasRoom}
+use Rattle.safl_lower.specs.Tables.{taken_in, taken_from, load_in, SomeFit}
+use Rattle.safl_lower.proofs.Building.{builds_same, builds_on, builds_within, source_kept, sources_kept}
 use Rattle.safl_lower.specs.declared.parts.TailCall.{TailCall}
 use Rattle.safl_lower.specs.Typing.{Owner}
 use Rattle.safl_lower.specs.Entries.{member_of, Between, LoopFits, LoopsFit, cost}

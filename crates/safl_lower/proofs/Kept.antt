@@ -19,8 +19,8 @@ use Rattle.safl_net.specs.Bits.{gate}
 use Rattle.safl_lower.specs.Entries.{asks, asked, goes, went}
 use Rattle.safl_lower.specs.Lowering.{Sited, Setting, Shaped, ShapedAll, goes_with}
 use Rattle.safl_lower.proofs.Arms.{or_none, or_assoc}
-use Rattle.safl_gates.specs.Sources.{IsSource, AreSources}
-use Rattle.safl_gates.proofs.Building.{source_grown, sources_grown, sources_joined}
+use Rattle.safl_lower.specs.Sources.{IsSource, AreSources}
+use Rattle.safl_lower.proofs.Building.{source_grown, sources_grown, sources_joined}
 
 pub ready_kept : {a b : Netlist} → Grows a b → (r : Readiness) → ReadyAt a r → ReadyAt b r
 ready_kept g Always h = tt

@@ -6,9 +6,9 @@ use Rattle.safl_term.specs.Readiness.{or_else}
 use Rattle.safl_net.specs.Netlist.{Netlist}
 use Rattle.safl_net.specs.Growth.{Val, words}
 use Rattle.safl_net.specs.Bits.{on, gate}
-use Rattle.safl_gates.specs.declared.loads.Load.{Load}
-use Rattle.safl_gates.specs.Tables.{taken_in, taken_from, load_in, FitsIn, LoadFits, SomeFit}
-use Rattle.safl_gates.proofs.BitWords.{same}
+use Rattle.safl_lower.specs.declared.loads.Load.{Load}
+use Rattle.safl_lower.specs.Tables.{taken_in, taken_from, load_in, FitsIn, LoadFits, SomeFit}
+use Rattle.safl_lower.proofs.BitWords.{same}
 use Rattle.safl_lower.specs.declared.parts.Want.{Want}
 use Rattle.safl_lower.specs.Typing.{Owner}
 use Rattle.safl_lower.specs.Entries.{asked, asks, site_of, Between, WantFits, WantsFit}

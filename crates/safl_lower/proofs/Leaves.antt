@@ -20,9 +20,9 @@ use Rattle.safl_lower.specs.Lowering.{back_of, goes_of, Lowers, LowersAll}
 use Rattle.safl_lower.proofs.Kept.{ready_kept, apart}
 use Rattle.safl_lower.proofs.Typing.{parts_typed}
 use Rattle.safl_lower.proofs.Gathered.{stays, stays_by, no_more, out_kept, told_by, never_is, mates_same}
-use Rattle.safl_gates.specs.Sources.{IsSource, AreSources, Builds}
+use Rattle.safl_lower.specs.Sources.{IsSource, AreSources, Builds}
 use Rattle.safl_net.proofs.Settling.{settles_on, settles_same}
-use Rattle.safl_gates.proofs.Cells.{source_at, sources_length}
+use Rattle.safl_lower.proofs.Cells.{source_at, sources_length}
 
 -- ---- leaves
 

@@ -8,7 +8,7 @@ pub mod Quiet
 pub mod Branches
 pub mod Lists
 pub mod Able
-pub mod Trees
+pub mod ListedTerms
 pub mod Walk
 pub mod Laid
 pub mod Members
@@ -19,3 +19,11 @@ pub mod Extending
 pub mod FromProgram
 pub mod Whole
 pub mod Shifting
+pub mod Building
+pub mod BitWords
+pub mod KnownLoads
+pub mod Cells
+pub mod Joining
+pub mod JoinedRows
+pub mod Heights
+pub mod Joints

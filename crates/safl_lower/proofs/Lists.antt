@@ -26,10 +26,10 @@ use Rattle.safl_lower.specs.Lowering.{back_of, open_at, shown, goes_of, ShapedAl
 use Rattle.safl_lower.proofs.Arms.{or_assoc, or_none, gate_or, and_then, join}
 use Rattle.safl_lower.proofs.Kept.{setting_kept, apart}
 use Rattle.safl_lower.proofs.Gathered.{words_more, stays, stays_by, no_goes, no_more, more_twice, out_kept, told_by, told_more, gate_is_none, some_nodes}
-use Rattle.safl_gates.specs.Sources.{AreSources}
-use Rattle.safl_gates.proofs.Building.{source_grown, sources_grown, sources_joined}
+use Rattle.safl_lower.specs.Sources.{AreSources}
+use Rattle.safl_lower.proofs.Building.{source_grown, sources_grown, sources_joined}
 use Rattle.safl_net.proofs.Settling.{settles_on, settles_same}
-use Rattle.safl_gates.proofs.Cells.{one_source, no_sources}
+use Rattle.safl_lower.proofs.Cells.{one_source, no_sources}
 
 -- ---- lists of terms
 

@@ -13,9 +13,9 @@ use Rattle.safl_net.specs.Netlist.{Netlist}
 use Rattle.safl_net.specs.Widths.{prim_width}
 use Rattle.safl_net.specs.Growth.{Val, words, Wired, Grows}
 use Rattle.safl_net.proofs.Growth.{fits, wired_before}
-use Rattle.safl_gates.specs.Sources.{IsSource, AreSources}
-use Rattle.safl_gates.specs.Heights.{IsGateOf}
-use Rattle.safl_gates.proofs.Building.{source_grown}
+use Rattle.safl_lower.specs.Sources.{IsSource, AreSources}
+use Rattle.safl_lower.specs.Heights.{IsGateOf}
+use Rattle.safl_lower.proofs.Building.{source_grown}
 use Rattle.safl_lower.specs.Shifts.{IsShift, ShiftAlike, IsAmount, ShiftsIt}
 
 -- ---- the operands

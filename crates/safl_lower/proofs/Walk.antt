@@ -20,7 +20,7 @@ use Rattle.safl_lower.specs.Lowering.{shown, gathered, open_at, Shaped, Lowers, 
 use Rattle.safl_lower.proofs.Branches.{Branches, lowers_if}
 use Rattle.safl_lower.proofs.Calls.{lowers_call, lowers_loop}
 use Rattle.safl_lower.proofs.Able.{call_shape}
-use Rattle.safl_gates.specs.Sources.{Builds}
+use Rattle.safl_lower.specs.Sources.{Builds}
 
 module _ {P : SiteTable} {path : Sig} {n m : Netlist} {o p : Out} where
   -- the same of another name of the slots and of the term

@@ -11,9 +11,9 @@ use Rattle.safl_net.specs.Growth.{Val, words, Wired, Grows}
 use Rattle.safl_net.specs.Bits.{on, gate}
 use Rattle.safl_net.proofs.Growth.{grows_on, wired_before}
 use Rattle.safl_net.proofs.Settling.{settles_on}
-use Rattle.safl_gates.specs.Sources.{Builds}
-use Rattle.safl_gates.specs.Tables.{taken, one_word, LoadFits}
-use Rattle.safl_gates.proofs.Kept.{load_kept}
+use Rattle.safl_lower.specs.Sources.{Builds}
+use Rattle.safl_lower.specs.Tables.{taken, one_word, LoadFits}
+use Rattle.safl_lower.proofs.KnownLoads.{load_kept}
 use Rattle.safl_lower.specs.declared.parts.Readiness.TheVariants.{Never}
 use Rattle.safl_lower.specs.declared.parts.Ports.{Ports}
 use Rattle.safl_lower.specs.declared.parts.SitePorts.{SitePorts}

@@ -5,7 +5,7 @@ use Rattle.safl_net.specs.Growth.{Val}
 use Rattle.safl_net.specs.Bits.{on}
 use Rattle.safl_lower.specs.declared.parts.Readiness.{Readiness}
 use Rattle.safl_lower.specs.declared.parts.Readiness.TheVariants.{Always, Never, When}
-use Rattle.safl_gates.specs.Sources.{IsSource}
+use Rattle.safl_lower.specs.Sources.{IsSource}
 
 -- it is ready, under the valuation
 abbrev pub is_ready : Val → Readiness → Bool

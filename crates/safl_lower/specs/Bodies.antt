@@ -8,8 +8,8 @@ use Rattle.safl_term.specs.Readiness.{Answer, word_of, answer, wanted}
 use Rattle.safl_net.specs.Netlist.{Netlist}
 use Rattle.safl_net.specs.Growth.{Val, words, Wired}
 use Rattle.safl_net.specs.Bits.{on, gate}
-use Rattle.safl_gates.specs.Sources.{IsSource, AreSources, Builds, HasRoom}
-use Rattle.safl_gates.specs.Tables.{load_in, taken, taken_at, taken_from, one_word, LoadFits, LoadsFit, SomeFit}
+use Rattle.safl_lower.specs.Sources.{IsSource, AreSources, Builds, HasRoom}
+use Rattle.safl_lower.specs.Tables.{load_in, taken, taken_at, taken_from, one_word, LoadFits, LoadsFit, SomeFit}
 use Rattle.safl_lower.specs.declared.parts.SitePorts.{SitePorts}
 use Rattle.safl_lower.specs.declared.parts.Ports.{Ports}
 use Rattle.safl_lower.specs.declared.parts.Body.{Body}
@@ -31,6 +31,10 @@ pub record IsGroup (C : Program) (f count : ℕ) : Type 0 where
   pub within : C.unit f + count ≤ C.functions
   pub inside : (h : ℕ) → C.unit f ≤ h → h < C.unit f + count → C.unit h ≡ C.unit f
   pub members : (h : ℕ) → h < C.functions → C.unit h ≡ C.unit f → (C.unit f ≤ h) × (h < C.unit f + count)
+
+-- all of f's group are numbered from its unit on, and below this
+abbrev pub GroupIsBelow : Program → ℕ → ℕ → Type 0
+GroupIsBelow C f end = (h : ℕ) → h < C.functions → C.unit h ≡ C.unit f → (C.unit f ≤ h) × (h < end)
 
 -- the end has the body's width, a site's arguments those of its callee, and a member's arguments those of the member
 pub record BodyFits (c : CheckedProgram) (f : ℕ) (n : Netlist) (b : Body) : Type 0 where
@@ -66,6 +70,8 @@ pub record IsLowered (c : CheckedProgram) (f : ℕ) (P : Ports) (old new : Netli
   -- the body ends where it runs and is ready, with its word
   pub end : (v : Val) → Wired new v → taken v b.end ≡ one_word (gate (on v P.run) (word_of (answer_at c f v P)))
   -- an own site is wanted where the body runs, the site wasn't sent and the body wants it, with the same words
-  pub wants : (v : Val) → Wired new v → (i : ℕ) → taken_at v b.wants.items i ≡ gate (on v P.run && not (sent_at v (first_site_of c f) P.sites.items (first_site_of c f + i))) (wanted_at c f v P (first_site_of c f + i))
+  pub wants : (v : Val) → Wired new v → (i : ℕ) → taken_at v b.wants.items i
+      ≡ gate (on v P.run && not (sent_at v (first_site_of c f) P.sites.items (first_site_of c f + i))) (wanted_at c f v P (first_site_of c f + i))
   -- a member is gone on to where the body runs and goes on to it, with the same words
-  pub loops : (v : Val) → Wired new v → (i : ℕ) → taken_from v b.loops.items i ≡ gate (on v P.run) (to_member ((program_of c).unit f + i) (goes_of (answer_at c f v P)))
+  pub loops : (v : Val) → Wired new v → (i : ℕ) → taken_from v b.loops.items i
+      ≡ gate (on v P.run) (to_member ((program_of c).unit f + i) (goes_of (answer_at c f v P)))

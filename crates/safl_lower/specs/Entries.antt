@@ -9,7 +9,7 @@ use Rattle.safl_lower.specs.declared.parts.TailCall.{TailCall}
 use Rattle.safl_lower.specs.declared.parts.Out.{Out}
 use Rattle.safl_net.specs.Bits.{on, gate}
 use Rattle.safl_lower.specs.Typing.{Owner}
-use Rattle.safl_gates.specs.Sources.{IsSource, AreSources}
+use Rattle.safl_lower.specs.Sources.{IsSource, AreSources}
 
 -- the words that one call asks site k for
 abbrev pub asks : Val → Want → ℕ → Option (List Word)

@@ -2,6 +2,12 @@ pub mod Bits
 pub mod Typing
 pub mod Entries
 pub mod Lowering
+pub mod Joining
 pub mod Loads
 pub mod Bodies
 pub mod Shifts
+pub mod Sources
+pub mod Tables
+pub mod Rows
+pub mod Heights
+pub mod Joints

@@ -5,8 +5,8 @@ use Rattle.safl_term.specs.Readiness.{or_else}
 use Rattle.safl_net.specs.Netlist.{Netlist}
 use Rattle.safl_net.specs.Growth.{Val, words, Wired}
 use Rattle.safl_net.specs.Bits.{on, gate}
-use Rattle.safl_gates.specs.declared.loads.Load.{Load}
-use Rattle.safl_gates.specs.Tables.{load_in, taken_at, taken_from, LoadsFit, SomeFit}
+use Rattle.safl_lower.specs.declared.loads.Load.{Load}
+use Rattle.safl_lower.specs.Tables.{load_in, taken_at, taken_from, LoadsFit, SomeFit}
 use Rattle.safl_lower.specs.declared.parts.Want.{Want}
 use Rattle.safl_lower.specs.declared.parts.TailCall.{TailCall}
 use Rattle.safl_lower.specs.Typing.{Owner}

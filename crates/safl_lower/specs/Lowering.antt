@@ -19,7 +19,7 @@ use Rattle.safl_lower.specs.Bits.{is_ready, ReadyAt}
 use Rattle.safl_term.specs.Sizes.{nodes, nodes_in}
 use Rattle.safl_lower.specs.Typing.{Owner, Typed, TypedAll, sites_of, sites_in, tails_of}
 use Rattle.safl_lower.specs.Entries.{asked, went, Told, site_of, member_of, Mates, OutFits, cost}
-use Rattle.safl_gates.specs.Sources.{IsSource, AreSources, HasRoom}
+use Rattle.safl_lower.specs.Sources.{IsSource, AreSources, HasRoom}
 use Rattle.safl_net.specs.Settled.{Settles}
 
 -- the ports of a site
@@ -121,13 +121,16 @@ pub record Lowers (P : SiteTable) (slots : List Sig) (path : Sig) (old new : Net
   pub shape : (F : Owner) (tail : Bool) (env : List ℕ) (w : ℕ) → Setting old F P slots env path → Typed F tail env t w → Shaped new r w
   -- outside tail position it may be ready, and a term that never is has the width of its group's results
   pub ever : (F : Owner) (env : List ℕ) (w : ℕ) → Typed F false env t w → r.ready ≢ Never
-  pub wide : (F : Owner) (tail : Bool) (env : List ℕ) (w : ℕ) → Setting old F P slots env path → Typed F tail env t w → r.ready ≡ Never → w ≡ F.program.result F.function
+  pub wide : (F : Owner) (tail : Bool) (env : List ℕ) (w : ℕ) → Setting old F P slots env path → Typed F tail env t w → r.ready ≡ Never
+      → w ≡ F.program.result F.function
   -- it is ready where the term is, with the term's word
   pub value : (v : Val) → Wired new v → shown v r ≡ word_of (answer (back_of v P) (words v slots) t)
   -- each site that wasn't sent is wanted where the term has its path and wants it, with the same words
-  pub wants : (F : Owner) (tail : Bool) (env : List ℕ) (w : ℕ) → Typed F tail env t w → (v : Val) → Wired new v → (k : ℕ) → asked v p.wants.items k ≡ or_else (asked v o.wants.items k) (gate (open_at v P path k) (wanted (back_of v P) (words v slots) t k))
+  pub wants : (F : Owner) (tail : Bool) (env : List ℕ) (w : ℕ) → Typed F tail env t w → (v : Val) → Wired new v → (k : ℕ)
+      → asked v p.wants.items k ≡ or_else (asked v o.wants.items k) (gate (open_at v P path k) (wanted (back_of v P) (words v slots) t k))
   -- the first tail call that is made is the term's, where it has its path and goes on
-  pub loops : (F : Owner) (tail : Bool) (env : List ℕ) (w : ℕ) → Typed F tail env t w → (v : Val) → Wired new v → went v p.loops.items ≡ or_else (went v o.loops.items) (gate (on v path) (goes_of (answer (back_of v P) (words v slots) t)))
+  pub loops : (F : Owner) (tail : Bool) (env : List ℕ) (w : ℕ) → Typed F tail env t w → (v : Val) → Wired new v
+      → went v p.loops.items ≡ or_else (went v o.loops.items) (gate (on v path) (goes_of (answer (back_of v P) (words v slots) t)))
   pub sites : map site_of p.wants.items ≡ map site_of o.wants.items ++ sites_of t
   pub fits : (F : Owner) (tail : Bool) (env : List ℕ) (w : ℕ) → Setting old F P slots env path → Typed F tail env t w → OutFits F old o → OutFits F new p
   pub tails : (F : Owner) (tail : Bool) (env : List ℕ) (w : ℕ) → Typed F tail env t w → map member_of p.loops.items ≡ map member_of o.loops.items ++ tails_of t
@@ -135,11 +138,13 @@ pub record Lowers (P : SiteTable) (slots : List Sig) (path : Sig) (old new : Net
   pub quiet : (F : Owner) (env : List ℕ) (w : ℕ) → Typed F false env t w → p.loops.items ≡ o.loops.items
   pub cheap : (F : Owner) (tail : Bool) (env : List ℕ) (w : ℕ) → Typed F tail env t w → cost p.loops.items ≤ cost o.loops.items + nodes t
   -- each tail call goes to a member of the owner's group
-  pub within : (F : Owner) (tail : Bool) (env : List ℕ) (w : ℕ) → Setting old F P slots env path → Typed F tail env t w → Mates F (map member_of o.loops.items) → Mates F (map member_of p.loops.items)
+  pub within : (F : Owner) (tail : Bool) (env : List ℕ) (w : ℕ) → Setting old F P slots env path → Typed F tail env t w
+      → Mates F (map member_of o.loops.items) → Mates F (map member_of p.loops.items)
   pub more : List TailCall
   pub loops_more : p.loops.items ≡ o.loops.items ++ more
   -- every tail call that is made is the term's
-  pub told : (F : Owner) (tail : Bool) (env : List ℕ) (w : ℕ) → Typed F tail env t w → (v : Val) → Wired new v → Told v more (gate (on v path) (goes_of (answer (back_of v P) (words v slots) t)))
+  pub told : (F : Owner) (tail : Bool) (env : List ℕ) (w : ℕ) → Typed F tail env t w → (v : Val) → Wired new v
+      → Told v more (gate (on v path) (goes_of (answer (back_of v P) (words v slots) t)))
 
 -- the circuits of a list of terms, all with the same path
 pub record LowersAll (P : SiteTable) (slots : List Sig) (path : Sig) (old new : Netlist) (o p : Out) (r : LoweredAll) (ts : Terms) : Type 0 where
@@ -149,7 +154,8 @@ pub record LowersAll (P : SiteTable) (slots : List Sig) (path : Sig) (old new : 
   pub shape : (F : Owner) (env : List ℕ) (ws : List ℕ) → Setting old F P slots env path → TypedAll F env ts ws → ShapedAll new r ws
   pub ever : (F : Owner) (env : List ℕ) (ws : List ℕ) → TypedAll F env ts ws → r.ready ≢ Never
   pub value : (v : Val) → Wired new v → gathered v r ≡ answers (back_of v P) (words v slots) ts
-  pub wants : (F : Owner) (env : List ℕ) (ws : List ℕ) → TypedAll F env ts ws → (v : Val) → Wired new v → (k : ℕ) → asked v p.wants.items k ≡ or_else (asked v o.wants.items k) (gate (open_at v P path k) (wanted_in (back_of v P) (words v slots) ts k))
+  pub wants : (F : Owner) (env : List ℕ) (ws : List ℕ) → TypedAll F env ts ws → (v : Val) → Wired new v → (k : ℕ)
+      → asked v p.wants.items k ≡ or_else (asked v o.wants.items k) (gate (open_at v P path k) (wanted_in (back_of v P) (words v slots) ts k))
   pub loops : (F : Owner) (env : List ℕ) (ws : List ℕ) → TypedAll F env ts ws → (v : Val) → Wired new v → went v p.loops.items ≡ went v o.loops.items
   pub sites : map site_of p.wants.items ≡ map site_of o.wants.items ++ sites_in ts
   pub fits : (F : Owner) (env : List ℕ) (ws : List ℕ) → Setting old F P slots env path → TypedAll F env ts ws → OutFits F old o → OutFits F new p

@@ -5,8 +5,8 @@ use Rattle.safl_word.specs.declared.primitive.Primitive.{Primitive}
 use Rattle.safl_word.specs.declared.primitive.Primitive.TheVariants.{Shl, Shr}
 use Rattle.safl_net.specs.declared.cell.Sig.{Sig}
 use Rattle.safl_net.specs.Netlist.{Netlist}
-use Rattle.safl_gates.specs.Sources.{IsSource}
-use Rattle.safl_gates.specs.Heights.{IsGateOf}
+use Rattle.safl_lower.specs.Sources.{IsSource}
+use Rattle.safl_lower.specs.Heights.{IsGateOf}
 
 abbrev pub IsShift : Primitive → Type 0
 IsShift p = (p ≡ Shl) ⊎ (p ≡ Shr)

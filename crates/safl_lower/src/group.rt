@@ -2,6 +2,7 @@
 
 ghost use Rattle.std.specs.Prelude.{◌≡◌, ℕ, ◌<◌, ◌≤◌};
 ghost use Rattle.safl_term.specs.Checked.{IsChecked, program_of};
+ghost use Rattle.safl_lower.specs.Bodies.{GroupIsBelow};
 
 use safl_term::Checked;
 
@@ -12,7 +13,7 @@ pub fn group_end(c: &Checked, f: u32) -> u32
     ensures above { f < result }
     ensures within { result ≤ (program_of c.now).functions }
     ensures inside { (h : ℕ) → (program_of c.now).unit f ≤ h → h < result → (program_of c.now).unit h ≡ (program_of c.now).unit f }
-    ensures members { (h : ℕ) → h < (program_of c.now).functions → (program_of c.now).unit h ≡ (program_of c.now).unit f → ((program_of c.now).unit f ≤ h) × (h < result) }
+    ensures members { GroupIsBelow (program_of c.now) f result }
 {
     let functions = c.functions();
     let unit = c.unit(f);

@@ -1,21 +1,20 @@
 //! What a branch, a call and a tail call add to the circuits of their parts.
 
-ghost use Rattle.std.specs.Prelude.{◌≡◌, ◌⊎◌, ◌==◌, true, ℕ, ◌<◌, ◌&&◌, not, cond, IfOk, OnOk};
-ghost use Rattle.safl_term.specs.Readiness.{or_else};
+ghost use Rattle.std.specs.Prelude.{◌≡◌, ◌⊎◌, true, ℕ, ◌<◌, cond, IfOk, OnOk};
 ghost use Rattle.safl_term.specs.Tree.{shown_term};
 ghost use Rattle.safl_net.specs.Names.{IsTidy};
 ghost use Rattle.safl_net.specs.Growth.{Val, Wired};
 ghost use Rattle.safl_net.specs.Bits.{on, gate};
 ghost use Rattle.safl_lower.specs.Bits.{is_ready, ReadyAt};
-ghost use Rattle.safl_lower.specs.Entries.{asked, went};
 ghost use Rattle.safl_lower.specs.Typing.{holds_calls};
-ghost use Rattle.safl_lower.specs.Lowering.{open_at, shown, gathered, goes_with, HasPorts, Shaped, Shows, Enters, Leaves};
-ghost use Rattle.safl_gates.specs.Sources.{IsSource, Builds, HasRoom};
+ghost use Rattle.safl_lower.specs.Lowering.{shown, HasPorts, Shaped, Shows, Enters, Leaves};
+ghost use Rattle.safl_lower.specs.Joining.{is_reached, selects_yes, selects_no, selected_ready, selected_word, BothNever, AddsCall, AddsTailCall};
+ghost use Rattle.safl_lower.specs.Sources.{IsSource, Builds, HasRoom};
 
+use crate::gates::{and_not, both, inverse, mux};
 use crate::holding::holds_calls;
 use crate::parts::{Lowered, LoweredAll, Out, Readiness, SiteTable, TailCall, Want};
 use crate::ready::{and_ready, both_ready, either_ready};
-use safl_gates::gates::{and_not, both, inverse, mux};
 use safl_net::{Net, Sig};
 use safl_term::Term;
 use safl_word::NoMemory;
@@ -44,8 +43,8 @@ pub fn branch_paths(
     ensures tidy { IsTidy net.new }
     ensures built { Builds net.old net.new 4 }
     ensures widths { IfOk result (λ p. IsSource net.new p.yes 1 × IsSource net.new p.no 1) }
-    ensures yes { IfOk result (λ p. holds_calls (shown_term yes.now) ≡ true → (v : Val) → Wired net.new v → on v p.yes ≡ ((on v path && is_ready v test.ready) && on v test.value)) }
-    ensures no { IfOk result (λ p. holds_calls (shown_term no.now) ≡ true → (v : Val) → Wired net.new v → on v p.no ≡ ((on v path && is_ready v test.ready) && not (on v test.value))) }
+    ensures yes { IfOk result (λ p. holds_calls (shown_term yes.now) ≡ true → (v : Val) → Wired net.new v → on v p.yes ≡ selects_yes v path test) }
+    ensures no { IfOk result (λ p. holds_calls (shown_term no.now) ≡ true → (v : Val) → Wired net.new v → on v p.no ≡ selects_no v path test) }
 {
     match (holds_calls(yes), holds_calls(no)) {
         (false, false) => Ok(Paths {
@@ -81,7 +80,7 @@ pub fn body_path(net: &mut Net, path: Sig, bound: Readiness, body: &Term) -> Res
     ensures tidy { IsTidy net.new }
     ensures built { Builds net.old net.new 1 }
     ensures fits { IfOk result (λ s. IsSource net.new s 1) }
-    ensures value { IfOk result (λ s. holds_calls (shown_term body.now) ≡ true → (v : Val) → Wired net.new v → on v s ≡ (on v path && is_ready v bound)) }
+    ensures value { IfOk result (λ s. holds_calls (shown_term body.now) ≡ true → (v : Val) → Wired net.new v → on v s ≡ is_reached v path bound) }
 {
     if holds_calls(body) {
         and_ready(net, path, bound)
@@ -100,8 +99,9 @@ pub fn choose(net: &mut Net, test: Lowered, yes: Lowered, no: Lowered) -> Result
     ensures tidy { IsTidy net.new }
     ensures built { Builds net.old net.new 5 }
     ensures shape { (w : ℕ) → Shaped net.old yes w → Shaped net.old no w → IfOk result (λ r. Shaped net.new r w) }
-    ensures value { IfOk result (λ r. (v : Val) → Wired net.new v → shown v r ≡ gate (is_ready v test.ready) (cond (on v test.value) (shown v yes) (shown v no))) }
-    ensures never { IfOk result (λ r. r.ready ≡ Readiness.Never → (test.ready ≡ Readiness.Never) ⊎ ((yes.ready ≡ Readiness.Never) × (no.ready ≡ Readiness.Never))) }
+    ensures value { IfOk result (λ r. (v : Val) → Wired net.new v
+        → shown v r ≡ gate (is_ready v test.ready) (cond (on v test.value) (shown v yes) (shown v no))) }
+    ensures never { IfOk result (λ r. r.ready ≡ Readiness.Never → (test.ready ≡ Readiness.Never) ⊎ BothNever yes no) }
 {
     let value = choose_value(net, test.value, yes, no)?;
     let selected = either_ready(net, test.value, yes.ready, no.ready)?;
@@ -117,8 +117,8 @@ fn choose_value(net: &mut Net, c: Sig, yes: Lowered, no: Lowered) -> Result<Sig,
     requires room { HasRoom net.old 1 }
     ensures tidy { IsTidy net.new }
     ensures built { Builds net.old net.new 1 }
-    ensures fits { (w : ℕ) → Shaped net.old yes w → Shaped net.old no w → IfOk result (λ s. ((yes.ready ≡ Readiness.Never) × (no.ready ≡ Readiness.Never) → ⊥) → IsSource net.new s w) }
-    ensures value { IfOk result (λ s. (v : Val) → Wired net.new v → cond (on v c) (is_ready v yes.ready) (is_ready v no.ready) ≡ true → v s.0 ≡ cond (on v c) (v yes.value.0) (v no.value.0)) }
+    ensures fits { (w : ℕ) → Shaped net.old yes w → Shaped net.old no w → IfOk result (λ s. (BothNever yes no → ⊥) → IsSource net.new s w) }
+    ensures value { IfOk result (λ s. (v : Val) → Wired net.new v → selected_ready v c yes no ≡ true → v s.0 ≡ selected_word v c yes no) }
 {
     match (yes.ready, no.ready) {
         (Readiness::Never, _) => Ok(no.value),
@@ -147,7 +147,7 @@ pub fn ask(
     ensures given { IfOk result (λ r. Shows sites.now site r) }
     ensures entry { IfOk result (λ _. Enters net.new out.old.wants.items out.new.wants.items site all) }
     ensures loops { OnOk result (out.new.loops.items ≡ out.old.loops.items) }
-    ensures wants { IfOk result (λ r. (v : Val) → Wired net.new v → (j : ℕ) → asked v out.new.wants.items j ≡ or_else (asked v out.old.wants.items j) (gate (site == j) (gate (open_at v sites.now path site) (gathered v all)))) }
+    ensures wants { IfOk result (λ r. AddsCall net.new sites.now path site all out.old.wants.items out.new.wants.items) }
 {
     let port = sites.ports[(site - sites.first) as usize];
     let unsent = inverse(net, port.sent)?;
@@ -181,7 +181,7 @@ pub fn go_on(
     ensures never { IfOk result (λ r. r.ready ≡ Readiness.Never) }
     ensures entry { IfOk result (λ _. Leaves net.new out.old.loops.items out.new.loops.items path member all) }
     ensures wants { OnOk result (out.new.wants.items ≡ out.old.wants.items) }
-    ensures loops { IfOk result (λ r. (v : Val) → Wired net.new v → went v out.new.loops.items ≡ or_else (went v out.old.loops.items) (gate (on v path) (goes_with member (gathered v all)))) }
+    ensures loops { IfOk result (λ r. AddsTailCall net.new path member all out.old.loops.items out.new.loops.items) }
 {
     let taken = and_ready(net, path, all.ready)?;
     out.loops.push(TailCall {

@@ -3,14 +3,14 @@
 ghost use Rattle.std.specs.Prelude.{◌+◌, IfOk, OnOk, map};
 ghost use Rattle.safl_net.specs.Names.{IsTidy};
 ghost use Rattle.safl_net.specs.Growth.{Grows};
-ghost use Rattle.safl_gates.specs.Sources.{Builds, HasRoom};
+ghost use Rattle.safl_lower.specs.Sources.{Builds, HasRoom};
 ghost use Rattle.safl_lower.specs.Typing.{Owner};
 ghost use Rattle.safl_lower.specs.Entries.{Between, member_of, LoopsFit, cost};
 ghost use Rattle.safl_lower.specs.Loads.{Merged};
 
+use crate::loads::{Load, add_load};
 use crate::parts::TailCall;
 use crate::tables::no_loads;
-use safl_gates::loads::{Load, add_load};
 use safl_net::Net;
 use safl_word::NoMemory;
 use std::alloc::Global;

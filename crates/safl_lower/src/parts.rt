@@ -1,6 +1,6 @@
 //! What lowering is given, and what it gives.
 
-use safl_gates::loads::Load;
+use crate::loads::Load;
 use safl_net::Sig;
 
 /// The ports of a call site: the bits that say whether its call was sent and whether it has returned, and

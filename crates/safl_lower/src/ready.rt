@@ -5,10 +5,10 @@ ghost use Rattle.safl_net.specs.Names.{IsTidy};
 ghost use Rattle.safl_net.specs.Growth.{Val, Wired};
 ghost use Rattle.safl_net.specs.Bits.{on};
 ghost use Rattle.safl_lower.specs.Bits.{is_ready, ReadyAt};
-ghost use Rattle.safl_gates.specs.Sources.{IsSource, Builds, HasRoom};
+ghost use Rattle.safl_lower.specs.Sources.{IsSource, Builds, HasRoom};
 
+use crate::gates::{and_not, both, either, inverse, mux, or_not, zero};
 use crate::parts::Readiness;
-use safl_gates::gates::{and_not, both, either, inverse, mux, or_not, zero};
 use safl_net::{Net, Sig};
 use safl_word::NoMemory;
 

@@ -5,10 +5,10 @@ ghost use Rattle.safl_word.specs.Words.{max_width};
 ghost use Rattle.safl_word.specs.Primitives.{apply_prim, result_width};
 ghost use Rattle.safl_net.specs.Names.{IsTidy};
 ghost use Rattle.safl_net.specs.Growth.{Val, words, Wired};
-ghost use Rattle.safl_gates.specs.Sources.{IsSource, AreSources, Builds, HasRoom};
+ghost use Rattle.safl_lower.specs.Sources.{IsSource, AreSources, Builds, HasRoom};
 ghost use Rattle.safl_lower.specs.Shifts.{IsShift, ShiftAlike, IsAmount, ShiftsIt};
 
-use safl_gates::gates::{constant, operate};
+use crate::gates::{constant, operate};
 use safl_net::{Net, Sig};
 use safl_word::{NoMemory, Primitive, Word};
 

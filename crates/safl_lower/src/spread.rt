@@ -4,9 +4,9 @@ ghost use Rattle.std.specs.Prelude.{ℕ, ◌+◌, ◌<◌, map, IfOk};
 ghost use Rattle.safl_lower.specs.Entries.{site_of, Between};
 ghost use Rattle.safl_lower.specs.Loads.{Apart, Listed, Placed, Spreads};
 
+use crate::loads::Load;
 use crate::parts::Want;
 use crate::tables::{all_loads, no_loads};
-use safl_gates::loads::Load;
 use std::alloc::{AllocError, Global};
 
 /// The calls of `count` sites, numbered from `first`, each of which is called once.

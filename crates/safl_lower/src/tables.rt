@@ -1,10 +1,10 @@
 //! Tables of loads.
 
 ghost use Rattle.std.specs.Prelude.{◌≡◌, ◌≢◌, ℕ, ◌<◌, Some, None, map, length, slice_get, IfOk};
-ghost use Rattle.safl_gates.specs.declared.loads.Load.{Load as load};
-ghost use Rattle.safl_gates.specs.Tables.{load_in};
+ghost use Rattle.safl_lower.specs.declared.loads.Load.{Load as load};
+ghost use Rattle.safl_lower.specs.Tables.{load_in};
 
-use safl_gates::loads::Load;
+use crate::loads::Load;
 use std::alloc::{AllocError, Global};
 
 /// A table of `count` numbers, none of which has a load.

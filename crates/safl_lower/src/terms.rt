@@ -6,11 +6,11 @@ ghost use Rattle.safl_net.specs.Names.{IsTidy};
 ghost use Rattle.safl_net.specs.Growth.{Grows};
 ghost use Rattle.safl_lower.specs.Lowering.{Lowerable, LowerableAll, Lowers, LowersAll};
 
+use crate::gates::constant;
 use crate::joins::{ask, body_path, branch_paths, choose, go_on};
 use crate::parts::{Lowered, LoweredAll, Out, Readiness, SiteTable};
 use crate::primitives::apply;
 use crate::ready::both_ready;
-use safl_gates::gates::constant;
 use safl_net::{Net, Sig};
 use safl_term::Term;
 use safl_word::NoMemory;

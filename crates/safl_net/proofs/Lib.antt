@@ -11,3 +11,7 @@ pub mod Reading
 pub mod Saying
 pub mod OneValuation
 pub mod Existence
+pub mod ArgumentWidths
+pub mod GatheredLists
+pub mod Twins
+pub mod MirrorsRunAlike

@@ -6,6 +6,7 @@ pub mod Written
 pub mod Names
 pub mod Widths
 pub mod Making
+pub mod Arguments
 pub mod Rules
 pub mod Stored
 pub mod Growth
@@ -13,3 +14,5 @@ pub mod Bits
 pub mod Settled
 pub mod Whole
 pub mod Arranged
+pub mod Mirrors
+pub mod MirrorRuns

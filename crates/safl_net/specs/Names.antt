@@ -27,7 +27,8 @@ one_of (k ∷ ks) name = bytes_eq name k || one_of ks name
 -- the words that name nothing
 unfoldable pub is_reserved : List ℕ → Bool
 is_reserved name =
-    one_of (codes "clk" ∷ codes "rst" ∷ codes "module" ∷ codes "endmodule" ∷ codes "input" ∷ codes "output" ∷ codes "reg" ∷ codes "wire" ∷ codes "assign" ∷ codes "always" ∷ codes "posedge" ∷ codes "if" ∷ codes "else" ∷ []) name
+    one_of (codes "clk" ∷ codes "rst" ∷ codes "module" ∷ codes "endmodule" ∷ codes "input" ∷ codes "output" ∷ codes "reg" ∷ codes "wire"
+    ∷ codes "assign" ∷ codes "always" ∷ codes "posedge" ∷ codes "if" ∷ codes "else" ∷ []) name
 
 -- a simple identifier of at most 200 bytes, and no reserved word
 unfoldable pub is_good : List ℕ → Bool
@@ -70,5 +71,6 @@ wires (g ∷ gs) = one_wire g.kind + wires gs
 
 -- a name that begins with `n$` is that of a wire, by the number of wires before it
 pub record IsTidy (n : Netlist) : Type 0 where
-  pub signals : (s : ℕ) (g : Signal) → slice_get n.signals s ≡ Some g → is_temp g.name ≡ true → (one_wire g.kind ≡ 1) × (g.name ≡ temp_name (wires (take s n.signals)))
+  pub signals : (s : ℕ) (g : Signal) → slice_get n.signals s ≡ Some g → is_temp g.name ≡ true
+      → (one_wire g.kind ≡ 1) × (g.name ≡ temp_name (wires (take s n.signals)))
   pub outputs : (i : ℕ) (o : List ℕ × ℕ) → slice_get n.outputs i ≡ Some o → is_temp o.0 ≡ false

@@ -93,4 +93,5 @@ read_output n v name = number_at v (output_place n.outputs name)
 -- the wires can be numbered such that each is above those of its operands that are wires
 pub record IsAcyclic (n : Netlist) : Type 0 where
   pub rank : ℕ → ℕ
-  pub rises : (s t i : ℕ) (g h : Signal) (c : Cell) (d : Option Cell) → slice_get n.signals s ≡ Some g → g.kind ≡ Wire (Some c) → slice_get c.operands i ≡ Some t → slice_get n.signals t ≡ Some h → h.kind ≡ Wire d → rank t < rank s
+  pub rises : (s t i : ℕ) (g h : Signal) (c : Cell) (d : Option Cell) → slice_get n.signals s ≡ Some g → g.kind ≡ Wire (Some c)
+      → slice_get c.operands i ≡ Some t → slice_get n.signals t ≡ Some h → h.kind ≡ Wire d → rank t < rank s

@@ -1,12 +1,14 @@
-//! Netlists.
+//! Netlists, and when one does what another does, by the names of what is no temporary wire.
 #![tactic(auto)]
 
+pub mod arguments;
 pub mod cell;
 pub mod laws;
 pub mod names;
 pub mod net;
 pub mod widths;
 
+pub use crate::arguments::argument_widths;
 pub use crate::cell::{Cell, Op, Sig, SigKind, WidthsDiffer};
 pub use crate::net::{Net, NetErr};
 pub use crate::widths::op_width;

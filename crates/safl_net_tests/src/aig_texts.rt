@@ -1,6 +1,6 @@
 //! Short texts, with what is written of their circuits.
 
-use safl_aig::{Aig, aig_text, read_aig};
+use safl_aiger::{Aig, aig_text, read_aig};
 use std::alloc::Global;
 use std::test::Fail;
 

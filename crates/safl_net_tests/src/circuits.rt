@@ -2,8 +2,8 @@
 //!
 //! What the calls of a net require is tested as the tests run, so that their proofs need to know nothing of the net.
 
-use safl_aig::{Aig, Lit, aig_text};
-use safl_blast::{BlastErr, blast};
+use safl_aig::{BlastErr, blast};
+use safl_aiger::{Aig, Lit, aig_text};
 use safl_net::{Net, NetErr, Op, Sig, SigKind, WidthsDiffer};
 use safl_order::order;
 use safl_word::{Primitive, Word};

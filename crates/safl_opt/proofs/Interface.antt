@@ -21,7 +21,7 @@ use Rattle.safl_opt.specs.Lean.{is_numbered, IsTemporary}
 use Rattle.safl_opt.specs.Nodes.{Different}
 use Rattle.safl_opt.specs.Values.{below, is_input, is_register, is_wire, inputs_below, registers_below, named_below, kept_in, sig_at, value_width, Folds}
 use Rattle.safl_opt.specs.Building.{read_at, IsRoot, shown, AreRead, AreNeeded, new_number, new_cell, new_kind, kept_signal, IsNodeOf, Builds}
-use Rattle.safl_alike.specs.Alike.{Line, input_line, register_line, wire_line, inputs_in, registers_in, wires_in, outputs_in, KeepsCell, KeepsWire, Alike, IsNamed, IsTemp, IsLaidOut}
+use Rattle.safl_net.specs.Mirrors.{Line, input_line, register_line, wire_line, inputs_in, registers_in, wires_in, outputs_in, KeepsCell, KeepsWire, Alike, IsNamed, IsTemp, IsLaidOut}
 use Rattle.safl_opt.proofs.Coming.{kept_get, get_front}
 use Rattle.safl_opt.proofs.Adding.{get_some, operand_known}
 use Rattle.safl_opt.proofs.Built.{HasSignal, root_has, value}

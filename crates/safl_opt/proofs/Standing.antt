@@ -16,8 +16,8 @@ use Rattle.safl_net.proofs.Existence.{exactly_one}
 use Rattle.safl_net.proofs.Naming.{within}
 use Rattle.safl_net.proofs.Reading.{place_of, output_place_of}
 use Rattle.safl_opt.proofs.Adding.{operand_known, get_some}
-use Rattle.safl_alike.proofs.Twins.{own}
-use Rattle.safl_alike.specs.Alike.{IsCycle, Shows, Mirrors}
+use Rattle.safl_net.proofs.Twins.{own}
+use Rattle.safl_net.specs.Mirrors.{IsCycle, Shows, Mirrors}
 
 -- ---- a list of numbers for a table of words
 

@@ -11,12 +11,12 @@ use Rattle.safl_net.specs.Whole.{HasStart, HasDone, IsWhole}
 use Rattle.safl_net.proofs.Reading.{place_of}
 use Rattle.safl_order.specs.Order.{IsOrder}
 use Rattle.safl_opt.specs.declared.fold.Values.{Values}
-use Rattle.safl_alike.specs.Alike.{Line, outputs_in, Alike}
+use Rattle.safl_net.specs.Mirrors.{Line, outputs_in, Alike}
 use Rattle.safl_opt.specs.Nodes.{Different}
 use Rattle.safl_opt.specs.Values.{sig_at, Folds}
 use Rattle.safl_opt.specs.Building.{AreRead, AreNeeded, Builds}
 use Rattle.safl_opt.specs.Smaller.{IsSmaller}
-use Rattle.safl_alike.proofs.RunsAgree.{run_alike}
+use Rattle.safl_net.proofs.MirrorsRunAlike.{run_alike}
 use Rattle.safl_opt.proofs.Standing.{SameSort, StandsFor, Stands, found, stands_mirrors}
 use Rattle.safl_opt.proofs.Built.{back, acyclic}
 use Rattle.safl_opt.proofs.Leaning.{lean_built}

@@ -29,12 +29,14 @@ pub data IsRoot (n : Netlist) (s : ℕ) : Type 0 where
 pub record AreRead (n : Netlist) (f : Values) (read : List Bool) : Type 0 where
   pub long : length read ≡ length f.signals.items
   pub roots : (s : ℕ) → IsRoot n s → read_at read (sig_at f.ids.items s) ≡ true
-  pub nodes : (j i y : ℕ) (node : Node) → slice_get f.nodes j ≡ Some node → read_at read (f.kept + j) ≡ true → slice_get (node_operands node) i ≡ Some y → read_at read y ≡ true
+  pub nodes : (j i y : ℕ) (node : Node) → slice_get f.nodes j ≡ Some node → read_at read (f.kept + j) ≡ true
+      → slice_get (node_operands node) i ≡ Some y → read_at read y ≡ true
 
 -- a root has it, or the node of a value that is read
 pub data IsNeeded (n : Netlist) (f : Values) (read : List Bool) (x : ℕ) : Type 0 where
   by_root : (s : ℕ) → IsRoot n s → sig_at f.ids.items s ≡ x → IsNeeded n f read x
-  by_node : (j i : ℕ) (node : Node) → slice_get f.nodes j ≡ Some node → read_at read (f.kept + j) ≡ true → slice_get (node_operands node) i ≡ Some x → IsNeeded n f read x
+  by_node : (j i : ℕ) (node : Node) → slice_get f.nodes j ≡ Some node → read_at read (f.kept + j) ≡ true → slice_get (node_operands node) i ≡ Some x
+      → IsNeeded n f read x
 
 -- and nothing else is read
 pub record AreNeeded (n : Netlist) (f : Values) (read : List Bool) : Type 0 where
@@ -78,7 +80,8 @@ pub record Builds (n : Netlist) (f : Values) (read : List Bool) (made : List Sig
       → (f.kept ≤ sig_at made (f.kept + j)) × ((g : Signal) × (slice_get m.signals (sig_at made (f.kept + j)) ≡ Some g) × IsNodeOf n f made (f.kept + j) node g)
   pub each : (y : ℕ) (g : Signal) → slice_get m.signals y ≡ Some g → f.kept ≤ y
       → (j : ℕ) × (node : Node) × (slice_get f.nodes j ≡ Some node) × (read_at read (f.kept + j) ≡ true) × (sig_at made (f.kept + j) ≡ y)
-  pub once : (i j : ℕ) (a b : Node) → slice_get f.nodes i ≡ Some a → slice_get f.nodes j ≡ Some b → read_at read (f.kept + i) ≡ true → read_at read (f.kept + j) ≡ true
+  pub once : (i j : ℕ) (a b : Node) → slice_get f.nodes i ≡ Some a → slice_get f.nodes j ≡ Some b → read_at read (f.kept + i) ≡ true
+      → read_at read (f.kept + j) ≡ true
       → sig_at made (f.kept + i) ≡ sig_at made (f.kept + j) → i ≡ j
   pub outputs : m.outputs ≡ map (λ o. (o.0, new_number f made o.1)) n.outputs
 
@@ -109,6 +112,10 @@ pub data ReadBy (n : Netlist) (a s : ℕ) : Type 0 where
 abbrev pub IsOperandAt : Values → List Bool → ℕ → ℕ → Type 0
 IsOperandAt f read place x =
     (node : Node) × (i : ℕ) × (slice_get f.nodes place ≡ Some node) × (slice_get (node_operands node) i ≡ Some x) × (read_at read (f.kept + place) ≡ true)
+
+-- the node of that place has values before its own as operands
+abbrev pub ReadsLower : Values → ℕ → Type 0
+ReadsLower f place = (node : Node) (i x : ℕ) → slice_get f.nodes place ≡ Some node → slice_get (node_operands node) i ≡ Some x → x < f.kept + place
 
 -- the values of these
 pub record HasReader (n : Netlist) (f : Values) (a x : ℕ) : Type 0 where

@@ -41,7 +41,8 @@ pub record Placed (n : Netlist) (f : Values) (read : List Bool) (count : ℕ) (m
   pub kept : (x : ℕ) → x < f.kept → slice_get m.signals x ≡ Some (open_signal n (sig_at f.signals.items x))
   pub nodes : (j : ℕ) (node : Node) → j < count → slice_get f.nodes j ≡ Some node → read_at read (f.kept + j) ≡ true → HasTemporary n f made j node m
   pub each : (y : ℕ) (g : Signal) → slice_get m.signals y ≡ Some g → f.kept ≤ y → IsOfNode f read count made y
-  pub once : (i j : ℕ) → i < count → j < count → read_at read (f.kept + i) ≡ true → read_at read (f.kept + j) ≡ true → sig_at made (f.kept + i) ≡ sig_at made (f.kept + j) → i ≡ j
+  pub once : (i j : ℕ) → i < count → j < count → read_at read (f.kept + i) ≡ true → read_at read (f.kept + j) ≡ true
+      → sig_at made (f.kept + i) ≡ sig_at made (f.kept + j) → i ≡ j
   pub outputs : m.outputs ≡ []
   pub tidy : IsTidy m
 

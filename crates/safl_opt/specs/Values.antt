@@ -1,5 +1,6 @@
 -- The values of a net: its wires by numbers, such that wires with one number have one word in every cycle.
-use Rattle.std.specs.Prelude.{◌≡◌, ◌≢◌, ℕ, zero, suc, ◌+◌, ◌-◌, ◌<◌, ◌≤◌, List, [], ◌∷◌, ◌++◌, map, length, Option, Some, None, Bool, true, false, cond, not, ◌&&◌, nat_lt, ◌⊎◌, slice_get, slice_set}
+use Rattle.std.specs.Prelude.{◌≡◌, ◌≢◌, ℕ, zero, suc, ◌+◌, ◌-◌, ◌<◌, ◌≤◌, List, [], ◌∷◌, ◌++◌, map, length, Option}
+use Rattle.std.specs.Prelude.{Some, None, Bool, true, false, cond, not, ◌&&◌, nat_lt, ◌⊎◌, slice_get, slice_set}
 use Rattle.safl_word.specs.Words.{Word, IsWord}
 use Rattle.safl_net.specs.declared.cell.Sig.{Sig}
 use Rattle.safl_net.specs.Netlist.{Netlist, Kind, Input, Reg, Wire, Cell, width_of}
@@ -44,8 +45,12 @@ inputs_below n i = below (λ s. is_input (kind_at n s)) i
 abbrev pub registers_below : Netlist → ℕ → List ℕ
 registers_below n i = below (λ s. is_register (kind_at n s)) i
 
+-- a wire with a name of its own
+abbrev pub is_named_wire : Netlist → ℕ → Bool
+is_named_wire n s = is_wire (kind_at n s) && not (is_numbered (name_at n s))
+
 abbrev pub named_below : Netlist → ℕ → List ℕ
-named_below n i = below (λ s. is_wire (kind_at n s) && not (is_numbered (name_at n s))) i
+named_below n i = below (λ s. is_named_wire n s) i
 
 -- inputs, registers and named wires
 abbrev pub kept_in : Netlist → List ℕ

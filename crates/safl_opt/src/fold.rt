@@ -1,17 +1,17 @@
 //! Values of a net: each wire's value by a number, equal cells by one, and constants folded.
 
-ghost use Rattle.std.specs.Prelude.{◌≡◌, ◌<◌, ◌≤◌, ◌+◌, ◌++◌, ℕ, List, [], ◌∷◌, ◌^◌, Some, length, slice_get, is_some, IfOk, OnOk, IfSome};
+ghost use Rattle.std.specs.Prelude.{◌≡◌, ◌<◌, ◌≤◌, ◌+◌, ◌++◌, ℕ, List, [], ◌∷◌, ◌^◌, Some, length, slice_get, is_some, cond, IfOk, OnOk, IfSome};
 ghost use Rattle.safl_word.specs.Words.{Word};
 ghost use Rattle.safl_net.specs.Names.{IsTidy};
-ghost use Rattle.std.specs.Prelude.{cond, not, ◌&&◌};
 ghost use Rattle.safl_net.specs.Netlist.{AllSet, Wire};
-ghost use Rattle.safl_net.specs.Making.{numbers, kind_at, name_at, cell_on};
+ghost use Rattle.safl_net.specs.Making.{numbers, kind_at, cell_on};
 ghost use Rattle.safl_net.specs.Rules.{IsNetlist, CellFits};
 ghost use Rattle.safl_net.specs.Stored.{cell_of};
 ghost use Rattle.safl_order.specs.Order.{IsOrder, IsWire};
-ghost use Rattle.safl_opt.specs.Lean.{is_constant, is_const, is_numbered, IsTemporary};
+ghost use Rattle.safl_opt.specs.Lean.{is_constant, is_const, IsTemporary};
 ghost use Rattle.safl_opt.specs.Nodes.{node_operands};
-ghost use Rattle.safl_opt.specs.Values.{IsNext, Adds, kept_in, is_input, is_register, is_wire, inputs_below, registers_below, named_below, sig_at, is_fixed, Folds, HasValue, IsDone, IsReady, IsFixed, Comes, IsPut, IsSet};
+ghost use Rattle.safl_opt.specs.Values.{IsNext, Adds, kept_in, is_input, is_register, is_named_wire, inputs_below, registers_below};
+ghost use Rattle.safl_opt.specs.Values.{named_below, sig_at, is_fixed, Folds, HasValue, IsDone, IsReady, IsFixed, Comes, IsPut, IsSet};
 
 use crate::names::{is_numbered, is_temporary};
 use crate::node::{Node, Nodes};
@@ -290,7 +290,7 @@ fn push_register(signals: &mut Vec<Sig>, net: &Net, s: Sig) -> Result<(), AllocE
 
 fn push_named(signals: &mut Vec<Sig>, net: &Net, s: Sig) -> Result<(), AllocError>
     requires { s.0 < length net.now.signals }
-    ensures { OnOk result (numbers signals.new.items ≡ numbers signals.old.items ++ cond (is_wire (kind_at net.now s.0) && not (is_numbered (name_at net.now s.0))) (s.0 ∷ []) []) }
+    ensures { OnOk result (numbers signals.new.items ≡ numbers signals.old.items ++ cond (is_named_wire net.now s.0) (s.0 ∷ []) []) }
 {
     match net.kind(s) {
         SigKind::Wire => {

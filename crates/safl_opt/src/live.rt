@@ -1,14 +1,12 @@
 //! The values that are read.
 
-ghost use Rattle.std.specs.Prelude.{◌≡◌, ◌<◌, ◌≤◌, ◌+◌, ℕ, List, Some, true, false, length, slice_get, IfOk};
+ghost use Rattle.std.specs.Prelude.{◌≡◌, ◌<◌, ◌≤◌, ◌+◌, ℕ, List, true, false, length, IfOk};
 ghost use Rattle.safl_net.specs.Rules.{IsNetlist};
 ghost use Rattle.safl_net.specs.Netlist.{AllSet};
 ghost use Rattle.safl_net.specs.Making.{kind_at};
 ghost use Rattle.safl_order.specs.Order.{IsOrder, IsWire};
-ghost use Rattle.safl_opt.specs.declared.node.Node.{Node};
-ghost use Rattle.safl_opt.specs.Nodes.{node_operands};
 ghost use Rattle.safl_opt.specs.Values.{sig_at, Folds};
-ghost use Rattle.safl_opt.specs.Building.{read_at, AreRead, AreNeeded, Marks, IsOperandAt, IsValueOf, HasReader, HasOperand, HasValues};
+ghost use Rattle.safl_opt.specs.Building.{read_at, AreRead, AreNeeded, Marks, IsOperandAt, ReadsLower, IsValueOf, HasReader, HasOperand, HasValues};
 
 use crate::fold::Values;
 use crate::names::is_temporary;
@@ -106,7 +104,7 @@ fn mark_all(read: &mut [bool], values: &Values, all: &[Sig])
 fn mark_node(read: &mut [bool], values: &Values, place: usize)
     requires place { place < length values.now.nodes }
     requires room { values.now.kept + length values.now.nodes ≤ length read.old }
-    requires known { (node : Node) (i x : ℕ) → slice_get values.now.nodes place ≡ Some node → slice_get (node_operands node) i ≡ Some x → x < values.now.kept + place }
+    requires known { ReadsLower values.now place }
     ensures { Marks read.old read.new (IsOperandAt values.now read.old place) }
 {
     if !read[values.kept as usize + place] {

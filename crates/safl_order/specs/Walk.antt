@@ -1,5 +1,6 @@
 -- A walk from wires to their operands, deepest first.
-use Rattle.std.specs.Prelude.{◌≡◌, ℕ, suc, ◌+◌, ◌-◌, ◌*◌, ◌<◌, ◌≤◌, List, [], ◌∷◌, ◌++◌, map, reverse, length, take, drop, Some, slice_get}
+use Rattle.std.specs.Prelude.{◌≡◌, ℕ, suc, ◌+◌, ◌-◌, ◌*◌, ◌<◌, ◌≤◌, List, [], ◌∷◌, ◌++◌, map, reverse, length, take, drop, Some, Vec, slice_get, vec_len}
+use Rattle.std.specs.Global.{Global}
 use Rattle.safl_net.specs.declared.cell.Sig.{Sig}
 use Rattle.safl_net.specs.Netlist.{Netlist}
 use Rattle.safl_net.specs.Rules.{IsNetlist}
@@ -8,6 +9,7 @@ use Rattle.safl_order.specs.declared.walk.Mark.TheVariants.{Unseen, Open, Done}
 use Rattle.safl_order.specs.declared.walk.Frame.{Frame}
 use Rattle.safl_order.specs.declared.walk.Stop.{Stop}
 use Rattle.safl_order.specs.declared.walk.Stop.TheVariants.{Loop, NoMemory}
+use Rattle.safl_order.specs.declared.walk.Walk.{Walk}
 use Rattle.safl_order.specs.Order.{operands_of, IsWire}
 
 -- the number of signals that are not seen
@@ -71,6 +73,25 @@ pub record IsTop (stack : List Frame) (f : Frame) : Type 0 where
   pub place : ℕ
   pub last : suc place ≡ length stack
   pub at : slice_get stack place ≡ Some f
+
+-- the place on top of a stack, and the frame that stands there
+abbrev pub top_place : Vec Frame Global → ℕ
+top_place stack = vec_len stack - 1
+
+abbrev pub HasTop : Vec Frame Global → Frame → Type 0
+HasTop stack f = slice_get stack.items (top_place stack) ≡ Some f
+
+-- a frame that is past one more operand
+abbrev pub passed : Frame → Frame
+passed f = record { wire = f.wire; next = f.next + 1 }
+
+-- out of memory, and the marks and the stack stay; and so do the wires that are done
+abbrev pub LeavesPath : Walk → Walk → Stop → Type 0
+LeavesPath old new e = (e ≡ NoMemory) × (new.marks.items ≡ old.marks.items) × (new.stack.items ≡ old.stack.items)
+
+abbrev pub LeavesAll : Walk → Walk → Stop → Type 0
+LeavesAll old new e =
+    (e ≡ NoMemory) × (new.wires.items ≡ old.wires.items) × (new.marks.items ≡ old.marks.items) × (new.stack.items ≡ old.stack.items)
 
 -- the wire on top looks at t, which is not its fourth operand
 pub record LooksAt (n : Netlist) (stack : List Frame) (t : ℕ) : Type 0 where

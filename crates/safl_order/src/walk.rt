@@ -1,11 +1,13 @@
 //! A walk from wires to their operands, deepest first, on a stack of its own. It looks at the operands of a wire from
 //! the last to the first: so what changes together in a simulation stands nearer together in the order.
 
-ghost use Rattle.std.specs.Prelude.{◌≡◌, ℕ, ◌+◌, ◌-◌, ◌<◌, ◌≤◌, ◌^◌, [], ◌∷◌, ◌++◌, map, length, take, drop, Some, None, IfOk, IfErr, OnOk, IfSome, slice_get, slice_set, vec_len};
+ghost use Rattle.std.specs.Prelude.{◌≡◌, ℕ, ◌+◌, ◌<◌, ◌≤◌, ◌^◌, [], ◌∷◌, ◌++◌, map, length, take, drop, Some};
+ghost use Rattle.std.specs.Prelude.{None, IfOk, IfErr, OnOk, IfSome, slice_get, slice_set, vec_len};
 ghost use Rattle.safl_net.specs.Stored.{number_of};
 ghost use Rattle.safl_order.specs.declared.walk.Frame.{Frame};
 ghost use Rattle.safl_order.specs.Order.{IsWire};
-ghost use Rattle.safl_order.specs.Walk.{Walks, Looks, LooksAt, looked_at, AllDone, Goes, IsTop, IsStop, IsTurned, work};
+ghost use Rattle.safl_order.specs.Walk.{Walks, Looks, LooksAt, looked_at, AllDone, Goes, IsTop, IsStop};
+ghost use Rattle.safl_order.specs.Walk.{IsTurned, work, top_place, HasTop, passed, LeavesPath, LeavesAll};
 
 use safl_net::{Net, Sig, SigKind};
 use std::alloc::{AllocError, Global};
@@ -202,7 +204,7 @@ impl Walk {
         ensures wires { self.new.wires.items ≡ self.old.wires.items }
         ensures marks { OnOk result (self.new.marks.items ≡ slice_set self.old.marks.items t.0 (Mark.Open (length self.old.stack.items))) }
         ensures stack { OnOk result (self.new.stack.items ≡ self.old.stack.items ++ record { wire = t; next = 0 } ∷ []) }
-        ensures refused { IfErr result (λ e. (e ≡ Stop.NoMemory) × (self.new.marks.items ≡ self.old.marks.items) × (self.new.stack.items ≡ self.old.stack.items)) }
+        ensures refused { IfErr result (λ e. LeavesPath self.old self.new e) }
     {
         let place = self.stack.len() as u32;
         if self.stack.push(Frame { wire: t, next: 0 }).is_err() {
@@ -215,10 +217,10 @@ impl Walk {
     // Passes an operand of the wire on top.
     fn pass(&mut self)
         requires some { 0 < vec_len self.old.stack }
-        requires few { (f : Frame) → slice_get self.old.stack.items (vec_len self.old.stack - 1) ≡ Some f → f.next < 255 }
+        requires few { (f : Frame) → HasTop self.old.stack f → f.next < 255 }
         ensures wires { self.new.wires.items ≡ self.old.wires.items }
         ensures marks { self.new.marks.items ≡ self.old.marks.items }
-        ensures stack { (f : Frame) → slice_get self.old.stack.items (vec_len self.old.stack - 1) ≡ Some f → self.new.stack.items ≡ slice_set self.old.stack.items (vec_len self.old.stack - 1) (record { wire = f.wire; next = f.next + 1 }) }
+        ensures stack { (f : Frame) → HasTop self.old.stack f → self.new.stack.items ≡ slice_set self.old.stack.items (top_place self.old.stack) (passed f) }
     {
         let last = self.stack.len() - 1;
         let top = self.stack[last];
@@ -235,8 +237,8 @@ impl Walk {
         requires some { 0 < vec_len self.old.stack }
         ensures wires { OnOk result (self.new.wires.items ≡ self.old.wires.items ++ wire ∷ []) }
         ensures marks { OnOk result (self.new.marks.items ≡ slice_set self.old.marks.items wire.0 (Mark.Done (length self.old.wires.items))) }
-        ensures stack { OnOk result (self.new.stack.items ≡ take (vec_len self.old.stack - 1) self.old.stack.items) }
-        ensures refused { IfErr result (λ e. (e ≡ Stop.NoMemory) × (self.new.wires.items ≡ self.old.wires.items) × (self.new.marks.items ≡ self.old.marks.items) × (self.new.stack.items ≡ self.old.stack.items)) }
+        ensures stack { OnOk result (self.new.stack.items ≡ take (top_place self.old.stack) self.old.stack.items) }
+        ensures refused { IfErr result (λ e. LeavesAll self.old self.new e) }
     {
         let place = self.wires.len() as u32;
         if self.wires.push(wire).is_err() {

@@ -5,7 +5,7 @@ ghost use Rattle.safl_tree.specs.Tree.{depth as tree_depth};
 ghost use Rattle.safl_tree.specs.Terminals.{terminals};
 ghost use Rattle.safl_tree.specs.Shown.{shown_tree, shown_trees, shown_bind, shown_bounds, shown_labelled};
 ghost use Rattle.safl_tree.specs.Reader.{read_literal, read_sized_literal, read_another, read_exprs, read_call, read_named, read_parenthesised, read_cat, read_bits, read_ext, read_primary, read_inverted, read_unary, read_joined, read_chained, read_compared, read_chain, read_choice, read_written, read_bind, read_another_bind, read_binds, read_binding, read_label, read_arm, read_last_arm, read_cases, operand_at, expr_at, arm_value_at, more_arms_at, arms_at};
-ghost use Rattle.safl_parse.specs.Reads.{Reads, ReadsTree};
+ghost use Rattle.safl_parse.specs.Reads.{Reads, ReadsTree, ReadsTrees, ReadsBindings, ReadsArms};
 
 use crate::error::{Cause, Read, ReadError};
 use crate::parser::Parser;
@@ -123,7 +123,8 @@ impl<'s> Parser<'s> {
     #[cycle(descent)]
     #[tactic(auto, unfolding(safl_tree::specs::Reader::read_joined))]
     fn joined<'a>(&self, layer: u8, levels: u8, left: Part, tokens: &'a [Token]) -> Read<'a, Part>
-        ensures { ReadsTree self.now tokens.now result (read_joined layer (read_chain layer (read_unary (operand_at levels) (expr_at levels))) (shown_tree left.expr)) }
+        ensures { ReadsTree self.now tokens.now result
+            (read_joined layer (read_chain layer (read_unary (operand_at levels) (expr_at levels))) (shown_tree left.expr)) }
     {
         let (op, rest) = self.operator(tokens, layer)?;
         if DEPTH_LIMIT <= left.depth {
@@ -325,7 +326,7 @@ impl<'s> Parser<'s> {
     #[cycle(descent)]
     #[tactic(auto, unfolding(safl_tree::specs::Reader::read_exprs))]
     fn exprs<'a>(&self, levels: u8, tokens: &'a [Token]) -> Read<'a, Parts>
-        ensures { Reads self.now tokens.now (λ x. (shown_trees x.0.exprs.items, x.1.now)) result (read_exprs (expr_at levels)) }
+        ensures { ReadsTrees self.now tokens.now result (read_exprs (expr_at levels)) }
     {
         let (first, rest) = self.expr(levels, tokens)?;
         let mut parts = single(self.alloc, first)?;
@@ -342,7 +343,7 @@ impl<'s> Parser<'s> {
     #[cycle(descent)]
     #[tactic(auto, unfolding(safl_tree::specs::Reader::read_another))]
     fn another<'a>(&self, levels: u8, parts: Parts, tokens: &'a [Token]) -> Read<'a, Parts>
-        ensures { Reads self.now tokens.now (λ x. (shown_trees x.0.exprs.items, x.1.now)) result (read_another (expr_at levels) (shown_trees parts.exprs.items)) }
+        ensures { ReadsTrees self.now tokens.now result (read_another (expr_at levels) (shown_trees parts.exprs.items)) }
     {
         let (_, rest) = self.symbol(tokens, Sym::Comma)?;
         let (next, rest) = self.expr(levels, rest)?;
@@ -401,7 +402,7 @@ impl<'s> Parser<'s> {
     #[cycle(descent)]
     #[tactic(auto, unfolding(safl_tree::specs::Reader::read_binds))]
     fn binds<'a>(&self, levels: u8, tokens: &'a [Token]) -> Read<'a, Bindings>
-        ensures { Reads self.now tokens.now (λ x. (shown_bounds x.0.binds.items, x.1.now)) result (read_binds (expr_at levels)) }
+        ensures { ReadsBindings self.now tokens.now result (read_binds (expr_at levels)) }
     {
         let ((first, depth), rest) = self.bind(levels, tokens)?;
         let mut bindings = single_bind(self.alloc, first, depth)?;
@@ -423,7 +424,7 @@ impl<'s> Parser<'s> {
         bindings: Bindings,
         tokens: &'a [Token],
     ) -> Read<'a, Bindings>
-        ensures { Reads self.now tokens.now (λ x. (shown_bounds x.0.binds.items, x.1.now)) result (read_another_bind (expr_at levels) (shown_bounds bindings.binds.items)) }
+        ensures { ReadsBindings self.now tokens.now result (read_another_bind (expr_at levels) (shown_bounds bindings.binds.items)) }
     {
         let (_, rest) = self.symbol(tokens, Sym::Comma)?;
         let ((next, depth), rest) = self.bind(levels, rest)?;
@@ -460,7 +461,7 @@ impl<'s> Parser<'s> {
     #[cycle(descent)]
     #[tactic(auto, unfolding(safl_tree::specs::Reader::arms_at, safl_tree::specs::Reader::read_arms))]
     fn arms<'a>(&self, levels: u8, so_far: Labels, tokens: &'a [Token]) -> Read<'a, AllArms>
-        ensures { Reads self.now tokens.now (λ x. (record { labelled = shown_labelled x.0.arms.items; default = shown_tree x.0.default }, x.1.now)) result (arms_at levels (shown_labelled so_far.arms.items)) }
+        ensures { ReadsArms self.now tokens.now result (arms_at levels (shown_labelled so_far.arms.items)) }
     {
         if self.comes_number(tokens) || self.comes_sized(tokens) {
             self.arm(levels, so_far, tokens)
@@ -473,7 +474,7 @@ impl<'s> Parser<'s> {
     #[cycle(descent)]
     #[tactic(auto, unfolding(safl_tree::specs::Reader::arm_value_at, safl_tree::specs::Reader::read_arm, safl_tree::specs::Reader::arms_at))]
     fn arm<'a>(&self, levels: u8, so_far: Labels, tokens: &'a [Token]) -> Read<'a, AllArms>
-        ensures { Reads self.now tokens.now (λ x. (record { labelled = shown_labelled x.0.arms.items; default = shown_tree x.0.default }, x.1.now)) result (read_arm (arm_value_at levels) (more_arms_at levels) (shown_labelled so_far.arms.items)) }
+        ensures { ReadsArms self.now tokens.now result (read_arm (arm_value_at levels) (more_arms_at levels) (shown_labelled so_far.arms.items)) }
     {
         let (label, rest) = self.label(tokens)?;
         let (_, rest) = self.symbol(rest, Sym::Arrow)?;
@@ -491,7 +492,7 @@ impl<'s> Parser<'s> {
     #[cycle(descent)]
     #[tactic(auto, unfolding(safl_tree::specs::Reader::arm_value_at, safl_tree::specs::Reader::read_last_arm))]
     fn last_arm<'a>(&self, levels: u8, so_far: Labels, tokens: &'a [Token]) -> Read<'a, AllArms>
-        ensures { Reads self.now tokens.now (λ x. (record { labelled = shown_labelled x.0.arms.items; default = shown_tree x.0.default }, x.1.now)) result (read_last_arm (arm_value_at levels) (shown_labelled so_far.arms.items)) }
+        ensures { ReadsArms self.now tokens.now result (read_last_arm (arm_value_at levels) (shown_labelled so_far.arms.items)) }
     {
         let (_, rest) = self.word(tokens, Key::Default)?;
         let (_, rest) = self.symbol(rest, Sym::Arrow)?;

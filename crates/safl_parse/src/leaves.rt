@@ -197,7 +197,8 @@ impl<'s> Parser<'s> {
 
     /// A sized number: its place, its width, which is 1 to the greatest, and its value.
     pub fn sized<'a>(&self, tokens: &'a [Token]) -> Read<'a, (u32, u8, Raw)>
-        ensures { Reads self.now tokens.now (λ x. (record { place = x.0.0; width = x.0.1; value = x.0.2 }, x.1.now)) result (read_limited Range fits_sized sized) }
+        ensures { Reads self.now tokens.now (λ x. (record { place = x.0.0; width = x.0.1; value = x.0.2 }, x.1.now)) result
+            (read_limited Range fits_sized sized) }
     {
         match tokens {
             [

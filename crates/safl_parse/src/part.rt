@@ -3,7 +3,7 @@
 ghost use Rattle.std.specs.Prelude.{◌≡◌, [], ◌∷◌, ◌++◌, ◌+◌, ◌≤◌, min, max, IfOk};
 ghost use Rattle.safl_tree.specs.Tree.{depth as tree_depth, deepest, deepest_bind, deepest_arm, trees_of, binds_of, arms_of, Op, Call, Let, Cases, If};
 ghost use Rattle.safl_tree.specs.Shown.{shown_tree, shown_trees, shown_bind, shown_bounds, shown_arm, shown_labelled};
-ghost use Rattle.safl_parse.specs.Parts.{labelled_depth};
+ghost use Rattle.safl_parse.specs.Parts.{labelled_depth, with_arm};
 
 use safl_tree::{Arm, Bind, Expr, Name, Node};
 use safl_word::Primitive;
@@ -191,7 +191,7 @@ fn arm_depth(before: usize, depth: u8) -> u8
 
 /// One more arm at the end.
 pub fn push_arm(labels: Labels, label: Expr, value: Part) -> Result<Labels, AllocError>
-    ensures { IfOk result (λ x. shown_labelled x.arms.items ≡ shown_labelled labels.arms.items ++ record { label = shown_tree label; value = shown_tree value.expr } ∷ []) }
+    ensures { IfOk result (λ x. shown_labelled x.arms.items ≡ with_arm (shown_labelled labels.arms.items) label value.expr) }
 {
     let depth = greater(labels.depth, arm_depth(labels.arms.len(), value.depth));
     let mut arms = labels.arms;
@@ -237,7 +237,8 @@ pub fn with_default(labels: Labels, default: Part) -> AllArms
 
 /// A case.
 pub fn cased(alloc: Global, place: u32, scrutinee: Part, arms: AllArms) -> Result<Part, AllocError>
-    ensures { IfOk result (λ x. shown_tree x.expr ≡ Cases place (shown_tree scrutinee.expr) (arms_of (shown_labelled arms.arms.items) (shown_tree arms.default))) }
+    ensures { IfOk result (λ x.
+        shown_tree x.expr ≡ Cases place (shown_tree scrutinee.expr) (arms_of (shown_labelled arms.arms.items) (shown_tree arms.default))) }
 {
     let depth = above(greater(scrutinee.depth, arms.depth));
     let scrutinee = Box::new(alloc, scrutinee.expr)?;

@@ -4,7 +4,7 @@ ghost use Rattle.std.specs.Prelude.{◌≡◌, [], ◌∷◌, ◌++◌, true, fa
 ghost use Rattle.safl_tree.specs.Terminals.{terminals};
 ghost use Rattle.safl_tree.specs.Shown.{shown_parameter, shown_parameters, shown_definition, shown_definitions, shown_program};
 ghost use Rattle.safl_tree.specs.Reader.{read_param, read_another_param, read_params, read_one, read_another_one, read_group, read_another_group, read_program, read_source, expr_at};
-ghost use Rattle.safl_parse.specs.Reads.{Reads, ReadsTree};
+ghost use Rattle.safl_parse.specs.Reads.{Reads, ReadsTree, ReadsDefinitions};
 
 use crate::error::{Cause, Read, ReadError};
 use crate::parser::Parser;
@@ -100,7 +100,7 @@ impl<'s> Parser<'s> {
     /// One more member of a group, after `and`.
     #[tactic(auto, unfolding(safl_tree::specs::Reader::read_another_one))]
     fn another_one<'a>(&self, defs: Vec<Def>, tokens: &'a [Token]) -> Read<'a, Vec<Def>>
-        ensures { Reads self.now tokens.now (λ x. (shown_definitions x.0.items, x.1.now)) result (read_another_one (expr_at 100) (shown_definitions defs.items)) }
+        ensures { ReadsDefinitions self.now tokens.now result (read_another_one (expr_at 100) (shown_definitions defs.items)) }
     {
         let (_, rest) = self.word(tokens, Key::And)?;
         let (next, rest) = self.one(true, rest)?;
@@ -110,7 +110,7 @@ impl<'s> Parser<'s> {
     /// A group of definitions.
     #[tactic(auto, unfolding(safl_tree::specs::Reader::read_group))]
     fn group<'a>(&self, defs: Vec<Def>, tokens: &'a [Token]) -> Read<'a, Vec<Def>>
-        ensures { Reads self.now tokens.now (λ x. (shown_definitions x.0.items, x.1.now)) result (read_group (expr_at 100) (shown_definitions defs.items)) }
+        ensures { ReadsDefinitions self.now tokens.now result (read_group (expr_at 100) (shown_definitions defs.items)) }
     {
         let (_, rest) = self.word(tokens, Key::Fun)?;
         let (first, rest) = self.one(false, rest)?;
@@ -127,7 +127,7 @@ impl<'s> Parser<'s> {
     /// One more group, with its semicolon where there is one.
     #[tactic(auto, unfolding(safl_tree::specs::Reader::read_another_group, safl_tree::specs::Reader::read_ended))]
     fn another_group<'a>(&self, defs: Vec<Def>, tokens: &'a [Token]) -> Read<'a, Vec<Def>>
-        ensures { Reads self.now tokens.now (λ x. (shown_definitions x.0.items, x.1.now)) result (read_another_group (expr_at 100) (shown_definitions defs.items)) }
+        ensures { ReadsDefinitions self.now tokens.now result (read_another_group (expr_at 100) (shown_definitions defs.items)) }
     {
         let (defs, rest) = self.group(defs, tokens)?;
         if self.comes(rest, TokenKind::Sym(Sym::Semicolon)) {
@@ -141,7 +141,7 @@ impl<'s> Parser<'s> {
     /// All groups that stand at the start.
     #[tactic(auto, unfolding(safl_tree::specs::Reader::read_program))]
     fn groups<'a>(&self, tokens: &'a [Token]) -> Read<'a, Vec<Def>>
-        ensures { Reads self.now tokens.now (λ x. (shown_definitions x.0.items, x.1.now)) result (read_program (expr_at 100)) }
+        ensures { ReadsDefinitions self.now tokens.now result (read_program (expr_at 100)) }
     {
         let mut defs = Vec::new(self.alloc);
         let mut rest = tokens;

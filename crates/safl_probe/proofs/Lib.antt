@@ -9,3 +9,12 @@ pub mod Shows
 pub mod Told
 pub mod Traced
 pub mod Sent
+pub mod Growing
+pub mod Widths
+pub mod Telling
+pub mod Frames
+pub mod Rounds
+pub mod Whole
+pub mod Ends
+pub mod Stops
+pub mod Outcomes

@@ -1,10 +1,12 @@
 -- What is kept of watched signals.
 use Rattle.std.specs.Prelude.{ℕ, suc, List, [], ◌∷◌, map, Option, Some, None, Bool, cond, ◌==◌, string_bytes, slice_get, slice_index}
 use Rattle.safl_net.specs.Valuations.{Valuation}
-use Rattle.safl_probe.specs.Watching.{Watched}
+use Rattle.safl_probe.specs.Watching.{Watched, seen}
+use Rattle.safl_probe.specs.Texts.{Text, frame_text, changed, changes}
 use Rattle.safl_probe.specs.Probing.{ProbeState}
 use Rattle.safl_probe.specs.declared.entry.Entry.{Entry}
 use Rattle.safl_probe.specs.declared.entry.Spot.{Spot}
+use Rattle.safl_probe.specs.declared.kind.TraceKind.{TraceKind}
 
 -- the signals of entries
 abbrev pub watched_in : Entry → Watched
@@ -37,6 +39,10 @@ nameless ss = map (named []) ss
 abbrev pub numbers : List Spot → List ℕ
 numbers ss = map (λ (s : Spot). s.number) ss
 
+-- these, where there was a last frame
+abbrev pub last_of : ℕ → List Spot → Option (List ℕ)
+last_of turn ss = cond (turn == 0) None (Some (numbers ss))
+
 -- one more frame
 abbrev pub looked : Valuation → Spot → Spot
 looked frame s = record s { number = slice_index frame s.signal }
@@ -44,13 +50,24 @@ looked frame s = record s { number = slice_index frame s.signal }
 abbrev pub looked_all : Valuation → List Spot → List Spot
 looked_all frame ss = map (looked frame) ss
 
+-- the text of a frame in cycle t for entries and spots, after these numbers
+abbrev pub frame_text_of : TraceKind → List Entry → List Spot → ℕ → Option (List ℕ) → Valuation → Text
+frame_text_of kind es ss t last frame = frame_text kind (watched_from 0 es ss) t last (seen (watched_from 0 es ss) frame)
+
+-- the line of the i-th spot where its number changes with a frame, and those of all
+abbrev pub changed_in : ℕ → Spot → Valuation → Text
+changed_in i s frame = changed i s.width s.number (slice_index frame s.signal)
+
+abbrev pub changes_in : List Spot → Valuation → Text
+changes_in ss frame = changes 0 (nameless ss) (numbers ss) (seen (nameless ss) frame)
+
 -- what is told of entries and spots of a net of so many signals, after so many frames
 abbrev pub told_of : ℕ → Bool → ℕ → List Entry → List Spot → ℕ → ProbeState
 told_of kind begun signals es ss turn =
     record {
       kind = kind;
       shape = cond begun (Some (record { signals = signals; watched = watched_from 0 es ss })) None;
-      last = cond (turn == 0) None (Some (numbers ss));
+      last = last_of turn ss;
       turn = turn;
       faults = 0;
     }

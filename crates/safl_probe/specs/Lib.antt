@@ -5,3 +5,12 @@ pub mod Entries
 pub mod Stubs
 pub mod Calls
 pub mod Following
+pub mod Asked
+pub mod Moments
+pub mod Growth
+pub mod Telling
+pub mod Stopping
+pub mod Rooms
+pub mod Runs
+pub mod Rounds
+pub mod Ending

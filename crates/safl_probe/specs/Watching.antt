@@ -1,11 +1,12 @@
 -- What a probe watches of a net.
 use Rattle.std.specs.Prelude.{ℕ, suc, List, [], ◌∷◌, ◌++◌, map, length, Bool, true, false, not, cond, ◌==◌, if◌then◌else◌, codes, nat_eq, slice_index}
 use Rattle.std.specs.List.{starts_with}
+use Rattle.safl_word.specs.Words.{Word}
 use Rattle.safl_net.specs.declared.cell.SigKind.{SigKind}
 use Rattle.safl_net.specs.declared.cell.SigKind.TheVariants.{Input, Reg, Wire}
 use Rattle.safl_net.specs.Netlist.{Netlist, Signal, width_of}
 use Rattle.safl_net.specs.Names.{is_temp}
-use Rattle.safl_net.specs.Making.{sort_of}
+use Rattle.safl_net.specs.Making.{sort_of, name_at, kind_at}
 use Rattle.safl_net.specs.Valuations.{Valuation}
 use Rattle.safl_probe.specs.declared.kind.TraceKind.{TraceKind}
 use Rattle.safl_probe.specs.declared.kind.TraceKind.TheVariants.{Vcd, Starts, Toggles, Silent}
@@ -63,6 +64,14 @@ pub record Shape : Type 0 where
 
 abbrev pub shape_of : ℕ → Netlist → Shape
 shape_of number n = record { signals = length n.signals; watched = watched_by (kind_of number) n }
+
+-- the signal of a number
+abbrev pub signal_at : Netlist → ℕ → Signal
+signal_at n s = record { name = name_at n s; width = width_of n s; kind = kind_at n s }
+
+-- a frame, by its words
+abbrev pub shown_frame : List Word → Valuation
+shown_frame words = map (λ (w : Word). w.bits) words
 
 -- the numbers of the watched signals in a frame, which has a number for each signal of the net
 abbrev pub seen : List Watched → Valuation → List ℕ

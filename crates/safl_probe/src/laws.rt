@@ -1,7 +1,10 @@
-//! Laws of traces, over the definitions alone.
+//! Laws of traces and of the runs that give them, over the definitions alone.
 
 ghost use Rattle.safl_probe.specs.Calls.{CallsMakeTraces};
 ghost use Rattle.safl_probe.specs.Following.{DumpsShowFrames};
+ghost use Rattle.safl_probe.specs.Ending.{RunsEnd};
+
+use safl_sim::laws::run_law;
 
 /// The texts of a probe's calls, from its beginning over all frames to its end, are the trace of the frames.
 pub fn trace_law()
@@ -13,3 +16,10 @@ pub fn trace_law()
 pub fn dump_law()
     ensures { DumpsShowFrames }
 {}
+
+/// A whole net without loops has a run of any length with any arguments of the inputs' widths, and an outcome of it.
+pub fn end_law()
+    ensures { RunsEnd }
+{
+    run_law();
+}

@@ -1,24 +1,35 @@
-//! Traces: probes that watch a simulation and give text.
+//! Traces: probes that watch a simulation and give text, and runs until `done` is 1 whose traces go into files of a shelf.
 #![tactic(auto)]
 
+pub mod drive_err;
+pub mod driving;
 mod entry;
+mod files;
 mod kind;
 pub mod laws;
 mod look;
+mod moment;
 mod pieces;
 pub mod probe;
+mod room;
+mod show;
 pub mod starts_probe;
 pub mod stub_probe;
 mod tables;
+mod tell;
 mod texts;
 pub mod toggle_probe;
 mod tracer;
 pub mod vcd_probe;
 mod vcd_text;
+mod watch;
 
+pub use crate::drive_err::DriveErr;
+pub use crate::driving::drive;
 pub use crate::kind::{TraceKind, kind_of};
 pub use crate::probe::{Probe, ProbeErr};
 pub use crate::starts_probe::StartsProbe;
 pub use crate::stub_probe::StubProbe;
 pub use crate::toggle_probe::ToggleProbe;
 pub use crate::vcd_probe::VcdProbe;
+pub use safl_sim::Done;

@@ -1,11 +1,7 @@
 //! What a probe watches of a net, and what it sees in a frame.
 
-ghost use Rattle.std.specs.Prelude.{◌≡◌, ◌++◌, ◌<◌, ◌∷◌, [], length, map, slice_get, slice_index, IfOk, OnOk};
-ghost use Rattle.safl_word.specs.Words.{Word};
-ghost use Rattle.safl_net.specs.Netlist.{Signal, width_of};
-ghost use Rattle.safl_net.specs.Rules.{IsNetlist};
-ghost use Rattle.safl_net.specs.Making.{kind_at, name_at};
-ghost use Rattle.safl_probe.specs.Watching.{watched_by, group_from, one_watched, output_watched};
+ghost use Rattle.std.specs.Prelude.{◌≡◌, ◌++◌, ◌<◌, length, map, slice_get, slice_index, IfOk, OnOk};
+ghost use Rattle.safl_probe.specs.Watching.{watched_by, group_from, one_watched, output_watched, signal_at, shown_frame};
 ghost use Rattle.safl_probe.specs.Entries.{watched_all, spot_of, name_of, looked, looked_all};
 
 use crate::entry::{Entry, Spot, make_entry, make_spot};
@@ -61,7 +57,7 @@ fn watch_signal(
     signal: Sig,
 ) -> Result<(), NoMemory>
     requires { signal.0 < length net.now.signals }
-    ensures { OnOk result (watched_all entries.new.items ≡ watched_all entries.old.items ++ one_watched group (record { name = name_at net.now signal.0; width = width_of net.now signal.0; kind = kind_at net.now signal.0 }) signal.0) }
+    ensures { OnOk result (watched_all entries.new.items ≡ watched_all entries.old.items ++ one_watched group (signal_at net.now signal.0) signal.0) }
 {
     let name = net.name(signal);
     if !belongs(group, net.kind(signal), name) {
@@ -107,7 +103,7 @@ pub(crate) fn entry_name(entries: &[Entry], i: usize) -> &str
 
 /// Sees a frame: each spot takes the number that its signal has in it.
 pub(crate) fn look(spots: &mut [Spot], frame: &[Word])
-    ensures { spots.new ≡ looked_all (map (λ (w : Word). w.bits) frame.now) spots.old }
+    ensures { spots.new ≡ looked_all (shown_frame frame.now) spots.old }
 {
     'spots: for i in 0..spots.len() {
         see(&mut spots[i], frame);
@@ -115,14 +111,14 @@ pub(crate) fn look(spots: &mut [Spot], frame: &[Word])
 }
 
 fn see(spot: &mut Spot, frame: &[Word])
-    ensures { spot.new ≡ looked (map (λ (w : Word). w.bits) frame.now) spot.old }
+    ensures { spot.new ≡ looked (shown_frame frame.now) spot.old }
 {
     spot.number = number_at(frame, spot.signal);
 }
 
 /// The number of a signal in a frame, and 0 where there is no such signal.
 pub(crate) fn number_at(frame: &[Word], signal: u32) -> Raw
-    ensures { result ≡ slice_index (map (λ (w : Word). w.bits) frame.now) signal }
+    ensures { result ≡ slice_index (shown_frame frame.now) signal }
 {
     match frame.get(signal as usize) {
         Some(word) => word.bits(),

@@ -1,8 +1,8 @@
 // What watches a simulation and gives text.
-ghost use Rattle.std.specs.Prelude.{◌≡◌, ◌≤◌, ◌<◌, map, OnOk, OnErr, IsErrOf, IsSome};
-ghost use Rattle.safl_word.specs.Words.{Word};
+ghost use Rattle.std.specs.Prelude.{◌≡◌, ◌≤◌, ◌<◌, OnOk, OnErr, IsErrOf, IsSome};
 ghost use Rattle.safl_io.specs.Counts.{Rose};
 ghost use Rattle.safl_io.specs.Sink.{Sends, SendsPart};
+ghost use Rattle.safl_probe.specs.Watching.{shown_frame};
 ghost use Rattle.safl_probe.specs.Probing.{ProbeState, Tells, FrameFits, begun, after_frame, begin_text, cycle_text, finish_text};
 ghost use Rattle.safl_probe.specs.declared.probe.ProbeErr.TheVariants as why;
 
@@ -52,12 +52,12 @@ pub trait Probe: Drop {
 
     /// Takes the frame of cycle `t`, which is the number of frames so far, and appends its text.
     fn cycle(&mut self, t: u64, frame: &[Word], out: &mut Vec<u8>) -> Result<(), ProbeErr>
-        requires fits { FrameFits (state self.old).shape (map (λ (w : Word). w.bits) frame.now) }
+        requires fits { FrameFits (state self.old).shape (shown_frame frame.now) }
         requires turn { t ≡ (state self.old).turn }
         requires room { t < 0xffff_ffff_ffff_ffff }
-        ensures added { OnOk result (Sends (cycle_text (map (λ (w : Word). w.bits) frame.now) (state self.old)) out.old.items out.new.items) }
-        ensures part { OnErr result (SendsPart (cycle_text (map (λ (w : Word). w.bits) frame.now) (state self.old)) out.old.items out.new.items) }
-        ensures tells { OnOk result (Tells (after_frame (map (λ (w : Word). w.bits) frame.now) (state self.old)) (state self.new)) }
+        ensures added { OnOk result (Sends (cycle_text (shown_frame frame.now) (state self.old)) out.old.items out.new.items) }
+        ensures part { OnErr result (SendsPart (cycle_text (shown_frame frame.now) (state self.old)) out.old.items out.new.items) }
+        ensures tells { OnOk result (Tells (after_frame (shown_frame frame.now) (state self.old)) (state self.new)) }
         ensures same_kind { (state self.new).kind ≡ (state self.old).kind }
         ensures failed { IsErrOf result ProbeErr.Failed → Rose (state self.old).faults (state self.new).faults }
         ensures faults_later { (state self.old).faults ≤ (state self.new).faults };

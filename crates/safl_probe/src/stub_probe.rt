@@ -48,7 +48,11 @@ impl StubProbe {
     fn next_fails(&mut self) -> bool
         ensures fails { IsTrue result ↔ FailsNext self.old }
         ensures calls { self.new.calls ≡ raised self.old.calls }
-        ensures same { self.new ≡ record { probe = record self.old.probe { faults = self.new.probe.faults }; fail_at = self.old.fail_at; calls = self.new.calls } }
+        ensures same { self.new ≡ record {
+          probe = record self.old.probe { faults = self.new.probe.faults };
+          fail_at = self.old.fail_at;
+          calls = self.new.calls;
+        } }
         ensures rose { IsTrue result → Rose self.old.probe.faults self.new.probe.faults }
         ensures later { self.old.probe.faults ≤ self.new.probe.faults }
     {
@@ -62,10 +66,10 @@ impl StubProbe {
 }
 
 impl Probe for StubProbe {
-    ghost use Rattle.std.specs.Prelude.{◌≡◌, ◌↔◌, ◌≤◌, ◌<◌, map, OnOk, OnErr, IsErrOf};
-    ghost use Rattle.safl_word.specs.Words.{Word};
+    ghost use Rattle.std.specs.Prelude.{◌≡◌, ◌↔◌, ◌≤◌, ◌<◌, OnOk, OnErr, IsErrOf};
     ghost use Rattle.safl_io.specs.Counts.{Rose};
     ghost use Rattle.safl_io.specs.Sink.{Sends, SendsPart};
+    ghost use Rattle.safl_probe.specs.Watching.{shown_frame};
     ghost use Rattle.safl_probe.specs.Probing.{Tells, FrameFits, begun, after_frame, begin_text, cycle_text, finish_text};
     ghost use Rattle.safl_probe.specs.Stubs.{FailsNext, CountsCall};
 
@@ -93,12 +97,12 @@ impl Probe for StubProbe {
     }
 
     fn cycle(&mut self, t: u64, frame: &[Word], out: &mut Vec<u8>) -> Result<(), ProbeErr>
-        requires fits { FrameFits self.old.probe.shape (map (λ (w : Word). w.bits) frame.now) }
+        requires fits { FrameFits self.old.probe.shape (shown_frame frame.now) }
         requires turn { t ≡ self.old.probe.turn }
         requires room { t < 0xffff_ffff_ffff_ffff }
-        ensures added { OnOk result (Sends (cycle_text (map (λ (w : Word). w.bits) frame.now) self.old.probe) out.old.items out.new.items) }
-        ensures part { OnErr result (SendsPart (cycle_text (map (λ (w : Word). w.bits) frame.now) self.old.probe) out.old.items out.new.items) }
-        ensures tells { OnOk result (Tells (after_frame (map (λ (w : Word). w.bits) frame.now) self.old.probe) self.new.probe) }
+        ensures added { OnOk result (Sends (cycle_text (shown_frame frame.now) self.old.probe) out.old.items out.new.items) }
+        ensures part { OnErr result (SendsPart (cycle_text (shown_frame frame.now) self.old.probe) out.old.items out.new.items) }
+        ensures tells { OnOk result (Tells (after_frame (shown_frame frame.now) self.old.probe) self.new.probe) }
         ensures same_kind { self.new.probe.kind ≡ self.old.probe.kind }
         ensures failed { IsErrOf result ProbeErr.Failed → Rose self.old.probe.faults self.new.probe.faults }
         ensures faults_later { self.old.probe.faults ≤ self.new.probe.faults }

@@ -1,8 +1,7 @@
 //! The texts of starts and toggles.
 
-ghost use Rattle.std.specs.Prelude.{◌≡◌, ◌++◌, ◌≤◌, map, slice_get, slice_index, bit_xor, count_ones, OnOk};
-ghost use Rattle.safl_word.specs.Words.{Word};
-ghost use Rattle.safl_probe.specs.Watching.{seen};
+ghost use Rattle.std.specs.Prelude.{◌≡◌, ◌++◌, ◌≤◌, slice_get, slice_index, bit_xor, count_ones, OnOk};
+ghost use Rattle.safl_probe.specs.Watching.{seen, shown_frame};
 ghost use Rattle.safl_probe.specs.Texts.{start, starts, toggles, toggled};
 ghost use Rattle.safl_probe.specs.Entries.{name_of, watched_from, nameless, numbers, looked, looked_all};
 
@@ -56,8 +55,8 @@ pub(crate) fn push_toggles(out: &mut Vec<u8>, t: u64, count: Raw) -> Result<(), 
 
 /// Sees a frame, and answers how many bits differ from the frame before.
 pub(crate) fn toggle(spots: &mut [Spot], frame: &[Word]) -> Raw
-    ensures count { result ≡ toggled (numbers spots.old) (seen (nameless spots.old) (map (λ (w : Word). w.bits) frame.now)) }
-    ensures now { spots.new ≡ looked_all (map (λ (w : Word). w.bits) frame.now) spots.old }
+    ensures count { result ≡ toggled (numbers spots.old) (seen (nameless spots.old) (shown_frame frame.now)) }
+    ensures now { spots.new ≡ looked_all (shown_frame frame.now) spots.old }
 {
     let mut count: Raw = 0;
     'spots: for i in 0..spots.len() {
@@ -68,9 +67,9 @@ pub(crate) fn toggle(spots: &mut [Spot], frame: &[Word]) -> Raw
 
 #[inline(always)]
 fn toggle_one(spot: &mut Spot, frame: &[Word]) -> u32
-    ensures count { result ≡ count_ones (bit_xor spot.old.number (slice_index (map (λ (w : Word). w.bits) frame.now) spot.old.signal)) }
+    ensures count { result ≡ count_ones (bit_xor spot.old.number (slice_index (shown_frame frame.now) spot.old.signal)) }
     ensures most { result ≤ 128 }
-    ensures now { spot.new ≡ looked (map (λ (w : Word). w.bits) frame.now) spot.old }
+    ensures now { spot.new ≡ looked (shown_frame frame.now) spot.old }
 {
     let last = spot.number;
     let number = number_at(frame, spot.signal);

@@ -1,10 +1,9 @@
 //! What a probe of a kind writes.
 
-ghost use Rattle.std.specs.Prelude.{◌≡◌, ◌++◌, ◌==◌, cond, map, Some, None, OnOk, OnErr};
-ghost use Rattle.safl_word.specs.Words.{Word};
-ghost use Rattle.safl_probe.specs.Watching.{seen};
-ghost use Rattle.safl_probe.specs.Texts.{opening, frame_text, closing};
-ghost use Rattle.safl_probe.specs.Entries.{watched_all, watched_from, numbers, looked_all};
+ghost use Rattle.std.specs.Prelude.{◌≡◌, ◌++◌, Some, None, OnOk, OnErr};
+ghost use Rattle.safl_probe.specs.Watching.{shown_frame};
+ghost use Rattle.safl_probe.specs.Texts.{opening, closing};
+ghost use Rattle.safl_probe.specs.Entries.{watched_all, numbers, looked_all, last_of, frame_text_of};
 
 use crate::entry::{Entry, Spot};
 use crate::kind::TraceKind;
@@ -41,9 +40,8 @@ pub(crate) fn send_frame(
     frame: &[Word],
     out: &mut Vec<u8>,
 ) -> Result<(), NoMemory>
-    ensures added { OnOk result (out.new.items ≡ out.old.items ++ frame_text kind (watched_from 0 entries.now spots.old) t (cond (t == 0) None (Some (numbers spots.old)))
-        (seen (watched_from 0 entries.now spots.old) (map (λ (w : Word). w.bits) frame.now))) }
-    ensures now { OnOk result (spots.new ≡ looked_all (map (λ (w : Word). w.bits) frame.now) spots.old) }
+    ensures added { OnOk result (out.new.items ≡ out.old.items ++ frame_text_of kind entries.now spots.old t (last_of t spots.old) (shown_frame frame.now)) }
+    ensures now { OnOk result (spots.new ≡ looked_all (shown_frame frame.now) spots.old) }
     ensures same { OnErr result (out.new.items ≡ out.old.items) }
 {
     text.clear();
@@ -74,9 +72,8 @@ fn push_frame(
     spots: &mut [Spot],
     frame: &[Word],
 ) -> Result<(), NoMemory>
-    ensures added { OnOk result (out.new.items ≡ out.old.items ++ frame_text kind (watched_from 0 entries.now spots.old) t (cond (t == 0) None (Some (numbers spots.old)))
-        (seen (watched_from 0 entries.now spots.old) (map (λ (w : Word). w.bits) frame.now))) }
-    ensures now { OnOk result (spots.new ≡ looked_all (map (λ (w : Word). w.bits) frame.now) spots.old) }
+    ensures added { OnOk result (out.new.items ≡ out.old.items ++ frame_text_of kind entries.now spots.old t (last_of t spots.old) (shown_frame frame.now)) }
+    ensures now { OnOk result (spots.new ≡ looked_all (shown_frame frame.now) spots.old) }
 {
     if t == 0 {
         push_first(out, kind, t, entries, spots, frame)
@@ -102,9 +99,8 @@ fn push_first(
     spots: &mut [Spot],
     frame: &[Word],
 ) -> Result<(), NoMemory>
-    ensures added { OnOk result (out.new.items ≡ out.old.items ++ frame_text kind (watched_from 0 entries.now spots.old) t None
-        (seen (watched_from 0 entries.now spots.old) (map (λ (w : Word). w.bits) frame.now))) }
-    ensures now { OnOk result (spots.new ≡ looked_all (map (λ (w : Word). w.bits) frame.now) spots.old) }
+    ensures added { OnOk result (out.new.items ≡ out.old.items ++ frame_text_of kind entries.now spots.old t None (shown_frame frame.now)) }
+    ensures now { OnOk result (spots.new ≡ looked_all (shown_frame frame.now) spots.old) }
 {
     look(spots, frame);
     match kind {
@@ -123,9 +119,9 @@ fn push_later(
     spots: &mut [Spot],
     frame: &[Word],
 ) -> Result<(), NoMemory>
-    ensures added { OnOk result (out.new.items ≡ out.old.items ++ frame_text kind (watched_from 0 entries.now spots.old) t (Some (numbers spots.old))
-        (seen (watched_from 0 entries.now spots.old) (map (λ (w : Word). w.bits) frame.now))) }
-    ensures now { OnOk result (spots.new ≡ looked_all (map (λ (w : Word). w.bits) frame.now) spots.old) }
+    ensures added { OnOk result (out.new.items ≡ out.old.items ++ frame_text_of kind entries.now spots.old t (Some (numbers spots.old))
+        (shown_frame frame.now)) }
+    ensures now { OnOk result (spots.new ≡ looked_all (shown_frame frame.now) spots.old) }
 {
     match kind {
         TraceKind::Vcd => push_change(out, t, spots, frame),

@@ -1,10 +1,9 @@
 //! The text of a value change dump.
 
-ghost use Rattle.std.specs.Prelude.{◌≡◌, ◌++◌, map, slice_index, OnOk};
-ghost use Rattle.safl_word.specs.Words.{Word};
-ghost use Rattle.safl_probe.specs.Watching.{seen};
-ghost use Rattle.safl_probe.specs.Texts.{header, variable, variables, value, values, changed, changes, dump, timed};
-ghost use Rattle.safl_probe.specs.Entries.{watched_in, watched_all, nameless, numbers, looked, looked_all};
+ghost use Rattle.std.specs.Prelude.{◌≡◌, ◌++◌, OnOk};
+ghost use Rattle.safl_probe.specs.Watching.{shown_frame};
+ghost use Rattle.safl_probe.specs.Texts.{header, variable, variables, value, values, dump, timed};
+ghost use Rattle.safl_probe.specs.Entries.{watched_in, watched_all, nameless, numbers, looked, looked_all, changed_in, changes_in};
 
 use crate::entry::{Entry, Spot};
 use crate::look::number_at;
@@ -74,9 +73,8 @@ pub(crate) fn push_change(
     spots: &mut [Spot],
     frame: &[Word],
 ) -> Result<(), NoMemory>
-    ensures added { OnOk result (out.new.items ≡ out.old.items ++ timed t (changes 0 (nameless spots.old) (numbers spots.old)
-        (seen (nameless spots.old) (map (λ (w : Word). w.bits) frame.now)))) }
-    ensures now { OnOk result (spots.new ≡ looked_all (map (λ (w : Word). w.bits) frame.now) spots.old) }
+    ensures added { OnOk result (out.new.items ≡ out.old.items ++ timed t (changes_in spots.old (shown_frame frame.now))) }
+    ensures now { OnOk result (spots.new ≡ looked_all (shown_frame frame.now) spots.old) }
 {
     let start = out.len();
     push_time(out, t)?;
@@ -90,9 +88,8 @@ pub(crate) fn push_change(
 }
 
 fn push_changes(out: &mut Vec<u8>, spots: &mut [Spot], frame: &[Word]) -> Result<(), NoMemory>
-    ensures added { OnOk result (out.new.items ≡ out.old.items ++ changes 0 (nameless spots.old) (numbers spots.old)
-        (seen (nameless spots.old) (map (λ (w : Word). w.bits) frame.now))) }
-    ensures now { OnOk result (spots.new ≡ looked_all (map (λ (w : Word). w.bits) frame.now) spots.old) }
+    ensures added { OnOk result (out.new.items ≡ out.old.items ++ changes_in spots.old (shown_frame frame.now)) }
+    ensures now { OnOk result (spots.new ≡ looked_all (shown_frame frame.now) spots.old) }
 {
     'spots: for i in 0..spots.len() {
         push_changed(out, i, &mut spots[i], frame)?;
@@ -108,8 +105,8 @@ fn push_changed(
     spot: &mut Spot,
     frame: &[Word],
 ) -> Result<(), NoMemory>
-    ensures added { OnOk result (out.new.items ≡ out.old.items ++ changed i spot.old.width spot.old.number (slice_index (map (λ (w : Word). w.bits) frame.now) spot.old.signal)) }
-    ensures now { OnOk result (spot.new ≡ looked (map (λ (w : Word). w.bits) frame.now) spot.old) }
+    ensures added { OnOk result (out.new.items ≡ out.old.items ++ changed_in i spot.old (shown_frame frame.now)) }
+    ensures now { OnOk result (spot.new ≡ looked (shown_frame frame.now) spot.old) }
 {
     let number = number_at(frame, spot.signal);
     if number == spot.number {

@@ -21,12 +21,16 @@ body_under place [] ts body = body
 body_under place (p ∷ ps) no_tree body = body
 body_under place (p ∷ ps) (a_tree t ts) body = Let place (bound_params (p ∷ ps) (a_tree t ts)) body
 
+-- the same of a definition
+abbrev pub placed_body : ℕ → Definition → Trees → Tree
+placed_body place d ts = body_under place d.params ts d.body
+
 abbrev pub result_name : List ℕ
 result_name = codes "r"
 
 -- `let r:w = B in r`
 abbrev pub unfolded_call : ℕ → Definition → Trees → Tree
-unfolded_call place d ts = Let place (a_bind place result_name (Some d.width) (body_under place d.params ts d.body) no_bind) (Variable place result_name)
+unfolded_call place d ts = Let place (a_bind place result_name (Some d.width) (placed_body place d ts) no_bind) (Variable place result_name)
 
 abbrev pub unfolded_as : Option Definition → ℕ → List ℕ → Trees → Tree
 unfolded_as (Some d) place x ts = unfolded_call place d ts

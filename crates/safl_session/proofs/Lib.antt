@@ -1,9 +1,9 @@
 pub mod PiecesOfText
-pub mod Digits
 pub mod WordsOfLines
 pub mod LinesOfScripts
-pub mod InputsAroundStart
 pub mod OneListOfReplies
-pub mod CallsOfSessions
 pub mod QuietStates
 pub mod Serving
+pub mod SentLines
+pub mod ReadyStates
+pub mod Holds

@@ -24,12 +24,15 @@ use Rattle.safl_circuit.specs.Scheme.{Scheme}
 use Rattle.safl_circuit.specs.Steps.{Quiet}
 use Rattle.safl_circuit.specs.Correct.{IsQuietState, IsResult, DoneIn, latest}
 use Rattle.safl_circuit.specs.Theorem.{IsCircuit, Runs}
-use Rattle.safl_session.specs.declared.session.Reply.{Reply}
-use Rattle.safl_session.specs.Replies.{Replies, IsSilent, AreReplies}
+use Rattle.safl_sim.specs.declared.done.Done.{Done as Reply}
+use Rattle.safl_run.specs.Calls.{Replies, IsSilent}
+use Rattle.safl_session.specs.Replies.{AreReplies}
 use Rattle.safl_session.specs.Circuits.{IsMainReply, Serves, IsInTime, BudgetsAreInTime, CircuitsServe, CircuitsReply}
+use Rattle.safl_run.proofs.OneAnswer.{last_fits}
 use Rattle.safl_session.proofs.WordsOfLines.{at_seam}
 use Rattle.safl_session.proofs.QuietStates.{quiet_alike}
-use Rattle.safl_session.proofs.OneListOfReplies.{next_fits, fits_along}
+use Rattle.safl_sim.proofs.Existence.{next_fits}
+use Rattle.safl_sim.proofs.Going.{fits_along}
 
 word_bits : (n : Netlist) (v : Valuation) (o : Option ℕ) → (word_at n v o).bits ≡ number_at v o
 word_bits n v None = refl
@@ -43,14 +46,6 @@ goes_more n state (x ∷ vs) v u g f s = (g.0, g.1, goes_more n (next_state n x)
 run_more : (n : Netlist) (state : ℕ → ℕ) (args : List ℕ) (vs : List Valuation) (v u : Valuation) → RunFrom n state args (vs ++ v ∷ []) → Fits n (next_state n v) u → start_number n u ≡ 0 → RunFrom n state args (vs ++ v ∷ u ∷ [])
 run_more n state args [] v u r f s = (r.0, r.1, r.2, (f, s, tt))
 run_more n state args (x ∷ vs) v u r f s = (r.0, r.1, r.2, goes_more n (next_state n x) vs v u r.3 f s)
-
-goes_fits : (n : Netlist) (state : ℕ → ℕ) (vs : List Valuation) (v : Valuation) → GoesOn n state (vs ++ v ∷ []) → (s : ℕ → ℕ) × Fits n s v
-goes_fits n state [] v g = (state, g.0)
-goes_fits n state (u ∷ vs) v g = goes_fits n (next_state n u) vs v g.2
-
-last_fits : (n : Netlist) (state : ℕ → ℕ) (args : List ℕ) (vs : List Valuation) (v : Valuation) → RunFrom n state args (vs ++ v ∷ []) → (s : ℕ → ℕ) × Fits n s v
-last_fits n state args [] v g = (state, g.0)
-last_fits n state args (u ∷ vs) v g = goes_fits n (next_state n u) vs v g.3
 
 module _ (C : Program) (D : Names) (P : Choice) (n : Netlist) (scheme : Scheme C D P n) (circuit : IsCircuit C D P n) (made : IsNetlist n) (whole : IsWhole n) (limit : ℕ) where
   -- from each state of the widths there is a cycle without `start`
@@ -80,7 +75,7 @@ module _ (C : Program) (D : Names) (P : Choice) (n : Netlist) (scheme : Scheme C
 
       quiet_after : IsQuietState C D n after
       quiet_after w fits =
-          let f = last_fits n state (bits args) p.before p.last p.call.run in
+          let f = last_fits n state args p.before p.last p.call in
           let u = rest_cycle (next_state n p.last) (next_fits n f.0 p.last made f.1) in
           let run = run_more n state (bits args) p.before p.last u.0 p.call.run u.1 u.2 in
           let q : Quiet (registers_now C D n u.0) =

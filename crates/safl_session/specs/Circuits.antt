@@ -14,8 +14,9 @@ use Rattle.safl_circuit.specs.Names.{Names, as_word}
 use Rattle.safl_circuit.specs.Scheme.{Scheme}
 use Rattle.safl_circuit.specs.Correct.{IsQuietState, IsResult, latest}
 use Rattle.safl_circuit.specs.Theorem.{IsCircuit}
-use Rattle.safl_session.specs.declared.session.Reply.{Reply}
-use Rattle.safl_session.specs.Replies.{Replies, IsSilent, AreReplies}
+use Rattle.safl_sim.specs.declared.done.Done.{Done as Reply}
+use Rattle.safl_run.specs.Calls.{Replies, IsSilent}
+use Rattle.safl_session.specs.Replies.{AreReplies}
 
 -- the reply is main's from the arguments, in time
 abbrev pub IsMainReply : Program → List Word → Reply → Type 0

@@ -6,8 +6,8 @@ use Rattle.safl_net.specs.Netlist.{Netlist}
 use Rattle.safl_net.specs.Rules.{IsNetlist}
 use Rattle.safl_net.specs.Valuations.{IsAcyclic}
 use Rattle.safl_net.specs.Whole.{IsWhole}
-use Rattle.safl_sim.specs.Arguments.{AreArguments}
-use Rattle.safl_session.specs.declared.session.Reply.{Reply}
+use Rattle.safl_net.specs.Arguments.{AreArguments}
+use Rattle.safl_sim.specs.declared.done.Done.{Done as Reply}
 use Rattle.safl_session.specs.declared.script.ScriptErr.{ScriptErr}
 use Rattle.safl_session.specs.Replies.{AreReplies, AllReply}
 use Rattle.safl_session.specs.Scripts.{IsScript, IsScriptFault}

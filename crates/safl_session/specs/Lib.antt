@@ -1,9 +1,9 @@
 pub mod Pieces
 pub mod Lines
 pub mod Scripts
-pub mod Rooms
-pub mod Watching
 pub mod Sessions
 pub mod Replies
 pub mod Laws
 pub mod Circuits
+pub mod Transcripts
+pub mod Holding

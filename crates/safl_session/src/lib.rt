@@ -1,12 +1,17 @@
-//! Sessions: several calls of one circuit, each after the one before is done, and the scripts that hold the calls.
+//! Sessions: several calls of one circuit, each after the one before is done; the scripts that hold the calls, and the transcripts that
+//! tell of the replies.
 #![tactic(auto)]
 
 pub mod laws;
 mod line;
 mod pieces;
-mod room;
 pub mod script;
 pub mod session;
+mod transcript;
+mod transcript_line;
 
+pub use crate::line::read_argument;
 pub use crate::script::{Script, ScriptErr, read_script};
 pub use crate::session::{Reply, Session};
+pub use crate::transcript::send_transcript;
+pub use crate::transcript_line::push_late;

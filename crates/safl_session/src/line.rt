@@ -1,15 +1,12 @@
 //! A line of a script.
 
-ghost use Rattle.std.specs.Prelude.{◌≡◌, ◌<◌, ◌≤◌, ◌^◌, ◌↔◌, ◌++◌, OnOk, IfErr, IfSome, IfNone, IsSome, length};
-ghost use Rattle.safl_word.specs.Numerals.{IsNumeral, value};
+ghost use Rattle.std.specs.Prelude.{◌<◌, ◌^◌, OnOk, IfErr, IfSome, IfNone, length};
+ghost use Rattle.safl_word.specs.Words.{Word};
 ghost use Rattle.safl_session.specs.Lines.{IsArgument, AppendsCall, RefusesLine};
 
 use crate::pieces::next_word;
 use crate::script::ScriptErr;
-use safl_word::{Raw, Word, argument};
-
-// Each number of so many digits is below 2 to the 64th.
-const SHORT_MAX: usize = 19;
+use safl_word::{Word, argument};
 
 /// Appends the words of a line for inputs of these widths. The line has this number.
 pub fn read_line(
@@ -48,32 +45,13 @@ pub fn read_line(
     }
 }
 
-fn read_argument(width: u8, text: &[u8]) -> Option<Word>
-    requires { 0 < length text.now }
+/// The word of an argument for a parameter of this width: None exactly where the text is no numeral of a number of so many bits.
+pub fn read_argument(width: u8, text: &[u8]) -> Option<Word>
     ensures read { IfSome result (IsArgument width text.now) }
     ensures none { IfNone result ((v : Word) → IsArgument width text.now v → ⊥) }
 {
-    let number = if text.len() <= SHORT_MAX {
-        Raw::from(short_number(text)?)
-    } else {
-        argument(text)?
-    };
-    Word::new(width, number)
-}
-
-// The number of a text of few bytes, where these are digits.
-fn short_number(text: &[u8]) -> Option<u64>
-    requires some { 0 < length text.now }
-    requires short { length text.now ≤ 19 }
-    ensures some { IsSome result ↔ IsNumeral 10 text.now }
-    ensures value { IfSome result (λ n. n ≡ value 10 text.now) }
-{
-    let mut number = 0;
-    for c in text {
-        if !c.is_ascii_digit() {
-            return None;
-        }
-        number = 10 * number + u64::from(*c - b'0');
+    match argument(text) {
+        Some(number) => Word::new(width, number),
+        None => None,
     }
-    Some(number)
 }

@@ -1,32 +1,18 @@
 //! Sessions: calls of a circuit, each after the one before is done.
 
-ghost use Rattle.std.specs.Prelude.{◌≡◌, ◌<◌, IfSome, IfNone, length, slice_index};
-ghost use Rattle.safl_net.specs.Netlist.{width_of};
-ghost use Rattle.safl_sim.specs.Places.{AreInputs};
-ghost use Rattle.safl_sim.specs.Ticks.{words_of};
-ghost use Rattle.safl_session.specs.Watching.{IsFound, IsUnfound};
-
-use crate::room::{Room, put_arguments, signal_of};
-use safl_net::Sig;
+use safl_run::Runner;
 use safl_sim::Sim;
 use safl_word::Word;
 use std::alloc::Global;
 use std::marker::Model;
 
 /// The cycle in which `done` is 1, counted from 0 in the cycle of the call's `start`, and the word of `result` in it.
-#[derive(Clone, Copy, Debug, PartialEq, Eq)]
-pub struct Reply {
-    pub cycle: u64,
-    pub result: Word,
-}
+pub use safl_sim::Done as Reply;
 
 /// A simulator whose net is called again and again.
 #[derive(Drop)]
 pub struct Session {
-    sim: Sim,
-    room: Room,
-    done: Sig,
-    result: Sig,
+    runner: Runner,
     opened: bool,
 }
 
@@ -35,18 +21,14 @@ impl Model for Session {
 
     ghost Value = { Opened };
 
-    ghost use Rattle.safl_session.specs.Sessions.{Keeps};
-
-    ghost view = { λ s. record { net = s.sim.net; state = s.sim.state; is_open = s.opened } };
-
-    ghost invariant = { λ s. Keeps s.sim.net s.room s.done.0 s.result.0 };
+    ghost view = { λ s. record { net = s.runner.net; state = s.runner.state; is_open = s.opened } };
 }
 
 impl Session {
     ghost use Rattle.std.specs.Prelude.{◌≡◌, IfSome, IfNone, IfOk, IfErr, is_some, slice_index, true};
     ghost use Rattle.safl_net.specs.Whole.{IsWhole};
-    ghost use Rattle.safl_sim.specs.Arguments.{AreArguments};
-    ghost use Rattle.safl_session.specs.Replies.{Replies, IsSilent};
+    ghost use Rattle.safl_net.specs.Arguments.{AreArguments};
+    ghost use Rattle.safl_run.specs.Calls.{Replies, IsSilent};
 
     /// A session of a net, from the state that its simulator has. It makes the room for the words of every later cycle.
     /// The error is lack of memory and hands the simulator back.
@@ -55,17 +37,8 @@ impl Session {
         ensures made { IfOk result (λ s. s ≡ record { net = sim.net; state = sim.state; is_open = true }) }
         ensures refused { IfErr result (λ s. s ≡ sim) }
     {
-        let net = sim.net();
-        let done = signal_of(net, "done");
-        let result = signal_of(net, "result");
-        let Ok(room) = Room::new(alloc, net) else {
-            return Err(sim);
-        };
         Ok(Session {
-            sim,
-            room,
-            done,
-            result,
+            runner: Runner::new(alloc, sim)?,
             opened: true,
         })
     }
@@ -88,39 +61,8 @@ impl Session {
         ensures net { self.new.net ≡ self.old.net }
         ensures is_open { self.new.is_open ≡ is_some result }
     {
-        put_arguments(&mut self.room.first, self.room.start, args);
-        let reply = watch(&mut self.sim, &self.room, self.done, self.result, limit);
+        let reply = self.runner.call(args, limit);
         self.opened = reply.is_some();
         reply
     }
-}
-
-// Ticks until a signal is 1, with the first words in cycle 0 and the later ones after it.
-fn watch(sim: &mut Sim, room: &Room, signal: Sig, value: Sig, limit: u64) -> Option<Reply>
-    requires first { AreInputs sim.old.net room.now.first.items }
-    requires later { AreInputs sim.old.net room.now.later.items }
-    requires signal { signal.0 < length sim.old.net.signals }
-    requires bit { width_of sim.old.net signal.0 ≡ 1 }
-    requires value { value.0 < length sim.old.net.signals }
-    ensures found { IfSome result (λ r. IsFound sim.old.net sim.old.state room.now.first.items room.now.later.items signal.0 value.0 limit r sim.new.state) }
-    ensures none { IfNone result (IsUnfound sim.old.net sim.old.state room.now.first.items room.now.later.items signal.0 limit) }
-    ensures net { sim.new.net ≡ sim.old.net }
-{
-    'cycles: for cycle in 0..limit {
-        sim.tick(words_of(cycle, room));
-        if sim.is_on(signal) {
-            return Some(Reply {
-                cycle,
-                result: sim.value(value),
-            });
-        }
-    }
-    None
-}
-
-// The words of a cycle.
-fn words_of<'a>(cycle: u64, room: &'a Room) -> &'a [Word]
-    ensures { result.now ≡ words_of cycle room.now.first.items room.now.later.items }
-{
-    if cycle == 0 { &room.first } else { &room.later }
 }

@@ -20,7 +20,7 @@ use Rattle.safl_net.specs.Making.{cell_on}
 use Rattle.safl_net.specs.Rules.{IsNetlist, CellFits}
 use Rattle.safl_sim.specs.declared.step.Action.{Action}
 use Rattle.safl_sim.specs.declared.step.Action.TheVariants.{Choose, One, Two}
-use Rattle.safl_narrow.specs.Narrow.{word_of, HasLow}
+use Rattle.safl_word.specs.Narrow.{word_of, HasLow}
 use Rattle.safl_sim.specs.Steps.{Constant, plain, plain_number, PlainReady, PlainLow, IsNarrow, Performs}
 
 none_on_nil : (p : Primitive) → result_width p [] ≡ None

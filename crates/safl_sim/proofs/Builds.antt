@@ -20,7 +20,7 @@ use Rattle.safl_sim.specs.Places.{with_input, inputs_from, inputs_of, resets}
 use Rattle.safl_sim.specs.States.{placed, AreReset}
 use Rattle.safl_sim.specs.Steps.{IsReg, IsStep, AreSteps, AreRegisters, Keeps}
 use Rattle.safl_sim.proofs.Placing.{placed_long, placed_rest, placed_at}
-use Rattle.safl_halves.proofs.Joining.{index_past}
+use Rattle.safl_word.proofs.Joining.{index_past}
 use Rattle.safl_sim.proofs.Written.{lower_or_same, lower_or_not}
 
 -- a cell that a net shows fits its wire

@@ -2,7 +2,7 @@
 use Rattle.std.proofs.Common.{◌≡◌, inl, inr, ℕ, zero, suc, ◌+◌, ◌-◌, ◌<◌, ◌≤◌, List, [], ◌∷◌, ◌++◌, map, length, set, Some, slice_get, slice_index, refl, sym, ap, subst, ◌∙◌, arith}
 use Rattle.safl_sim.specs.Chains.{chain_of, chain, numbers_of, nexts_of, lists_of, AreChains}
 use Rattle.safl_sim.specs.declared.chains.Link.{Link}
-use Rattle.safl_halves.proofs.Joining.{index_past}
+use Rattle.safl_word.proofs.Joining.{index_past}
 use Rattle.safl_sim.proofs.Written.{same_or_not, lower_or_not, lower_or_same, index_here, index_other, set_length}
 
 -- a bound above the first link's number changes nothing

@@ -5,17 +5,18 @@ use Rattle.safl_word.specs.Words.{Word, IsWord, AreWords}
 use Rattle.safl_net.specs.Laws.{FitWidths}
 use Rattle.safl_net.specs.Netlist.{Netlist, Signal, Kind, Input, Reg, Wire, width_in, width_of}
 use Rattle.safl_net.specs.Rules.{IsNetlist, KindFits}
-use Rattle.safl_net.specs.Valuations.{Valuation, Fits, IsAcyclic, next_state, next_number, kind_next}
+use Rattle.safl_net.specs.Runs.{GoesOn, input_numbers}
+use Rattle.safl_net.specs.Valuations.{Valuation, Fits, IsAcyclic, next_state, next_number, kind_next, kind_reset, reset_number, reset_state}
 use Rattle.safl_net.specs.Whole.{IsWhole}
 use Rattle.safl_net.proofs.Existence.{exactly_one}
-use Rattle.safl_sim.specs.Arguments.{AreArguments}
+use Rattle.safl_net.specs.Arguments.{AreArguments}
 use Rattle.safl_sim.specs.Existence.{RunsExist, ResetFits, OneRunExists}
-use Rattle.safl_sim.specs.Places.{AreInputs, resets}
-use Rattle.safl_sim.specs.Ticks.{IsOnly, Ticked}
+use Rattle.safl_sim.specs.Outcomes.{IsCallRun}
+use Rattle.safl_sim.specs.Places.{AreInputs, HasWords, resets}
 use Rattle.safl_sim.specs.Words.{own_word, others, is_start, input_words, zero_of, bit_word}
 use Rattle.safl_sim.proofs.Builds.{resets_fit}
-use Rattle.safl_sim.proofs.Giving.{own_value, input_values, inputs_map, sizes, sizes_long, size_at, values_are, are_inputs, zero_widths, widths, bits}
-use Rattle.safl_sim.proofs.Outcome.{reset_at, first, later, runs, only_run}
+use Rattle.safl_sim.proofs.Giving.{own_value, input_values, inputs_map, sizes, sizes_long, size_at, values_are, words_had, are_inputs, zero_widths, zero_bits, widths, bits}
+use Rattle.safl_sim.proofs.OneCall.{only_run}
 
 -- the number of a signal, where it is an input: the first of those that are left
 abbrev first_of : Kind → List ℕ → ℕ
@@ -71,7 +72,7 @@ fill_fits (g ∷ gs) words are e (suc s) h at = on g.kind words are e (λ rest a
     on (Reg init next) words are e rest = rest words are e
     on (Wire cell) words are e rest = rest words are e
 
--- what agrees on the inputs has the same numbers there, and the other way round
+-- what agrees on the inputs has the same numbers there
 values_same : (gs : List Signal) (v u : List ℕ) → length v ≡ length gs → length u ≡ length gs → ((s : ℕ) (g : Signal) → slice_get gs s ≡ Some g → g.kind ≡ Input → slice_index v s ≡ slice_index u s) → input_values gs v ≡ input_values gs u
 values_same [] v u l m h = refl
 values_same (g ∷ gs) [] u l m h = absurd (omega (arith, l))
@@ -82,23 +83,6 @@ values_same (g ∷ gs) (x ∷ v) (y ∷ u) l m h = on g.kind (λ k. h 0 g refl k
     on Input e rest = ap (λ z. z ∷ input_values gs v) (e refl) ∙ ap (λ l. y ∷ l) rest
     on (Reg init next) e rest = rest
     on (Wire cell) e rest = rest
-
-same_values : (gs : List Signal) (v u : List ℕ) → length v ≡ length gs → length u ≡ length gs → input_values gs v ≡ input_values gs u → (s : ℕ) (g : Signal) → slice_get gs s ≡ Some g → g.kind ≡ Input → slice_index v s ≡ slice_index u s
-same_values [] v u l m e s h at is = absurd cc
-same_values (g ∷ gs) [] u l m e s h at is = absurd (omega (arith, l))
-same_values (g ∷ gs) (x ∷ v) [] l m e s h at is = absurd (omega (arith, m))
-same_values (g ∷ gs) (x ∷ v) (y ∷ u) l m e zero h at is =
-    let q : g ≡ h = cc in
-    here (subst (λ k. own_value k x ++ input_values gs v ≡ own_value k y ++ input_values gs u) (ap (λ (z : Signal). z.kind) q ∙ is) e)
-  where
-    here : x ∷ input_values gs v ≡ y ∷ input_values gs u → x ≡ y
-    here e = cc
-same_values (g ∷ gs) (x ∷ v) (y ∷ u) l m e (suc s) h at is = same_values gs v u (omega (arith, l)) (omega (arith, m)) (rest g.kind e) s h at is
-  where
-    rest : (k : Kind) → own_value k x ++ input_values gs v ≡ own_value k y ++ input_values gs u → input_values gs v ≡ input_values gs u
-    rest Input e = cc
-    rest (Reg init next) e = e
-    rest (Wire cell) e = e
 
 -- the words of a cycle are words
 input_are_words : (gs : List Signal) (start : Word) (args : List Word) → IsWord start → AreWords args → AreWords (input_words gs start args)
@@ -126,7 +110,7 @@ none_within (x ∷ xs) zero e h = cc
 none_within (x ∷ xs) (suc i) e h = none_within xs i e (omega (arith, h))
 
 -- the state after a cycle is of the widths
-next_fits : (n : Netlist) (state : ℕ → ℕ) (v : Valuation) → IsNetlist n → Fits n state v → FitWidths n (next_state n v)
+pub next_fits : (n : Netlist) (state : ℕ → ℕ) (v : Valuation) → IsNetlist n → Fits n state v → FitWidths n (next_state n v)
 next_fits n state v made fits s g at = subst (λ x. x < 2 ^ g.width) (sym (ap (next_number v) at)) (on g.kind (made.signals s g at).kind)
   where
     of : (m : ℕ) (o : Option Signal) → slice_get n.signals m ≡ o → m < length n.signals → width_in o ≡ g.width → slice_index v m < 2 ^ g.width
@@ -138,6 +122,12 @@ next_fits n state v made fits s g at = subst (λ x. x < 2 ^ g.width) (sym (ap (n
     on (Reg init None) f = pow_pos g.width
     on (Reg init (Some m)) f = of m (slice_get n.signals m) refl f.1 f.2
     on (Wire cell) f = pow_pos g.width
+
+-- the state at reset is of the widths
+pub reset_at : (gs : List Signal) (s : ℕ) → slice_index (map (λ (g : Signal). kind_reset g.kind) gs) s ≡ reset_number (slice_get gs s)
+reset_at [] s = refl
+reset_at (g ∷ gs) zero = refl
+reset_at (g ∷ gs) (suc s) = reset_at gs s
 
 pub reset_fits : ResetFits
 reset_fits n made s g at = subst (λ x. x < 2 ^ g.width) (reset_at n.signals s) (resets_fit n made s g at)
@@ -151,48 +141,61 @@ module _ (n : Netlist) (made : IsNetlist n) (whole : IsWhole n) (acyclic : IsAcy
   sized : (words : List Word) → AreInputs n words → widths words ≡ input_values n.signals (sizes n.signals)
   sized words a = a ∙ inputs_map n.signals (sizes n.signals) (width_of n) 0 (sizes_long n.signals) (λ k. ap (width_of n) (let z : k + 0 ≡ k = omega arith in z) ∙ size_at n.signals k)
 
-  cycle : (state : ℕ → ℕ) (words : List Word) → FitWidths n state → Given words → (v : Valuation) × IsOnly n state words v
+  cycle : (state : ℕ → ℕ) (words : List Word) → FitWidths n state → Given words → (v : Valuation) × Fits n state v × HasWords n v words
   cycle state words fit given =
       let gs : List Signal = n.signals in
       let w = sized words given.inputs in
       let u : List ℕ = fill gs (bits words) in
       let one = exactly_one n made whole.set acyclic state (slice_index u) fit (fill_fits gs words given.are w) in
       let v = one.0 in
-      let is = one.1 in (
-        v,
-        record {
-          fits = is.fits;
-          inputs = values_are n v is.fits.full ∙ values_same gs v u is.fits.full (fill_long gs (bits words)) is.inputs ∙ fill_values gs words w;
-          alone = λ x f h. is.alone x f (same_values gs x u f.full (fill_long gs (bits words)) (sym (values_are n x f.full) ∙ h ∙ sym (fill_values gs words w)));
-        },
-      )
-
-  cycles : (count : ℕ) (state : ℕ → ℕ) (words rest : List Word) → FitWidths n state → Given words → Given rest → (vs : List Valuation) × Ticked n state words rest vs × (length vs ≡ count)
-  cycles zero state words rest fit a b = ([], tt, refl)
-  cycles (suc count) state words rest fit a b =
-      let c = cycle state words fit a in
-      let more = cycles count (next_state n c.0) rest rest (next_fits n state c.0 made c.1.fits) b b in
-      (c.0 ∷ more.0, (c.1, more.1), ap suc more.2)
+      let is = one.1 in
+      (v, is.fits, values_are n v is.fits.full ∙ values_same gs v u is.fits.full (fill_long gs (bits words)) is.inputs ∙ fill_values gs words w)
 
   module _ (args : List Word) (are : AreWords args) (fit : AreArguments n args) where
-    given_first : Given (first n args made whole fit)
+    abbrev first : List Word
+    first = input_words n.signals (bit_word 1) args
+
+    abbrev later : List Word
+    later = input_words n.signals (bit_word 0) (map zero_of args)
+
+    given_first : Given first
     given_first = record { are = input_are_words n.signals (bit_word 1) args (one_bit 1 (omega arith)) are; inputs = are_inputs n 1 args made whole fit }
 
-    given_later : Given (later n args made whole fit)
+    given_later : Given later
     given_later = record {
       are = input_are_words n.signals (bit_word 0) (map zero_of args) (one_bit 0 (omega arith)) (zeros_are_words args are);
       inputs = are_inputs n 0 (map zero_of args) made whole (zero_widths args ∙ fit);
     }
 
-    pub ticked : (count : ℕ) (state : ℕ → ℕ) → FitWidths n state → (vs : List Valuation) × Ticked n state (first n args made whole fit) (later n args made whole fit) vs × (length vs ≡ count)
-    ticked count state f = cycles count state (first n args made whole fit) (later n args made whole fit) f given_first given_later
+    abbrev Zeros : List Valuation → Type 0
+    Zeros vs = (c : ℕ) (v : Valuation) → slice_get vs c ≡ Some v → input_numbers n.signals v ≡ map (λ (w : Word). 0) args
+
+    zeros_more : (v : Valuation) (vs : List Valuation) → input_numbers n.signals v ≡ map (λ (w : Word). 0) args → Zeros vs → Zeros (v ∷ vs)
+    zeros_more v vs e z zero u at = subst (λ x. input_numbers n.signals x ≡ map (λ (w : Word). 0) args) (let q : v ≡ u = cc in q) e
+    zeros_more v vs e z (suc c) u at = z c u at
+
+    goes : (count : ℕ) (state : ℕ → ℕ) → FitWidths n state → (vs : List Valuation) × GoesOn n state vs × Zeros vs × (length vs ≡ count)
+    goes zero state f = ([], tt, (λ c v e. absurd (cc)), refl)
+    goes (suc count) state f =
+        let c = cycle state later f given_later in
+        let h = words_had n 0 (map zero_of args) c.0 whole (zero_widths args ∙ fit) c.1.full c.2 in
+        let more = goes count (next_state n c.0) (next_fits n state c.0 made c.1) in
+        (c.0 ∷ more.0, (c.1, h.0, more.1), zeros_more c.0 more.0 (h.1 ∙ zero_bits args) more.2, ap suc more.3)
+
+    pub call_exists : (count : ℕ) (state : ℕ → ℕ) → FitWidths n state → (vs : List Valuation) × IsCallRun n state args vs × (length vs ≡ count)
+    call_exists zero state f = ([], record { run = tt; zeros = λ c v e. absurd (cc) }, refl)
+    call_exists (suc count) state f =
+        let c = cycle state first f given_first in
+        let h = words_had n 1 args c.0 whole fit c.1.full c.2 in
+        let more = goes count (next_state n c.0) (next_fits n state c.0 made c.1) in
+        (c.0 ∷ more.0, record { run = (c.1, h.0, h.1, more.1); zeros = more.2 }, ap suc more.3)
 
 pub runs_exist : RunsExist
 runs_exist n made whole acyclic state fits args are fit count =
-    let t = ticked n made whole acyclic args are fit count state fits in
-    (t.0, runs n args made whole fit state t.0 t.1, t.2)
+    let t = call_exists n made whole acyclic args are fit count state fits in
+    (t.0, t.1.run, t.2)
 
 pub one_run_exists : OneRunExists
 one_run_exists n made whole acyclic args are fit count =
-    let t = ticked n made whole acyclic args are fit count (slice_index (resets n)) (resets_fit n made) in
-    (t.0, only_run n args made whole fit (resets n) t.0 count refl t.1 t.2)
+    let t = call_exists n made whole acyclic args are fit count (reset_state n) (reset_fits n made) in
+    (t.0, only_run n made whole acyclic args t.0 count t.1 t.2)

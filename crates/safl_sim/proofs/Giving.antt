@@ -7,7 +7,7 @@ use Rattle.safl_net.specs.Runs.{is_argument, input_numbers, start_number}
 use Rattle.safl_net.specs.Rules.{IsNetlist}
 use Rattle.safl_net.specs.Whole.{IsWhole, HasStart}
 use Rattle.safl_sim.specs.Places.{with_input, inputs_from, inputs_of, AreInputs, HasWords}
-use Rattle.safl_sim.specs.Arguments.{argument_widths, AreArguments}
+use Rattle.safl_net.specs.Arguments.{argument_widths, AreArguments}
 use Rattle.safl_sim.specs.Words.{own_word, others, is_start, input_words, zero_of, bit_word}
 use Rattle.safl_sim.proofs.Names.{Starts, starts, start_is, start_at}
 

@@ -17,8 +17,7 @@ pub mod Guarding
 pub mod Few
 pub mod Builds
 pub mod Names
-pub mod Pushing
 pub mod Giving
 pub mod Going
-pub mod Outcome
+pub mod OneCall
 pub mod Existence

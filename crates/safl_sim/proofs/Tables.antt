@@ -6,7 +6,7 @@ use Rattle.safl_order.specs.Order.{operands_of}
 use Rattle.safl_sim.specs.Readers.{Lists, Reader, AreReaders, Reads, On, AreLists, AreFlat}
 use Rattle.safl_sim.specs.declared.step.Register.{Register}
 use Rattle.safl_sim.specs.Marks.{first_register}
-use Rattle.safl_halves.proofs.Joining.{index_past}
+use Rattle.safl_word.proofs.Joining.{index_past}
 use Rattle.safl_sim.proofs.Written.{same_or_not, lower_or_not, lower_or_same}
 
 pub get_set_same : {A : Type 0} (xs : List A) (p : ℕ) (y : A) → p < length xs → slice_get (set xs p y) p ≡ Some y

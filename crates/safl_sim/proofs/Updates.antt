@@ -16,7 +16,7 @@ use Rattle.safl_sim.specs.declared.step.Step.{Step}
 use Rattle.safl_sim.specs.declared.step.Register.{Register}
 use Rattle.safl_sim.specs.Marks.{marked, first_register}
 use Rattle.safl_sim.specs.Readers.{Lists, Reader, AreReaders, IsBlind, HasGiven, Agrees, Kept, Inside, Holding}
-use Rattle.safl_narrow.specs.Narrow.{word_of}
+use Rattle.safl_word.specs.Narrow.{word_of}
 use Rattle.safl_sim.specs.Steps.{Choice, plain_number, action_number, IsStep, AreSteps, Goes}
 use Rattle.safl_sim.proofs.Actions.{picked_number}
 use Rattle.safl_sim.proofs.Written.{same_or_not, lower_or_not, index_here, index_other}

@@ -3,6 +3,7 @@ use Rattle.std.specs.Prelude.{◌≡◌, ℕ, List, length}
 use Rattle.safl_word.specs.Words.{Word}
 use Rattle.safl_order.specs.Order.{Order}
 use Rattle.safl_sim.specs.declared.plan.Plan.{Plan}
+use Rattle.safl_sim.specs.Places.{AreInputs, HasWords}
 use Rattle.safl_sim.specs.Simulation.{Ticks}
 use Rattle.safl_sim.specs.States.{placed}
 use Rattle.safl_sim.specs.Steps.{Keeps}
@@ -23,4 +24,14 @@ pub record KeepsStates (o : Order) (p : Plan) (marks waiting numbers shown : Lis
 -- the simulator keeps what it keeps, and goes on by a cycle
 pub record Cycles (o : Order) (p : Plan) (given : List Word) (numbers shown marks waiting next after : List ℕ) : Type 0 where
   pub keeps : KeepsStates o p marks waiting next after
-  pub ticks : Ticks (record { net = o.net; state = state_of o p numbers; values = shown }) (record { net = o.net; state = state_of o p next; values = after }) given
+  pub ticks : Ticks (record { net = o.net; state = state_of o p numbers; values = shown })
+      (record { net = o.net; state = state_of o p next; values = after }) given
+
+-- a simulator that keeps what it keeps goes on by a cycle with these words, or with those that its inputs have
+abbrev pub CyclesWith : Plan → List Word → List ℕ → List ℕ → List ℕ → List ℕ → List ℕ → List ℕ → List ℕ → List ℕ → Type 0
+CyclesWith p words numbers next shown after marks marks' waiting waiting' = (o : Order)
+    → KeepsStates o p marks waiting numbers shown → AreInputs o.net words → Cycles o p words numbers shown marks' waiting' next after
+
+abbrev pub CyclesAgain : Plan → List ℕ → List ℕ → List ℕ → List ℕ → List ℕ → List ℕ → List ℕ → List ℕ → Type 0
+CyclesAgain p numbers next shown after marks marks' waiting waiting' = (o : Order) (words : List Word)
+    → KeepsStates o p marks waiting numbers shown → HasWords o.net shown words → Cycles o p words numbers shown marks' waiting' next after

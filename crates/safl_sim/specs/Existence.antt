@@ -7,7 +7,7 @@ use Rattle.safl_net.specs.Rules.{IsNetlist}
 use Rattle.safl_net.specs.Runs.{RunFrom}
 use Rattle.safl_net.specs.Valuations.{Valuation, IsAcyclic, reset_state}
 use Rattle.safl_net.specs.Whole.{IsWhole}
-use Rattle.safl_sim.specs.Arguments.{AreArguments}
+use Rattle.safl_net.specs.Arguments.{AreArguments}
 use Rattle.safl_sim.specs.Outcomes.{IsOnlyRun}
 
 -- in a whole net without loops there is a run of any length, from any state of the widths and with any arguments of

@@ -8,8 +8,8 @@ pub mod Nears
 pub mod States
 pub mod Steps
 pub mod Writes
+pub mod Plans
 pub mod Cycles
-pub mod Arguments
 pub mod Outcomes
 pub mod Words
 pub mod Ticks

@@ -46,3 +46,12 @@ pub record HasRange (from to : ℕ) (old new : List ℕ) : Type 0 where
 -- the marks of registers begin with a word, after those of so many steps
 abbrev pub first_register : ℕ → ℕ
 first_register steps = (steps + 63) / 64 * 64
+
+-- so many words have the marks of steps and registers
+abbrev pub mark_words : ℕ → ℕ → ℕ
+mark_words steps registers = (first_register steps + registers + 63) / 64
+
+-- of a word whose marks are held apart, the first is taken, and these are left
+abbrev pub TakesFirst : ℕ → ℕ → ℕ → Type 0
+TakesFirst held bit left = (word : ℕ) (marks : List ℕ) → word < length marks
+    → HasTaken (holding marks word held) (holding marks word left) word (word * 64 + bit)

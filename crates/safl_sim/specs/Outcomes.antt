@@ -2,14 +2,18 @@
 use Rattle.std.specs.Prelude.{◌≡◌, ℕ, suc, ◌+◌, ◌<◌, List, map, length, Option, Some, None, slice_get, codes}
 use Rattle.safl_word.specs.Words.{Word, no_word}
 use Rattle.safl_net.specs.Netlist.{Netlist, output_place}
-use Rattle.safl_net.specs.Valuations.{Valuation, signal_word, read_output}
-use Rattle.safl_net.specs.Runs.{Run, input_numbers}
+use Rattle.safl_net.specs.Valuations.{Valuation, signal_word, read_output, reset_state}
+use Rattle.safl_net.specs.Runs.{RunFrom, input_numbers}
 use Rattle.safl_sim.specs.declared.done.Done.{Done}
 
--- a run from reset with these arguments, in which all inputs are 0 after cycle 0
-pub record IsRun (n : Netlist) (args : List Word) (vs : List Valuation) : Type 0 where
-  pub run : Run n (map (λ (w : Word). w.bits) args) vs
+-- cycles of a call from a state: in the first `start` is 1 and the other inputs have the arguments, and later all inputs are 0
+pub record IsCallRun (n : Netlist) (state : ℕ → ℕ) (args : List Word) (vs : List Valuation) : Type 0 where
+  pub run : RunFrom n state (map (λ (w : Word). w.bits) args) vs
   pub zeros : (c : ℕ) (v : Valuation) → slice_get vs (suc c) ≡ Some v → input_numbers n.signals v ≡ map (λ (w : Word). 0) args
+
+-- a run is a call from reset
+abbrev pub IsRun : Netlist → List Word → List Valuation → Type 0
+IsRun n args vs = IsCallRun n (reset_state n) args vs
 
 -- it has that many cycles, and no other run has
 pub record IsOnlyRun (n : Netlist) (args : List Word) (count : ℕ) (vs : List Valuation) : Type 0 where

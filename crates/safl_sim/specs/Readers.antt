@@ -1,7 +1,8 @@
 -- What reads each place, and numbers that are given to places.
-use Rattle.std.specs.Prelude.{◌≡◌, ◌⊎◌, ℕ, ◌+◌, ◌/◌, ◌<◌, ◌≤◌, List, map, length, Some, slice_get, slice_set, slice_index}
-use Rattle.safl_word.specs.Words.{pick}
-use Rattle.safl_net.specs.Netlist.{Netlist, Wire, Cell}
+use Rattle.std.specs.Prelude.{◌≡◌, ◌⊎◌, ℕ, ◌+◌, ◌/◌, ◌^◌, ◌<◌, ◌≤◌, List, map, length, Some, Result, OnOk, slice_get, slice_set, slice_index}
+use Rattle.safl_word.specs.Words.{Word, pick}
+use Rattle.safl_net.specs.declared.cell.Sig.{Sig}
+use Rattle.safl_net.specs.Netlist.{Netlist, Signal, Wire, Cell}
 use Rattle.safl_net.specs.Valuations.{signal_word, cell_word}
 use Rattle.safl_net.specs.Making.{kind_at}
 use Rattle.safl_order.specs.Order.{operands_of}
@@ -74,7 +75,8 @@ Kept first regs now values marks = (k : ℕ) (r : Register) → slice_get regs k
 
 -- each register that does not wait shows its state
 abbrev pub Shown : List Register → List ℕ → List ℕ → List ℕ → Type 0
-Shown regs now values waiting = (k : ℕ) (r : Register) → slice_get regs k ≡ Some r → marked waiting k ≡ 0 → slice_index values r.signal.0 ≡ slice_index now r.signal.0
+Shown regs now values waiting = (k : ℕ) (r : Register) → slice_get regs k ≡ Some r → marked waiting k ≡ 0
+    → slice_index values r.signal.0 ≡ slice_index now r.signal.0
 
 -- marks are of so many steps and registers alone
 pub record Inside (steps registers : ℕ) (marks : List ℕ) : Type 0 where
@@ -91,6 +93,14 @@ pub record Holding (n : Netlist) (ws : List ℕ) (regs : List Register) (now val
 abbrev pub RegistersAway : List Register → List ℕ → Type 0
 RegistersAway regs ws = (k : ℕ) (r : Register) → slice_get regs k ≡ Some r → (i : ℕ) → ¬ (slice_get ws i ≡ Some r.signal.0)
 
+-- inputs are no wires, and each word fits its input
+abbrev pub InputsAway : List Sig → List ℕ → Type 0
+InputsAway inputs ws = (k : ℕ) (s : Sig) → slice_get inputs k ≡ Some s → (i : ℕ) → ¬ (slice_get ws i ≡ Some s.0)
+
+abbrev pub InputsFit : Netlist → List Sig → List Word → Type 0
+InputsFit n inputs words = (k : ℕ) (s : Sig) (w : Word) (g : Signal) → slice_get inputs k ≡ Some s → slice_get words k ≡ Some w
+    → slice_get n.signals s.0 ≡ Some g → w.bits < 2 ^ g.width
+
 -- number k reads place p: it is of a step that has p as an operand, or of a register that has p as its next signal
 abbrev pub Reads : Netlist → List ℕ → List Register → ℕ → ℕ → Type 0
 Reads n ws regs p k = ((s : ℕ) × (i : ℕ) × (slice_get ws k ≡ Some s) × (slice_get (operands_of n s) i ≡ Some p))
@@ -106,6 +116,19 @@ pub record AreLists (n : Netlist) (ws : List ℕ) (regs : List Register) (k i : 
   pub all : (p j : ℕ) → k ≤ j → Reads n ws regs p j → On lists p j
   pub own : (p j m s : ℕ) → j + 1 ≡ k → m < i → slice_get ws j ≡ Some s → slice_get (operands_of n s) m ≡ Some p → On lists p j
   pub only : (p j : ℕ) → On lists p j → Reads n ws regs p j
+
+-- on success, the lists have what they had of the numbers from one on of those from a lower one on
+abbrev pub ListsDown : {A E : Type 0} → Result A E → Netlist → List ℕ → List Register → ℕ → ℕ → List (List ℕ) → List (List ℕ) → Type 0
+ListsDown r n ws regs from to old new = AreLists n ws regs from 0 old → OnOk r (AreLists n ws regs to 0 new)
+
+-- so of registers, whose marks begin with this, and of a step with these operands
+abbrev pub ListsNexts : {A E : Type 0} → Result A E → List Register → ℕ → List (List ℕ) → List (List ℕ) → Type 0
+ListsNexts r regs first old new = (n : Netlist) (ws : List ℕ) → first ≡ first_register (length ws)
+    → ListsDown r n ws regs (first + length regs) first old new
+
+abbrev pub ListsOperands : {A E : Type 0} → Result A E → List ℕ → ℕ → List (List ℕ) → List (List ℕ) → Type 0
+ListsOperands r operands k old new = (n : Netlist) (ws : List ℕ) (regs : List Register) (s : ℕ) → slice_get ws k ≡ Some s
+    → operands_of n s ≡ operands → ListsDown r n ws regs (k + 1) k old new
 
 -- the first of the lists stand one after another
 pub record AreFlat (lists : List (List ℕ)) (starts readers : List ℕ) (count : ℕ) : Type 0 where

@@ -16,13 +16,21 @@ pub record AreAt (regs : List Register) (numbers now : List ℕ) : Type 0 where
   pub long : length numbers ≡ length regs
   pub each : (k : ℕ) (r : Register) → slice_get regs k ≡ Some r → slice_index now r.signal.0 ≡ slice_index numbers k
 
+-- the places of the registers are below this, and so are those of their next signals
+abbrev pub AreBelow : List Register → ℕ → Type 0
+AreBelow regs count = (k : ℕ) (r : Register) → slice_get regs k ≡ Some r → r.signal.0 < count
+
+abbrev pub HaveNextsBelow : List Register → ℕ → Type 0
+HaveNextsBelow regs count = (k : ℕ) (r : Register) → slice_get regs k ≡ Some r → r.next.0 < count
+
 -- no two registers have one place
 abbrev pub AreOnce : List Register → Type 0
 AreOnce regs = (i j : ℕ) (r q : Register) → slice_get regs i ≡ Some r → slice_get regs j ≡ Some q → r.signal.0 ≡ q.signal.0 → i ≡ j
 
 -- the narrow registers have at most 64 bits, as they are shown and as their states
 abbrev pub AreLow : List Register → List ℕ → List ℕ → Type 0
-AreLow regs values numbers = (k : ℕ) (r : Register) → slice_get regs k ≡ Some r → r.narrow ≡ true → (slice_index values r.signal.0 < 2 ^ 64) × (slice_index numbers k < 2 ^ 64)
+AreLow regs values numbers = (k : ℕ) (r : Register) → slice_get regs k ≡ Some r → r.narrow ≡ true
+    → (slice_index values r.signal.0 < 2 ^ 64) × (slice_index numbers k < 2 ^ 64)
 
 -- and so have their next signals
 abbrev pub HaveLowNexts : List Register → List ℕ → Type 0

@@ -4,7 +4,7 @@ use Rattle.safl_word.specs.Words.{IsWord, pick}
 use Rattle.safl_word.specs.Primitives.{result_width, apply_prim}
 use Rattle.safl_word.specs.declared.primitive.Primitive.{Primitive}
 use Rattle.safl_word.specs.declared.primitive.Primitive.TheVariants as primitive
-use Rattle.safl_narrow.specs.Narrow.{word_of, HasLow}
+use Rattle.safl_word.specs.Narrow.{word_of, HasLow}
 use Rattle.safl_net.specs.declared.cell.Sig.{Sig}
 use Rattle.safl_net.specs.Netlist.{Netlist, Kind, Input, Reg, Wire, Cell, width_of}
 use Rattle.safl_net.specs.Valuations.{cell_word}
@@ -13,7 +13,8 @@ use Rattle.safl_net.specs.Laws.{FitWidths}
 use Rattle.safl_net.specs.Making.{kind_at, numbers}
 use Rattle.safl_order.specs.Order.{Order, IsOrder, IsWire}
 use Rattle.safl_sim.specs.declared.step.Action.{Action}
-use Rattle.safl_sim.specs.declared.step.Action.TheVariants.{Choose, One, Two, Not, Add, Sub, And, Or, Xor, Eq, Shl, Shr, Bits, Const, WideChoose, WideOne, WideTwo}
+use Rattle.safl_sim.specs.declared.step.Action.TheVariants.{Choose, One, Two, Not, Add, Sub, And, Or, Xor, Eq, Shl}
+use Rattle.safl_sim.specs.declared.step.Action.TheVariants.{Shr, Bits, Const, WideChoose, WideOne, WideTwo}
 use Rattle.safl_sim.specs.declared.step.Step.{Step}
 use Rattle.safl_sim.specs.declared.step.Register.{Register}
 use Rattle.safl_sim.specs.Places.{inputs_of}
@@ -62,7 +63,8 @@ abbrev pub PlainReady : List ℕ → Plain → Type 0
 PlainReady values (Constant x) = Unit {0}
 PlainReady values (Choice c a b) = (c < length values) × (a < length values) × (b < length values)
 PlainReady values (Unary p w a) = (a < length values) × IsWord (word_of w (slice_index values a)) × IsSome (result_width p (w ∷ []))
-PlainReady values (Binary p w v a b) = (a < length values) × (b < length values) × IsWord (word_of w (slice_index values a)) × IsWord (word_of v (slice_index values b))
+PlainReady values (Binary p w v a b) = (a < length values) × (b < length values) × IsWord (word_of w (slice_index values a))
+    × IsWord (word_of v (slice_index values b))
     × IsSome (result_width p (w ∷ v ∷ []))
 
 abbrev pub Ready : List ℕ → Action → Type 0

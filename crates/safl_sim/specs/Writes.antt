@@ -1,11 +1,12 @@
 -- Numbers that are written to places.
-use Rattle.std.specs.Prelude.{◌≡◌, ℕ, ◌+◌, ◌<◌, ◌≤◌, List, [], ◌∷◌, length, Some, slice_get, slice_set, slice_index}
+use Rattle.std.specs.Prelude.{◌≡◌, ℕ, ◌+◌, ◌*◌, ◌<◌, ◌≤◌, List, [], ◌∷◌, length, Some, slice_get, slice_set, slice_index}
 use Rattle.safl_word.specs.Words.{Word, IsWord}
 use Rattle.safl_net.specs.declared.cell.Sig.{Sig}
 use Rattle.safl_sim.specs.declared.step.Step.{Step}
 use Rattle.safl_sim.specs.declared.step.Register.{Register}
 use Rattle.safl_sim.specs.Marks.{marked}
 use Rattle.safl_sim.specs.Readers.{Kept, Shown}
+use Rattle.safl_sim.specs.States.{placed}
 use Rattle.safl_sim.specs.Steps.{action_number, Ready, LowStep}
 
 -- the first of the words stand at the first of the places
@@ -55,3 +56,13 @@ pub record KeepsOn (first : ℕ) (regs : List Register) (values : List ℕ) (pla
   pub others : (t : ℕ) → ((k : ℕ) (r : Register) → slice_get regs k ≡ Some r → ¬ (r.signal.0 ≡ t)) → slice_index now t ≡ slice_index start t
   pub waits : (k : ℕ) → marked was (first + k) ≡ 1 → marked waiting k ≡ 0 → marked marks (first + k) ≡ 1
   pub waiters : (k : ℕ) → marked waiting k ≡ 1 → k < length regs
+
+-- the same of the numbers of registers, where the first and the place are those of words of marks
+abbrev pub IsKeeping : ℕ → List Register → List ℕ → ℕ → List ℕ → List ℕ → List ℕ → List ℕ → List ℕ → Type 0
+IsKeeping first regs values word start was numbers marks waiting =
+    KeepsOn (first * 64) regs values (word * 64) start was (placed (length values) regs numbers) marks waiting
+
+-- the marked registers are kept from one word up to another
+abbrev pub KeepsUpTo : ℕ → List Register → List ℕ → ℕ → ℕ → List ℕ → List ℕ → List ℕ → List ℕ → List ℕ → List ℕ → Type 0
+KeepsUpTo first regs values from to numbers numbers' marks marks' waiting waiting' = (start was : List ℕ)
+    → IsKeeping first regs values from start was numbers marks waiting → IsKeeping first regs values to start was numbers' marks' waiting'

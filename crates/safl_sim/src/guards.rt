@@ -39,7 +39,8 @@ fn guard_part(
     requires within { to ≤ length readers.now }
     requires long { length guards.old ≡ length readers.now }
     ensures long { length guards.new ≡ length guards.old }
-    ensures each { (j k : ℕ) (g : Guard) → from ≤ j → j < to → slice_get readers.now j ≡ Some k → slice_get guards.new j ≡ Some g → IsGuard steps.now place k g }
+    ensures each { (j k : ℕ) (g : Guard) → from ≤ j → j < to → slice_get readers.now j ≡ Some k
+        → slice_get guards.new j ≡ Some g → IsGuard steps.now place k g }
     ensures others { (j : ℕ) → (j < from) ⊎ (to ≤ j) → slice_get guards.new j ≡ slice_get guards.old j }
 {
     'readers: for j in from..to {

@@ -1,11 +1,9 @@
-//! Simulation of netlists, cycle by cycle or until done.
+//! Simulation of netlists, cycle by cycle.
 #![tactic(auto)]
 
-pub mod arguments;
 mod chains;
 pub mod done;
 mod guards;
-pub mod inputs;
 pub mod laws;
 mod marks;
 mod near;
@@ -17,6 +15,5 @@ pub mod sim;
 mod step;
 mod table;
 
-pub use crate::arguments::argument_widths;
-pub use crate::done::{Done, run_until_done};
+pub use crate::done::Done;
 pub use crate::sim::Sim;

@@ -1,7 +1,7 @@
 //! Marks of steps and registers, a bit for each.
 
 ghost use Rattle.std.specs.Prelude.{◌≡◌, ℕ, ◌+◌, ◌*◌, ◌/◌, ◌<◌, ◌≤◌, ◌^◌, List, length, IfSome, IfNone};
-ghost use Rattle.safl_sim.specs.Marks.{holding, HasTaken};
+ghost use Rattle.safl_sim.specs.Marks.{TakesFirst};
 
 use std::alloc::{AllocError, Global};
 use std::marker::Model;
@@ -26,8 +26,7 @@ pub struct Taken {
 pub fn take_held(held: u64) -> Option<Taken>
     ensures none { IfNone result (held ≡ 0) }
     ensures within { IfSome result (λ t. t.bit < 64) }
-    ensures some { IfSome result (λ t. (word : ℕ) (marks : List ℕ) → word < length marks
-        → HasTaken (holding marks word held) (holding marks word t.left) word (word * 64 + t.bit)) }
+    ensures some { IfSome result (λ t. TakesFirst held t.bit t.left) }
 {
     if held == 0 {
         None

@@ -1,9 +1,9 @@
 //! Readers that have their marks in one word: that of the step that writes what they read, or of a register's first reader.
 
-ghost use Rattle.std.specs.Prelude.{◌≡◌, ℕ, ◌+◌, ◌<◌, ◌≤◌, List, length, Some, IfOk, slice_get, slice_index};
-ghost use Rattle.safl_sim.specs.declared.step.Register.{Register};
+ghost use Rattle.std.specs.Prelude.{ℕ, ◌+◌, ◌≤◌, List, length, IfOk, slice_index};
 ghost use Rattle.safl_sim.specs.Nears.{IsNear, AreGrouped};
 ghost use Rattle.safl_sim.specs.Readers.{Lists};
+ghost use Rattle.safl_sim.specs.States.{AreBelow};
 
 use crate::step::{Group, Near, Register};
 use std::alloc::{AllocError, Global};
@@ -38,8 +38,7 @@ pub fn groups_of(
     starts: &[u32],
     readers: &[u32],
 ) -> Result<Vec<Group>, AllocError>
-    requires lists { (places : ℕ) × (words : ℕ) × Lists starts.now readers.now places words
-        × ((k : ℕ) (r : Register) → slice_get registers.now k ≡ Some r → r.signal.0 < places) }
+    requires lists { (places : ℕ) × (words : ℕ) × Lists starts.now readers.now places words × AreBelow registers.now places }
     ensures { IfOk result (λ v. AreGrouped starts.now readers.now registers.now v.items) }
 {
     let mut groups = Vec::with_capacity(alloc, registers.len())?;

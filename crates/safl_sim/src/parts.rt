@@ -1,16 +1,16 @@
 //! The parts of a simulator, prepared from a net in an order.
 
-ghost use Rattle.std.specs.Prelude.{◌≡◌, ℕ, ◌+◌, ◌*◌, ◌/◌, ◌^◌, ◌<◌, ◌≤◌, [], ◌++◌, length, OnOk, slice_get, Some, true, IfOk, IfSome, IfNone};
+ghost use Rattle.std.specs.Prelude.{◌≡◌, ℕ, ◌+◌, ◌*◌, ◌^◌, ◌<◌, ◌≤◌, [], ◌++◌, length, OnOk, slice_get, Some, true, IfOk, IfSome, IfNone};
 ghost use Rattle.safl_net.specs.Netlist.{AllSet, Reg, width_of};
 ghost use Rattle.safl_net.specs.Valuations.{kind_reset};
 ghost use Rattle.safl_net.specs.Rules.{IsNetlist};
 ghost use Rattle.safl_net.specs.Making.{numbers, kind_at};
 ghost use Rattle.safl_order.specs.Order.{IsWire};
-ghost use Rattle.safl_sim.specs.Marks.{marked, first_register};
+ghost use Rattle.safl_sim.specs.Marks.{marked, first_register, mark_words};
 ghost use Rattle.safl_sim.specs.Nears.{AreNear};
 ghost use Rattle.safl_sim.specs.Readers.{Inside, Lists};
 ghost use Rattle.safl_sim.specs.Places.{with_input, inputs_of, resets};
-ghost use Rattle.safl_sim.specs.States.{AreReset};
+ghost use Rattle.safl_sim.specs.States.{AreReset, AreBelow};
 ghost use Rattle.safl_sim.specs.Steps.{IsStep, IsReg, AreSteps, AreRegisters};
 ghost use Rattle.safl_sim.specs.Cycles.{state_of, KeepsStates};
 
@@ -20,11 +20,9 @@ use crate::near::{groups_of, near_of};
 use crate::plan::Plan;
 use crate::step::{Near, Register, Step, fitting_action};
 use crate::table::table_of;
-use safl_halves::Numbers;
-use safl_narrow::LOW_MAX;
 use safl_net::{Net, Sig, SigKind};
 use safl_order::Ordered;
-use safl_word::Raw;
+use safl_word::{LOW_MAX, Numbers, Raw};
 use std::alloc::{AllocError, Global};
 use std::mem::drop;
 
@@ -87,7 +85,7 @@ impl Parts {
 fn all_marked(alloc: Global, steps: usize, registers: usize) -> Result<Marks, AllocError>
     requires few { steps < 2 ^ 32 }
     requires some { registers < 2 ^ 32 }
-    ensures long { IfOk result (λ m. length m ≡ (first_register steps + registers + 63) / 64) }
+    ensures long { IfOk result (λ m. length m ≡ mark_words steps registers) }
     ensures inside { IfOk result (λ m. Inside steps registers m) }
     ensures step { IfOk result (λ m. (k : ℕ) → k < steps → marked m k ≡ 1) }
     ensures register { IfOk result (λ m. (k : ℕ) → k < registers → marked m (first_register steps + k) ≡ 1) }
@@ -224,7 +222,7 @@ fn register_of(net: &Net, signal: Sig) -> Option<Register>
 
 // The number of each register at reset.
 fn states_of(alloc: Global, net: &Net, registers: &[Register]) -> Result<Vec<Raw>, AllocError>
-    requires { (k : ℕ) (r : Register) → slice_get registers.now k ≡ Some r → r.signal.0 < length net.now.signals }
+    requires { AreBelow registers.now (length net.now.signals) }
     ensures { IfOk result (λ v. AreReset net.now registers.now (length registers.now) v.items) }
 {
     let mut numbers = Vec::with_capacity(alloc, registers.len())?;

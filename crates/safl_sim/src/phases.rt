@@ -1,35 +1,32 @@
 //! The phases of a cycle.
 
-ghost use Rattle.std.specs.Prelude.{◌≡◌, ℕ, ◌+◌, ◌*◌, ◌/◌, ◌<◌, ◌≤◌, ◌^◌, List, length, Some, slice_get, slice_set, slice_index, false, true, bit_or};
+ghost use Rattle.std.specs.Prelude.{◌≡◌, ℕ, ◌+◌, ◌*◌, ◌<◌, ◌≤◌, ◌^◌, List, length, Some, slice_get, slice_set, slice_index, false, true};
 ghost use Rattle.safl_net.specs.declared.cell.Sig.{Sig};
-ghost use Rattle.safl_net.specs.Netlist.{Netlist, Signal};
 ghost use Rattle.safl_sim.specs.declared.step.Group.{Group};
 ghost use Rattle.safl_sim.specs.declared.step.Register.{Register};
 ghost use Rattle.safl_order.specs.Order.{Order};
-ghost use Rattle.safl_word.specs.Words.{Word};
-ghost use Rattle.safl_sim.specs.Places.{AreInputs, HasWords};
-ghost use Rattle.safl_sim.specs.Readers.{Lists, HasGiven, RegistersAway};
-ghost use Rattle.safl_sim.specs.Marks.{marked, holding, first_register};
-ghost use Rattle.safl_sim.specs.Nears.{NearOf, GroupOf};
-ghost use Rattle.safl_sim.specs.Steps.{Waits, Goes, Runs, Ready, LowStep, is_low, action_number};
-ghost use Rattle.safl_sim.specs.Cycles.{KeepsStates, Cycles};
-ghost use Rattle.safl_sim.specs.States.{placed, AreAt, AreOnce, AreLow, HaveLowNexts};
-ghost use Rattle.safl_sim.specs.Writes.{HasPut, HasShown, Shows, KeepsOn, after_steps, AllReady};
+ghost use Rattle.safl_sim.specs.Places.{AreInputs};
+ghost use Rattle.safl_sim.specs.Marks.{marked, first_register};
+ghost use Rattle.safl_sim.specs.Steps.{Waits, Ready, LowStep, is_low, action_number};
+ghost use Rattle.safl_sim.specs.Cycles.{KeepsStates, CyclesAgain, CyclesWith};
+ghost use Rattle.safl_sim.specs.States.{AreAt, AreOnce, AreLow, HaveLowNexts, AreBelow, HaveNextsBelow};
+ghost use Rattle.safl_sim.specs.Writes.{HasPut, after_steps, AllReady, IsKeeping, KeepsUpTo};
+ghost use Rattle.safl_sim.specs.Plans.{Gives, HasLists, InputsGoOn, HasGroup, IsShowing, ShowsUpTo, RegistersGoOn};
+ghost use Rattle.safl_sim.specs.Plans.{ShowsAll, Evaluates, HasMask, IsRunning, RunsUpTo, RunsAll, RunsPlan};
 
 use crate::marks::{Marks, take_held, word_count};
 use crate::plan::Plan;
 use crate::readers::{mark_group, mark_readers};
 use crate::step::{Action, Group, Register, Step, act, act_low, choose};
-use safl_halves::{Numbers, low_half};
 use safl_net::Sig;
-use safl_word::{Raw, Word};
+use safl_word::{Numbers, Raw, Word, low_half};
 
 /// Gives a place its number, and marks its readers where that is new.
 #[inline(always)]
 pub fn give(values: &mut Numbers, marks: &mut Marks, plan: &Plan, place: u32, number: Raw)
-    requires lists { Lists plan.now.starts.items plan.now.readers.items (length values.old) (length marks.old) }
+    requires lists { HasLists plan.now values.old marks.old }
     requires within { place < length values.old }
-    ensures { HasGiven plan.now.steps.items plan.now.starts.items plan.now.readers.items place number values.old values.new marks.old marks.new }
+    ensures { Gives plan.now place number values.old values.new marks.old marks.new }
 {
     let i = place as usize;
     if renew(values, i, number) {
@@ -82,17 +79,13 @@ fn renew_register(values: &mut Numbers, register: Register, number: Raw) -> bool
 
 /// Writes the words to the inputs.
 pub fn put_words(values: &mut Numbers, marks: &mut Marks, plan: &Plan, words: &[Word])
-    requires lists { Lists plan.now.starts.items plan.now.readers.items (length values.old) (length marks.old) }
+    requires lists { HasLists plan.now values.old marks.old }
     requires long { length plan.now.inputs.items ≡ length words.now }
     requires within { (k : ℕ) (s : Sig) → slice_get plan.now.inputs.items k ≡ Some s → s.0 < length values.old }
     requires once { (i j : ℕ) (s t : Sig) → slice_get plan.now.inputs.items i ≡ Some s → slice_get plan.now.inputs.items j ≡ Some t → s.0 ≡ t.0 → i ≡ j }
     ensures put { HasPut plan.now.inputs.items words.now (length plan.now.inputs.items) values.old values.new }
     ensures long { length marks.new ≡ length marks.old }
-    ensures goes { (n : Netlist) (ws : List ℕ) (regs : List Register) (held : List ℕ)
-        → ((k : ℕ) (s : Sig) → slice_get plan.now.inputs.items k ≡ Some s → (i : ℕ) → ¬ (slice_get ws i ≡ Some s.0))
-        → ((k : ℕ) (s : Sig) (w : Word) (g : Signal) → slice_get plan.now.inputs.items k ≡ Some s → slice_get words.now k ≡ Some w
-        → slice_get n.signals s.0 ≡ Some g → w.bits < 2 ^ g.width)
-        → Goes n ws plan.now.steps.items regs held plan.now.starts.items plan.now.readers.items values.old values.new marks.old marks.new }
+    ensures goes { InputsGoOn plan.now words.now values.old values.new marks.old marks.new }
 {
     'words: for i in 0..words.len() {
         give(values, marks, plan, plan.inputs[i].0, words[i].bits());
@@ -109,11 +102,11 @@ pub fn show(
     group: Group,
     number: Raw,
 )
-    requires lists { Lists plan.now.starts.items plan.now.readers.items (length values.old) (length marks.old) }
-    requires group { GroupOf plan.now.starts.items plan.now.readers.items register group }
+    requires lists { HasLists plan.now values.old marks.old }
+    requires group { HasGroup plan.now register.signal.0 group }
     requires within { register.signal.0 < length values.old }
     requires low { register.narrow ≡ true → (slice_index values.old register.signal.0 < 2 ^ 64) × (number < 2 ^ 64) }
-    ensures { HasGiven plan.now.steps.items plan.now.starts.items plan.now.readers.items register.signal.0 number values.old values.new marks.old marks.new }
+    ensures { Gives plan.now register.signal.0 number values.old values.new marks.old marks.new }
 {
     if renew_register(values, register, number) {
         mark_group(values, marks, plan, group);
@@ -132,19 +125,16 @@ pub fn show_word(
 )
     requires word { word < length waiting.old }
     requires few { length waiting.old ≤ 2 ^ 32 }
-    requires lists { Lists plan.now.starts.items plan.now.readers.items (length values.old) (length marks.old) }
-    requires within { (k : ℕ) (r : Register) → slice_get plan.now.registers.items k ≡ Some r → r.signal.0 < length values.old }
+    requires lists { HasLists plan.now values.old marks.old }
+    requires within { AreBelow plan.now.registers.items (length values.old) }
     requires once { AreOnce plan.now.registers.items }
     requires low { AreLow plan.now.registers.items values.old state.now }
-    requires shows { (now : List ℕ) × (start : List ℕ) × AreAt plan.now.registers.items state.now now
-        × Shows plan.now.registers.items now (word * 64) start values.old waiting.old }
+    requires shows { IsShowing plan.now state.now (word * 64) values.old waiting.old }
     ensures long { length marks.new ≡ length marks.old }
     ensures room { length waiting.new ≡ length waiting.old }
     ensures low { AreLow plan.now.registers.items values.new state.now }
-    ensures shows { (now start : List ℕ) → AreAt plan.now.registers.items state.now now → Shows plan.now.registers.items now (word * 64) start values.old waiting.old
-        → Shows plan.now.registers.items now ((word + 1) * 64) start values.new waiting.new }
-    ensures goes { (n : Netlist) (ws now : List ℕ) → RegistersAway plan.now.registers.items ws → AreAt plan.now.registers.items state.now now
-        → Goes n ws plan.now.steps.items plan.now.registers.items now plan.now.starts.items plan.now.readers.items values.old values.new marks.old marks.new }
+    ensures shows { ShowsUpTo plan.now state.now (word * 64) ((word + 1) * 64) values.old values.new waiting.old waiting.new }
+    ensures goes { RegistersGoOn plan.now state.now values.old values.new marks.old marks.new }
 {
     let mut held = waiting.get(word);
     // No register before this one waits any longer. It tells why the loop ends, as in `run_word`.
@@ -174,18 +164,16 @@ pub fn show_registers(
     plan: &Plan,
     state: &[Raw],
 )
-    requires lists { Lists plan.now.starts.items plan.now.readers.items (length values.old) (length marks.old) }
-    requires within { (k : ℕ) (r : Register) → slice_get plan.now.registers.items k ≡ Some r → r.signal.0 < length values.old }
+    requires lists { HasLists plan.now values.old marks.old }
+    requires within { AreBelow plan.now.registers.items (length values.old) }
     requires once { AreOnce plan.now.registers.items }
     requires low { AreLow plan.now.registers.items values.old state.now }
     requires waits { (now : List ℕ) × AreAt plan.now.registers.items state.now now × Waits plan.now.registers.items now values.old waiting.old }
     ensures long { length marks.new ≡ length marks.old }
     ensures room { length waiting.new ≡ length waiting.old }
     ensures none { (k : ℕ) → marked waiting.new k ≡ 0 }
-    ensures shown { (now : List ℕ) → AreAt plan.now.registers.items state.now now → Waits plan.now.registers.items now values.old waiting.old
-        → HasShown plan.now.registers.items now (length plan.now.registers.items) values.old values.new }
-    ensures goes { (n : Netlist) (ws now : List ℕ) → RegistersAway plan.now.registers.items ws → AreAt plan.now.registers.items state.now now
-        → Goes n ws plan.now.steps.items plan.now.registers.items now plan.now.starts.items plan.now.readers.items values.old values.new marks.old marks.new }
+    ensures shown { ShowsAll plan.now state.now values.old values.new waiting.old }
+    ensures goes { RegistersGoOn plan.now state.now values.old values.new marks.old marks.new }
 {
     let end = waiting.count();
     let mut w = waiting.next(0, end);
@@ -215,7 +203,7 @@ fn next_number(values: &Numbers, register: Register) -> Raw
 pub fn keep(state: &mut [Raw], registers: &[Register], values: &Numbers, k: usize)
     requires known { k < length registers.now }
     requires states { length state.old ≡ length registers.now }
-    requires next { (k : ℕ) (r : Register) → slice_get registers.now k ≡ Some r → r.next.0 < length values.now }
+    requires next { HaveNextsBelow registers.now (length values.now) }
     requires low { HaveLowNexts registers.now values.now }
     ensures { (r : Register) → slice_get registers.now k ≡ Some r → state.new ≡ slice_set state.old k (slice_index values.now r.next.0) }
 {
@@ -239,17 +227,14 @@ pub fn keep_word(
     requires few { length marks.old ≤ 2 ^ 32 }
     requires room { length registers.now ≤ length waiting.old * 64 }
     requires states { length state.old ≡ length registers.now }
-    requires within { (k : ℕ) (r : Register) → slice_get registers.now k ≡ Some r → r.signal.0 < length values.now }
-    requires next { (k : ℕ) (r : Register) → slice_get registers.now k ≡ Some r → r.next.0 < length values.now }
+    requires within { AreBelow registers.now (length values.now) }
+    requires next { HaveNextsBelow registers.now (length values.now) }
     requires low { HaveLowNexts registers.now values.now }
     requires once { AreOnce registers.now }
-    requires keeps { (start was : List ℕ)
-        × KeepsOn (first * 64) registers.now values.now (word * 64) start was (placed (length values.now) registers.now state.old) marks.old waiting.old }
+    requires keeps { (start was : List ℕ) × IsKeeping first registers.now values.now word start was state.old marks.old waiting.old }
     ensures long { length marks.new ≡ length marks.old }
     ensures room { length waiting.new ≡ length waiting.old }
-    ensures keeps { (start was : List ℕ)
-        → KeepsOn (first * 64) registers.now values.now (word * 64) start was (placed (length values.now) registers.now state.old) marks.old waiting.old
-        → KeepsOn (first * 64) registers.now values.now ((word + 1) * 64) start was (placed (length values.now) registers.now state.new) marks.new waiting.new }
+    ensures keeps { KeepsUpTo first registers.now values.now word (word + 1) state.old state.new marks.old marks.new waiting.old waiting.new }
 {
     let mut held = marks.get(word);
     waiting.join(word - first, held);
@@ -278,17 +263,14 @@ pub fn keep_registers(
     requires few { length marks.old ≤ 2 ^ 32 }
     requires room { length registers.now ≤ length waiting.old * 64 }
     requires states { length state.old ≡ length registers.now }
-    requires within { (k : ℕ) (r : Register) → slice_get registers.now k ≡ Some r → r.signal.0 < length values.now }
-    requires next { (k : ℕ) (r : Register) → slice_get registers.now k ≡ Some r → r.next.0 < length values.now }
+    requires within { AreBelow registers.now (length values.now) }
+    requires next { HaveNextsBelow registers.now (length values.now) }
     requires low { HaveLowNexts registers.now values.now }
     requires once { AreOnce registers.now }
-    requires keeps { (start was : List ℕ)
-        × KeepsOn (first * 64) registers.now values.now (first * 64) start was (placed (length values.now) registers.now state.old) marks.old waiting.old }
+    requires keeps { (start was : List ℕ) × IsKeeping first registers.now values.now first start was state.old marks.old waiting.old }
     ensures long { length marks.new ≡ length marks.old }
     ensures room { length waiting.new ≡ length waiting.old }
-    ensures keeps { (start was : List ℕ)
-        → KeepsOn (first * 64) registers.now values.now (first * 64) start was (placed (length values.now) registers.now state.old) marks.old waiting.old
-        → KeepsOn (first * 64) registers.now values.now (length marks.new * 64) start was (placed (length values.now) registers.now state.new) marks.new waiting.new }
+    ensures keeps { KeepsUpTo first registers.now values.now first (length marks.new) state.old state.new marks.old marks.new waiting.old waiting.new }
 {
     let end = marks.count();
     let mut w = marks.next(first, end);
@@ -330,15 +312,13 @@ fn act_wide(values: &mut Numbers, step: &Step) -> bool
 /// answers the mask.
 #[inline(always)]
 pub fn evaluate(values: &mut Numbers, marks: &mut Marks, plan: &Plan, step: &Step, near: u64) -> u64
-    requires lists { Lists plan.now.starts.items plan.now.readers.items (length values.old) (length marks.old) }
+    requires lists { HasLists plan.now values.old marks.old }
     requires within { step.now.wire.0 < length values.old }
     requires ready { Ready values.old step.now.action }
     requires low { LowStep values.old step.now }
-    requires near { (i : ℕ) × NearOf plan.now.starts.items plan.now.readers.items i step.now near }
+    requires near { (i : ℕ) × HasMask plan.now i step.now near }
     ensures long { length marks.new ≡ length marks.old }
-    ensures given { (i held : ℕ) → i / 64 < length marks.old → NearOf plan.now.starts.items plan.now.readers.items i step.now near
-        → HasGiven plan.now.steps.items plan.now.starts.items plan.now.readers.items step.now.wire.0 (action_number (slice_index values.old) step.now.action) values.old values.new
-        (holding marks.old (i / 64) held) (holding marks.new (i / 64) (bit_or held result)) }
+    ensures given { Evaluates plan.now step.now near result values.old values.new marks.old marks.new }
 {
     // A choice, as most steps are, has the rest of the way for itself: no jump leads from it to what all others share.
     if let Action::Choose(c, a, b) = step.action {
@@ -380,13 +360,10 @@ pub fn run_word(
     requires within { word < length marks.old }
     requires few { length marks.old ≤ 2 ^ 32 }
     requires steps { (word + 1) * 64 ≤ first_register (length plan.now.steps.items) }
-    requires runs { (o : Order) × (regs : List Register) × (held : List ℕ) × (start : List ℕ)
-        × Runs o plan.now.steps.items regs held plan.now.starts.items plan.now.readers.items start (word * 64) values.old marks.old }
+    requires runs { IsRunning plan.now (word * 64) values.old marks.old }
     ensures count { result ≤ 64 }
     ensures long { length marks.new ≡ length marks.old }
-    ensures runs { (o : Order) (regs : List Register) (held start : List ℕ)
-        → Runs o plan.now.steps.items regs held plan.now.starts.items plan.now.readers.items start (word * 64) values.old marks.old
-        → Runs o plan.now.steps.items regs held plan.now.starts.items plan.now.readers.items start ((word + 1) * 64) values.new marks.new }
+    ensures runs { RunsUpTo plan.now (word * 64) ((word + 1) * 64) values.old values.new marks.old marks.new }
 {
     let steps = &plan.steps[word * 64..];
     let masks = &plan.masks[word * 64..];
@@ -411,12 +388,9 @@ pub fn run_word(
 #[inline(always)]
 pub fn run_marked(values: &mut Numbers, marks: &mut Marks, plan: &Plan, counted: bool) -> usize
     requires few { length marks.old ≤ 2 ^ 32 }
-    requires runs { (o : Order) × (regs : List Register) × (held : List ℕ) × (start : List ℕ)
-        × Runs o plan.now.steps.items regs held plan.now.starts.items plan.now.readers.items start 0 values.old marks.old }
+    requires runs { IsRunning plan.now 0 values.old marks.old }
     ensures long { length marks.new ≡ length marks.old }
-    ensures runs { (o : Order) (regs : List Register) (held start : List ℕ)
-        → Runs o plan.now.steps.items regs held plan.now.starts.items plan.now.readers.items start 0 values.old marks.old
-        → Runs o plan.now.steps.items regs held plan.now.starts.items plan.now.readers.items start (first_register (length plan.now.steps.items)) values.new marks.new }
+    ensures runs { RunsUpTo plan.now 0 (first_register (length plan.now.steps.items)) values.old values.new marks.old marks.new }
 {
     let mut count = 0;
     let end = word_count(plan.steps.len());
@@ -460,13 +434,9 @@ fn write(values: &mut Numbers, step: &Step)
 /// are counted.
 pub fn run_steps(values: &mut Numbers, marks: &mut Marks, plan: &Plan, pace: Pace) -> usize
     requires few { length marks.old ≤ 2 ^ 32 }
-    requires runs { (o : Order) × (held : List ℕ) × (start : List ℕ)
-        × Runs o plan.now.steps.items plan.now.registers.items held plan.now.starts.items plan.now.readers.items start 0 values.old marks.old }
+    requires runs { (o : Order) × (held : List ℕ) × (start : List ℕ) × RunsPlan o plan.now plan.now.registers.items held start 0 values.old marks.old }
     ensures long { length marks.new ≡ length marks.old }
-    ensures runs { (o : Order) (held start : List ℕ)
-        → Runs o plan.now.steps.items plan.now.registers.items held plan.now.starts.items plan.now.readers.items start 0 values.old marks.old
-        → Runs o plan.now.steps.items plan.now.registers.items held plan.now.starts.items plan.now.readers.items start
-        (first_register (length plan.now.steps.items)) values.new marks.new }
+    ensures runs { RunsAll plan.now values.old values.new marks.old marks.new }
 {
     match pace {
         Pace::All => {
@@ -494,8 +464,7 @@ pub fn proceed(
     pace: Pace,
 ) -> usize
     requires { (o : Order) × KeepsStates o plan.now marks.old waiting.old state.old values.old }
-    ensures { (o : Order) (words : List Word) → KeepsStates o plan.now marks.old waiting.old state.old values.old → HasWords o.net values.old words
-        → Cycles o plan.now words state.old values.old marks.new waiting.new state.new values.new }
+    ensures { CyclesAgain plan.now state.old state.new values.old values.new marks.old marks.new waiting.old waiting.new }
 {
     let registers = plan.registers.as_slice();
     show_registers(values, marks, waiting, plan, state);
@@ -516,8 +485,7 @@ pub fn cycle(
     pace: Pace,
 ) -> usize
     requires { (o : Order) × KeepsStates o plan.now marks.old waiting.old state.old values.old × AreInputs o.net words.now }
-    ensures { (o : Order) → KeepsStates o plan.now marks.old waiting.old state.old values.old → AreInputs o.net words.now
-        → Cycles o plan.now words.now state.old values.old marks.new waiting.new state.new values.new }
+    ensures { CyclesWith plan.now words.now state.old state.new values.old values.new marks.old marks.new waiting.old waiting.new }
 {
     put_words(values, marks, plan, words);
     proceed(values, state, marks, waiting, plan, pace)

@@ -23,5 +23,6 @@ pub struct Plan {
     pub ghost near: { AreNear starts.items readers.items steps.items masks.items },
     pub ghost grouped: { AreGrouped starts.items readers.items registers.items groups.items },
     pub ghost guard_for_each: { length guards.items ≡ length readers.items },
-    pub ghost guarded: { AreGuards steps.items starts.items readers.items guards.items } by { AreGuards-prop steps.items starts.items readers.items guards.items },
+    pub ghost guarded: { AreGuards steps.items starts.items readers.items guards.items } by { AreGuards-prop steps.items starts.items
+        readers.items guards.items },
 }

@@ -2,13 +2,13 @@
 
 ghost use Rattle.std.specs.Prelude.{◌≡◌, ℕ, ◌+◌, ◌/◌, ◌<◌, ◌≤◌, length, Some, slice_get, slice_index, false};
 ghost use Rattle.safl_sim.specs.Guards.{Unseen};
-ghost use Rattle.safl_sim.specs.Nears.{NearAt};
-ghost use Rattle.safl_sim.specs.Readers.{IsPart, HasMarked};
+ghost use Rattle.safl_sim.specs.Readers.{IsPart};
+ghost use Rattle.safl_sim.specs.Plans.{MarksPart, HasGroup, MarksGroup};
 
 use crate::marks::Marks;
 use crate::plan::Plan;
 use crate::step::{Group, Guard};
-use safl_halves::Numbers;
+use safl_word::Numbers;
 
 // Of so many readers and more, those that are blind to the place are sought. It is a matter of speed alone.
 const MANY: u32 = 8;
@@ -19,7 +19,7 @@ pub fn mark_readers(values: &Numbers, marks: &mut Marks, plan: &Plan, from: u32,
     requires ordered { from ≤ to }
     requires within { to ≤ length plan.now.readers.items }
     requires known { (j k : ℕ) → slice_get plan.now.readers.items j ≡ Some k → k / 64 < length marks.old }
-    ensures { (p : ℕ) → IsPart plan.now.starts.items p from to → HasMarked plan.now.steps.items plan.now.readers.items from to p values.now marks.old marks.new }
+    ensures { (p : ℕ) → IsPart plan.now.starts.items p from to → MarksPart plan.now from to p values.now marks.old marks.new }
 {
     // Not `==`: so the compiler knows that the loop has a first reader.
     if from >= to {
@@ -40,7 +40,7 @@ fn mark_seeing(values: &Numbers, marks: &mut Marks, plan: &Plan, from: u32, to: 
     requires ordered { from ≤ to }
     requires within { to ≤ length plan.now.readers.items }
     requires known { (j k : ℕ) → slice_get plan.now.readers.items j ≡ Some k → k / 64 < length marks.old }
-    ensures { (p : ℕ) → IsPart plan.now.starts.items p from to → HasMarked plan.now.steps.items plan.now.readers.items from to p values.now marks.old marks.new }
+    ensures { (p : ℕ) → IsPart plan.now.starts.items p from to → MarksPart plan.now from to p values.now marks.old marks.new }
 {
     'readers: for j in from..to {
         if sees(values, plan.guards[j as usize]) {
@@ -64,11 +64,10 @@ fn sees(values: &Numbers, guard: Guard) -> bool
 /// Marks a group of the readers of a place at once, and its others as `mark_readers` does.
 #[inline(always)]
 pub fn mark_group(values: &Numbers, marks: &mut Marks, plan: &Plan, group: Group)
-    requires group { (p : ℕ) × (p + 1 < length plan.now.starts.items) × NearAt plan.now.starts.items plan.now.readers.items p group.word group.near }
+    requires group { (p : ℕ) × (p + 1 < length plan.now.starts.items) × HasGroup plan.now p group }
     requires within { group.near.end ≤ length plan.now.readers.items }
     requires known { (j k : ℕ) → slice_get plan.now.readers.items j ≡ Some k → k / 64 < length marks.old }
-    ensures { (p : ℕ) → p + 1 < length plan.now.starts.items → NearAt plan.now.starts.items plan.now.readers.items p group.word group.near
-        → HasMarked plan.now.steps.items plan.now.readers.items (slice_index plan.now.starts.items p) (slice_index plan.now.starts.items (p + 1)) p values.now marks.old marks.new }
+    ensures { MarksGroup plan.now group values.now marks.old marks.new }
 {
     let near = group.near;
     marks.join(group.word as usize, near.mask);

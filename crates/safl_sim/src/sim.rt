@@ -4,10 +4,9 @@ use crate::marks::Marks;
 use crate::parts::Parts;
 use crate::phases::{Pace, cycle, proceed};
 use crate::plan::Plan;
-use safl_halves::Numbers;
 use safl_net::{Net, Sig};
 use safl_order::Ordered;
-use safl_word::{Raw, Word};
+use safl_word::{Numbers, Raw, Word};
 use std::alloc::Global;
 use std::marker::Model;
 
@@ -83,6 +82,13 @@ impl Sim {
         ensures { result.now ≡ self.now.net }
     {
         self.ordered.net()
+    }
+
+    /// The net with its order, so without loops.
+    pub fn ordered(&self) -> &Ordered
+        ensures { result.now.net ≡ self.now.net }
+    {
+        &self.ordered
     }
 
     /// The word of a signal in the cycle of the last tick; before the first, a register's word at reset, and else 0.

@@ -7,12 +7,11 @@ ghost use Rattle.safl_net.specs.declared.cell.Sig.{Sig};
 ghost use Rattle.safl_net.specs.Rules.{IsNetlist, CellFits};
 ghost use Rattle.safl_net.specs.Making.{cell_on};
 ghost use Rattle.safl_net.specs.Stored.{cell_of};
-ghost use Rattle.safl_sim.specs.Steps.{Constant, Unary, Binary, plain, plain_number, action_number, PlainReady, Ready, PlainLow, LowOf, is_low, Performs, IsNarrow};
+ghost use Rattle.safl_sim.specs.Steps.{Constant, Unary, Binary, plain, plain_number, action_number};
+ghost use Rattle.safl_sim.specs.Steps.{PlainReady, Ready, PlainLow, LowOf, is_low, Performs, IsNarrow};
 
-use safl_halves::Numbers;
-use safl_narrow::{LOW_MAX, narrow_one, narrow_two};
 use safl_net::{Cell, Net, Op, Sig};
-use safl_word::{Primitive, Raw, Word, apply};
+use safl_word::{LOW_MAX, Numbers, Primitive, Raw, Word, apply, narrow_one, narrow_two};
 
 // 2 to the 32nd, one more than the greatest quarter of a number.
 const QUARTER: Raw = 0x1_0000_0000;

@@ -1,13 +1,14 @@
 //! What reads each place.
 
-ghost use Rattle.std.specs.Prelude.{◌≡◌, ℕ, ◌+◌, ◌/◌, ◌^◌, ◌<◌, List, length, OnOk, slice_get, Some, IfOk};
-ghost use Rattle.safl_net.specs.Netlist.{Netlist, AllSet};
+ghost use Rattle.std.specs.Prelude.{◌≡◌, ℕ, ◌+◌, ◌^◌, ◌<◌, List, length, slice_get, Some, IfOk};
+ghost use Rattle.safl_net.specs.Netlist.{AllSet};
 ghost use Rattle.safl_net.specs.Rules.{IsNetlist};
 ghost use Rattle.safl_net.specs.Making.{numbers};
-ghost use Rattle.safl_order.specs.Order.{IsWire, IsOrder, operands_of};
-ghost use Rattle.safl_sim.specs.Marks.{first_register};
-ghost use Rattle.safl_sim.specs.Readers.{Lists, AreReaders, AreLists, AreFlat};
+ghost use Rattle.safl_order.specs.Order.{IsWire, IsOrder};
+ghost use Rattle.safl_sim.specs.Marks.{mark_words};
+ghost use Rattle.safl_sim.specs.Readers.{Lists, AreReaders, AreFlat, ListsNexts, ListsDown, ListsOperands};
 ghost use Rattle.safl_sim.specs.Steps.{AreRegisters};
+ghost use Rattle.safl_sim.specs.States.{HaveNextsBelow};
 
 use crate::chains::Chains;
 use crate::marks::word_count;
@@ -34,7 +35,7 @@ pub fn table_of(
     requires netlist { IsNetlist net.now }
     requires order { IsOrder net.now (numbers wires.now) }
     requires registers { AreRegisters net.now (length net.now.signals) registers.now }
-    ensures lists { IfOk result (λ t. Lists t.starts.items t.readers.items (length net.now.signals) ((first_register (length wires.now) + length registers.now + 63) / 64)) }
+    ensures lists { IfOk result (λ t. Lists t.starts.items t.readers.items (length net.now.signals) (mark_words (length wires.now) (length registers.now))) }
     ensures readers { IfOk result (λ t. AreReaders net.now (numbers wires.now) registers.now t.starts.items t.readers.items) }
 {
     let count = net.signals();
@@ -49,10 +50,9 @@ pub fn table_of(
 // Puts the marks of the registers, which begin with `first`, on the lists of their next signals.
 fn push_nexts(lists: &mut Chains, registers: &[Register], first: usize) -> Result<(), AllocError>
     requires few { first + length registers.now < 2 ^ 40 }
-    requires within { (k : ℕ) (r : Register) → slice_get registers.now k ≡ Some r → r.next.0 < length lists.old }
+    requires within { HaveNextsBelow registers.now (length lists.old) }
     ensures long { length lists.new ≡ length lists.old }
-    ensures all { (n : Netlist) (ws : List ℕ) → first ≡ first_register (length ws) → AreLists n ws registers.now (first + length registers.now) 0 lists.old
-        → OnOk result (AreLists n ws registers.now first 0 lists.new) }
+    ensures all { ListsNexts result registers.now first lists.old lists.new }
 {
     let count = registers.len();
     'registers: for i in 0..count {
@@ -70,8 +70,7 @@ fn push_steps(lists: &mut Chains, net: &Net, wires: &[Sig]) -> Result<(), AllocE
     requires order { IsOrder net.now (numbers wires.now) }
     requires long { length lists.old ≡ length net.now.signals }
     ensures long { length lists.new ≡ length lists.old }
-    ensures all { (regs : List Register) → AreLists net.now (numbers wires.now) regs (length wires.now) 0 lists.old
-        → OnOk result (AreLists net.now (numbers wires.now) regs 0 0 lists.new) }
+    ensures all { (regs : List Register) → ListsDown result net.now (numbers wires.now) regs (length wires.now) 0 lists.old lists.new }
 {
     let count = wires.len();
     'wires: for i in 0..count {
@@ -87,8 +86,7 @@ fn push_step(lists: &mut Chains, net: &Net, wire: Sig, k: u32) -> Result<(), All
     requires wire { IsWire net.now wire.0 }
     requires long { length lists.old ≡ length net.now.signals }
     ensures long { length lists.new ≡ length lists.old }
-    ensures more { (ws : List ℕ) (regs : List Register) → slice_get ws k ≡ Some wire.0 → AreLists net.now ws regs (k + 1) 0 lists.old
-        → OnOk result (AreLists net.now ws regs k 0 lists.new) }
+    ensures more { (ws : List ℕ) (regs : List Register) → slice_get ws k ≡ Some wire.0 → ListsDown result net.now ws regs (k + 1) k lists.old lists.new }
 {
     match net.cell(wire) {
         Some(cell) => push_operands(lists, cell.operands.as_slice(), k),
@@ -99,8 +97,7 @@ fn push_step(lists: &mut Chains, net: &Net, wire: Sig, k: u32) -> Result<(), All
 fn push_operands(lists: &mut Chains, operands: &[Sig], k: u32) -> Result<(), AllocError>
     requires within { (i : ℕ) (t : Sig) → slice_get operands.now i ≡ Some t → t.0 < length lists.old }
     ensures long { length lists.new ≡ length lists.old }
-    ensures more { (n : Netlist) (ws : List ℕ) (regs : List Register) (s : ℕ) → slice_get ws k ≡ Some s → operands_of n s ≡ numbers operands.now
-        → AreLists n ws regs (k + 1) 0 lists.old → OnOk result (AreLists n ws regs k 0 lists.new) }
+    ensures more { ListsOperands result (numbers operands.now) k lists.old lists.new }
 {
     'operands: for i in 0..operands.len() {
         lists.push(operands[i].0 as usize, k)?;

@@ -36,6 +36,10 @@ pub record IsHeldHere (C : Program) (rows : List SiteSet) (low k : ℕ) (body : 
   pub touched : IsTouched rows low k body
   pub reached : InBody C other body
 
+-- the sites of the program that join a row are those that are held here
+abbrev pub HoldsHere : Program → List SiteSet → ℕ → Term → SiteSet → SiteSet → Type 0
+HoldsHere C rows low body old new = (k : ℕ) → 1 ≤ k → k ≤ C.sites → Adds (Has old k) (Has new k) (IsHeldHere C rows low k body)
+
 pub record MayKeep (C : Program) (units peers : List SiteSet) (slots : ℕ) (t : Term) : Type 0 where
   pub reach : MayReach C units slots t
   pub sites : ArePeers C C.sites peers

@@ -24,6 +24,10 @@ pub record Adds (old new P : Type 0) : Type 0 where
   pub stays : old → new
   pub joins : P → new
 
+-- the numbers that join a row are those of which P holds
+abbrev pub Gains : SiteSet → SiteSet → (ℕ → Type 0) → Type 0
+Gains old new P = (k : ℕ) → Adds (Has old k) (Has new k) (P k)
+
 -- a number is in both rows, and is not this one
 pub record IsCommon (a b : SiteSet) (except k : ℕ) : Type 0 where
   pub differs : except ≢ k

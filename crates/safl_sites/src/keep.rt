@@ -1,12 +1,12 @@
 //! Which sites' words decide a condition, or are held while the body of a let runs.
 
-ghost use Rattle.std.specs.Prelude.{◌≡◌, ℕ, ◌≤◌, length, OnOk};
+ghost use Rattle.std.specs.Prelude.{◌≡◌, ℕ, length, OnOk};
 ghost use Rattle.safl_term.specs.Checked.{program_of, IsChecked};
 ghost use Rattle.safl_term.specs.Tree.{shown_term, shown_terms};
 ghost use Rattle.safl_sites.specs.Kept.{InBody};
-ghost use Rattle.safl_sites.specs.Keeping.{MayKeep, MayKeepIn, IsHeldHere, Walks, WalksIn, Binds};
+ghost use Rattle.safl_sites.specs.Keeping.{MayKeep, MayKeepIn, Walks, WalksIn, Binds, HoldsHere};
 ghost use Rattle.safl_sites.specs.Reach.{MayReach};
-ghost use Rattle.safl_sites.specs.Rows.{Has, Adds};
+ghost use Rattle.safl_sites.specs.Rows.{Gains};
 
 use crate::reach::{reach, reach_in};
 use crate::site_set::SiteSet;
@@ -137,7 +137,7 @@ fn hold(
     held: &mut SiteSet,
 )
     requires { (n : ℕ) × MayKeep (program_of c.now) units.now peers.now n (shown_term body.now) }
-    ensures { (k : ℕ) → 1 ≤ k → k ≤ (program_of c.now).sites → Adds (Has held.old k) (Has held.new k) (IsHeldHere (program_of c.now) slots.now low k (shown_term body.now)) }
+    ensures { HoldsHere (program_of c.now) slots.now low (shown_term body.now) held.old held.new }
 {
     let mut used = SiteSet::new();
     touch(slots, low, body, &mut used);
@@ -155,7 +155,7 @@ fn hold(
 // Puts into a set the sites in reach of a let's body, or of its arguments where it is a call.
 fn reach_body(c: &Checked, units: &[SiteSet], body: &Term, row: &mut SiteSet)
     requires { (n : ℕ) × MayReach (program_of c.now) units.now n (shown_term body.now) }
-    ensures { (k : ℕ) → Adds (Has row.old k) (Has row.new k) (InBody (program_of c.now) k (shown_term body.now)) }
+    ensures { Gains row.old row.new (λ k. InBody (program_of c.now) k (shown_term body.now)) }
 {
     match body {
         Term::Call(_, _, ts) => reach_in(c, units, ts, row),

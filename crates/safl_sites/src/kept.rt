@@ -1,11 +1,11 @@
 //! Which sites of a body keep their words for its conditions and bindings.
 
-ghost use Rattle.std.specs.Prelude.{◌≡◌, ℕ, suc, ◌≤◌, ◌<◌, ◌↔◌, IsTrue, OnOk};
+ghost use Rattle.std.specs.Prelude.{◌≡◌, suc, ◌≤◌, ◌<◌, ◌↔◌, IsTrue, OnOk};
 ghost use Rattle.safl_term.specs.Checked.{IsChecked, program_of, first_site_of};
 ghost use Rattle.safl_sites.specs.Bodies.{UnitTable, MustKeep, IsOwnKept, IsBodyKept, IsKeptBelow};
 ghost use Rattle.safl_sites.specs.Peers.{ArePeers};
 ghost use Rattle.safl_sites.specs.Planned.{ReachTable};
-ghost use Rattle.safl_sites.specs.Rows.{Has, Adds};
+ghost use Rattle.safl_sites.specs.Rows.{Gains};
 
 use crate::fill::empty_rows;
 use crate::keep::{Keeping, walk};
@@ -25,7 +25,7 @@ pub fn keep_all(
     requires units { UnitTable (program_of c.now) units.now }
     requires bodies { ReachTable (program_of c.now) bodies.now }
     requires peers { ArePeers (program_of c.now) (program_of c.now).sites peers.now }
-    ensures { OnOk result ((k : ℕ) → Adds (Has kept.old k) (Has kept.new k) (IsKeptBelow (program_of c.now) (program_of c.now).functions k)) }
+    ensures { OnOk result (Gains kept.old kept.new (IsKeptBelow (program_of c.now) (program_of c.now).functions)) }
 {
     let functions = c.functions();
     for g in 0..functions {
@@ -47,7 +47,7 @@ fn keep_body(
     requires units { UnitTable (program_of c.now) units.now }
     requires bodies { ReachTable (program_of c.now) bodies.now }
     requires peers { ArePeers (program_of c.now) (program_of c.now).sites peers.now }
-    ensures { OnOk result ((k : ℕ) → Adds (Has kept.old k) (Has kept.new k) (IsBodyKept (program_of c.now) g k)) }
+    ensures { OnOk result (Gains kept.old kept.new (IsBodyKept (program_of c.now) g)) }
 {
     let mut slots = empty_rows(alloc, c.params(g) as usize)?;
     let mut feeds = SiteSet::new();
@@ -79,7 +79,7 @@ fn keep_own(
     requires checked { IsChecked c.now }
     requires within { g < (program_of c.now).functions }
     requires peers { ArePeers (program_of c.now) (program_of c.now).sites peers.now }
-    ensures { (k : ℕ) → Adds (Has kept.old k) (Has kept.new k) (IsOwnKept (program_of c.now) reach.now peers.now keeps.now (first_site_of c.now g) (first_site_of c.now (suc g)) k) }
+    ensures { Gains kept.old kept.new (IsOwnKept (program_of c.now) reach.now peers.now keeps.now (first_site_of c.now g) (first_site_of c.now (suc g))) }
 {
     let first = c.first_site(g);
     let count = c.own_sites(g);

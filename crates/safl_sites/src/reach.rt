@@ -5,7 +5,7 @@ ghost use Rattle.safl_term.specs.Checked.{program_of, IsChecked};
 ghost use Rattle.safl_term.specs.Tree.{shown_term, shown_terms};
 ghost use Rattle.safl_sites.specs.Conflicts.{Reaches, ReachesIn};
 ghost use Rattle.safl_sites.specs.Reach.{MayReach, MayReachIn};
-ghost use Rattle.safl_sites.specs.Rows.{Has, Adds};
+ghost use Rattle.safl_sites.specs.Rows.{Gains};
 
 use crate::site_set::SiteSet;
 use safl_term::{Checked, Term};
@@ -14,7 +14,7 @@ use safl_term::{Checked, Term};
 #[cycle(reach)]
 pub fn reach(c: &Checked, units: &[SiteSet], t: &Term, row: &mut SiteSet)
     requires { (slots : ℕ) × MayReach (program_of c.now) units.now slots (shown_term t.now) }
-    ensures { (k : ℕ) → Adds (Has row.old k) (Has row.new k) (Reaches (program_of c.now) k (shown_term t.now)) }
+    ensures { Gains row.old row.new (λ k. Reaches (program_of c.now) k (shown_term t.now)) }
 {
     match t {
         Term::Const(_) => {}
@@ -41,7 +41,7 @@ pub fn reach(c: &Checked, units: &[SiteSet], t: &Term, row: &mut SiteSet)
 #[cycle(reach)]
 pub fn reach_in(c: &Checked, units: &[SiteSet], ts: &[Term], row: &mut SiteSet)
     requires { (slots : ℕ) × MayReachIn (program_of c.now) units.now slots (shown_terms ts.now) }
-    ensures { (k : ℕ) → Adds (Has row.old k) (Has row.new k) (ReachesIn (program_of c.now) k (shown_terms ts.now)) }
+    ensures { Gains row.old row.new (λ k. ReachesIn (program_of c.now) k (shown_terms ts.now)) }
 {
     if let Some((first, rest)) = ts.split_first() {
         reach(c, units, first, row);

@@ -1,7 +1,7 @@
 //! Sets of sites.
 
 ghost use Rattle.std.specs.Prelude.{◌≡◌, ◌<◌, ◌↔◌, ℕ, false, IsTrue};
-ghost use Rattle.safl_sites.specs.Rows.{has, Has, Adds, IsCommon, Meets};
+ghost use Rattle.safl_sites.specs.Rows.{has, Has, IsCommon, Meets, Gains};
 
 /// The machine words of a set: a bit for each number of a site, of which there are 4,000.
 const WORDS: usize = 63;
@@ -31,14 +31,14 @@ impl SiteSet {
     /// Puts a site into the set.
     pub fn insert(&mut self, k: u32)
         requires { k < 4032 }
-        ensures { (j : ℕ) → Adds (Has self.old j) (Has self.new j) (j ≡ k) }
+        ensures { Gains self.old self.new (λ j. j ≡ k) }
     {
         self.words[k as usize / 64] |= 1 << (k % 64);
     }
 
     /// Puts each site of another set into this one.
     pub fn union(&mut self, other: &SiteSet)
-        ensures { (j : ℕ) → Adds (Has self.old j) (Has self.new j) (Has other.now j) }
+        ensures { Gains self.old self.new (Has other.now) }
     {
         for i in 0..WORDS {
             self.words[i] |= other.words[i];
@@ -63,7 +63,7 @@ impl SiteSet {
 
     /// Puts each site that is in two other sets, but for this one, into this set.
     pub fn add_common(&mut self, a: &SiteSet, b: &SiteSet, except: u32)
-        ensures { (k : ℕ) → Adds (Has self.old k) (Has self.new k) (IsCommon a.now b.now except k) }
+        ensures { Gains self.old self.new (IsCommon a.now b.now except) }
     {
         for i in 0..WORDS {
             let mut common = a.words[i] & b.words[i];

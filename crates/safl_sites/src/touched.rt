@@ -1,8 +1,7 @@
 //! Which sites' words are in the slots that a term uses.
 
-ghost use Rattle.std.specs.Prelude.{ℕ};
 ghost use Rattle.safl_term.specs.Tree.{shown_term, shown_terms};
-ghost use Rattle.safl_sites.specs.Rows.{Has, Adds};
+ghost use Rattle.safl_sites.specs.Rows.{Gains};
 ghost use Rattle.safl_sites.specs.Touched.{IsTouched, IsTouchedIn};
 
 use crate::site_set::SiteSet;
@@ -11,7 +10,7 @@ use safl_term::Term;
 /// Puts into a set what the rows of the slots have that are used in a term, from a first slot on.
 #[cycle(touch)]
 pub fn touch(slots: &[SiteSet], low: usize, t: &Term, row: &mut SiteSet)
-    ensures { (k : ℕ) → Adds (Has row.old k) (Has row.new k) (IsTouched slots.now low k (shown_term t.now)) }
+    ensures { Gains row.old row.new (λ k. IsTouched slots.now low k (shown_term t.now)) }
 {
     match t {
         Term::Const(_) => {}
@@ -37,7 +36,7 @@ pub fn touch(slots: &[SiteSet], low: usize, t: &Term, row: &mut SiteSet)
 
 #[cycle(touch)]
 fn touch_in(slots: &[SiteSet], low: usize, ts: &[Term], row: &mut SiteSet)
-    ensures { (k : ℕ) → Adds (Has row.old k) (Has row.new k) (IsTouchedIn slots.now low k (shown_terms ts.now)) }
+    ensures { Gains row.old row.new (λ k. IsTouchedIn slots.now low k (shown_terms ts.now)) }
 {
     if let Some((first, rest)) = ts.split_first() {
         touch(slots, low, first, row);

@@ -6,7 +6,6 @@ use Rattle.safl_io.specs.Reading.{HasFile}
 use Rattle.safl_io.specs.Shelf.{Files, file_of}
 use Rattle.safl_io.specs.Told.{TellsOn}
 use Rattle.safl_io.specs.Sink.{SinkState, SendsPart}
-use Rattle.safl_probe.specs.Probing.{ProbeState}
 use Rattle.safl_task.specs.Tasks.{Input, Given, Task, OfFile, end_of, files_of, AreContents, OfInputs}
 use Rattle.safl_task.specs.Endings.{Outside, LeavesParts, Gave, Began, Left, Stops, refused, unread, long, unwritten, unprinted, unprobed, starved, Ends, gave, told, cut, may_give, Got, KeepsAll, KeepsOthers, Tells, NoFault, Completes}
 use Rattle.safl_task.specs.declared.status.Status.{Status}
@@ -15,7 +14,7 @@ use Rattle.safl_task.proofs.Ending.{whole_part, all_parts, stop_left, same_parts
 
 -- ---- what is left
 
-module _ (t : Task) (old new : Outside) (ps qs : List ProbeState) where
+module _ (t : Task) (Unprobed : List ℕ → Type 0) (old new : Outside) where
   gave_began : (g : Given) → Gave t old new g → Began t old new
   gave_began g h = record {
     whole = g;
@@ -25,10 +24,10 @@ module _ (t : Task) (old new : Outside) (ps qs : List ProbeState) where
   }
 
   -- at every status
-  pub end_left : (before after : SinkState) (s : Status) → Ends t old new ps qs before after s → Left t old new
+  pub end_left : (before after : SinkState) (s : Status) → Ends t Unprobed old new before after s → Left t old new
   end_left before after _ (gave g h same) = inr (gave_began g h)
-  end_left before after _ (told s line stops g) = stop_left t old new ps qs s line stops
-  end_left before after _ (cut s line stops p) = stop_left t old new ps qs s line stops
+  end_left before after _ (told s line stops g) = stop_left t Unprobed old new s line stops
+  end_left before after _ (cut s line stops p) = stop_left t Unprobed old new s line stops
 
   -- a refusal changes nothing
   end_gives : (g : Given) → may_give (end_of g) ≡ true
@@ -38,22 +37,22 @@ module _ (t : Task) (old new : Outside) (ps qs : List ProbeState) where
       go true = refl
       go false = refl
 
-  stop_keeps : (s : Status) (line : List ℕ) → Stops t old new ps qs s line → KeepsAll s old new
+  stop_keeps : (s : Status) (line : List ℕ) → Stops t Unprobed old new s line → KeepsAll s old new
   stop_keeps _ _ (refused s line r h kept) k = kept
   stop_keeps _ _ (unread i reached rose kept) k = kept
   stop_keeps _ _ (long i reached h kept) k = kept
   stop_keeps _ _ (unwritten name is rose began) k = absurd (cc)
   stop_keeps _ _ (unprinted rose began) k = absurd (cc)
-  stop_keeps _ _ (unprobed kind failed began) k = absurd (cc)
+  stop_keeps _ _ (unprobed line failed began) k = absurd (cc)
   stop_keeps _ _ (starved left) k = absurd (cc)
 
-  pub end_keeps : (before after : SinkState) (s : Status) → Ends t old new ps qs before after s → KeepsAll s old new
+  pub end_keeps : (before after : SinkState) (s : Status) → Ends t Unprobed old new before after s → KeepsAll s old new
   end_keeps before after _ (gave g h same) k = absurd (let yes = end_gives g in cc)
   end_keeps before after _ (told s line stops g) k = stop_keeps s line stops k
   end_keeps before after _ (cut s line stops p) k = absurd (cc)
 
   -- what is told is no result
-  no_result : (s : Status) (line : List ℕ) → Stops t old new ps qs s line → (s ≡ status.Ok) ⊎ (s ≡ status.NoResult) → ⊥
+  no_result : (s : Status) (line : List ℕ) → Stops t Unprobed old new s line → (s ≡ status.Ok) ⊎ (s ≡ status.NoResult) → ⊥
   no_result _ _ (refused s line r h kept) e = elim e [
     | inl a ↦ (let b : may_give s ≡ true = ap may_give a in cc)
     | inr a ↦ (let b : may_give s ≡ true = ap may_give a in cc)
@@ -62,24 +61,24 @@ module _ (t : Task) (old new : Outside) (ps qs : List ProbeState) where
   no_result _ _ (long i reached h kept) e = elim e [ inl a ↦ cc | inr a ↦ cc ]
   no_result _ _ (unwritten name is rose began) e = elim e [ inl a ↦ cc | inr a ↦ cc ]
   no_result _ _ (unprinted rose began) e = elim e [ inl a ↦ cc | inr a ↦ cc ]
-  no_result _ _ (unprobed kind failed began) e = elim e [ inl a ↦ cc | inr a ↦ cc ]
+  no_result _ _ (unprobed line failed began) e = elim e [ inl a ↦ cc | inr a ↦ cc ]
   no_result _ _ (starved left) e = elim e [ inl a ↦ cc | inr a ↦ cc ]
 
   got_part : (line : List ℕ) (before after : SinkState) → Got line before after → TellsOn (SendsPart line) before.sent after.sent
   got_part line before after g = elim g [ inl s ↦ whole_part line before.sent after.sent s | inr p ↦ p.1 ]
 
-  stop_tells : (before after : SinkState) (s : Status) (line : List ℕ) → Stops t old new ps qs s line → Got line before after → Tells t old new ps qs before after s
+  stop_tells : (before after : SinkState) (s : Status) (line : List ℕ) → Stops t Unprobed old new s line → Got line before after → Tells t Unprobed old new before after s
   stop_tells before after status.Ok line stops g = absurd (no_result status.Ok line stops (inl refl))
   stop_tells before after status.NoResult line stops g = absurd (no_result status.NoResult line stops (inr refl))
   stop_tells before after status.NoMemory line stops g = (status.NoMemory, line, stops, got_part line before after g)
   stop_tells before after s line stops g = (line, stops, g)
 
-  given_tells : (before after : SinkState) (b : Bool) → after ≡ before → Tells t old new ps qs before after (if b then status.Ok else status.NoResult)
+  given_tells : (before after : SinkState) (b : Bool) → after ≡ before → Tells t Unprobed old new before after (if b then status.Ok else status.NoResult)
   given_tells before after true same = same
   given_tells before after false same = same
 
   -- what the sink of refusals got
-  pub end_tells : (before after : SinkState) (s : Status) → Ends t old new ps qs before after s → Tells t old new ps qs before after s
+  pub end_tells : (before after : SinkState) (s : Status) → Ends t Unprobed old new before after s → Tells t Unprobed old new before after s
   end_tells before after _ (gave g h same) = given_tells before after g.comes same
   end_tells before after _ (told s line stops g) = stop_tells before after s line stops g
   end_tells before after _ (cut s line stops p) = (s, line, stops, p)
@@ -140,13 +139,13 @@ not_long None i c none h small h2 = absurd (cc)
 not_long (Some files) i c some h small h2 = let n : i.limit < length c = subst (λ (o : Option (List ℕ)). IsSomeAnd o (λ bytes. i.limit < length bytes)) h h2 in omega (arith, n, small)
 
 -- what was promised was told otherwise
-module _ (t : Task) (keeps : IsKept t) (old new : Outside) (ps qs : List ProbeState) (some : IsSome old.shelf.holds) (promise : OfInputs old.shelf.holds t.inputs t.Promises) (quiet : NoFault t old new ps qs) where
+module _ (t : Task) (Unprobed : List ℕ → Type 0) (keeps : IsKept t) (old new : Outside) (some : IsSome old.shelf.holds) (promise : OfInputs old.shelf.holds t.inputs t.Promises) (quiet : NoFault Unprobed old new) where
   comes : (g : Given) → OfInputs old.shelf.holds t.inputs (λ contents. t.Gives contents g) → g.comes ≡ true
   comes g h =
       let e : promise.0 ≡ h.0 = same_contents old.shelf.holds some t.inputs promise.0 h.0 promise.1 h.1 in
       keeps.gives h.0 g (subst (λ x. t.Promises x) e promise.2) h.2
 
-  memory_alone : (s : Status) (line : List ℕ) → Stops t old new ps qs s line → s ≡ status.NoMemory
+  memory_alone : (s : Status) (line : List ℕ) → Stops t Unprobed old new s line → s ≡ status.NoMemory
   memory_alone _ _ (refused s line r h kept) = absurd (
       let e : promise.0 ≡ h.0 = same_contents old.shelf.holds some t.inputs promise.0 h.0 promise.1 h.1 in keeps.refuses h.0 s line (subst (λ x. t.Promises x) e promise.2) h.2
       )
@@ -157,13 +156,13 @@ module _ (t : Task) (keeps : IsKept t) (old new : Outside) (ps qs : List ProbeSt
       )
   memory_alone _ _ (unwritten name is rose began) = absurd (quiet.writes rose)
   memory_alone _ _ (unprinted rose began) = absurd (quiet.prints rose)
-  memory_alone _ _ (unprobed kind failed began) = absurd (quiet.probes failed.place failed.name failed.asked failed.rose)
+  memory_alone _ _ (unprobed line failed began) = absurd (quiet.probes line failed)
   memory_alone _ _ (starved left) = refl
 
-  pub end_complete : (before after : SinkState) (s : Status) → Ends t old new ps qs before after s → (s ≡ status.Ok) ⊎ (s ≡ status.NoMemory)
+  pub end_complete : (before after : SinkState) (s : Status) → Ends t Unprobed old new before after s → (s ≡ status.Ok) ⊎ (s ≡ status.NoMemory)
   end_complete before after _ (gave g h same) = inl (ap (λ b. if b then status.Ok else status.NoResult) (comes g h.given))
   end_complete before after _ (told s line stops g) = inr (memory_alone s line stops)
   end_complete before after _ (cut s line stops p) = inr refl
 
-pub end_completes : (t : Task) → IsKept t → (old new : Outside) (ps qs : List ProbeState) (before after : SinkState) (s : Status) → Ends t old new ps qs before after s → Completes t old new ps qs s
-end_completes t keeps old new ps qs before after s ends = λ some promise quiet. end_complete t keeps old new ps qs some promise quiet before after s ends
+pub end_completes : (t : Task) (Unprobed : List ℕ → Type 0) → IsKept t → (old new : Outside) (before after : SinkState) (s : Status) → Ends t Unprobed old new before after s → Completes t Unprobed old new s
+end_completes t Unprobed keeps old new before after s ends = λ some promise quiet. end_complete t Unprobed keeps old new some promise quiet before after s ends

@@ -1,4 +1,3 @@
-pub mod Naming
 pub mod Ending
 pub mod Following
-pub mod Giving
+pub mod Reading

@@ -1,15 +1,12 @@
 -- How a command ends: what it leaves in the files and on its sinks, and why.
-use Rattle.std.specs.Prelude.{◌≡◌, ℕ, ◌<◌, ◌⊎◌, List, ◌∷◌, ◌++◌, length, take, Option, Some, IsSome, IsSomeAnd, OnSome, Contains, Bool, true, false}
+use Rattle.std.specs.Prelude.{◌≡◌, ℕ, ◌<◌, ◌⊎◌, List, length, take, Some, IsSome, IsSomeAnd, Contains, Bool, true, false}
 use Rattle.std.specs.Option.{option_or}
 use Rattle.safl_io.specs.Counts.{Rose}
 use Rattle.safl_io.specs.Shelf.{Files, ShelfState, file_of}
 use Rattle.safl_io.specs.Told.{TellsOn}
 use Rattle.safl_io.specs.Sink.{SinkState, Sends, SendsPart}
-use Rattle.safl_probe.specs.Probing.{ProbeState}
-use Rattle.safl_drive.specs.Asked.{IsAsked, probe_at}
-use Rattle.safl_drive.specs.Stopping.{ProbeFailed}
-use Rattle.safl_task.specs.Lines.{memory_line, read_line, write_line, long_line, output_line, probe_line}
-use Rattle.safl_task.specs.Tasks.{Input, Given, Task, end_of, files_of, OfFile, OfInputs, HoldsInputs}
+use Rattle.safl_task.specs.Lines.{memory_line, read_line, write_line, long_line, output_line}
+use Rattle.safl_task.specs.Tasks.{Input, Given, Task, end_of, files_of, OfFile, OfInputs, Reaches, SameStraysWith}
 use Rattle.safl_task.specs.declared.status.Status.{Status}
 use Rattle.safl_task.specs.declared.status.Status.TheVariants as status
 
@@ -52,13 +49,6 @@ pub record Began (t : Task) (old new : Outside) : Type 0 where
 abbrev pub Left : Task → Outside → Outside → Type 0
 Left t old new = Untouched old new ⊎ Began t old new
 
--- the file is one that the command reads, and those before it are there, within their limits
-pub record Reaches (t : Task) (holds : Option Files) (i : Input) : Type 0 where
-  pub before : List Input
-  pub after : List Input
-  pub is : t.inputs ≡ before ++ i ∷ after
-  pub held : OfInputs holds before (λ contents. Unit {0})
-
 -- the statuses at which something may have been given
 abbrev pub may_give : Status → Bool
 may_give status.Ok = true
@@ -68,26 +58,26 @@ may_give status.ProbeFault = true
 may_give status.NoMemory = true
 may_give _ = false
 
--- Why a command stops with a status and a line, and what it leaves; with what the probes tell before it and after it.
-pub data Stops (t : Task) (old new : Outside) (ps qs : List ProbeState) : Status → List ℕ → Type 0 where
+-- Why a command stops with a status and a line, and what it leaves. `Unprobed` says which lines tell of a probe that failed.
+pub data Stops (t : Task) (Unprobed : List ℕ → Type 0) (old new : Outside) : Status → List ℕ → Type 0 where
   -- it refuses what the files contain
   refused : (s : Status) (line : List ℕ) → may_give s ≡ false → OfInputs old.shelf.holds t.inputs (λ contents. t.Refuses contents s line) → Untouched old new
-      → Stops t old new ps qs s line
+      → Stops t Unprobed old new s line
   -- a read failed
-  unread : (i : Input) → Reaches t old.shelf.holds i → Rose old.shelf.read_faults new.shelf.read_faults → Untouched old new
-      → Stops t old new ps qs status.ReadFault (read_line i.name)
+  unread : (i : Input) → Reaches t.inputs old.shelf.holds i → Rose old.shelf.read_faults new.shelf.read_faults → Untouched old new
+      → Stops t Unprobed old new status.ReadFault (read_line i.name)
   -- a file has more bytes than its limit
-  long : (i : Input) → Reaches t old.shelf.holds i → OfFile old.shelf.holds i.name (λ bytes. i.limit < length bytes) → Untouched old new
-      → Stops t old new ps qs status.TooLong (long_line i.name i.limit)
+  long : (i : Input) → Reaches t.inputs old.shelf.holds i → OfFile old.shelf.holds i.name (λ bytes. i.limit < length bytes) → Untouched old new
+      → Stops t Unprobed old new status.TooLong (long_line i.name i.limit)
   -- a write failed
   unwritten : (name : List ℕ) → Contains t.outputs name → Rose old.shelf.write_faults new.shelf.write_faults → Began t old new
-      → Stops t old new ps qs status.WriteFault (write_line name)
+      → Stops t Unprobed old new status.WriteFault (write_line name)
   -- printing failed
-  unprinted : Rose old.out.faults new.out.faults → Began t old new → Stops t old new ps qs status.WriteFault output_line
+  unprinted : Rose old.out.faults new.out.faults → Began t old new → Stops t Unprobed old new status.WriteFault output_line
   -- an asked probe failed
-  unprobed : (kind : ℕ) → ProbeFailed kind t.asks ps qs → Began t old new → Stops t old new ps qs status.ProbeFault (probe_line kind)
+  unprobed : (line : List ℕ) → Unprobed line → Began t old new → Stops t Unprobed old new status.ProbeFault line
   -- memory ran out
-  starved : Left t old new → Stops t old new ps qs status.NoMemory memory_line
+  starved : Left t old new → Stops t Unprobed old new status.NoMemory memory_line
 
 -- it gave all with this status, which is Ok or NoResult
 abbrev pub Ended : Task → Outside → Outside → Status → Type 0
@@ -98,13 +88,13 @@ abbrev pub Got : List ℕ → SinkState → SinkState → Type 0
 Got line before after = TellsOn (Sends line) before.sent after.sent ⊎ (Rose before.faults after.faults × TellsOn (SendsPart line) before.sent after.sent)
 
 -- How a call ends, with the sink of refusals before it and after it.
-pub data Ends (t : Task) (old new : Outside) (ps qs : List ProbeState) (before after : SinkState) : Status → Type 0 where
+pub data Ends (t : Task) (Unprobed : List ℕ → Type 0) (old new : Outside) (before after : SinkState) : Status → Type 0 where
   -- it gave what it gives, and refused nothing
-  gave : (g : Given) → Gave t old new g → after ≡ before → Ends t old new ps qs before after (end_of g)
+  gave : (g : Given) → Gave t old new g → after ≡ before → Ends t Unprobed old new before after (end_of g)
   -- it told why it stops
-  told : (s : Status) (line : List ℕ) → Stops t old new ps qs s line → Got line before after → Ends t old new ps qs before after s
+  told : (s : Status) (line : List ℕ) → Stops t Unprobed old new s line → Got line before after → Ends t Unprobed old new before after s
   -- memory ran out in sending why
-  cut : (s : Status) (line : List ℕ) → Stops t old new ps qs s line → TellsOn (SendsPart line) before.sent after.sent → Ends t old new ps qs before after status.NoMemory
+  cut : (s : Status) (line : List ℕ) → Stops t Unprobed old new s line → TellsOn (SendsPart line) before.sent after.sent → Ends t Unprobed old new before after status.NoMemory
 
 -- ---- what follows of every command
 
@@ -119,24 +109,24 @@ KeepsOthers t old new =
 
 -- The sink of refusals got nothing at Ok and where no result came; at NoMemory a prefix of the line of a cause that is there; and
 -- else the whole line of the status's cause, or the sink failed after a prefix of it.
-abbrev pub Tells : Task → Outside → Outside → List ProbeState → List ProbeState → SinkState → SinkState → Status → Type 0
-Tells t old new ps qs before after status.Ok = after ≡ before
-Tells t old new ps qs before after status.NoResult = after ≡ before
-Tells t old new ps qs before after status.NoMemory = (s : Status) × (line : List ℕ) × Stops t old new ps qs s line × TellsOn (SendsPart line) before.sent after.sent
-Tells t old new ps qs before after s = (line : List ℕ) × Stops t old new ps qs s line × Got line before after
+abbrev pub Tells : Task → (List ℕ → Type 0) → Outside → Outside → SinkState → SinkState → Status → Type 0
+Tells t Unprobed old new before after status.Ok = after ≡ before
+Tells t Unprobed old new before after status.NoResult = after ≡ before
+Tells t Unprobed old new before after status.NoMemory = (s : Status) × (line : List ℕ) × Stops t Unprobed old new s line × TellsOn (SendsPart line) before.sent after.sent
+Tells t Unprobed old new before after s = (line : List ℕ) × Stops t Unprobed old new s line × Got line before after
 
 -- no name was used that the shelf tells it doesn't hold, where it held the inputs
 abbrev pub SameStrays : Task → ShelfState → ShelfState → Type 0
-SameStrays t old new = HoldsInputs old.holds t.inputs → OnSome old.holds (new.strays ≡ old.strays)
+SameStrays t old new = SameStraysWith t.inputs old new
 
--- no count rose: none of the shelf or of the sink, and none of an asked probe
-pub record NoFault (t : Task) (old new : Outside) (ps qs : List ProbeState) : Type 0 where
+-- no count rose: none of the shelf or of the sink, and no asked probe failed
+pub record NoFault (Unprobed : List ℕ → Type 0) (old new : Outside) : Type 0 where
   pub reads : ¬ Rose old.shelf.read_faults new.shelf.read_faults
   pub writes : ¬ Rose old.shelf.write_faults new.shelf.write_faults
   pub prints : ¬ Rose old.out.faults new.out.faults
-  pub probes : (i : ℕ) (name : List ℕ) → IsAsked t.asks i name → ¬ Rose (probe_at ps i).faults (probe_at qs i).faults
+  pub probes : (line : List ℕ) → ¬ Unprobed line
 
 -- where a result is promised of what the shelf tells, and no count rose, it came, or memory ran out
-abbrev pub Completes : Task → Outside → Outside → List ProbeState → List ProbeState → Status → Type 0
-Completes t old new ps qs s =
-    IsSome old.shelf.holds → OfInputs old.shelf.holds t.inputs t.Promises → NoFault t old new ps qs → (s ≡ status.Ok) ⊎ (s ≡ status.NoMemory)
+abbrev pub Completes : Task → (List ℕ → Type 0) → Outside → Outside → Status → Type 0
+Completes t Unprobed old new s =
+    IsSome old.shelf.holds → OfInputs old.shelf.holds t.inputs t.Promises → NoFault Unprobed old new → (s ≡ status.Ok) ⊎ (s ≡ status.NoMemory)

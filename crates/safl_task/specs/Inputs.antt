@@ -1,8 +1,14 @@
--- The file that a command reads, as the code has it.
-use Rattle.std.specs.Prelude.{ℕ, ◌≤◌, List, [], ◌∷◌, length, Option, Some, None}
+-- The files that a command reads, as the code has them.
+use Rattle.std.specs.Prelude.{◌≡◌, ℕ, ◌<◌, ◌≤◌, List, map, length}
+use Rattle.std.specs.declared.vec.Vec.{Vec}
+use Rattle.std.specs.declared.alloc.Global.{Global}
+use Rattle.safl_io.specs.Counts.{Rose}
+use Rattle.safl_io.specs.Shelf.{ShelfState}
 use Rattle.safl_task.specs.Limits.{source_max, script_max, verilog_max, aig_max}
-use Rattle.safl_task.specs.Tasks.{Input}
+use Rattle.safl_task.specs.Tasks.{Input, OfFile, Reaches}
 use Rattle.safl_task.specs.declared.input.Input as code
+use Rattle.safl_task.specs.declared.input.Unread.{Unread}
+use Rattle.safl_task.specs.declared.input.Unread.TheVariants as unread
 
 -- a file that holds a source, one that holds a script, one that holds a Verilog text, and one that holds an AIGER text
 abbrev pub source_file : List ℕ → Input
@@ -20,17 +26,26 @@ aig_file name = record { name = name; limit = aig_max }
 abbrev pub shown_input : code.Input → Input
 shown_input i = record { name = i.name.now; limit = i.limit }
 
-abbrev pub inputs_of : Option code.Input → List Input
-inputs_of None = []
-inputs_of (Some i) = shown_input i ∷ []
+abbrev pub shown_inputs : List code.Input → List Input
+shown_inputs is = map shown_input is
 
--- the contents of the files, of which there is one at most
-abbrev pub contents_in : List Input → List ℕ → List (List ℕ)
-contents_in [] bytes = []
-contents_in (i ∷ is) bytes = bytes ∷ []
+-- the bytes of contents
+abbrev pub shown_contents : List (Vec ℕ Global) → List (List ℕ)
+shown_contents contents = map (λ (v : Vec ℕ Global). v.items) contents
 
--- there is one file at most, and the bytes are within its limit
-abbrev pub AreWithin : List Input → List ℕ → Type 0
-AreWithin [] bytes = Unit {0}
-AreWithin (i ∷ []) bytes = length bytes ≤ i.limit
-AreWithin (i ∷ j ∷ is) bytes = ⊥
+-- why one of the files is not read: the shelf failed, or the file has more bytes than its limit, or memory ran out
+abbrev pub IsUnreadAt : Input → ShelfState → ShelfState → Unread → Type 0
+IsUnreadAt i old new (unread.Failed name) = (name.now ≡ i.name) × Rose old.read_faults new.read_faults
+IsUnreadAt i old new (unread.TooLong name limit) = (name.now ≡ i.name) × (limit ≡ i.limit) × OfFile old.holds i.name (λ bytes. i.limit < length bytes)
+IsUnreadAt i old new unread.NoMemory = Unit {0}
+
+-- why the files are not read
+abbrev pub AreUnread : List Input → ShelfState → ShelfState → Unread → Type 0
+AreUnread inputs old new unread.NoMemory = Unit {0}
+AreUnread inputs old new why = (i : Input) × Reaches inputs old.holds i × IsUnreadAt i old new why
+
+-- what reading leaves on the shelf
+pub record OnlyReads (old new : ShelfState) : Type 0 where
+  pub files : new.holds ≡ old.holds
+  pub writes : new.write_faults ≡ old.write_faults
+  pub reads : old.read_faults ≤ new.read_faults

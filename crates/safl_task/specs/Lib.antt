@@ -1,9 +1,6 @@
 pub mod Limits
 pub mod Lines
-pub mod VerilogLines
 pub mod Statuses
 pub mod Tasks
-pub mod Endings
-pub mod Refusals
 pub mod Inputs
-pub mod Answers
+pub mod Endings

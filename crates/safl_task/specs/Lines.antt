@@ -1,12 +1,6 @@
--- The lines that a refusal sends, each with its line feed.
-use Rattle.std.specs.Prelude.{ℕ, ◌+◌, List, ◌++◌, take, not, ◌==◌, count_by, codes}
-use Rattle.std.specs.List.{suffix_len}
+-- The lines that tell why files are not read or written, or nothing is printed, each with its line feed.
+use Rattle.std.specs.Prelude.{ℕ, List, ◌++◌, codes}
 use Rattle.std.specs.Fmt.{decimal}
-use Rattle.safl_word.specs.declared.fault.Fault.{Fault}
-use Rattle.safl_word.specs.Faults.{fault_text}
-
-abbrev pub usage_line : List ℕ
-usage_line = codes "usage: safl check IN | build IN OUT | sim IN --cycles L [ARG..] | run FILE --cycles L [ARG..] | walk IN --order SEED --steps N [ARG..] | report IN | gen SEED COUNT | bench SEED COUNT --cycles L\n"
 
 abbrev pub memory_line : List ℕ
 memory_line = codes "out of memory\n"
@@ -22,39 +16,3 @@ long_line name limit = name ++ codes " is longer than " ++ decimal limit ++ code
 
 abbrev pub output_line : List ℕ
 output_line = codes "cannot write output\n"
-
--- how many parameters main has, and how many arguments there are
-abbrev pub count_line : ℕ → ℕ → List ℕ
-count_line params given = codes "main takes " ++ decimal params ++ codes " arguments, " ++ decimal given ++ codes " given\n"
-
--- the number of an argument, from 1, and the bits of its parameter
-abbrev pub argument_line : ℕ → ℕ → List ℕ
-argument_line index width = codes "argument " ++ decimal index ++ codes " is no number of " ++ decimal width ++ codes " bits\n"
-
--- what is said of the line of this number, from 1, of a script
-abbrev pub numbered_line : ℕ → List ℕ → List ℕ
-numbered_line number text = codes "line " ++ decimal number ++ codes ": " ++ text
-
--- that a probe of a kind failed
-abbrev pub probe_line : ℕ → List ℕ
-probe_line kind = codes "probe " ++ decimal kind ++ codes " failed\n"
-
--- why a site is not reshaped
-abbrev pub site_line : ℕ → List ℕ → List ℕ
-site_line site text = codes "site " ++ decimal site ++ codes ": " ++ text ++ codes "\n"
-
--- one more than the line feeds before the place
-abbrev pub line_at : List ℕ → ℕ → ℕ
-line_at source place = count_by (λ c. c == 10) (take place source) + 1
-
--- one more than the bytes between the last line feed before the place, or the beginning, and the place
-abbrev pub column_at : List ℕ → ℕ → ℕ
-column_at source place = suffix_len (λ c. not (c == 10)) (take place source) + 1
-
-abbrev pub placed_line : List ℕ → ℕ → ℕ → List ℕ → List ℕ
-placed_line name line column text =
-    name ++ codes ":" ++ decimal line ++ codes ":" ++ decimal column ++ codes ": " ++ text ++ codes "\n"
-
--- a fault of a source, at its line and column
-abbrev pub source_line : List ℕ → List ℕ → Fault → List ℕ
-source_line name source f = placed_line name (line_at source f.place) (column_at source f.place) (fault_text f)

@@ -1,8 +1,7 @@
 -- What a command is: the files that it reads and writes, which contents it refuses, and what it gives of the others.
-use Rattle.std.specs.Prelude.{ℕ, ◌≤◌, List, [], ◌∷◌, length, Option, Some, None, IfSome, IsSomeAnd, Bool, if◌then◌else◌}
-use Rattle.safl_io.specs.Shelf.{Files, file_of}
+use Rattle.std.specs.Prelude.{◌≡◌, ℕ, ◌≤◌, List, [], ◌∷◌, ◌++◌, length, Option, Some, None, IfSome, IsSomeAnd, Bool, true, if◌then◌else◌}
+use Rattle.safl_io.specs.Shelf.{Files, ShelfState, file_of, UsesNoStray}
 use Rattle.safl_io.specs.Reading.{HasFile}
-use Rattle.safl_drive.specs.Asked.{Asked}
 use Rattle.safl_task.specs.declared.status.Status.{Status}
 use Rattle.safl_task.specs.declared.status.Status.TheVariants as status
 
@@ -17,13 +16,18 @@ pub record Given : Type 0 where
   pub printed : List ℕ
   pub texts : List (List ℕ)
 
--- A command: the files that it reads and those that it writes, in order; which probes it asks, and for which files; which contents
--- of the files that it reads it refuses, with which status and line; what it gives of their contents; and of which contents a
--- result is promised.
+-- a text that is printed, and one that is written to the only file
+abbrev pub only_prints : Bool → List ℕ → Given
+only_prints comes text = record { comes = comes; printed = text; texts = [] }
+
+abbrev pub only_writes : List ℕ → Given
+only_writes text = record { comes = true; printed = []; texts = text ∷ [] }
+
+-- A command: the files that it reads and those that it writes, in order; which contents of the files that it reads it refuses,
+-- with which status and line; what it gives of their contents; and of which contents a result is promised.
 pub record Task : Type 1 where
   pub inputs : List Input
   pub outputs : List (List ℕ)
-  pub asks : Asked
   pub Refuses : List (List ℕ) → Status → List ℕ → Type 0
   pub Gives : List (List ℕ) → Given → Type 0
   pub Promises : List (List ℕ) → Type 0
@@ -51,6 +55,10 @@ abbrev pub HoldsInputs : Option Files → List Input → Type 0
 HoldsInputs holds [] = Unit {0}
 HoldsInputs holds (i ∷ is) = OfFile holds i.name (λ bytes. Unit {0}) × HoldsInputs holds is
 
+-- no name is used that the shelf tells it doesn't hold, where it holds these
+abbrev pub SameStraysWith : List Input → ShelfState → ShelfState → Type 0
+SameStraysWith inputs old new = HoldsInputs old.holds inputs → UsesNoStray old new
+
 -- these are the files' contents, each within its limit, and where the shelf tells what it holds, it holds them
 abbrev pub AreContents : Option Files → List Input → List (List ℕ) → Type 0
 AreContents holds [] [] = Unit {0}
@@ -61,6 +69,13 @@ AreContents holds _ _ = ⊥
 abbrev pub OfInputs : Option Files → List Input → (List (List ℕ) → Type 0) → Type 0
 OfInputs holds inputs P = (contents : List (List ℕ)) × AreContents holds inputs contents × P contents
 
+-- the file is one of these, and those before it are there, within their limits
+pub record Reaches (inputs : List Input) (holds : Option Files) (i : Input) : Type 0 where
+  pub before : List Input
+  pub after : List Input
+  pub is : inputs ≡ before ++ i ∷ after
+  pub held : OfInputs holds before (λ contents. Unit {0})
+
 -- there is one file, and its content is so
 abbrev pub Only : (List ℕ → Type 0) → List (List ℕ) → Type 0
 Only P (content ∷ []) = P content
@@ -70,3 +85,48 @@ Only P _ = ⊥
 abbrev pub Both : (List ℕ → List ℕ → Type 0) → List (List ℕ) → Type 0
 Both P (first ∷ second ∷ []) = P first second
 Both P _ = ⊥
+
+-- ---- commands of the usual forms
+
+-- the status and the line with which a content is refused, and what is given of it
+abbrev pub Refusing : Type 1
+Refusing = List ℕ → Status → List ℕ → Type 0
+
+abbrev pub Giving : Type 1
+Giving = List ℕ → Given → Type 0
+
+-- a command that reads one file, and one that reads two
+abbrev pub reading : Input → List (List ℕ) → Refusing → Giving → (List ℕ → Type 0) → Task
+reading input outputs Refuses Gives Promises = record {
+  inputs = input ∷ [];
+  outputs = outputs;
+  Refuses = λ files s line. Only (λ content. Refuses content s line) files;
+  Gives = λ files g. Only (λ content. Gives content g) files;
+  Promises = Only Promises;
+}
+
+abbrev pub reading_both : Input → Input → (List ℕ → Refusing) → (List ℕ → Giving) → (List ℕ → List ℕ → Type 0) → Task
+reading_both first second Refuses Gives Promises = record {
+  inputs = first ∷ second ∷ [];
+  outputs = [];
+  Refuses = λ files s line. Both (λ one two. Refuses one two s line) files;
+  Gives = λ files g. Both (λ one two. Gives one two g) files;
+  Promises = Both Promises;
+}
+
+-- one that reads a file and prints, and one that reads a file and writes one
+abbrev pub printing : Input → Refusing → Giving → (List ℕ → Type 0) → Task
+printing input = reading input []
+
+abbrev pub writing : Input → List ℕ → Refusing → Giving → (List ℕ → Type 0) → Task
+writing input output = reading input (output ∷ [])
+
+-- one that reads no file, and prints
+abbrev pub making : (Status → List ℕ → Type 0) → (Given → Type 0) → Type 0 → Task
+making Refuses Gives Promise = record {
+  inputs = [];
+  outputs = [];
+  Refuses = λ files s line. Refuses s line;
+  Gives = λ files g. Gives g;
+  Promises = λ files. Promise;
+}

@@ -1,12 +1,12 @@
-//! The file that a command reads.
+//! The files that a command reads.
 
-ghost use Rattle.std.specs.Prelude.{◌≡◌, ◌≤◌, length, OnSome, IfOk, IfErr, IfSome};
+ghost use Rattle.std.specs.Prelude.{◌≡◌, ◌≤◌, length, IfOk, IfErr, IfSome};
 ghost use Rattle.safl_io.specs.Reading.{HasFile};
-ghost use Rattle.safl_task.specs.Inputs.{inputs_of, contents_in, shown_input, source_file, verilog_file, aig_file};
-ghost use Rattle.safl_task.specs.Refusals.{RefusesReading, RefusesInputs};
-ghost use Rattle.safl_task.specs.Tasks.{OfFile, AreContents, HoldsInputs};
+ghost use Rattle.safl_io.specs.Shelf.{UsesNoStray};
+ghost use Rattle.safl_task.specs.Inputs.{shown_input, shown_inputs, shown_contents, source_file, script_file, verilog_file, aig_file};
+ghost use Rattle.safl_task.specs.Inputs.{AreUnread, IsUnreadAt, OnlyReads};
+ghost use Rattle.safl_task.specs.Tasks.{OfFile, AreContents, SameStraysWith};
 
-use crate::refusal::Refusal;
 use safl_io::{ReadErr, Shelf, read_file};
 use std::alloc::Global;
 
@@ -40,6 +40,16 @@ impl<'a> Input<'a> {
         }
     }
 
+    /// The file of a script.
+    pub fn script(name: &'a str) -> Self
+        ensures { shown_input result ≡ script_file name.now }
+    {
+        Input {
+            name,
+            limit: SCRIPT_MAX,
+        }
+    }
+
     /// The file of a Verilog text.
     pub fn verilog(name: &'a str) -> Self
         ensures { shown_input result ≡ verilog_file name.now }
@@ -61,43 +71,56 @@ impl<'a> Input<'a> {
     }
 }
 
-/// The bytes of the file, where there is one.
-pub fn read_content<'a, S: Shelf>(
-    alloc: Global,
-    shelf: &mut S,
-    input: Option<Input<'a>>,
-) -> Result<Vec<u8>, Refusal<'a>>
-    ensures read { IfOk result (λ bytes. AreContents (S.told shelf.old).holds (inputs_of input.entry) (contents_in (inputs_of input.entry) bytes.items)) }
-    ensures refused { IfErr result (RefusesInputs (inputs_of input.entry) (S.told shelf.old) (S.told shelf.new)) }
-    ensures same_files { (S.told shelf.new).holds ≡ (S.told shelf.old).holds }
-    ensures same_writes { (S.told shelf.new).write_faults ≡ (S.told shelf.old).write_faults }
-    ensures no_stray { HoldsInputs (S.told shelf.old).holds (inputs_of input.entry) → OnSome (S.told shelf.old).holds ((S.told shelf.new).strays ≡ (S.told shelf.old).strays) }
-{
-    match input {
-        Some(input) => read_input(alloc, shelf, input.name, input.limit),
-        None => Ok(Vec::new(alloc)),
-    }
+/// Why a file is not read.
+#[derive(Clone, Copy)]
+pub enum Unread<'a> {
+    /// The file of this name could not be read.
+    Failed(&'a str),
+    /// The file of this name has more bytes than this limit.
+    TooLong(&'a str, u64),
+    NoMemory,
 }
 
-/// The file of a name, of at most `limit` bytes.
-pub fn read_input<'a, S: Shelf>(
+/// The bytes of the files, each within its limit. They are read in order, and none is read after one that could not be.
+pub fn read_inputs<'a, S: Shelf>(
     alloc: Global,
     shelf: &mut S,
-    input: &'a str,
-    limit: u64,
-) -> Result<Vec<u8>, Refusal<'a>>
-    ensures read { IfOk result (λ bytes. IfSome (S.told shelf.old).holds (HasFile input.now bytes.items)) }
-    ensures small { IfOk result (λ bytes. length bytes.items ≤ limit) }
-    ensures refused { IfErr result (RefusesReading limit (S.told shelf.old) (S.told shelf.new) input.now) }
-    ensures same_files { (S.told shelf.new).holds ≡ (S.told shelf.old).holds }
-    ensures same_writes { (S.told shelf.new).write_faults ≡ (S.told shelf.old).write_faults }
-    ensures reads_later { (S.told shelf.old).read_faults ≤ (S.told shelf.new).read_faults }
-    ensures no_stray { OfFile (S.told shelf.old).holds input.now (λ bytes. Unit {0}) → OnSome (S.told shelf.old).holds ((S.told shelf.new).strays ≡ (S.told shelf.old).strays) }
+    inputs: &[Input<'a>],
+) -> Result<Vec<Vec<u8>>, Unread<'a>>
+    ensures read { IfOk result (λ contents. AreContents (S.told shelf.old).holds (shown_inputs inputs.now) (shown_contents contents.items)) }
+    ensures refused { IfErr result (AreUnread (shown_inputs inputs.now) (S.told shelf.old) (S.told shelf.new)) }
+    ensures only_reads { OnlyReads (S.told shelf.old) (S.told shelf.new) }
+    // No name is used that the shelf tells it doesn't hold, where it holds all of them.
+    ensures no_stray { SameStraysWith (shown_inputs inputs.now) (S.told shelf.old) (S.told shelf.new) }
 {
-    match read_file(alloc, shelf, input, limit) {
+    let mut contents = Vec::new(alloc);
+    'inputs: for i in 0..inputs.len() {
+        let bytes = match read_input(alloc, shelf, inputs[i]) {
+            Ok(bytes) => bytes,
+            Err(unread) => return Err(unread),
+        };
+        let Ok(()) = contents.push(bytes) else {
+            return Err(Unread::NoMemory);
+        };
+    }
+    Ok(contents)
+}
+
+fn read_input<'a, S: Shelf>(
+    alloc: Global,
+    shelf: &mut S,
+    input: Input<'a>,
+) -> Result<Vec<u8>, Unread<'a>>
+    ensures read { IfOk result (λ bytes. IfSome (S.told shelf.old).holds (HasFile input.entry.name.now bytes.items)) }
+    ensures small { IfOk result (λ bytes. length bytes.items ≤ input.entry.limit) }
+    ensures refused { IfErr result (IsUnreadAt (shown_input input.entry) (S.told shelf.old) (S.told shelf.new)) }
+    ensures only_reads { OnlyReads (S.told shelf.old) (S.told shelf.new) }
+    ensures no_stray { OfFile (S.told shelf.old).holds input.entry.name.now (λ bytes. Unit {0}) → UsesNoStray (S.told shelf.old) (S.told shelf.new) }
+{
+    match read_file(alloc, shelf, input.name, input.limit) {
         Ok(bytes) => Ok(bytes),
-        Err(ReadErr::Failed) => Err(Refusal::Read(input)),
-        Err(ReadErr::TooLong) => Err(Refusal::TooLong(input, limit)),
-        Err(ReadErr::NoMemory) => Err(Refusal::NoMemory),
+        Err(ReadErr::Failed) => Err(Unread::Failed(input.name)),
+        Err(ReadErr::TooLong) => Err(Unread::TooLong(input.name, input.limit)),
+        Err(ReadErr::NoMemory) => Err(Unread::NoMemory),
     }
 }

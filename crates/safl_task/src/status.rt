@@ -2,6 +2,7 @@
 
 ghost use Rattle.std.specs.Prelude.{◌≡◌};
 ghost use Rattle.safl_task.specs.Statuses.{number_of};
+ghost use Rattle.safl_task.specs.Tasks.{status_if};
 
 /// How a call of the program ended. The variants' numbers are the program's exit statuses.
 #[derive(Clone, Copy, Debug, PartialEq, Eq)]
@@ -43,4 +44,11 @@ impl Status {
     {
         self as u8
     }
+}
+
+/// The status where a result came, and where none did.
+pub fn status_if(comes: bool) -> Status
+    ensures { result ≡ status_if comes }
+{
+    if comes { Status::Ok } else { Status::NoResult }
 }

@@ -1,5 +1,6 @@
 //! Calls of several crates by themselves: words, tokens and trees of sources, whole programs with their meanings,
-//! machines, plans and printed texts, sources that are made, and the words of the command line.
+//! machines, plans and printed texts, sources that are made, the words of the command line, a shelf over files, and a sink
+//! over a writer.
 //!
 //! Tests are in a crate above the libraries, since a library with tests is proved twice. Whole calls of the program are
 //! cases (`docs/CASES.md`).
@@ -23,6 +24,12 @@ mod meanings;
 mod operators;
 #[cfg(test)]
 mod reshapes;
+#[cfg(test)]
+mod shelves;
+#[cfg(test)]
+mod sinks;
+#[cfg(test)]
+mod slow_files;
 #[cfg(test)]
 mod sources;
 #[cfg(test)]

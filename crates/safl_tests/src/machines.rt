@@ -1,8 +1,8 @@
 //! Machines and plans of programs, by their own calls.
 
+use safl_compiler::accept;
 use safl_core::{Machine, MachineErr};
 use safl_sites::plan;
-use safl_source::accept;
 use safl_term::Checked;
 use safl_word::Word;
 use std::alloc::Global;

@@ -4,8 +4,8 @@ ghost use Rattle.std.specs.Prelude.{◌≡◌, IfOk};
 ghost use Rattle.safl_term.specs.Checked.{program_of};
 ghost use Rattle.safl_interpreter.specs.Interpreting.{widths};
 
+use safl_compiler::accept;
 use safl_interpreter::{Answer, interpret};
-use safl_source::accept;
 use safl_term::Checked;
 use safl_word::{Raw, Word};
 use std::alloc::{AllocError, Global};

@@ -3,11 +3,10 @@ use Rattle.std.proofs.Common.{◌≡◌, ◌⊎◌, ℕ, zero, suc, ◌+◌, ◌
 use Rattle.std.specs.Prelude.{◌&&◌, ◌||◌, IsSomeAnd}
 use Rattle.std.specs.Option.{option_or}
 use Rattle.std.proofs.lemmas.Bool.{false≢true}
-use Rattle.std.specs.Borrow.{Bor}
 use Rattle.std.specs.declared.alloc.Global.{Global}
 use Rattle.std.proofs.lemmas.List.{at_drop_more, drop_all, append-nil, length-map}
 use Rattle.std.proofs.lemmas.Slice.Eq.{bytes_eq-Decides}
-use Rattle.safl_io.specs.Shelf.{Files, file_of}
+use Rattle.safl_io.specs.Shelf.{Files, ShelfState, file_of}
 use Rattle.safl_io.specs.Told.{TellsOn}
 use Rattle.safl_net.specs.Netlist.{Netlist}
 use Rattle.safl_net.specs.Valuations.{Valuation}
@@ -17,14 +16,17 @@ use Rattle.safl_probe.specs.Watching.{kind_of, watched_by}
 use Rattle.safl_probe.specs.declared.kind.TraceKind.{TraceKind}
 use Rattle.safl_probe.specs.declared.kind.TraceKind.TheVariants.{Vcd, Starts, Toggles, Silent}
 use Rattle.safl_word.specs.Words.{Word}
-use Rattle.safl_drive.specs.Asked.{Asked, IsAsked, AreApart, asked, probe_at}
-use Rattle.safl_drive.specs.Growth.{AllGrow, Made, OldOrPart, Relation}
-use Rattle.safl_drive.specs.Runs.{IsRunOf, trace_at}
-use Rattle.safl_command.specs.Traces.{Traces, is_any_given, differ, is_named, are_apart}
-use Rattle.safl_tool.specs.Asking.{shown_name, shown_names}
+use Rattle.safl_probe.specs.Asked.{Asked, IsAsked, AreApart, asked, probe_at}
+use Rattle.safl_probe.specs.Growth.{AllGrow, Made, OldOrPart, Relation}
+use Rattle.safl_probe.specs.Runs.{IsRunOf, trace_at}
+use Rattle.safl_command.specs.Traces.{Traces, differ, is_named, are_apart}
+use Rattle.safl_probe.specs.Stopping.{SameProbes, WriteFailed}
+use Rattle.safl_tool.specs.Refusals.{IsWriting, WatchingFails}
+use Rattle.safl_tool.specs.declared.refusal.Refusal.{Refusal}
+use Rattle.safl_tool.specs.declared.refusal.Refusal.TheVariants as refusal
 use Rattle.safl_task.specs.Endings.{LeavesAll, LeavesParts}
 use Rattle.safl_task.specs.Tasks.{files_of}
-use Rattle.safl_tool.specs.Tracing.{one_given, given_files, files_for, traces_of, file_of_kind, without, asked_by, left_by, have_probes, kinds_of}
+use Rattle.safl_tool.specs.Tracing.{one_given, given_files, files_for, traces_of, file_of_kind, file_at, without, AreAskedFor, is_any_given, asked_by, left_by, have_probes, kinds_of}
 
 -- ---- the files of the kinds
 
@@ -298,13 +300,43 @@ asked_all ks i w had all le h = sym (ap (λ (l : List ℕ). had ++ asked_by w l)
 pub left_all : (ks : List ℕ) (i : ℕ) (w all : Traces) → length ks ≤ i → left_by w (drop i ks) ≡ all → w ≡ all
 left_all ks i w all le h = sym (ap (left_by w) (drop_all i ks le)) ∙ h
 
--- ---- the names, and copies of them
+-- ---- the files
 
-pub files_long : (files : List (Option (String Global))) (names : List (Option (Bor (List ℕ)))) → asked files ≡ shown_names names → length files ≡ length names
-files_long files names e = sym (length-map files (option_map string_bytes)) ∙ ap (λ (l : Asked). length l) e ∙ length-map names (option_map shown_name)
+asked_long : (t : Traces) (kinds : List ℕ) → length (asked_by t kinds) ≡ length kinds
+asked_long t [] = refl
+asked_long t (k ∷ ks) = ap suc (asked_long (without t (kind_of k)) ks)
 
-pub handed : (R : Relation) (n : Netlist) (given words : List Word) (limit : ℕ) (one two : Asked) (ps : List ProbeState) (x y : Option Files) → given ≡ words → one ≡ two
-    → ((vs : List Valuation) → IsRunOf n given limit vs → AreApart one → TellsOn (AllGrow R one (trace_at n vs ps)) x y) → (vs : List Valuation) → IsRunOf n words limit vs → AreApart two → TellsOn (AllGrow R two (trace_at n vs ps)) x y
-handed R n given words limit one two ps x y e f h vs run apart =
-    subst (λ (l : Asked). TellsOn (AllGrow R l (trace_at n vs ps)) x y) f
-    (h vs (subst (λ (l : List Word). IsRunOf n l limit vs) (sym e) run) (subst (λ (l : Asked). AreApart l) (sym f) apart))
+pub files_long : {P : Type 0} (st : P → ProbeState) (xs : List P) (t : Traces) (files : List (Option (String Global))) → AreAskedFor t (asked files) (map st xs) → length files ≡ length xs
+files_long st xs t files a =
+    sym (length-map files (option_map string_bytes)) ∙ ap (λ (l : Asked). length l) a.is ∙ asked_long t (kinds_of (map st xs)) ∙ kinds_long st xs
+
+pub handed : (R : Relation) (n : Netlist) (given words : List Word) (limit : ℕ) (asks : Asked) (ps : List ProbeState) (x y : Option Files) → given ≡ words → AreApart asks
+    → ((vs : List Valuation) → IsRunOf n given limit vs → AreApart asks → TellsOn (AllGrow R asks (trace_at n vs ps)) x y) → (vs : List Valuation) → IsRunOf n words limit vs → TellsOn (AllGrow R asks (trace_at n vs ps)) x y
+handed R n given words limit asks ps x y e apart h vs run = h vs (subst (λ (l : List Word). IsRunOf n l limit vs) (sym e) run) apart
+
+-- ---- a file that was not written
+
+asked_below : (names : Asked) (i : ℕ) (name : List ℕ) → IsAsked names i name → i < length names
+asked_below [] i name h = absurd (cc)
+asked_below (x ∷ xs) zero name h = omega arith
+asked_below (x ∷ xs) (suc i) name h = let k = asked_below xs i name h in omega (arith, k)
+
+module _ (t : Traces) (asks : Asked) (ps qs : List ProbeState) (a : AreAskedFor t asks ps) (same : SameProbes ps qs) (place : ℕ) (old new : ShelfState) (failed : WriteFailed place asks old new) where
+  pub there : place < length qs
+  there =
+      let h = asked_below asks place failed.name failed.asked in
+      let long : length asks ≡ length ps = ap (λ (l : Asked). length l) a.is ∙ asked_long t (kinds_of ps) ∙ length-map ps (λ (p : ProbeState). p.kind) in
+      let count = same.count in
+      omega (arith, h, long, count)
+
+  pub its_file : file_at t qs place ≡ Some failed.name
+  its_file =
+      ap (λ k. file_of_kind t (kind_of k)) (same.kinds place ∙ sym (kind_same ps place))
+      ∙ asked_sound t (kinds_of ps) place failed.name (subst (λ (l : Asked). IsAsked l place failed.name) a.is failed.asked)
+
+  pub wrote : (r : Refusal) → IsWriting (file_at t qs place) r → WatchingFails asks ps qs old new r
+  wrote (refusal.Write name) h =
+      let e : Some failed.name ≡ Some name.now = sym its_file ∙ h in
+      let n : failed.name ≡ name.now = cc in
+      ((place, subst (λ (x : List ℕ). IsAsked asks place x) n failed.asked), failed.rose)
+  wrote _ never = absurd never

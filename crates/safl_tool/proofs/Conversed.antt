@@ -1,21 +1,22 @@
 -- What a session of a compiled source says.
-use Rattle.std.proofs.Common.{◌≡◌, ℕ, zero, suc, ◌<◌, ◌≤◌, List, [], ◌∷◌, map, length, Bool, true, false, Option, Some, slice_get, slice_index, refl, sym, ap, subst, ◌∙◌, arith, inl, inr}
+use Rattle.std.proofs.Common.{◌≡◌, ℕ, zero, suc, ◌<◌, ◌≤◌, List, [], ◌∷◌, map, length, Bool, true, false, Some, slice_get, slice_index, refl, sym, ap, subst, ◌∙◌, arith, inl, inr}
 use Rattle.std.specs.Prelude.{All}
 use Rattle.std.proofs.Math.Path.{fun_ext}
 use Rattle.std.proofs.lemmas.Bool.{eq-eqb}
 use Rattle.std.proofs.lemmas.List.Elements.{All-nil, All-cons}
-use Rattle.safl_io.specs.Shelf.{Files}
+use Rattle.safl_io.specs.Shelf.{ShelfState}
+use Rattle.safl_io.specs.Sink.{SinkState}
 use Rattle.safl_word.specs.Words.{Word, AreWords}
 use Rattle.safl_net.specs.Netlist.{Netlist, Signal}
 use Rattle.safl_net.specs.Valuations.{kind_reset, reset_number, reset_state}
-use Rattle.safl_sim.specs.Arguments.{argument_widths}
+use Rattle.safl_net.specs.Arguments.{argument_widths}
 use Rattle.safl_sim.specs.Places.{resets}
 use Rattle.safl_sim.proofs.Builds.{resets_fit}
 use Rattle.safl_term.specs.Program.{Program}
 use Rattle.safl_term.specs.WellFormed.{AreWordsOf}
 use Rattle.safl_session.specs.declared.script.ScriptErr.{ScriptErr}
 use Rattle.safl_session.specs.declared.script.ScriptErr.TheVariants as errors
-use Rattle.safl_session.specs.declared.session.Reply.{Reply}
+use Rattle.safl_sim.specs.declared.done.Done.{Done as Reply}
 use Rattle.safl_session.specs.Circuits.{CircuitsServe, CircuitsReply, ResetIsQuiet, IsInTime}
 use Rattle.safl_session.specs.Laws as sessions
 use Rattle.safl_session.specs.Laws.{AreCallsOf}
@@ -23,16 +24,17 @@ use Rattle.safl_session.specs.Lines as lines
 use Rattle.safl_session.specs.Replies.{AreReplies}
 use Rattle.safl_session.specs.Scripts.{AreCalls, IsScript, IsScriptFault, RefusesScript}
 use Rattle.safl_session.specs.Sessions.{Opened}
-use Rattle.safl_source.specs.Laws.{OneProgram}
-use Rattle.safl_transcript.specs.Holding.{IsReady, IsHeld, IsBegun}
+use Rattle.safl_compiler.specs.Laws.{OneProgram}
+use Rattle.safl_session.specs.Holding.{IsReady, IsHeld, IsBegun}
 use Rattle.safl_tool.specs.Calling.{Converses, GivesReplies, IsMisscripted, EvaluatesEach, script_line, told}
-use Rattle.safl_tool.specs.CommandTasks.{RefusesSession, session_task}
-use Rattle.safl_task.specs.Endings.{Outside, Began, Ended, may_give}
-use Rattle.safl_task.specs.Inputs.{source_file, script_file}
-use Rattle.safl_task.specs.Lines.{count_line, argument_line, numbered_line}
+use Rattle.safl_tool.specs.CommandTasks.{RefusesSession}
+use Rattle.safl_task.specs.Endings.{outside, may_give}
+use Rattle.safl_tool.specs.Lines.{count_line, argument_line, numbered_line}
 use Rattle.safl_tool.specs.Opening.{IsOpening}
 use Rattle.safl_tool.specs.Sources.{IsCompiled}
-use Rattle.safl_task.specs.Tasks.{Given, AreContents, status_if}
+use Rattle.safl_task.specs.Tasks.{Given, status_if}
+use Rattle.safl_tool.specs.Answers.{IsTranscript, IsGiven, IsGivenInPart}
+use Rattle.safl_tool.specs.declared.answer.Answer.TheVariants as answer
 use Rattle.safl_tool.specs.declared.session.Opening.{Opening}
 use Rattle.safl_task.specs.declared.status.Status.{Status}
 use Rattle.safl_task.specs.declared.status.Status.TheVariants as status
@@ -41,12 +43,6 @@ use Rattle.safl_task.proofs.Ending.{same_all, same_parts}
 -- nothing is given where the source or the script is refused
 pub session_quiet : (name source script : List ℕ) (s : Status) (line : List ℕ) → RefusesSession name source script s line → may_give s ≡ false
 session_quiet name source script s line r = elim r [ inl f ↦ ap may_give f.0 | inr m ↦ ap may_give m.0 ]
-
--- the contents of both files, as they were read
-pub texts_are : (holds : Option Files) (input file a b x y : List ℕ) → x ≡ a → y ≡ b → AreContents holds (source_file input ∷ script_file file ∷ []) (a ∷ b ∷ []) → AreContents holds (source_file input ∷ script_file file ∷ []) (x ∷ y ∷ [])
-texts_are holds input file a b x y e f h =
-    subst (λ (l : List ℕ). AreContents holds (source_file input ∷ script_file file ∷ []) (l ∷ y ∷ [])) (sym e)
-    (subst (λ (l : List ℕ). AreContents holds (source_file input ∷ script_file file ∷ []) (a ∷ l ∷ [])) (sym f) h)
 
 -- ---- the calls of a script
 
@@ -136,26 +132,27 @@ module _ (source script : List ℕ) (o : Opening) (is : IsOpening source script 
               calls (calls_sized (c.program.params c.program.main) script calls read) rs (replied rs a);
         }
 
-    -- what it gives, and parts of it
-    module _ (input file : List ℕ) (old new : Outside) (same : new.shelf.holds ≡ old.shelf.holds) (contents : AreContents old.shelf.holds (source_file input ∷ script_file file ∷ []) (source ∷ script ∷ [])) where
-      pub held_ended : (complete : Bool) → IsHeld o.session o.calls limit old.out.sent new.out.sent complete → (s : Status) → s ≡ status_if complete → Ended (session_task input file limit) old new s
-      held_ended complete h s e = (
-        told limit calls h.replies,
-        record {
-          given = (source ∷ script ∷ [], contents, (calls, h.replies, conversed h.replies h.are, refl));
-          files = same_all old.shelf.holds new.shelf.holds same;
-          printed = h.sent;
-        },
-        ap (λ (b : Bool). status_if b) (sym h.is) ∙ sym e,
-      )
+    -- what it gives is what the source and the script give
+    pub gives_replies : (g : Given) → IsTranscript o limit g → GivesReplies limit source script g
+    gives_replies g h = (calls, h.replies, conversed h.replies h.are, h.is)
 
-      pub begun_began : IsBegun o.session o.calls limit old.out.sent new.out.sent → Began (session_task input file limit) old new
-      begun_began h = record {
-        whole = told limit calls h.replies;
-        given = (source ∷ script ∷ [], contents, (calls, h.replies, conversed h.replies h.are, refl));
-        files = same_parts [] old.shelf.holds new.shelf.holds same;
-        printed = h.sent;
-      }
+-- ---- the transcript was sent
+
+module _ (o : Opening) (limit : ℕ) (shelf : ShelfState) (out out' : SinkState) where
+  pub held_given : (complete : Bool) → IsHeld o.session o.calls limit out.sent out'.sent complete → (s : Status) → s ≡ status_if complete → IsGiven (answer.Replies o limit) (outside shelf out) (outside shelf out') s
+  held_given complete h s e = record {
+    given = told limit o.calls h.replies;
+    will = record { replies = h.replies; are = h.are; is = refl };
+    all = record { files = same_all shelf.holds shelf.holds refl; printed = h.sent };
+    is = e ∙ ap (λ (b : Bool). status_if b) h.is;
+  }
+
+  pub begun_given : IsBegun o.session o.calls limit out.sent out'.sent → IsGivenInPart (answer.Replies o limit) (outside shelf out) (outside shelf out')
+  begun_given h = record {
+    whole = told limit o.calls h.replies;
+    will = record { replies = h.replies; are = h.are; is = refl };
+    part = record { files = same_parts [] shelf.holds shelf.holds refl; printed = h.sent };
+  }
 
 -- ---- a script that is refused
 

@@ -11,20 +11,20 @@ use Rattle.safl_net.specs.Whole.{IsWhole}
 use Rattle.safl_net.specs.Arranged.{IsInOrder}
 use Rattle.safl_term.specs.Program.{Program}
 use Rattle.safl_circuit.specs.Names.{Names}
-use Rattle.safl_source.specs.Sources.{IsSourceOf}
-use Rattle.safl_source.specs.Circuits.{IsCircuitOf}
+use Rattle.safl_compiler.specs.Sources.{IsSourceOf}
+use Rattle.safl_compiler.specs.Circuits.{IsCircuitOf}
 use Rattle.safl_sim.specs.declared.done.Done.{Done}
 use Rattle.safl_tool.specs.Printed.{outcome_lines}
 use Rattle.safl_tool.specs.CommandTasks.{WritesCircuit, outcome_after}
-use Rattle.safl_task.proofs.Giving.{lines, file}
+use Rattle.safl_task.specs.Tasks.{only_prints, only_writes}
 
 -- the lines of an outcome after others
 pub outcome_given : (head : List ℕ) (limit : ℕ) (answer : Option Done) (comes : Bool) (text : List ℕ) → comes ≡ is_some answer → text ≡ head ++ outcome_lines limit answer
-    → lines comes text ≡ outcome_after head limit answer
-outcome_given head limit answer comes text e f = ap (λ (b : Bool). lines b text) e ∙ ap (λ (t : List ℕ). lines (is_some answer) t) f
+    → only_prints comes text ≡ outcome_after head limit answer
+outcome_given head limit answer comes text e f = ap (λ (b : Bool). only_prints b text) e ∙ ap (λ (t : List ℕ). only_prints (is_some answer) t) f
 
 module _ (source : List ℕ) (C : Program) (D : Names) (n : Netlist) (reads : WrittenReads) (short : NoShorterText) where
-  pub writes : IsSourceOf source C D → IsCircuitOf C D n → IsNetlist n → IsWhole n → IsInOrder n → (text : List ℕ) → text ≡ written n → WritesCircuit source n (file text)
+  pub writes : IsSourceOf source C D → IsCircuitOf C D n → IsNetlist n → IsWhole n → IsInOrder n → (text : List ℕ) → text ≡ written n → WritesCircuit source n (only_writes text)
   writes of circuit made whole in_order text is = record {
     program = C;
     names = D;
@@ -35,5 +35,5 @@ module _ (source : List ℕ) (C : Program) (D : Names) (n : Netlist) (reads : Wr
     in_order = in_order;
     reads = reads n made whole in_order;
     torn = λ count. torn short n made (take count (written n)) (drop count (written n)) (sym (take-append-drop count (written n)));
-    is = ap file is;
+    is = ap only_writes is;
   }

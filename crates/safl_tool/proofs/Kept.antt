@@ -1,47 +1,45 @@
 -- What is promised is kept, command by command.
 use Rattle.std.proofs.Common.{◌≡◌, ℕ, zero, suc, List, [], ◌∷◌, length, Option, Some, None, true, slice_get, refl, sym, ap, subst, ◌∙◌, arith, inl, inr, codes}
 use Rattle.safl_word.specs.Words.{Word}
-use Rattle.safl_io.specs.Sink.{SinkState}
-use Rattle.safl_probe.specs.Probing.{ProbeState}
 use Rattle.safl_term.specs.Program.{Program}
 use Rattle.safl_term.specs.Checked.{program_of}
 use Rattle.safl_circuit.specs.Names.{Names, names_of}
 use Rattle.safl_term.specs.Meaning.{Main}
 use Rattle.safl_net.specs.Netlist.{Netlist}
 use Rattle.safl_net.specs.Valuations.{IsAcyclic}
-use Rattle.safl_sim.specs.Arguments.{argument_widths}
+use Rattle.safl_net.specs.Arguments.{argument_widths}
 use Rattle.safl_sim.specs.declared.done.Done.{Done}
 use Rattle.safl_sim.specs.Outcomes.{IsDone}
-use Rattle.safl_source.specs.Laws.{OneProgram, NotBoth}
+use Rattle.safl_compiler.specs.Laws.{OneProgram, NotBoth}
 use Rattle.safl_verilog.specs.Laws as verilog
-use Rattle.safl_aig.specs.ReadLaws.{NoFault}
+use Rattle.safl_aiger.specs.ReadLaws.{NoFault}
 use Rattle.safl_core.specs.declared.walking.Walked.{Walked}
-use Rattle.safl_command.specs.Commands.{Command, Check, Build, Sim, Trace, Walk, Run, Optimise, Report, Gen, Bench, CopySite, UnfoldSite, Session, Aig, Aigstat}
-use Rattle.std.specs.Prelude.{is_some, false, Bool, ◌&&◌}
-use Rattle.safl_command.specs.Traces.{Traces, are_apart}
-use Rattle.safl_tool.specs.Tracing.{have_probes}
+use Rattle.safl_command.specs.Commands.{Command, Check, Build, Sim, Walk, Run, Optimise, Report, Gen, Bench, CopySite, UnfoldSite, Session, Aig, Aigstat}
+use Rattle.std.specs.Prelude.{is_some, false, Bool}
+use Rattle.safl_command.specs.Traces.{Traces}
+use Rattle.safl_tool.specs.Tracing.{have_probes, files_for}
 use Rattle.safl_tool.specs.Sources.{IsAccepted}
 use Rattle.safl_session.specs.Lines.{IsArgument, AreArguments}
 use Rattle.safl_tool.specs.Arguments.{HaveFault}
 use Rattle.safl_tool.specs.Simulating.{Simulates, IsMisgiven, Limited, InCycles, InEvents, Evaluates}
 use Rattle.safl_tool.specs.Walking.{MainGives, Walks}
 use Rattle.safl_tool.specs.Running.{RunsText, IsMisrun, IsUnrunnable, faulty, looped, Finishes}
-use Rattle.safl_task.specs.Tasks.{Given, Only, Both}
-use Rattle.safl_tool.specs.CommandTasks.{task_if, usage_task, check_task, build_task, optimise_task, sim_task, walk_task, run_task, report_task, gen_task, bench_task, reshape_task, session_task, aig_task, aigstat_task, trace_task, probed_task, plain_task_of, task_of}
-use Rattle.safl_tool.specs.CommandTasks.{RefusesSourceOf, RefusesGiven, RefusesText, GivesNumbers, GivesCircuit, GivesOptimised, GivesOutcome, GivesTraces, GivesWalk, GivesRun, end_of_walk, IsCount, GivesMeasure, RefusesReshaping, RefusesSession}
+use Rattle.safl_task.specs.Inputs.{source_file, script_file, verilog_file, aig_file}
+use Rattle.safl_task.specs.Tasks.{Input, Given, Refusing, Giving, Only, Both, reading, reading_both}
+use Rattle.safl_tool.specs.CommandTasks.{task_if, usage_task, reshape_task, session_task, command_task, traces_in, task_of}
+use Rattle.safl_tool.specs.CommandTasks.{RefusesSourceOf, RefusesGiven, RefusesText, GivesNumbers, GivesCircuit, GivesOptimised, GivesTraces, GivesWalk, GivesRun, end_of_walk, GivesMeasure, RefusesReshaping, RefusesSession}
 use Rattle.safl_tool.specs.BitLevel.{GivesBits, GivesCounts, HasBits, IsAig, RefusesAig, RefusesBitsOf}
 use Rattle.safl_tool.specs.Calling.{GivesReplies, EvaluatesEach}
 use Rattle.safl_session.specs.Circuits.{CircuitsReply, ResetIsQuiet}
 use Rattle.safl_session.specs.Laws as sessions
 use Rattle.safl_tree.specs.Laws.{OneProgram as OneTree}
 use Rattle.safl_check.specs.Numbered.{program_in}
-use Rattle.safl_source.specs.Sources.{names_in, IsSourceOf}
+use Rattle.safl_compiler.specs.Sources.{names_in, IsSourceOf}
 use Rattle.safl_tool.specs.Reshaping.{Reshaping, copies, unfolds, IsReshapable, GivesReshaped}
 use Rattle.safl_tool.proofs.Reshaped.{IsOnce, copying_once, unfolding_once, reshapable_not_refused}
-use Rattle.safl_tool.specs.Reporting.{GivesReport, RefusesCount, Measures, made_source, made_args}
-use Rattle.safl_task.specs.Endings.{Outside, Ends, Completes}
+use Rattle.safl_tool.specs.Reporting.{GivesReport, Measures, made_source, made_args}
 use Rattle.safl_task.specs.declared.status.Status.{Status}
-use Rattle.safl_task.proofs.Following.{IsKept, end_completes}
+use Rattle.safl_task.proofs.Following.{IsKept}
 use Rattle.safl_tool.proofs.Simulated.{read_words}
 use Rattle.safl_tool.proofs.Ran.{done_not_done}
 use Rattle.safl_tool.proofs.Bits.{bits_not_refused, aig_not_refused}
@@ -149,42 +147,41 @@ only P Q R f [] p q = absurd p
 only P Q R f (c ∷ []) p q = f c p q
 only P Q R f (c ∷ (d ∷ cs)) p q = absurd p
 
+-- what is said of the only two contents
+both : (P Q : List ℕ → List ℕ → Type 0) (R : Type 0) → ((first second : List ℕ) → P first second → Q first second → R) → (contents : List (List ℕ)) → Both P contents → Both Q contents → R
+both P Q R f [] p q = absurd p
+both P Q R f (c ∷ []) p q = absurd p
+both P Q R f (c ∷ (d ∷ [])) p q = f c d p q
+both P Q R f (c ∷ (d ∷ (e ∷ cs))) p q = absurd p
+
+-- a command that reads one file, and one that reads two
+reading_kept : (input : Input) (outputs : List (List ℕ)) (R : Refusing) (G : Giving) (P : List ℕ → Type 0)
+    → ((content : List ℕ) (s : Status) (line : List ℕ) → P content → R content s line → ⊥) → ((content : List ℕ) (g : Given) → P content → G content g → g.comes ≡ true) → IsKept (reading input outputs R G P)
+reading_kept input outputs R G P not comes = record {
+  refuses = λ contents s line. only P (λ content. R content s line) ⊥ (λ content. not content s line) contents;
+  gives = λ contents g. only P (λ content. G content g) (g.comes ≡ true) (λ content. comes content g) contents;
+}
+
+reading_both_kept : (one two : Input) (R : List ℕ → Refusing) (G : List ℕ → Giving) (P : List ℕ → List ℕ → Type 0)
+    → ((c d : List ℕ) (s : Status) (line : List ℕ) → P c d → R c d s line → ⊥) → ((c d : List ℕ) (g : Given) → P c d → G c d g → g.comes ≡ true) → IsKept (reading_both one two R G P)
+reading_both_kept one two R G P not comes = record {
+  refuses = λ contents s line. both P (λ c d. R c d s line) ⊥ (λ c d. not c d s line) contents;
+  gives = λ contents g. both P (λ c d. G c d g) (g.comes ≡ true) (λ c d. comes c d g) contents;
+}
+
 accepted_not_refused : NotBoth → (name source : List ℕ) (s : Status) (line : List ℕ) → IsAccepted source → RefusesSourceOf name source s line → ⊥
 accepted_not_refused apart name source s line a r = apart source a.0 a.1 r.1.0 a.2 r.1.1
 
-check_kept : NotBoth → (input : List ℕ) → IsKept (check_task input)
-check_kept apart input = record {
-  refuses = λ contents s line. only IsAccepted (λ source. RefusesSourceOf input source s line) ⊥ (λ source. accepted_not_refused apart input source s line) contents;
-  gives = λ contents g. only IsAccepted (λ source. GivesNumbers source g) (g.comes ≡ true) (λ source a h. ap (λ (x : Given). x.comes) h.3) contents;
-}
-
-build_kept : NotBoth → (input output : List ℕ) → IsKept (build_task input output)
-build_kept apart input output = record {
-  refuses = λ contents s line. only IsAccepted (λ source. RefusesSourceOf input source s line) ⊥ (λ source. accepted_not_refused apart input source s line) contents;
-  gives = λ contents g. only IsAccepted (λ source. GivesCircuit source g) (g.comes ≡ true) (λ source a h. ap (λ (x : Given). x.comes) h.1.is) contents;
-}
-
-optimise_kept : NotBoth → (input output : List ℕ) → IsKept (optimise_task input output)
-optimise_kept apart input output = record {
-  refuses = λ contents s line. only IsAccepted (λ source. RefusesSourceOf input source s line) ⊥ (λ source. accepted_not_refused apart input source s line) contents;
-  gives = λ contents g. only IsAccepted (λ source. GivesOptimised source g) (g.comes ≡ true) (λ source a h. ap (λ (x : Given). x.comes) h.1.is) contents;
-}
+-- a source that is accepted is not refused
+accepted_kept : NotBoth → (input : List ℕ) (outputs : List (List ℕ)) (G : Giving) → ((source : List ℕ) (g : Given) → G source g → g.comes ≡ true) → IsKept (reading (source_file input) outputs (RefusesSourceOf input) G IsAccepted)
+accepted_kept apart input outputs G comes =
+    reading_kept (source_file input) outputs (RefusesSourceOf input) G IsAccepted (λ source s line a r. accepted_not_refused apart input source s line a r) (λ source g a h. comes source g h)
 
 given_not_refused : OneProgram → NotBoth → (name : List ℕ) (args : List (List ℕ)) (Fits : Limited) (s : Status) (line source : List ℕ) → Evaluates source args Fits → RefusesGiven name args source s line → ⊥
 given_not_refused once apart name args Fits s line source e r = elim r [
   | inl f ↦ apart source e.program e.names f.1.0 e.source_of f.1.1
   | inr m ↦ misgiven_not once source args Fits (line, m.1) e
 ]
-
-outcome_comes : OneProgram → (args : List (List ℕ)) (limit : ℕ) (g : Given) (source : List ℕ) → Evaluates source args (InCycles limit) → GivesOutcome args limit source g → g.comes ≡ true
-outcome_comes once args limit g source e (None, s, is) = absurd (comes_in_time once source args limit s e)
-outcome_comes once args limit g source e (Some d, s, is) = ap (λ (x : Given). x.comes) is
-
-sim_kept : OneProgram → NotBoth → (input : List ℕ) (limit : ℕ) (args : List (List ℕ)) → IsKept (sim_task input limit args)
-sim_kept once apart input limit args = record {
-  refuses = λ contents s line. only (λ source. Evaluates source args (InCycles limit)) (λ source. RefusesGiven input args source s line) ⊥ (given_not_refused once apart input args (InCycles limit) s line) contents;
-  gives = λ contents g. only (λ source. Evaluates source args (InCycles limit)) (λ source. GivesOutcome args limit source g) (g.comes ≡ true) (outcome_comes once args limit g) contents;
-}
 
 traces_come : OneProgram → (traces : Traces) (args : List (List ℕ)) (limit : ℕ) (g : Given) (source : List ℕ) → Evaluates source args (InCycles limit) → GivesTraces traces args limit source g → g.comes ≡ true
 traces_come once traces args limit g source e h = by h.answer h.simulates (ap (λ (x : Given). x.comes) h.is)
@@ -193,24 +190,12 @@ traces_come once traces args limit g source e h = by h.answer h.simulates (ap (�
     by None s is = absurd (comes_in_time once source args limit s e)
     by (Some d) s is = is
 
-trace_kept : OneProgram → NotBoth → (input : List ℕ) (limit : ℕ) (traces : Traces) (args : List (List ℕ)) (kinds : List ℕ) → IsKept (trace_task input limit traces args kinds)
-trace_kept once apart input limit traces args kinds = record {
-  refuses = λ contents s line. only (λ source. Evaluates source args (InCycles limit)) (λ source. RefusesGiven input args source s line) ⊥ (given_not_refused once apart input args (InCycles limit) s line) contents;
-  gives = λ contents g. only (λ source. Evaluates source args (InCycles limit)) (λ source. GivesTraces traces args limit source g) (g.comes ≡ true) (traces_come once traces args limit g) contents;
-}
-
 walk_comes : OneProgram → (args : List (List ℕ)) (seed steps : ℕ) (g : Given) (source : List ℕ) → Evaluates source args (InEvents steps) → GivesWalk args seed steps source g → g.comes ≡ true
 walk_comes once args seed steps g source e (w, walks, is) = by w.result refl is
   where
     by : (r : Option Word) → w.result ≡ r → g ≡ end_of_walk steps w r → g.comes ≡ true
     by None none is = absurd (returns_in_time once source args seed steps w walks none e)
     by (Some v) some is = ap (λ (x : Given). x.comes) is
-
-walk_kept : OneProgram → NotBoth → (input : List ℕ) (seed steps : ℕ) (args : List (List ℕ)) → IsKept (walk_task input seed steps args)
-walk_kept once apart input seed steps args = record {
-  refuses = λ contents s line. only (λ source. Evaluates source args (InEvents steps)) (λ source. RefusesGiven input args source s line) ⊥ (given_not_refused once apart input args (InEvents steps) s line) contents;
-  gives = λ contents g. only (λ source. Evaluates source args (InEvents steps)) (λ source. GivesWalk args seed steps source g) (g.comes ≡ true) (walk_comes once args seed steps g) contents;
-}
 
 text_not_refused : verilog.OneNetlist → verilog.NotBoth → (name : List ℕ) (args : List (List ℕ)) (limit : ℕ) (s : Status) (line text : List ℕ) → Finishes text args limit → RefusesText name args text s line → ⊥
 text_not_refused one apart name args limit s line text f r = elim r [
@@ -221,24 +206,6 @@ text_not_refused one apart name args limit s line text f r = elim r [
 run_comes : verilog.OneNetlist → (args : List (List ℕ)) (limit : ℕ) (g : Given) (text : List ℕ) → Finishes text args limit → GivesRun args limit text g → g.comes ≡ true
 run_comes one args limit g text f (None, r, is) = absurd (never_finishes one text args limit r f)
 run_comes one args limit g text f (Some d, r, is) = ap (λ (x : Given). x.comes) is
-
-run_kept : verilog.OneNetlist → verilog.NotBoth → (input : List ℕ) (limit : ℕ) (args : List (List ℕ)) → IsKept (run_task input limit args)
-run_kept one apart input limit args = record {
-  refuses = λ contents s line. only (λ text. Finishes text args limit) (λ text. RefusesText input args text s line) ⊥ (text_not_refused one apart input args limit s line) contents;
-  gives = λ contents g. only (λ text. Finishes text args limit) (λ text. GivesRun args limit text g) (g.comes ≡ true) (run_comes one args limit g) contents;
-}
-
-report_kept : NotBoth → (input : List ℕ) → IsKept (report_task input)
-report_kept apart input = record {
-  refuses = λ contents s line. only IsAccepted (λ source. RefusesSourceOf input source s line) ⊥ (λ source. accepted_not_refused apart input source s line) contents;
-  gives = λ contents g. only IsAccepted (λ source. GivesReport source g) (g.comes ≡ true) (λ source a h. ap (λ (x : Given). x.comes) h.is) contents;
-}
-
-count_not_refused : (count : ℕ) (s : Status) (line : List ℕ) → IsCount count → RefusesCount count s line → ⊥
-count_not_refused count s line c r = let least = c.0 in let most = c.1 in elim r.0 [ inl none ↦ omega (arith, none, least) | inr above ↦ omega (arith, above, most) ]
-
-gen_kept : (seed count : ℕ) → IsKept (gen_task seed count)
-gen_kept seed count = record { refuses = λ contents s line. count_not_refused count s line; gives = λ contents g p h. ap (λ (x : Given). x.comes) h }
 
 -- the run that was measured
 measured_run : (source : List ℕ) (args : List (List ℕ)) (limit : ℕ) (head : List ℕ) (answer : Option Done) → Measures source args limit head answer → Simulates source args limit answer
@@ -258,56 +225,10 @@ measure_comes : OneProgram → (args : List (List ℕ)) (limit : ℕ) (g : Given
 measure_comes once args limit g source e (head, None, m, is) = absurd (comes_in_time once source args limit (measured_run source args limit head None m) e)
 measure_comes once args limit g source e (head, Some d, m, is) = ap (λ (x : Given). x.comes) is
 
-bench_kept : OneProgram → NotBoth → (seed count limit : ℕ) → IsKept (bench_task seed count limit)
-bench_kept once apart seed count limit = record {
-  refuses = λ contents s line p r. elim r [
-    | inl n ↦ count_not_refused count s line p.0 n
-    | inr f ↦ given_not_refused once apart (codes "bench") (made_args seed count) (InCycles limit) s line (made_source seed count) p.1 f
-  ];
-  gives = λ contents g p h. measure_comes once (made_args seed count) limit g (made_source seed count) p.1 h;
-}
-
 source_reshapable_not_refused : NotBoth → (r : Reshaping) (source : List ℕ) (name : List ℕ) (s : Status) (line : List ℕ) → IsReshapable r source → RefusesSourceOf name source s line → ⊥
 source_reshapable_not_refused apart r source name s line k f =
     apart source (program_in k.form.0) (names_in k.form.0) f.1.0
     (record { definitions = k.definitions; spelled = k.spelled; form = k.form.0; is = k.form.1; program = refl; names = refl }) f.1.1
-
-reshape_kept : NotBoth → OneTree → (r : Reshaping) → IsOnce r → (input output : List ℕ) (site : ℕ) → IsKept (reshape_task r input output site)
-reshape_kept apart trees r o input output site = record {
-  refuses = λ contents s line. only (IsReshapable r) (λ source. RefusesReshaping r input site source s line) ⊥ (λ source k q. elim q [
-    | inl f ↦ source_reshapable_not_refused apart r source input s line k f
-    | inr u ↦ reshapable_not_refused trees r o site source s line k u
-  ]) contents;
-  gives = λ contents g. only (IsReshapable r) (λ source. GivesReshaped r source g) (g.comes ≡ true) (λ source k h. ap (λ (x : Given). x.comes) h.is) contents;
-}
-
-aig_kept : verilog.OneNetlist → verilog.NotBoth → (input output : List ℕ) → IsKept (aig_task input output)
-aig_kept one apart input output = record {
-  refuses = λ contents s line. only HasBits (λ text. RefusesBitsOf input text s line) ⊥ (bits_not_refused one apart input s line) contents;
-  gives = λ contents g. only HasBits (λ text. GivesBits text g) (g.comes ≡ true) (λ text p h. ap (λ (x : Given). x.comes) h.is) contents;
-}
-
-aigstat_kept : NoFault → (input : List ℕ) → IsKept (aigstat_task input)
-aigstat_kept sound input = record {
-  refuses = λ contents s line. only IsAig (λ text. RefusesAig input text s line) ⊥ (aig_not_refused sound input s line) contents;
-  gives = λ contents g. only IsAig (λ text. GivesCounts text g) (g.comes ≡ true) (λ text a h. ap (λ (x : Given). x.comes) h.2) contents;
-}
-
--- what is said of the only two contents
-both : (P Q : List ℕ → List ℕ → Type 0) (R : Type 0) → ((first second : List ℕ) → P first second → Q first second → R) → (contents : List (List ℕ)) → Both P contents → Both Q contents → R
-both P Q R f [] p q = absurd p
-both P Q R f (c ∷ []) p q = absurd p
-both P Q R f (c ∷ (d ∷ [])) p q = f c d p q
-both P Q R f (c ∷ (d ∷ (e ∷ cs))) p q = absurd p
-
-session_kept : OneProgram → NotBoth → CircuitsReply → ResetIsQuiet → sessions.OneScript → sessions.NotBoth → (input script : List ℕ) (limit : ℕ) → IsKept (session_task input script limit)
-session_kept once apart replies reset script_once misread input script limit = record {
-  refuses = λ contents s line. both (λ source text. EvaluatesEach source text limit) (λ source text. RefusesSession input source text s line) ⊥ (λ source text e r. elim r [
-    | inl f ↦ apart source e.program e.names f.1.0 e.source_of f.1.1
-    | inr m ↦ misscripted_not once misread source text limit line e m.1
-  ]) contents;
-  gives = λ contents g. both (λ source text. EvaluatesEach source text limit) (λ source text. GivesReplies limit source text g) (g.comes ≡ true) (λ source text e h. replies_come once replies reset script_once limit source text g e h) contents;
-}
 
 -- what is true of sources, of scripts, of Verilog texts and of AIGER texts
 pub record Laws : Type 1 where
@@ -322,49 +243,53 @@ pub record Laws : Type 1 where
   pub script : sessions.OneScript
   pub misread : sessions.NotBoth
 
-plain_kept : Laws → (command : Option Command) → IsKept (plain_task_of command)
-plain_kept l None = usage_kept
-plain_kept l (Some (Check input)) = check_kept l.apart input
-plain_kept l (Some (Build input output)) = build_kept l.apart input output
-plain_kept l (Some (Optimise input output)) = optimise_kept l.apart input output
-plain_kept l (Some (Sim input limit args)) = sim_kept l.once l.apart input limit args
-plain_kept l (Some (Trace input limit traces args)) = usage_kept
-plain_kept l (Some (Walk input seed steps args)) = walk_kept l.once l.apart input seed steps args
-plain_kept l (Some (Run input limit args)) = run_kept l.one l.free input limit args
-plain_kept l (Some (Report input)) = report_kept l.apart input
-plain_kept l (Some (Gen seed count)) = gen_kept seed count
-plain_kept l (Some (Bench seed count limit)) = bench_kept l.once l.apart seed count limit
-plain_kept l (Some (CopySite input output site)) = reshape_kept l.apart l.trees (copies site) (copying_once site) input output site
-plain_kept l (Some (UnfoldSite input output site)) = reshape_kept l.apart l.trees (unfolds site) (unfolding_once site) input output site
-plain_kept l (Some (Session input script limit)) = session_kept l.once l.apart l.replies l.reset l.script l.misread input script limit
-plain_kept l (Some (Aig input output)) = aig_kept l.one l.free input output
-plain_kept l (Some (Aigstat input)) = aigstat_kept l.sound input
+reshape_kept : Laws → (r : Reshaping) → IsOnce r → (input output : List ℕ) (site : ℕ) → IsKept (reshape_task r input output site)
+reshape_kept l r o input output site =
+    reading_kept (source_file input) (output ∷ []) (RefusesReshaping r input site) (GivesReshaped r) (IsReshapable r)
+    (λ source s line k q. elim q [
+      | inl f ↦ source_reshapable_not_refused l.apart r source input s line k f
+      | inr u ↦ reshapable_not_refused l.trees r o site source s line k u
+    ]) (λ source g k h. ap (λ (x : Given). x.comes) h.is)
 
-probed_kept : Laws → (input : List ℕ) (limit : ℕ) (traces : Traces) (args : List (List ℕ)) (kinds : List ℕ) → IsKept (probed_task input limit traces args kinds)
-probed_kept l input limit traces args kinds = go (are_apart traces && have_probes traces kinds)
+session_kept : Laws → (input script : List ℕ) (limit : ℕ) → IsKept (session_task input script limit)
+session_kept l input script limit =
+    reading_both_kept (source_file input) (script_file script) (RefusesSession input) (GivesReplies limit) (λ source text. EvaluatesEach source text limit)
+    (λ source text s line e r. elim r [
+      | inl f ↦ l.apart source e.program e.names f.1.0 e.source_of f.1.1
+      | inr m ↦ misscripted_not l.once l.misread source text limit line e m.1
+    ]) (λ source text g e h. replies_come l.once l.replies l.reset l.script limit source text g e h)
+
+command_kept : Laws → (m : Command) → IsKept (command_task m)
+command_kept l (Check input) = accepted_kept l.apart input [] GivesNumbers (λ source g h. ap (λ (x : Given). x.comes) h.3)
+command_kept l (Build input output) = accepted_kept l.apart input (output ∷ []) GivesCircuit (λ source g h. ap (λ (x : Given). x.comes) h.1.is)
+command_kept l (Optimise input output) = accepted_kept l.apart input (output ∷ []) GivesOptimised (λ source g h. ap (λ (x : Given). x.comes) h.1.is)
+command_kept l (Sim input limit traces args) =
+    reading_kept (source_file input) (files_for traces) (RefusesGiven input args) (GivesTraces traces args limit) (λ source. Evaluates source args (InCycles limit))
+    (λ source s line e r. given_not_refused l.once l.apart input args (InCycles limit) s line source e r) (λ source g e h. traces_come l.once traces args limit g source e h)
+command_kept l (Walk input seed steps args) =
+    reading_kept (source_file input) [] (RefusesGiven input args) (GivesWalk args seed steps) (λ source. Evaluates source args (InEvents steps))
+    (λ source s line e r. given_not_refused l.once l.apart input args (InEvents steps) s line source e r) (λ source g e h. walk_comes l.once args seed steps g source e h)
+command_kept l (Run input limit args) =
+    reading_kept (verilog_file input) [] (RefusesText input args) (GivesRun args limit) (λ text. Finishes text args limit)
+    (λ text s line f r. text_not_refused l.one l.free input args limit s line text f r) (λ text g f h. run_comes l.one args limit g text f h)
+command_kept l (Report input) = accepted_kept l.apart input [] GivesReport (λ source g h. ap (λ (x : Given). x.comes) h.is)
+command_kept l (Gen seed count) = record { refuses = λ contents s line p r. absurd r; gives = λ contents g p h. ap (λ (x : Given). x.comes) h }
+command_kept l (Bench seed count limit) = record {
+  refuses = λ contents s line p r. given_not_refused l.once l.apart (codes "bench") (made_args seed count) (InCycles limit) s line (made_source seed count) p r;
+  gives = λ contents g p h. measure_comes l.once (made_args seed count) limit g (made_source seed count) p h;
+}
+command_kept l (CopySite input output site) = reshape_kept l (copies site) (copying_once site) input output site
+command_kept l (UnfoldSite input output site) = reshape_kept l (unfolds site) (unfolding_once site) input output site
+command_kept l (Session input script limit) = session_kept l input script limit
+command_kept l (Aig input output) =
+    reading_kept (verilog_file input) (output ∷ []) (RefusesBitsOf input) GivesBits HasBits (λ text s line p r. bits_not_refused l.one l.free input s line text p r) (λ text g p h. ap (λ (x : Given). x.comes) h.is)
+command_kept l (Aigstat input) =
+    reading_kept (aig_file input) [] (RefusesAig input) GivesCounts IsAig (λ text s line a r. aig_not_refused l.sound input s line text a r) (λ text g a h. ap (λ (x : Given). x.comes) h.2)
+
+pub kept : Laws → (kinds : List ℕ) (m : Option Command) → IsKept (task_of kinds m)
+kept l kinds None = usage_kept
+kept l kinds (Some m) = go (have_probes (traces_in m) kinds)
   where
-    go : (b : Bool) → IsKept (task_if b (trace_task input limit traces args kinds) usage_task)
-    go true = trace_kept l.once l.apart input limit traces args kinds
+    go : (b : Bool) → IsKept (task_if b (command_task m) usage_task)
+    go true = command_kept l m
     go false = usage_kept
-
-kept : Laws → (kinds : List ℕ) (command : Option Command) → IsKept (task_of kinds command)
-kept l kinds None = plain_kept l None
-kept l kinds (Some (Check input)) = plain_kept l (Some (Check input))
-kept l kinds (Some (Build input output)) = plain_kept l (Some (Build input output))
-kept l kinds (Some (Optimise input output)) = plain_kept l (Some (Optimise input output))
-kept l kinds (Some (Sim input limit args)) = plain_kept l (Some (Sim input limit args))
-kept l kinds (Some (Trace input limit traces args)) = probed_kept l input limit traces args kinds
-kept l kinds (Some (Walk input seed steps args)) = plain_kept l (Some (Walk input seed steps args))
-kept l kinds (Some (Run input limit args)) = plain_kept l (Some (Run input limit args))
-kept l kinds (Some (Report input)) = plain_kept l (Some (Report input))
-kept l kinds (Some (Gen seed count)) = plain_kept l (Some (Gen seed count))
-kept l kinds (Some (Bench seed count limit)) = plain_kept l (Some (Bench seed count limit))
-kept l kinds (Some (CopySite input output site)) = plain_kept l (Some (CopySite input output site))
-kept l kinds (Some (UnfoldSite input output site)) = plain_kept l (Some (UnfoldSite input output site))
-kept l kinds (Some (Session input script limit)) = plain_kept l (Some (Session input script limit))
-kept l kinds (Some (Aig input output)) = plain_kept l (Some (Aig input output))
-kept l kinds (Some (Aigstat input)) = plain_kept l (Some (Aigstat input))
-
-pub completes : Laws → (kinds : List ℕ) (command : Option Command) (old new : Outside) (ps qs : List ProbeState) (before after : SinkState) (s : Status) → Ends (task_of kinds command) old new ps qs before after s
-    → Completes (task_of kinds command) old new ps qs s
-completes l kinds command old new ps qs before after s ends = end_completes (task_of kinds command) (kept l kinds command) old new ps qs before after s ends

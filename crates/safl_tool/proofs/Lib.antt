@@ -1,5 +1,8 @@
+pub mod Refusing
+pub mod Naming
 pub mod Reading
 pub mod Giving
+pub mod Handing
 pub mod Simulated
 pub mod Walked
 pub mod Ran
@@ -11,3 +14,6 @@ pub mod Reshaped
 pub mod Kept
 pub mod Asked
 pub mod Traced
+pub mod Performed
+pub mod Followed
+pub mod Answered

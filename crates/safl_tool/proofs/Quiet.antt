@@ -1,8 +1,8 @@
 -- Nothing is given at a status with which a command refuses what it reads.
-use Rattle.std.proofs.Common.{◌≡◌, ℕ, List, [], ◌∷◌, Option, Some, None, false, ap, inl, inr}
+use Rattle.std.proofs.Common.{◌≡◌, ℕ, List, [], ◌∷◌, false}
 use Rattle.std.specs.Prelude.{codes}
-use Rattle.safl_command.specs.Commands.{Command, Check, Build, Sim, Trace, Walk, Run, Optimise, Report, Gen, Bench, CopySite, UnfoldSite, Session, Aig, Aigstat}
-use Rattle.safl_tool.specs.CommandTasks.{plain_task_of, RefusesSourceOf, RefusesGiven, RefusesText, RefusesReshaping, RefusesSession}
+use Rattle.safl_command.specs.Commands.{Command, Check, Build, Sim, Walk, Run, Optimise, Report, Gen, Bench, CopySite, UnfoldSite, Session, Aig, Aigstat}
+use Rattle.safl_tool.specs.CommandTasks.{command_task, RefusesSourceOf, RefusesGiven, RefusesText, RefusesReshaping, RefusesSession}
 use Rattle.safl_tool.specs.BitLevel.{RefusesAig, RefusesBitsOf}
 use Rattle.safl_tool.specs.Reshaping.{copies, unfolds}
 use Rattle.safl_tool.proofs.Reshaped.{reshaping_quiet}
@@ -15,7 +15,7 @@ use Rattle.safl_tool.proofs.Ran.{text_quiet}
 use Rattle.safl_tool.proofs.Bits.{bits_quiet, aig_quiet}
 use Rattle.safl_tool.proofs.Conversed.{session_quiet}
 
-pub only : (R : List ℕ → Status → List ℕ → Type 0) → ((content : List ℕ) (s : Status) (line : List ℕ) → R content s line → may_give s ≡ false)
+only : (R : List ℕ → Status → List ℕ → Type 0) → ((content : List ℕ) (s : Status) (line : List ℕ) → R content s line → may_give s ≡ false)
     → (contents : List (List ℕ)) (s : Status) (line : List ℕ) → Only (λ content. R content s line) contents → may_give s ≡ false
 only R quiet [] s line h = absurd h
 only R quiet (c ∷ []) s line h = quiet c s line h
@@ -28,21 +28,18 @@ both R quiet (c ∷ []) s line h = absurd h
 both R quiet (c ∷ (d ∷ [])) s line h = quiet c d s line h
 both R quiet (c ∷ (d ∷ (e ∷ cs))) s line h = absurd h
 
-pub quiet : (command : Option Command) (contents : List (List ℕ)) (s : Status) (line : List ℕ) → (plain_task_of command).Refuses contents s line → may_give s ≡ false
-quiet None contents s line h = ap may_give h.0
-quiet (Some (Check input)) contents s line h = only (RefusesSourceOf input) (source_quiet input) contents s line h
-quiet (Some (Build input output)) contents s line h = only (RefusesSourceOf input) (source_quiet input) contents s line h
-quiet (Some (Optimise input output)) contents s line h = only (RefusesSourceOf input) (source_quiet input) contents s line h
-quiet (Some (Sim input limit args)) contents s line h = only (RefusesGiven input args) (given_quiet input args) contents s line h
-quiet (Some (Trace input limit traces args)) contents s line h = ap may_give h.0
-quiet (Some (Walk input seed steps args)) contents s line h = only (RefusesGiven input args) (given_quiet input args) contents s line h
-quiet (Some (Run input limit args)) contents s line h = only (RefusesText input args) (text_quiet input args) contents s line h
-quiet (Some (Report input)) contents s line h = only (RefusesSourceOf input) (source_quiet input) contents s line h
-quiet (Some (Gen seed count)) contents s line h = ap may_give h.1
-quiet (Some (Bench seed count limit)) contents s line h =
-    elim h [ inl n ↦ ap may_give n.1 | inr r ↦ given_quiet (codes "bench") (made_args seed count) (made_source seed count) s line r ]
-quiet (Some (CopySite input output site)) contents s line h = only (RefusesReshaping (copies site) input site) (reshaping_quiet (copies site) input site) contents s line h
-quiet (Some (UnfoldSite input output site)) contents s line h = only (RefusesReshaping (unfolds site) input site) (reshaping_quiet (unfolds site) input site) contents s line h
-quiet (Some (Session input script limit)) contents s line h = both (RefusesSession input) (session_quiet input) contents s line h
-quiet (Some (Aig input output)) contents s line h = only (RefusesBitsOf input) (bits_quiet input) contents s line h
-quiet (Some (Aigstat input)) contents s line h = only (RefusesAig input) (aig_quiet input) contents s line h
+pub quiet : (m : Command) (contents : List (List ℕ)) (s : Status) (line : List ℕ) → (command_task m).Refuses contents s line → may_give s ≡ false
+quiet (Check input) contents s line h = only (RefusesSourceOf input) (source_quiet input) contents s line h
+quiet (Build input output) contents s line h = only (RefusesSourceOf input) (source_quiet input) contents s line h
+quiet (Optimise input output) contents s line h = only (RefusesSourceOf input) (source_quiet input) contents s line h
+quiet (Sim input limit traces args) contents s line h = only (RefusesGiven input args) (given_quiet input args) contents s line h
+quiet (Walk input seed steps args) contents s line h = only (RefusesGiven input args) (given_quiet input args) contents s line h
+quiet (Run input limit args) contents s line h = only (RefusesText input args) (text_quiet input args) contents s line h
+quiet (Report input) contents s line h = only (RefusesSourceOf input) (source_quiet input) contents s line h
+quiet (Gen seed count) contents s line h = absurd h
+quiet (Bench seed count limit) contents s line h = given_quiet (codes "bench") (made_args seed count) (made_source seed count) s line h
+quiet (CopySite input output site) contents s line h = only (RefusesReshaping (copies site) input site) (reshaping_quiet (copies site) input site) contents s line h
+quiet (UnfoldSite input output site) contents s line h = only (RefusesReshaping (unfolds site) input site) (reshaping_quiet (unfolds site) input site) contents s line h
+quiet (Session input script limit) contents s line h = both (RefusesSession input) (session_quiet input) contents s line h
+quiet (Aig input output) contents s line h = only (RefusesBitsOf input) (bits_quiet input) contents s line h
+quiet (Aigstat input) contents s line h = only (RefusesAig input) (aig_quiet input) contents s line h

@@ -1,8 +1,8 @@
 -- What a run of a Verilog file says.
 use Rattle.std.proofs.Common.{◌≡◌, ℕ, zero, suc, ◌+◌, ◌<◌, ◌≤◌, List, [], ◌∷◌, ◌++◌, map, length, Option, Some, None, false, slice_get, refl, sym, ap, subst, arith, inl, inr}
 use Rattle.safl_word.specs.Words.{Word}
-use Rattle.safl_net.specs.Netlist.{Netlist, Signal, AllSet, IsSet}
-use Rattle.safl_net.specs.Making.{kind_at, kind_in, cell_in, name_at}
+use Rattle.safl_net.specs.Netlist.{Netlist, Signal}
+use Rattle.safl_net.specs.Making.{kind_in, cell_in, name_at}
 use Rattle.safl_net.specs.Valuations.{Valuation}
 use Rattle.safl_net.specs.Runs.{GoesOn, RunFrom}
 use Rattle.safl_order.specs.Laws.{LoopsAreCyclic}
@@ -11,18 +11,18 @@ use Rattle.safl_order.specs.Order
 use Rattle.safl_verilog.specs.declared.fault.VFault.{VFault}
 use Rattle.safl_verilog.specs.Reads.{Reads, HasFault}
 use Rattle.safl_sim.specs.declared.done.Done.{Done}
-use Rattle.safl_sim.specs.Arguments.{argument_widths}
+use Rattle.safl_net.specs.Arguments.{argument_widths}
 use Rattle.safl_sim.specs.Outcomes.{IsRun, IsDone, IsNotDone}
 use Rattle.safl_tool.specs.CommandTasks.{RefusesNet, RefusesText}
 use Rattle.safl_task.specs.Endings.{may_give}
-use Rattle.safl_task.specs.VerilogLines.{AreKnown, verilog_line, loop_line}
-use Rattle.safl_tool.specs.Running.{IsRunnable, faulty, looped}
-use Rattle.safl_task.specs.Refusals.{RefusesBy, HasLine}
+use Rattle.safl_tool.specs.VerilogLines.{verilog_line, loop_line}
+use Rattle.safl_tool.specs.Running.{AreKnown, IsRunnable, faulty, looped}
+use Rattle.safl_tool.specs.Refusals.{RefusesBy, HasLine}
 use Rattle.safl_tool.specs.Arguments.{RefusesArguments}
 use Rattle.safl_task.specs.declared.status.Status.{Status}
 use Rattle.safl_task.specs.declared.status.Status.TheVariants as status
-use Rattle.safl_task.specs.declared.refusal.Refusal.{Refusal}
-use Rattle.safl_task.proofs.Ending.{refuses_more}
+use Rattle.safl_tool.specs.declared.refusal.Refusal.{Refusal}
+use Rattle.safl_tool.proofs.Refusing.{refuses_more}
 
 -- nothing is given where a text, or its arguments, are refused
 pub text_quiet : (name : List ℕ) (args : List (List ℕ)) (text : List ℕ) (s : Status) (line : List ℕ) → RefusesText name args text s line → may_give s ≡ false
@@ -32,15 +32,6 @@ get_below : {A : Type 0} (xs : List A) (i : ℕ) (x : A) → slice_get xs i ≡ 
 get_below [] i x e = absurd (cc)
 get_below (y ∷ ys) zero x e = omega arith
 get_below (y ∷ ys) (suc i) x e = let h = get_below ys i x e in omega (arith, h)
-
--- each signal of a netlist in which all is set
-get_some : (gs : List Signal) (s : ℕ) → s < length gs → (g : Signal) × (slice_get gs s ≡ Some g)
-get_some [] s h = absurd (omega arith)
-get_some (g ∷ gs) zero h = (g, refl)
-get_some (g ∷ gs) (suc s) h = get_some gs s (omega (arith, h))
-
-pub set_at : (n : Netlist) (s : ℕ) → AllSet n → s < length n.signals → IsSet (kind_at n s)
-set_at n s all h = let g = get_some n.signals s h in subst IsSet (sym (ap kind_in g.1)) (all s g.0 g.1)
 
 -- the wires of a loop are signals
 reads_known : (n : Netlist) (a b : ℕ) → Order.Reads n a b → a < length n.signals

@@ -4,7 +4,7 @@ use Rattle.safl_word.specs.Words.{Word}
 use Rattle.safl_net.proofs.Naming.{pushed}
 use Rattle.safl_session.specs.Lines.{IsArgument, AreArguments}
 use Rattle.safl_tool.specs.Arguments.{IsUnread}
-use Rattle.safl_task.specs.Lines.{argument_line}
+use Rattle.safl_tool.specs.Lines.{argument_line}
 
 -- so many of them are read
 pub record ReadSoFar (widths : List ℕ) (args : List (List ℕ)) (words : List Word) (count : ℕ) : Type 0 where

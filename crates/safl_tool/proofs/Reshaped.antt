@@ -14,16 +14,16 @@ use Rattle.safl_reshape.specs.Laws.{PrintedKeepsForm}
 use Rattle.safl_reshape.specs.Limits.{KeepsLimits}
 use Rattle.safl_reshape.specs.Reshaped.{copied, unfolded, is_recursive}
 use Rattle.safl_reshape.specs.Refusals.{CopyRefused, UnfoldingRefused, RefusesCopy, RefusesUnfolding, MayCopy, MayUnfold, PassesLimit, is_grouped, is_taken, name_for}
-use Rattle.safl_source.specs.Sources.{names_in, HasForm, HasFewSites}
+use Rattle.safl_compiler.specs.Sources.{names_in, HasForm, HasFewSites}
 use Rattle.safl_tool.specs.CommandTasks.{RefusesSourceOf, RefusesReshaping}
 use Rattle.safl_task.specs.Limits.{source_max}
-use Rattle.safl_task.specs.Refusals.{RefusesBy}
-use Rattle.safl_tool.specs.Reshaping.{Reshaping, GivesReshaped, HasReason, TellsReason, TellsLong, IsUnshaped, IsReshapable, refused, long, copies, unfolds, text_given}
+use Rattle.safl_tool.specs.Refusals.{RefusesBy}
+use Rattle.safl_tool.specs.Reshaping.{Reshaping, GivesReshaped, HasReason, TellsReason, TellsLong, IsUnshaped, IsReshapable, refused, long, copies, unfolds}
 use Rattle.safl_task.specs.Endings.{may_give}
-use Rattle.safl_task.specs.Tasks.{Given}
+use Rattle.safl_task.specs.Tasks.{Given, only_writes}
 use Rattle.safl_task.specs.declared.status.Status.{Status}
-use Rattle.safl_task.specs.declared.refusal.Refusal.{Refusal}
-use Rattle.safl_task.proofs.Ending.{refuses_more}
+use Rattle.safl_tool.specs.declared.refusal.Refusal.{Refusal}
+use Rattle.safl_tool.proofs.Refusing.{refuses_more}
 
 module _ (r : Reshaping) (name : List ℕ) (site : ℕ) (source : List ℕ) where
   pub source_unshaped : (x : Refusal) → RefusesBy (RefusesSourceOf name source) x → RefusesBy (RefusesReshaping r name site source) x
@@ -38,7 +38,7 @@ module _ (r : Reshaping) (name : List ℕ) (site : ℕ) (source : List ℕ) wher
 
     pub reshaped_given : PrintedKeepsForm → (es : List Definition) → IsPrintable es → r.Reshaped ds es
         → ((c : Form) → IsFormOf ds c → (e : Form) × IsFormOf es e × r.Keeps (program_in c) (program_in e))
-        → (g : Given) → g ≡ text_given (printed es) → length (printed es) ≤ source_max → GivesReshaped r source g
+        → (g : Given) → g ≡ only_writes (printed es) → length (printed es) ≤ source_max → GivesReshaped r source g
     reshaped_given keeps es printable is kept g e short =
         let f = kept form.0 form.1 in
         let t = keeps es f.0 printable f.1 in

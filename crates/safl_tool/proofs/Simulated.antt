@@ -1,18 +1,18 @@
 -- What a run of a compiled source says.
-use Rattle.std.proofs.Common.{◌≡◌, ℕ, zero, suc, ◌+◌, ◌*◌, ◌<◌, ◌≤◌, ◌⊎◌, List, [], ◌∷◌, map, Option, Some, None, false, refl, sym, ap, subst, ◌∙◌, arith, inl, inr, codes}
+use Rattle.std.proofs.Common.{◌≡◌, ℕ, List, [], ◌∷◌, map, Option, Some, None, false, refl, sym, ap, subst, ◌∙◌, inl, inr, codes}
 use Rattle.safl_word.specs.Words.{Word}
 use Rattle.safl_net.specs.Netlist.{Netlist, output_place}
 use Rattle.safl_net.specs.Valuations.{Valuation, number_at, read_output}
 use Rattle.safl_sim.specs.declared.done.Done.{Done}
-use Rattle.safl_sim.specs.Arguments.{argument_widths, AreArguments}
+use Rattle.safl_net.specs.Arguments.{argument_widths, AreArguments}
 use Rattle.safl_sim.specs.Outcomes.{IsDone, IsOutcome, word_at}
 use Rattle.safl_term.specs.Program.{Program}
 use Rattle.safl_term.specs.WellFormed.{AreWordsOf}
 use Rattle.safl_term.specs.Checked.{CheckedProgram, program_of}
 use Rattle.safl_circuit.specs.Names.{Names, names_of, as_word}
 use Rattle.safl_circuit.specs.Correct.{Correct, IsResult}
-use Rattle.safl_source.specs.Sources.{IsSourceOf}
-use Rattle.safl_source.specs.Circuits.{IsCircuitOf}
+use Rattle.safl_compiler.specs.Sources.{IsSourceOf}
+use Rattle.safl_compiler.specs.Circuits.{IsCircuitOf}
 use Rattle.safl_tool.specs.Sources.{IsCompiled}
 use Rattle.safl_session.specs.Lines.{AreArguments as AreRead}
 use Rattle.safl_tool.specs.Arguments.{HaveFault}
@@ -21,11 +21,11 @@ use Rattle.safl_task.specs.Endings.{may_give}
 use Rattle.safl_tool.specs.Reporting.{HasHead, Measures}
 use Rattle.safl_tool.specs.Running.{Gives}
 use Rattle.safl_tool.specs.Simulating.{IsValue, HasValue, Simulates}
-use Rattle.safl_task.specs.Refusals.{RefusesBy}
+use Rattle.safl_tool.specs.Refusals.{RefusesBy}
 use Rattle.safl_tool.specs.Arguments.{RefusesArguments}
 use Rattle.safl_task.specs.declared.status.Status.{Status}
-use Rattle.safl_task.specs.declared.refusal.Refusal.{Refusal}
-use Rattle.safl_task.proofs.Ending.{refuses_more}
+use Rattle.safl_tool.specs.declared.refusal.Refusal.{Refusal}
+use Rattle.safl_tool.proofs.Refusing.{refuses_more}
 
 -- nothing is given where a source, or its arguments, are refused
 pub source_quiet : (name source : List ℕ) (s : Status) (line : List ℕ) → RefusesSourceOf name source s line → may_give s ≡ false

@@ -2,7 +2,7 @@
 use Rattle.std.specs.Prelude.{◌≡◌, ℕ, ◌+◌, ◌<◌, ◌⊎◌, List, length, Some, slice_get}
 use Rattle.safl_word.specs.Words.{Word}
 use Rattle.safl_session.specs.Lines.{IsArgument}
-use Rattle.safl_task.specs.Lines.{count_line, argument_line}
+use Rattle.safl_tool.specs.Lines.{count_line, argument_line}
 use Rattle.safl_task.specs.declared.status.Status.{Status}
 use Rattle.safl_task.specs.declared.status.Status.TheVariants as status
 

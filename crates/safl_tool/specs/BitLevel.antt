@@ -1,15 +1,15 @@
 -- Bit-level circuits: those of the netlists of Verilog files, and those of AIGER files.
-use Rattle.std.specs.Prelude.{◌≡◌, ℕ, ◌<◌, ◌⊎◌, List, [], ◌∷◌, true}
+use Rattle.std.specs.Prelude.{◌≡◌, ℕ, ◌<◌, ◌⊎◌, List, true}
 use Rattle.safl_net.specs.Netlist.{Netlist}
 use Rattle.safl_net.specs.Making.{name_at}
-use Rattle.safl_aig.specs.Circuits.{Circuit}
-use Rattle.safl_aig.specs.Reads.{AigReads, HasFault}
-use Rattle.safl_aig.specs.declared.reading.AigRule.{AigRule}
-use Rattle.safl_blast.specs.Weights.{weight, most_weight, AllZero, IsLeastNonzero}
-use Rattle.safl_bit_text.specs.BitLevel.{IsLight, IsTextOf}
-use Rattle.safl_bit_text.specs.Lines.{counts_lines, fault_line, register_line, weight_line}
+use Rattle.safl_aiger.specs.Circuits.{Circuit}
+use Rattle.safl_aiger.specs.Reads.{AigReads, HasFault}
+use Rattle.safl_aiger.specs.declared.reading.AigRule.{AigRule}
+use Rattle.safl_aig.specs.Weights.{weight, most_weight, AllZero, IsLeastNonzero}
+use Rattle.safl_aig.specs.BitLevel.{IsLight, IsTextOf}
+use Rattle.safl_aig.specs.Lines.{counts_lines, fault_line, register_line, weight_line}
 use Rattle.safl_tool.specs.Running.{IsRunnable, IsUnrunnable}
-use Rattle.safl_task.specs.Tasks.{Given}
+use Rattle.safl_task.specs.Tasks.{Given, only_prints, only_writes}
 use Rattle.safl_task.specs.declared.status.Status.{Status}
 use Rattle.safl_task.specs.declared.status.Status.TheVariants as status
 
@@ -21,7 +21,7 @@ pub record GivesBits (text : List ℕ) (g : Given) : Type 0 where
   pub runnable : IsRunnable text net
   pub out : List ℕ
   pub is_text : IsTextOf net out
-  pub is : g ≡ record { comes = true; printed = []; texts = out ∷ [] }
+  pub is : g ≡ only_writes out
 
 -- the least register that does not reset to 0 is named; if all do, the weight is told, which is too great
 pub data RefusesNetlist (n : Netlist) (s : Status) (line : List ℕ) : Type 0 where
@@ -41,7 +41,7 @@ HasBits text = (n : Netlist) × IsRunnable text n × IsLight n
 
 -- what `aigstat` gives: the numbers of the circuit that the text is
 abbrev pub GivesCounts : List ℕ → Given → Type 0
-GivesCounts text g = (a : Circuit) × AigReads text a × (g ≡ record { comes = true; printed = counts_lines a; texts = [] })
+GivesCounts text g = (a : Circuit) × AigReads text a × (g ≡ only_prints true (counts_lines a))
 
 -- the text in the file of this name has a first fault, which the line tells
 abbrev pub RefusesAig : List ℕ → List ℕ → Status → List ℕ → Type 0

@@ -9,15 +9,15 @@ use Rattle.safl_term.specs.Program.{Program}
 use Rattle.safl_circuit.specs.Names.{Names}
 use Rattle.safl_session.specs.declared.script.ScriptErr.{ScriptErr}
 use Rattle.safl_session.specs.declared.script.ScriptErr.TheVariants as errors
-use Rattle.safl_session.specs.declared.session.Reply.{Reply}
+use Rattle.safl_sim.specs.declared.done.Done.{Done as Reply}
 use Rattle.safl_session.specs.Scripts.{IsScript, IsScriptFault}
 use Rattle.safl_session.specs.Replies.{AreReplies}
 use Rattle.safl_session.specs.Circuits.{Serves, IsInTime}
-use Rattle.safl_source.specs.Sources.{IsSourceOf}
-use Rattle.safl_source.specs.Circuits.{IsCircuitOf}
-use Rattle.safl_transcript.specs.Texts.{are_all, transcript}
-use Rattle.safl_task.specs.Lines.{count_line, argument_line, numbered_line}
-use Rattle.safl_task.specs.Tasks.{Given}
+use Rattle.safl_compiler.specs.Sources.{IsSourceOf}
+use Rattle.safl_compiler.specs.Circuits.{IsCircuitOf}
+use Rattle.safl_session.specs.Transcripts.{are_all, transcript}
+use Rattle.safl_tool.specs.Lines.{count_line, argument_line, numbered_line}
+use Rattle.safl_task.specs.Tasks.{Given, only_prints}
 
 -- The source is a program's, each line of the script has words for main's parameters, and these are the replies of a netlist that
 -- is the program's circuit, from reset, one call after the other: each reply is main's, and each call starts in a quiet state
@@ -35,7 +35,7 @@ pub record Converses (source script : List ℕ) (limit : ℕ) (calls : List (Lis
 
 -- the transcript of the replies to calls, which is a result where each call has its reply
 abbrev pub told : ℕ → List (List Word) → List Reply → Given
-told limit calls replies = record { comes = are_all (length calls) replies; printed = transcript limit (length calls) replies; texts = [] }
+told limit calls replies = only_prints (are_all (length calls) replies) (transcript limit (length calls) replies)
 
 -- what a session gives
 abbrev pub GivesReplies : ℕ → List ℕ → List ℕ → Given → Type 0

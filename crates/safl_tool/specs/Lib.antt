@@ -1,3 +1,5 @@
+pub mod Lines
+pub mod VerilogLines
 pub mod Printed
 pub mod Sources
 pub mod Arguments
@@ -10,5 +12,11 @@ pub mod Calling
 pub mod Tracing
 pub mod BitLevel
 pub mod CommandTasks
+pub mod Refusals
 pub mod Opening
 pub mod Asking
+pub mod Readiness
+pub mod Reading
+pub mod Answers
+pub mod Worlds
+pub mod Changes

@@ -1,7 +1,7 @@
 -- A session in which no call was made.
 use Rattle.std.specs.Prelude.{◌≡◌, ℕ, List, true}
 use Rattle.safl_net.specs.Netlist.{Netlist}
-use Rattle.safl_sim.specs.Arguments.{argument_widths}
+use Rattle.safl_net.specs.Arguments.{argument_widths}
 use Rattle.safl_sim.specs.Places.{resets}
 use Rattle.safl_session.specs.Scripts.{IsScript}
 use Rattle.safl_tool.specs.Sources.{IsCompiled}

@@ -2,7 +2,7 @@
 use Rattle.std.specs.Prelude.{ℕ, ◌+◌, List, ◌++◌, Option, Some, None, codes}
 use Rattle.std.specs.Fmt.{decimal}
 use Rattle.safl_sim.specs.declared.done.Done.{Done}
-use Rattle.safl_transcript.specs.Texts.{late_line}
+use Rattle.safl_session.specs.Transcripts.{late_line}
 
 -- what `check` prints: how many functions and how many call sites the program has
 abbrev pub program_lines : ℕ → ℕ → List ℕ

@@ -1,5 +1,5 @@
 -- What is printed of a source's plan, and of sources that are made from numbers.
-use Rattle.std.specs.Prelude.{◌≡◌, ℕ, ◌<◌, ◌%◌, ◌⊎◌, ◌++◌, List, [], ◌∷◌, decimal, Option, true}
+use Rattle.std.specs.Prelude.{◌≡◌, ℕ, ◌%◌, ◌++◌, List, [], ◌∷◌, decimal, Option, true}
 use Rattle.safl_word.specs.Words.{Word}
 use Rattle.safl_gen.specs.Draws.{draw}
 use Rattle.safl_gen.specs.Source as made
@@ -9,16 +9,12 @@ use Rattle.safl_sim.specs.Outcomes.{IsOutcome}
 use Rattle.safl_term.specs.Checked.{CheckedProgram, program_of}
 use Rattle.safl_report.specs.Report.{IsReport, IsSummary}
 use Rattle.safl_circuit.specs.Names.{names_of}
-use Rattle.safl_source.specs.Sources.{IsSourceOf}
-use Rattle.safl_source.specs.Circuits.{IsCircuitOf}
+use Rattle.safl_compiler.specs.Sources.{IsSourceOf}
+use Rattle.safl_compiler.specs.Circuits.{IsCircuitOf}
 use Rattle.safl_session.specs.Lines.{AreArguments}
-use Rattle.safl_command.specs.Limits.{functions_max}
-use Rattle.safl_task.specs.Lines.{usage_line}
 use Rattle.safl_tool.specs.Printed.{program_lines}
 use Rattle.safl_tool.specs.Simulating.{HasValue}
-use Rattle.safl_task.specs.Tasks.{Given}
-use Rattle.safl_task.specs.declared.status.Status.{Status}
-use Rattle.safl_task.specs.declared.status.Status.TheVariants as status
+use Rattle.safl_task.specs.Tasks.{Given, only_prints}
 
 -- the text is the report of a program and of a netlist that is its circuit
 pub record Reports (c : CheckedProgram) (text : List ℕ) : Type 0 where
@@ -32,17 +28,13 @@ pub record GivesReport (source : List ℕ) (g : Given) : Type 0 where
   pub source_of : IsSourceOf source (program_of program) (names_of program)
   pub text : List ℕ
   pub reports : Reports program text
-  pub is : g ≡ record { comes = true; printed = text; texts = [] }
+  pub is : g ≡ only_prints true text
 
 -- ---- sources that are made from numbers
 
 -- the source of so many functions from a seed
 abbrev pub made_source : ℕ → ℕ → List ℕ
 made_source seed count = made.source (draw seed) count
-
--- no source has no function besides main, or more than the most
-abbrev pub RefusesCount : ℕ → Status → List ℕ → Type 0
-RefusesCount count s line = ((count ≡ 0) ⊎ (functions_max < count)) × (s ≡ status.Usage) × (line ≡ usage_line)
 
 -- the arguments with which the circuit of such a source is run
 abbrev pub made_args : ℕ → ℕ → List (List ℕ)

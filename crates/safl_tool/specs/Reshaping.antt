@@ -1,5 +1,5 @@
 -- What is said of reshaped sources.
-use Rattle.std.specs.Prelude.{◌≡◌, ℕ, suc, zero, ◌<◌, ◌≤◌, List, [], ◌∷◌, length, codes, true}
+use Rattle.std.specs.Prelude.{◌≡◌, ℕ, suc, zero, ◌<◌, ◌≤◌, List, length, codes}
 use Rattle.safl_tree.specs.Tree.{Definition}
 use Rattle.safl_tree.specs.Source.{SpellsProgram}
 use Rattle.safl_tree.specs.Printed.{printed}
@@ -9,10 +9,10 @@ use Rattle.safl_reshape.specs.declared.error.ReshapeErr.{ReshapeErr}
 use Rattle.safl_reshape.specs.declared.error.ReshapeErr.TheVariants as errors
 use Rattle.safl_reshape.specs.Laws.{IsAlike, Spares}
 use Rattle.safl_reshape.specs.Refusals.{CopyRefused, IsCopied, UnfoldingRefused, IsUnfolded}
-use Rattle.safl_source.specs.Sources.{HasForm, IsSourceOf}
+use Rattle.safl_compiler.specs.Sources.{HasForm, IsSourceOf}
 use Rattle.safl_task.specs.Limits.{source_max}
-use Rattle.safl_task.specs.Lines.{site_line}
-use Rattle.safl_task.specs.Tasks.{Given}
+use Rattle.safl_tool.specs.Lines.{site_line}
+use Rattle.safl_task.specs.Tasks.{Given, only_writes}
 use Rattle.safl_task.specs.declared.status.Status.{Status}
 use Rattle.safl_task.specs.declared.status.Status.TheVariants as status
 
@@ -59,10 +59,6 @@ pub data IsUnshaped (r : Reshaping) (site : ℕ) (source : List ℕ) (s : Status
   refused : (ds : List Definition) (e : ReshapeErr) → SpellsProgram source ds → HasForm ds → r.Refused ds e → TellsReason site e s line → IsUnshaped r site source s line
   long : (ds es : List Definition) → SpellsProgram source ds → HasForm ds → r.Reshaped ds es → TellsLong site (printed es) s line → IsUnshaped r site source s line
 
--- a text for one file
-abbrev pub text_given : List ℕ → Given
-text_given text = record { comes = true; printed = []; texts = text ∷ [] }
-
 -- What is given is the text of the reshaped program, no longer than a source may be. It is accepted, and the program that is read
 -- from it keeps what the first one gives
 pub record GivesReshaped (r : Reshaping) (source : List ℕ) (g : Given) : Type 0 where
@@ -78,7 +74,7 @@ pub record GivesReshaped (r : Reshaping) (source : List ℕ) (g : Given) : Type 
   pub accepted : IsSourceOf (printed reshaped) after names_after
   pub keeps : r.Keeps program after
   pub short : length (printed reshaped) ≤ source_max
-  pub is : g ≡ text_given (printed reshaped)
+  pub is : g ≡ only_writes (printed reshaped)
 
 -- the program of the source can be reshaped, to one whose text is no longer than a source may be
 pub record IsReshapable (r : Reshaping) (source : List ℕ) : Type 0 where

@@ -1,5 +1,5 @@
 -- What a run of the netlist of a Verilog file gives.
-use Rattle.std.specs.Prelude.{◌≡◌, ℕ, List, map, Option}
+use Rattle.std.specs.Prelude.{◌≡◌, ℕ, ◌<◌, List, map, length, slice_get, Option, Some}
 use Rattle.safl_word.specs.Words.{Word}
 use Rattle.safl_net.specs.Netlist.{Netlist}
 use Rattle.safl_net.specs.Making.{name_at}
@@ -8,11 +8,11 @@ use Rattle.safl_order.specs.Order.{IsLoop}
 use Rattle.safl_verilog.specs.declared.fault.VFault.{VFault}
 use Rattle.safl_verilog.specs.Reads.{Reads, HasFault}
 use Rattle.safl_sim.specs.declared.done.Done.{Done}
-use Rattle.safl_sim.specs.Arguments.{argument_widths}
+use Rattle.safl_net.specs.Arguments.{argument_widths}
 use Rattle.safl_sim.specs.Outcomes.{IsOutcome, IsDone}
 use Rattle.safl_session.specs.Lines.{AreArguments}
 use Rattle.safl_tool.specs.Arguments.{HaveFault}
-use Rattle.safl_task.specs.VerilogLines.{verilog_line, loop_line}
+use Rattle.safl_tool.specs.VerilogLines.{verilog_line, loop_line}
 
 -- the arguments are read as words for the inputs other than `start`, and the netlist has this outcome in its run with them
 pub record Gives (n : Netlist) (args : List (List ℕ)) (limit : ℕ) (answer : Option Done) : Type 0 where
@@ -47,3 +47,7 @@ pub record Finishes (text : List ℕ) (args : List (List ℕ)) (limit : ℕ) : T
   pub read : AreArguments (argument_widths net.signals) args words
   pub done : Done
   pub outcome : IsDone net words limit done
+
+-- these are numbers of signals
+abbrev pub AreKnown : Netlist → List ℕ → Type 0
+AreKnown n ws = (i s : ℕ) → slice_get ws i ≡ Some s → s < length n.signals

@@ -8,8 +8,8 @@ use Rattle.safl_term.specs.Program.{Program}
 use Rattle.safl_term.specs.Meaning.{Main, main_cost, loops}
 use Rattle.safl_circuit.specs.Names.{Names, as_word}
 use Rattle.safl_circuit.specs.Correct.{IsResult, latest}
-use Rattle.safl_source.specs.Sources.{IsSourceOf}
-use Rattle.safl_source.specs.Circuits.{IsCircuitOf}
+use Rattle.safl_compiler.specs.Sources.{IsSourceOf}
+use Rattle.safl_compiler.specs.Circuits.{IsCircuitOf}
 use Rattle.safl_session.specs.Lines.{AreArguments}
 use Rattle.safl_tool.specs.Arguments.{HaveFault}
 

@@ -5,12 +5,12 @@ use Rattle.safl_net.specs.Netlist.{Netlist}
 use Rattle.safl_net.specs.Rules.{IsNetlist}
 use Rattle.safl_net.specs.Whole.{IsWhole}
 use Rattle.safl_net.specs.Arranged.{IsInOrder}
-use Rattle.safl_sim.specs.Arguments.{argument_widths}
+use Rattle.safl_net.specs.Arguments.{argument_widths}
 use Rattle.safl_term.specs.Program.{Program}
 use Rattle.safl_circuit.specs.Names.{Names}
-use Rattle.safl_source.specs.Sources.{IsSourceOf, HasFirstFault}
-use Rattle.safl_source.specs.Circuits.{IsCircuitOf}
-use Rattle.safl_task.specs.Lines.{source_line}
+use Rattle.safl_compiler.specs.Sources.{IsSourceOf, HasFirstFault}
+use Rattle.safl_compiler.specs.Circuits.{IsCircuitOf}
+use Rattle.safl_tool.specs.Lines.{source_line}
 
 -- the source is accepted
 abbrev pub IsAccepted : List ℕ → Type 0

@@ -1,5 +1,5 @@
 -- The traces of a run, and the probes that are asked for them.
-use Rattle.std.specs.Prelude.{ℕ, List, [], ◌∷◌, ◌++◌, map, Option, Some, None, Bool, not}
+use Rattle.std.specs.Prelude.{◌≡◌, ℕ, List, [], ◌∷◌, ◌++◌, map, Option, Some, None, is_some, Bool, true, not, ◌||◌}
 use Rattle.safl_net.specs.Netlist.{Netlist}
 use Rattle.safl_net.specs.Valuations.{Valuation}
 use Rattle.safl_probe.specs.Probing.{ProbeState}
@@ -7,8 +7,8 @@ use Rattle.safl_probe.specs.Texts.{trace}
 use Rattle.safl_probe.specs.Watching.{kind_of}
 use Rattle.safl_probe.specs.declared.kind.TraceKind.{TraceKind}
 use Rattle.safl_probe.specs.declared.kind.TraceKind.TheVariants.{Vcd, Starts, Toggles, Silent}
-use Rattle.safl_drive.specs.Asked.{Asked}
-use Rattle.safl_command.specs.Traces.{Traces, is_any_given}
+use Rattle.safl_probe.specs.Asked.{Asked, probe_at}
+use Rattle.safl_command.specs.Traces.{Traces}
 
 -- ---- the files
 
@@ -19,6 +19,10 @@ one_given (Some name) kind = (name, kind) ∷ []
 
 abbrev pub given_files : Traces → List (List ℕ × ℕ)
 given_files t = one_given t.vcd 1 ++ one_given t.starts 2 ++ one_given t.toggles 3
+
+-- no file is given
+abbrev pub no_traces : Traces
+no_traces = record { vcd = None; starts = None; toggles = None }
 
 -- their names, and the traces of these cycles for them
 abbrev pub files_for : Traces → List (List ℕ)
@@ -35,6 +39,10 @@ file_of_kind t Vcd = t.vcd
 file_of_kind t Starts = t.starts
 file_of_kind t Toggles = t.toggles
 file_of_kind t Silent = None
+
+-- the file for the traces of the probe at a place
+abbrev pub file_at : Traces → List ProbeState → ℕ → Option (List ℕ)
+file_at t ps place = file_of_kind t (kind_of (probe_at ps place).kind)
 
 -- the files for the others
 abbrev pub without : Traces → TraceKind → Traces
@@ -53,9 +61,18 @@ abbrev pub left_by : Traces → List ℕ → Traces
 left_by t [] = t
 left_by t (kind ∷ kinds) = left_by (without t (kind_of kind)) kinds
 
--- there are none
+-- one is given
+abbrev pub is_any_given : Traces → Bool
+is_any_given t = is_some t.vcd || (is_some t.starts || is_some t.toggles)
+
+-- each file has a probe among those of these kinds
 abbrev pub have_probes : Traces → List ℕ → Bool
 have_probes t kinds = not (is_any_given (left_by t kinds))
 
 abbrev pub kinds_of : List ProbeState → List ℕ
 kinds_of ps = map (λ (p : ProbeState). p.kind) ps
+
+-- the probes are asked for these files
+pub record AreAskedFor (t : Traces) (asks : Asked) (ps : List ProbeState) : Type 0 where
+  pub can : have_probes t (kinds_of ps) ≡ true
+  pub is : asks ≡ asked_by t (kinds_of ps)

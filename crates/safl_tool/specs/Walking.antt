@@ -8,7 +8,7 @@ use Rattle.safl_calls.specs.Machine.{State, opening}
 use Rattle.safl_core.specs.Walking as turns
 use Rattle.safl_core.specs.declared.walking.Walked.{Walked}
 use Rattle.safl_circuit.specs.Names.{Names}
-use Rattle.safl_source.specs.Sources.{IsSourceOf}
+use Rattle.safl_compiler.specs.Sources.{IsSourceOf}
 use Rattle.safl_session.specs.Lines.{AreArguments}
 
 -- Main gives the word, and there were three events for each call but two less for each tail call; without a word there were as

@@ -1,13 +1,13 @@
 //! The arguments of a run.
 
-ghost use Rattle.std.specs.Prelude.{IsNone, IfOk, IfErr, IfSome, map, string_bytes};
-ghost use Rattle.safl_word.specs.Words.{Word};
-ghost use Rattle.safl_session.specs.Lines.{IsArgument, AreArguments};
+ghost use Rattle.std.specs.Prelude.{IfOk, IfErr, map, string_bytes};
+ghost use Rattle.safl_session.specs.Lines.{AreArguments};
 ghost use Rattle.safl_tool.specs.Arguments.{RefusesArguments};
-ghost use Rattle.safl_task.specs.Refusals.{RefusesBy};
+ghost use Rattle.safl_tool.specs.Refusals.{RefusesBy};
 
-use safl_task::Refusal;
-use safl_word::{Word, argument};
+use crate::refusal::Refusal;
+use safl_session::read_argument;
+use safl_word::Word;
 use std::alloc::Global;
 
 /// The words of the arguments for parameters of these widths. The count is looked at first.
@@ -35,14 +35,4 @@ pub fn read_arguments<'a>(
         };
     }
     Ok(words)
-}
-
-fn read_argument(width: u8, text: &[u8]) -> Option<Word>
-    ensures read { IfSome result (IsArgument width text.now) }
-    ensures none { IsNone result → (v : Word) → IsArgument width text.now v → ⊥ }
-{
-    match argument(text) {
-        Some(number) => Word::new(width, number),
-        None => None,
-    }
 }

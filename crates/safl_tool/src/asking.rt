@@ -1,72 +1,91 @@
 //! Which probes are asked for the traces of a run, and for which files.
 
-ghost use Rattle.std.specs.Prelude.{◌≡◌, IfOk, IfSome, Some, length, map, is_some, option_map, string_bytes};
-ghost use Rattle.safl_command.specs.Traces.{shown as shown_traces, is_any_given};
-ghost use Rattle.safl_tool.specs.Asking.{shown_name, shown_names, shown_wanted};
-ghost use Rattle.safl_tool.specs.Tracing.{file_of_kind, without, asked_by, have_probes, kinds_of};
-ghost use Rattle.safl_drive.specs.Asked.{asked};
+ghost use Rattle.std.specs.Prelude.{◌≡◌, IfOk, map, option_map, string_bytes};
+ghost use Rattle.safl_command.specs.Traces.{files, shown as shown_traces};
 ghost use Rattle.safl_probe.specs.Watching.{kind_of};
+ghost use Rattle.safl_tool.specs.Asking.{shown_name, traces_given, AsksFor};
+ghost use Rattle.safl_tool.specs.Tracing.{file_of_kind, is_any_given, without};
 
 use safl_command::Traces;
 use safl_probe::{Probe, TraceKind, kind_of};
-use safl_word::NoMemory;
 use std::alloc::{AllocError, Global};
 
-/// The files for which no probe was found.
-#[derive(Clone, Copy)]
-pub struct Wanted<'a> {
-    pub vcd: Option<&'a str>,
-    pub starts: Option<&'a str>,
-    pub toggles: Option<&'a str>,
+/// For each probe the file that it is asked for: the first probe of a kind is asked for the file for its traces. There is no
+/// answer if a file has no probe.
+pub fn asked_files(
+    alloc: Global,
+    traces: Option<&Traces>,
+    probes: &[Box<dyn Probe>],
+) -> Result<Option<Vec<Option<String>>>, AllocError>
+    ensures { IfOk result (AsksFor (traces_given traces.entry) (map (λ p. state p) probes.now)) }
+{
+    let mut vcd = copy_of(alloc, traces, TraceKind::Vcd)?;
+    let mut starts = copy_of(alloc, traces, TraceKind::Starts)?;
+    let mut toggles = copy_of(alloc, traces, TraceKind::Toggles)?;
+    let mut files = Vec::new(alloc);
+    'probes: for i in 0..probes.len() {
+        let kind = kind_of_probe(&probes[i]);
+        let file = taken(kind, &mut vcd, &mut starts, &mut toggles);
+        files.push(file)?;
+    }
+    if is_any(&vcd, &starts, &toggles) {
+        return Ok(None);
+    }
+    Ok(Some(files))
 }
 
-impl<'a> Wanted<'a> {
-    // All files.
-    fn of(traces: &'a Traces) -> Self
-        ensures { shown_wanted result ≡ shown_traces traces.now }
-    {
-        Wanted {
-            vcd: text_of(&traces.vcd),
-            starts: text_of(&traces.starts),
-            toggles: text_of(&traces.toggles),
-        }
-    }
+// Whether a file is left.
+fn is_any(vcd: &Option<String>, starts: &Option<String>, toggles: &Option<String>) -> bool
+    ensures { result ≡ is_any_given (files vcd.now starts.now toggles.now) }
+{
+    vcd.is_some() || starts.is_some() || toggles.is_some()
+}
 
-    // The file for the traces of a kind.
-    fn file(self, kind: TraceKind) -> Option<&'a str>
-        ensures { option_map shown_name result ≡ file_of_kind (shown_wanted self.entry) kind }
-    {
-        match kind {
-            TraceKind::Vcd => self.vcd,
-            TraceKind::Starts => self.starts,
-            TraceKind::Toggles => self.toggles,
-            TraceKind::Silent => None,
-        }
+// Takes the file for the traces of a kind out of those that are left.
+fn taken(
+    kind: TraceKind,
+    vcd: &mut Option<String>,
+    starts: &mut Option<String>,
+    toggles: &mut Option<String>,
+) -> Option<String>
+    ensures file { option_map string_bytes result ≡ file_of_kind (files vcd.old starts.old toggles.old) kind }
+    ensures left { files vcd.new starts.new toggles.new ≡ without (files vcd.old starts.old toggles.old) kind }
+{
+    match kind {
+        TraceKind::Vcd => vcd.take(),
+        TraceKind::Starts => starts.take(),
+        TraceKind::Toggles => toggles.take(),
+        TraceKind::Silent => None,
     }
+}
 
-    // The files for the others.
-    fn without(self, kind: TraceKind) -> Self
-        ensures { shown_wanted result ≡ without (shown_wanted self.entry) kind }
-    {
-        match kind {
-            TraceKind::Vcd => Wanted { vcd: None, ..self },
-            TraceKind::Starts => Wanted {
-                starts: None,
-                ..self
-            },
-            TraceKind::Toggles => Wanted {
-                toggles: None,
-                ..self
-            },
-            TraceKind::Silent => self,
-        }
-    }
+// A copy of the file for the traces of a kind.
+fn copy_of(
+    alloc: Global,
+    traces: Option<&Traces>,
+    kind: TraceKind,
+) -> Result<Option<String>, AllocError>
+    ensures { IfOk result (λ copy. option_map string_bytes copy ≡ file_of_kind (traces_given traces.entry) kind) }
+{
+    let Some(traces) = traces else {
+        return Ok(None);
+    };
+    let Some(name) = file_of(traces, kind) else {
+        return Ok(None);
+    };
+    let copy = String::from_str(alloc, name)?;
+    Ok(Some(copy))
+}
 
-    // Whether there is one.
-    fn is_any(self) -> bool
-        ensures { result ≡ is_any_given (shown_wanted self.entry) }
-    {
-        self.vcd.is_some() || self.starts.is_some() || self.toggles.is_some()
+/// The file for the traces of a kind.
+pub fn file_of<'a>(traces: &'a Traces, kind: TraceKind) -> Option<&'a str>
+    ensures { option_map shown_name result ≡ file_of_kind (shown_traces traces.now) kind }
+{
+    match kind {
+        TraceKind::Vcd => text_of(&traces.vcd),
+        TraceKind::Starts => text_of(&traces.starts),
+        TraceKind::Toggles => text_of(&traces.toggles),
+        TraceKind::Silent => None,
     }
 }
 
@@ -79,56 +98,9 @@ fn text_of(name: &Option<String>) -> Option<&str>
     }
 }
 
-/// For each probe the file that it is asked for: the first probe of a kind is asked for the file for its traces. There is no
-/// answer if a file has no probe.
-pub fn asked_names<'a>(
-    alloc: Global,
-    traces: &'a Traces,
-    probes: &[Box<dyn Probe>],
-) -> Result<Option<Vec<Option<&'a str>>>, NoMemory>
-    ensures some { IfOk result (λ answer. is_some answer ≡ have_probes (shown_traces traces.now) (kinds_of (map (λ p. state p) probes.now))) }
-    ensures asked { IfOk result (λ answer. IfSome answer (λ names. shown_names names.items ≡ asked_by (shown_traces traces.now) (kinds_of (map (λ p. state p) probes.now)))) }
-    ensures long { IfOk result (λ answer. IfSome answer (λ names. length names.items ≡ length probes.now)) }
-{
-    let mut wanted = Wanted::of(traces);
-    let mut names = Vec::new(alloc);
-    'probes: for i in 0..probes.len() {
-        let kind = kind_of_probe(&probes[i]);
-        names.push(wanted.file(kind))?;
-        wanted = wanted.without(kind);
-    }
-    if wanted.is_any() {
-        return Ok(None);
-    }
-    Ok(Some(names))
-}
-
-// The kind of the traces that a probe gives.
-fn kind_of_probe(probe: &Box<dyn Probe>) -> TraceKind
+/// The kind of the traces that a probe gives.
+pub fn kind_of_probe(probe: &Box<dyn Probe>) -> TraceKind
     ensures { result ≡ kind_of (state probe.now).kind }
 {
     kind_of(probe.kind())
-}
-
-/// Copies of the names.
-pub fn copies_of(alloc: Global, names: &[Option<&str>]) -> Result<Vec<Option<String>>, AllocError>
-    ensures { IfOk result (λ files. asked files.items ≡ shown_names names.now) }
-{
-    let mut files = Vec::new(alloc);
-    'names: for i in 0..names.len() {
-        files.push(copy_of(alloc, names[i])?)?;
-    }
-    Ok(files)
-}
-
-fn copy_of(alloc: Global, name: Option<&str>) -> Result<Option<String>, AllocError>
-    ensures { IfOk result (λ copy. option_map string_bytes copy ≡ option_map shown_name name.entry) }
-{
-    match name {
-        Some(name) => {
-            let copy = String::from_str(alloc, name)?;
-            Ok(Some(copy))
-        }
-        None => Ok(None),
-    }
 }

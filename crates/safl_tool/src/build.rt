@@ -1,29 +1,23 @@
 //! What `build IN OUT [--opt]` writes: the Verilog text of a source's circuit.
 
-ghost use Rattle.std.specs.Prelude.{◌≡◌, ◌≤◌, ◌∷◌, [], IfOk, IfErr, length};
-ghost use Rattle.safl_task.specs.Answers.{given_of, outputs_of};
+ghost use Rattle.std.specs.Prelude.{◌≤◌, IfOk, IfErr, length};
+ghost use Rattle.safl_task.specs.Tasks.{only_writes};
 ghost use Rattle.safl_tool.specs.CommandTasks.{GivesCircuit, GivesOptimised, RefusesSourceOf};
 ghost use Rattle.safl_task.specs.Limits.{source_max};
-ghost use Rattle.safl_task.specs.Refusals.{RefusesBy};
+ghost use Rattle.safl_tool.specs.Refusals.{RefusesBy};
 
+use crate::refusal::Refusal;
 use crate::source::{check_source, compile};
-use safl_source::optimised_circuit_of;
-use safl_task::{Answer, Refusal};
+use safl_compiler::optimised_circuit_of;
 use safl_verilog::laws::{no_shorter_text_law, written_reads_law};
 use safl_vwrite::text_of;
 use safl_word::NoMemory;
 use std::alloc::Global;
 
-/// The Verilog text of the circuit of a source for the file `output`, or why the source in the file of this name is refused.
-pub fn circuit<'a>(
-    alloc: Global,
-    name: &'a str,
-    output: &'a str,
-    source: &[u8],
-) -> Result<Answer<'a>, Refusal<'a>>
+/// The Verilog text of the circuit of a source, or why the source in the file of this name is refused.
+pub fn circuit_text<'a>(alloc: Global, name: &'a str, source: &[u8]) -> Result<Vec<u8>, Refusal<'a>>
     requires { length source.now ≤ source_max }
-    ensures gives { IfOk result (λ a. GivesCircuit source.now (given_of a)) }
-    ensures writes { IfOk result (λ a. output.now ∷ [] ≡ outputs_of a) }
+    ensures gives { IfOk result (λ text. GivesCircuit source.now (only_writes text.items)) }
     ensures refused { IfErr result (RefusesBy (RefusesSourceOf name.now source.now)) }
 {
     let net = match compile(alloc, name, source) {
@@ -33,21 +27,19 @@ pub fn circuit<'a>(
     written_reads_law();
     no_shorter_text_law();
     match text_of(alloc, &net) {
-        Ok(text) => Ok(Answer::File { name: output, text }),
+        Ok(text) => Ok(text),
         Err(NoMemory) => Err(Refusal::NoMemory),
     }
 }
 
 /// The same for the circuit without the temporary wires that can be spared.
-pub fn optimised<'a>(
+pub fn optimised_text<'a>(
     alloc: Global,
     name: &'a str,
-    output: &'a str,
     source: &[u8],
-) -> Result<Answer<'a>, Refusal<'a>>
+) -> Result<Vec<u8>, Refusal<'a>>
     requires { length source.now ≤ source_max }
-    ensures gives { IfOk result (λ a. GivesOptimised source.now (given_of a)) }
-    ensures writes { IfOk result (λ a. output.now ∷ [] ≡ outputs_of a) }
+    ensures gives { IfOk result (λ text. GivesOptimised source.now (only_writes text.items)) }
     ensures refused { IfErr result (RefusesBy (RefusesSourceOf name.now source.now)) }
 {
     let checked = match check_source(alloc, name, source) {
@@ -62,7 +54,7 @@ pub fn optimised<'a>(
     written_reads_law();
     no_shorter_text_law();
     match text_of(alloc, &net) {
-        Ok(text) => Ok(Answer::File { name: output, text }),
+        Ok(text) => Ok(text),
         Err(NoMemory) => Err(Refusal::NoMemory),
     }
 }

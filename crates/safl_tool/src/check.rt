@@ -1,24 +1,24 @@
 //! What `check IN` prints: the numbers of a source's program.
 
-ghost use Rattle.std.specs.Prelude.{◌≡◌, ◌≤◌, ◌++◌, [], OnOk, IfOk, IfErr, length};
+ghost use Rattle.std.specs.Prelude.{◌≡◌, ◌≤◌, ◌++◌, OnOk, IfOk, IfErr, length};
 ghost use Rattle.safl_term.specs.Checked.{program_of};
-ghost use Rattle.safl_task.specs.Answers.{given_of, outputs_of};
+ghost use Rattle.safl_tool.specs.Answers.{printed};
 ghost use Rattle.safl_tool.specs.CommandTasks.{GivesNumbers, RefusesSourceOf};
 ghost use Rattle.safl_task.specs.Limits.{source_max};
 ghost use Rattle.safl_tool.specs.Printed.{program_lines};
-ghost use Rattle.safl_task.specs.Refusals.{RefusesBy};
+ghost use Rattle.safl_tool.specs.Refusals.{RefusesBy};
 
+use crate::answer::Lines;
+use crate::refusal::{Refusal, push};
 use crate::source::check_source;
-use safl_task::{Answer, Refusal, push};
 use safl_term::Checked;
 use safl_word::{NoMemory, Raw, push_decimal};
 use std::alloc::Global;
 
 /// How many functions and how many call sites the program of a source has, or why the source in the file of this name is refused.
-pub fn numbers<'a>(alloc: Global, name: &'a str, source: &[u8]) -> Result<Answer<'a>, Refusal<'a>>
+pub fn check_lines<'a>(alloc: Global, name: &'a str, source: &[u8]) -> Result<Lines, Refusal<'a>>
     requires { length source.now ≤ source_max }
-    ensures gives { IfOk result (λ a. GivesNumbers source.now (given_of a)) }
-    ensures prints { IfOk result (λ a. [] ≡ outputs_of a) }
+    ensures gives { IfOk result (λ l. GivesNumbers source.now (printed l)) }
     ensures refused { IfErr result (RefusesBy (RefusesSourceOf name.now source.now)) }
 {
     let checked = match check_source(alloc, name, source) {
@@ -26,7 +26,7 @@ pub fn numbers<'a>(alloc: Global, name: &'a str, source: &[u8]) -> Result<Answer
         Err(refusal) => return Err(refusal),
     };
     match text_of(alloc, &checked) {
-        Ok(text) => Ok(Answer::Lines { comes: true, text }),
+        Ok(text) => Ok(Lines { comes: true, text }),
         Err(NoMemory) => Err(Refusal::NoMemory),
     }
 }

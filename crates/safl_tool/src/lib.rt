@@ -1,12 +1,15 @@
 //! The top call of the program: from the words of a command line to files, lines and a status.
 #![tactic(auto)]
 
+mod answer;
 mod arguments;
 mod asking;
 mod bit_level;
 mod build;
 mod check;
 mod made;
+mod ready;
+mod refusal;
 mod report;
 mod reshape;
 mod run_file;
@@ -15,6 +18,7 @@ mod simulate;
 mod source;
 mod top;
 mod tracing;
+mod verilog_lines;
 mod walk;
 mod work;
 

@@ -1,66 +1,64 @@
 //! What `gen SEED COUNT` and `bench SEED COUNT --cycles L` print: a source that is made from numbers, and what its circuit gives.
 
-ghost use Rattle.std.specs.Prelude.{◌≡◌, ◌≤◌, [], IfOk, IfErr, length, map, string_bytes, decimal};
-ghost use Rattle.safl_task.specs.Answers.{given_of, outputs_of};
-ghost use Rattle.safl_tool.specs.CommandTasks.{GivesMeasure, RefusesGiven, RefusesBench, result as result_of};
+ghost use Rattle.std.specs.Prelude.{◌≡◌, ◌≤◌, IfOk, IfErr, codes, length, map, string_bytes, decimal};
 ghost use Rattle.safl_task.specs.Limits.{source_max};
-ghost use Rattle.safl_task.specs.Refusals.{RefusesBy};
-ghost use Rattle.safl_tool.specs.Reporting.{HasHead, RefusesCount, made_args, made_source};
+ghost use Rattle.safl_tool.specs.Answers.{printed};
+ghost use Rattle.safl_tool.specs.CommandTasks.{GivesMeasure, NeverRefuses, RefusesGiven, result as result_of};
+ghost use Rattle.safl_tool.specs.Refusals.{RefusesBy};
+ghost use Rattle.safl_tool.specs.Reporting.{HasHead, made_args, made_source};
 
+use crate::answer::Lines;
 use crate::check::push_program;
+use crate::refusal::{Refusal, push};
 use crate::simulate::{push_outcome, run_circuit};
 use crate::source::plan_source;
-use safl_gen::{GenErr, generate};
+use safl_command::Count;
+use safl_compiler::planned_circuit;
+use safl_gen::generate;
 use safl_net::Net;
 use safl_report::summary;
 use safl_sites::Planned;
-use safl_source::planned_circuit;
-use safl_task::{Answer, Refusal, push};
 use safl_word::NoMemory;
 use std::alloc::{AllocError, Global};
 
-/// The source of `count` functions and main from the numbers that `seed` begins. A count that no source has is refused.
-pub fn made<'a>(alloc: Global, seed: u64, count: u32) -> Result<Answer<'a>, Refusal<'a>>
-    ensures gives { IfOk result (λ a. given_of a ≡ result_of (made_source seed count)) }
-    ensures prints { IfOk result (λ a. [] ≡ outputs_of a) }
-    ensures refused { IfErr result (RefusesBy (RefusesCount count)) }
+/// The source of `count` functions and main from the numbers that `seed` begins.
+pub fn gen_lines<'a>(alloc: Global, seed: u64, count: Count) -> Result<Lines, Refusal<'a>>
+    ensures gives { IfOk result (λ l. printed l ≡ result_of (made_source seed count.functions)) }
+    ensures refused { IfErr result (RefusesBy NeverRefuses) }
 {
     match source_of(alloc, seed, count) {
-        Ok(text) => Ok(Answer::Lines { comes: true, text }),
-        Err(refusal) => Err(refusal),
+        Ok(text) => Ok(Lines { comes: true, text }),
+        Err(NoMemory) => Err(Refusal::NoMemory),
     }
 }
 
 /// What is printed of the same source and of a run of its circuit.
-pub fn made_outcome<'a>(
+pub fn bench_lines<'a>(
     alloc: Global,
     seed: u64,
-    count: u32,
+    count: Count,
     limit: u64,
-) -> Result<Answer<'a>, Refusal<'a>>
-    ensures gives { IfOk result (λ a. GivesMeasure (made_args seed count) limit (made_source seed count) (given_of a)) }
-    ensures prints { IfOk result (λ a. [] ≡ outputs_of a) }
-    ensures refused { IfErr result (RefusesBy (RefusesBench seed count)) }
+) -> Result<Lines, Refusal<'a>>
+    ensures gives { IfOk result (λ l. GivesMeasure (made_args seed count.functions) limit (made_source seed count.functions) (printed l)) }
+    ensures refused { IfErr result (RefusesBy (RefusesGiven (codes "bench") (made_args seed count.functions) (made_source seed count.functions))) }
 {
-    let source = match source_of(alloc, seed, count) {
-        Ok(source) => source,
-        Err(refusal) => return Err(refusal),
+    let Ok(source) = source_of(alloc, seed, count) else {
+        return Err(Refusal::NoMemory);
     };
-    let Ok(args) = args_of(alloc, seed, count) else {
+    let Ok(args) = args_of(alloc, seed, count.functions) else {
         return Err(Refusal::NoMemory);
     };
     measure(alloc, "bench", &source, limit, &args)
 }
 
-fn source_of<'a>(alloc: Global, seed: u64, count: u32) -> Result<Vec<u8>, Refusal<'a>>
-    ensures made { IfOk result (λ text. text.items ≡ made_source seed count) }
+fn source_of(alloc: Global, seed: u64, count: Count) -> Result<Vec<u8>, NoMemory>
+    ensures made { IfOk result (λ text. text.items ≡ made_source seed count.functions) }
     ensures short { IfOk result (λ text. length text.items ≤ source_max) }
-    ensures refused { IfErr result (RefusesBy (RefusesCount count)) }
 {
-    match generate(alloc, seed, count) {
+    match generate(alloc, seed, count.functions) {
         Ok(text) => Ok(text),
-        Err(GenErr::Count) => Err(Refusal::Usage),
-        Err(GenErr::NoMemory) => Err(Refusal::NoMemory),
+        // The count is one of those for which there is a source.
+        Err(_) => Err(NoMemory),
     }
 }
 
@@ -89,10 +87,9 @@ fn measure<'a>(
     source: &[u8],
     limit: u64,
     args: &[String],
-) -> Result<Answer<'a>, Refusal<'a>>
+) -> Result<Lines, Refusal<'a>>
     requires { length source.now ≤ source_max }
-    ensures gives { IfOk result (λ a. GivesMeasure (map string_bytes args.now) limit source.now (given_of a)) }
-    ensures prints { IfOk result (λ a. [] ≡ outputs_of a) }
+    ensures gives { IfOk result (λ l. GivesMeasure (map string_bytes args.now) limit source.now (printed l)) }
     ensures refused { IfErr result (RefusesBy (RefusesGiven name.now (map string_bytes args.now) source.now)) }
 {
     let planned = match plan_source(alloc, name, source) {
@@ -110,7 +107,7 @@ fn measure<'a>(
         Err(refusal) => return Err(refusal),
     };
     match push_outcome(&mut text, limit, done) {
-        Ok(comes) => Ok(Answer::Lines { comes, text }),
+        Ok(comes) => Ok(Lines { comes, text }),
         Err(NoMemory) => Err(Refusal::NoMemory),
     }
 }

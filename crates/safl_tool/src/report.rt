@@ -1,29 +1,25 @@
 //! What `report IN` prints: the plan of a source's program and the registers of its circuit.
 
-ghost use Rattle.std.specs.Prelude.{◌≡◌, ◌≤◌, [], IfOk, IfErr, length};
-ghost use Rattle.safl_task.specs.Answers.{given_of, outputs_of};
+ghost use Rattle.std.specs.Prelude.{◌≤◌, IfOk, IfErr, length};
+ghost use Rattle.safl_tool.specs.Answers.{printed};
 ghost use Rattle.safl_tool.specs.CommandTasks.{RefusesSourceOf};
 ghost use Rattle.safl_task.specs.Limits.{source_max};
-ghost use Rattle.safl_task.specs.Refusals.{RefusesBy};
+ghost use Rattle.safl_tool.specs.Refusals.{RefusesBy};
 ghost use Rattle.safl_tool.specs.Reporting.{GivesReport, Reports};
 
+use crate::answer::Lines;
+use crate::refusal::Refusal;
 use crate::source::plan_source;
+use safl_compiler::planned_circuit;
 use safl_report::report;
 use safl_sites::Planned;
-use safl_source::planned_circuit;
-use safl_task::{Answer, Refusal};
 use safl_word::NoMemory;
 use std::alloc::Global;
 
 /// The report of a source, or why the source in the file of this name is refused.
-pub fn plan_report<'a>(
-    alloc: Global,
-    name: &'a str,
-    source: &[u8],
-) -> Result<Answer<'a>, Refusal<'a>>
+pub fn report_lines<'a>(alloc: Global, name: &'a str, source: &[u8]) -> Result<Lines, Refusal<'a>>
     requires { length source.now ≤ source_max }
-    ensures gives { IfOk result (λ a. GivesReport source.now (given_of a)) }
-    ensures prints { IfOk result (λ a. [] ≡ outputs_of a) }
+    ensures gives { IfOk result (λ l. GivesReport source.now (printed l)) }
     ensures refused { IfErr result (RefusesBy (RefusesSourceOf name.now source.now)) }
 {
     let planned = match plan_source(alloc, name, source) {
@@ -31,7 +27,7 @@ pub fn plan_report<'a>(
         Err(refusal) => return Err(refusal),
     };
     match report_of(alloc, &planned) {
-        Ok(text) => Ok(Answer::Lines { comes: true, text }),
+        Ok(text) => Ok(Lines { comes: true, text }),
         Err(NoMemory) => Err(Refusal::NoMemory),
     }
 }

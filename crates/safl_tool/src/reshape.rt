@@ -1,34 +1,32 @@
 //! What `reshape IN OUT --copy K | --unfold K` writes: a source with a function copied for one site, or with one call unfolded.
 
-ghost use Rattle.std.specs.Prelude.{◌≡◌, ◌≤◌, ◌<◌, ◌∷◌, [], IfOk, IfErr, IfSome, IsNone, OnOk, length};
+ghost use Rattle.std.specs.Prelude.{◌≡◌, ◌≤◌, ◌<◌, IfOk, IfErr, IfSome, IsNone, OnOk, length};
 ghost use Rattle.safl_tree.specs.Printable.{IsPrintable};
 ghost use Rattle.safl_tree.specs.Printed.{printed};
 ghost use Rattle.safl_tree.specs.Shown.{shown_program};
-ghost use Rattle.safl_task.specs.Answers.{given_of, outputs_of};
+ghost use Rattle.safl_task.specs.Tasks.{only_writes};
 ghost use Rattle.safl_tool.specs.CommandTasks.{RefusesReshaping};
 ghost use Rattle.safl_task.specs.Limits.{source_max};
-ghost use Rattle.safl_task.specs.Refusals.{RefusesBy};
-ghost use Rattle.safl_tool.specs.Reshaping.{GivesReshaped, HasReason, limit_text, TellsReason, TellsLong, copies, unfolds, text_given};
+ghost use Rattle.safl_tool.specs.Refusals.{RefusesBy};
+ghost use Rattle.safl_tool.specs.Reshaping.{GivesReshaped, HasReason, limit_text, TellsReason, TellsLong, copies, unfolds};
 
+use crate::refusal::Refusal;
 use crate::source::read_program;
 use safl_reshape::laws::printed_form_law;
 use safl_reshape::{ReshapeErr, copy_checked, unfold_checked};
-use safl_task::{Answer, Refusal};
 use safl_tree::{Program, print};
 use safl_word::SOURCE_MAX;
 use std::alloc::Global;
 
-/// The text of a source with the callee of a site copied for its call, for the file `output`, or why there is none.
-pub fn copied<'a>(
+/// The text of a source with the callee of a site copied for its call, or why there is none.
+pub fn copy_text<'a>(
     alloc: Global,
     name: &'a str,
-    output: &'a str,
     source: &[u8],
     site: u64,
-) -> Result<Answer<'a>, Refusal<'a>>
+) -> Result<Vec<u8>, Refusal<'a>>
     requires { length source.now ≤ source_max }
-    ensures gives { IfOk result (λ a. GivesReshaped (copies site) source.now (given_of a)) }
-    ensures writes { IfOk result (λ a. output.now ∷ [] ≡ outputs_of a) }
+    ensures gives { IfOk result (λ text. GivesReshaped (copies site) source.now (only_writes text.items)) }
     ensures refused { IfErr result (RefusesBy (RefusesReshaping (copies site) name.now site source.now)) }
 {
     printed_form_law();
@@ -41,23 +39,20 @@ pub fn copied<'a>(
         None => return Err(refusal_of(site, ReshapeErr::NoSite)),
     };
     match copy_checked(alloc, &accepted.program, &accepted.checked, number) {
-        Ok(copy) => text_of(alloc, output, site, &copy),
+        Ok(copy) => text_of(alloc, site, &copy),
         Err(error) => Err(refusal_of(site, error)),
     }
 }
 
-/// The text of a source with the body of the callee in place of the call of a site, for the file `output`, or why there is
-/// none.
-pub fn unfolded<'a>(
+/// The text of a source with the body of the callee in place of the call of a site, or why there is none.
+pub fn unfold_text<'a>(
     alloc: Global,
     name: &'a str,
-    output: &'a str,
     source: &[u8],
     site: u64,
-) -> Result<Answer<'a>, Refusal<'a>>
+) -> Result<Vec<u8>, Refusal<'a>>
     requires { length source.now ≤ source_max }
-    ensures gives { IfOk result (λ a. GivesReshaped (unfolds site) source.now (given_of a)) }
-    ensures writes { IfOk result (λ a. output.now ∷ [] ≡ outputs_of a) }
+    ensures gives { IfOk result (λ text. GivesReshaped (unfolds site) source.now (only_writes text.items)) }
     ensures refused { IfErr result (RefusesBy (RefusesReshaping (unfolds site) name.now site source.now)) }
 {
     printed_form_law();
@@ -70,22 +65,16 @@ pub fn unfolded<'a>(
         None => return Err(refusal_of(site, ReshapeErr::NoSite)),
     };
     match unfold_checked(alloc, &accepted.program, &accepted.checked, number) {
-        Ok(unfolded) => text_of(alloc, output, site, &unfolded),
+        Ok(unfolded) => text_of(alloc, site, &unfolded),
         Err(error) => Err(refusal_of(site, error)),
     }
 }
 
 // The text of a reshaped program, where it is no longer than a source may be.
-fn text_of<'a>(
-    alloc: Global,
-    output: &'a str,
-    site: u64,
-    program: &Program,
-) -> Result<Answer<'a>, Refusal<'a>>
+fn text_of<'a>(alloc: Global, site: u64, program: &Program) -> Result<Vec<u8>, Refusal<'a>>
     requires { IsPrintable (shown_program program.now) }
-    ensures text { IfOk result (λ a. given_of a ≡ text_given (printed (shown_program program.now))) }
+    ensures text { IfOk result (λ text. text.items ≡ printed (shown_program program.now)) }
     ensures short { OnOk result (length (printed (shown_program program.now)) ≤ source_max) }
-    ensures writes { IfOk result (λ a. output.now ∷ [] ≡ outputs_of a) }
     ensures refused { IfErr result (RefusesBy (TellsLong site (printed (shown_program program.now)))) }
 {
     let Ok(text) = print(alloc, program) else {
@@ -94,7 +83,7 @@ fn text_of<'a>(
     if text.len() > SOURCE_MAX as usize {
         return Err(Refusal::Site(site, "text too long"));
     }
-    Ok(Answer::File { name: output, text })
+    Ok(text)
 }
 
 // The number of a site, if a program may have so many.

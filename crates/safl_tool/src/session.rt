@@ -1,95 +1,25 @@
 //! What `session IN SCRIPT --cycles L` does: it calls the circuit of a source once for each line of a script, and prints each
 //! reply as it comes.
 
-ghost use Rattle.std.specs.Prelude.{◌≡◌, ◌≤◌, List, [], ◌∷◌, length, IfOk, IfErr, OnSome};
-ghost use Rattle.safl_probe.specs.Probing.{ProbeState};
-ghost use Rattle.safl_tool.specs.CommandTasks.{RefusesSession, session_task};
-ghost use Rattle.safl_task.specs.Endings.{Ended, SameStrays, outside};
-ghost use Rattle.safl_task.specs.Inputs.{source_file, script_file};
+ghost use Rattle.std.specs.Prelude.{◌≤◌, length, IfOk, IfErr};
+ghost use Rattle.safl_session.specs.Laws.{AreCallsOf};
+ghost use Rattle.safl_session.specs.Holding.{IsReady};
 ghost use Rattle.safl_task.specs.Limits.{source_max, script_max};
+ghost use Rattle.safl_tool.specs.Answers.{GivesByPrinting};
+ghost use Rattle.safl_tool.specs.CommandTasks.{RefusesSession};
 ghost use Rattle.safl_tool.specs.Opening.{IsOpening};
-ghost use Rattle.safl_task.specs.Refusals.{RefusesBy, RefusesPair, StopsBy};
-ghost use Rattle.safl_task.specs.Tasks.{AreContents, HoldsInputs};
+ghost use Rattle.safl_tool.specs.Refusals.{RefusesBy};
+ghost use Rattle.safl_tool.specs.declared.answer.Answer.{Answer};
 
+use crate::refusal::Refusal;
 use crate::source::compile;
-use safl_io::{OutErr, Shelf, Sink};
-use safl_session::laws::session_law;
-use safl_session::{Script, ScriptErr, Session, read_script};
-use safl_sim::{Sim, argument_widths};
-use safl_source::ordered;
-use safl_task::{Refusal, SCRIPT_MAX, SOURCE_MAX, Status, read_input, status_if};
-use safl_transcript::send_transcript;
+use safl_compiler::ordered;
+use safl_io::{OutErr, Sink};
+use safl_net::argument_widths;
+use safl_session::{Script, ScriptErr, Session, read_script, send_transcript};
+use safl_sim::Sim;
+use safl_task::{Status, status_if};
 use std::alloc::Global;
-
-/// A session: the names of the source and of the script, and the most cycles of each call.
-#[derive(Clone, Copy)]
-pub struct Talk<'a> {
-    pub input: &'a str,
-    pub script: &'a str,
-    pub limit: u64,
-}
-
-/// Holds a session.
-pub fn hold<'a, S: Shelf, O: Sink>(
-    alloc: Global,
-    shelf: &mut S,
-    out: &mut O,
-    talk: Talk<'a>,
-) -> Result<Status, Refusal<'a>>
-    ensures ended { IfOk result (Ended (session_task talk.entry.input.now talk.entry.script.now talk.entry.limit)
-        (outside (S.told shelf.old) (O.told out.old)) (outside (S.told shelf.new) (O.told out.new))) }
-    ensures refused { IfErr result (λ r. (ps : List ProbeState) → StopsBy (session_task talk.entry.input.now talk.entry.script.now talk.entry.limit)
-        (outside (S.told shelf.old) (O.told out.old)) (outside (S.told shelf.new) (O.told out.new)) ps ps r) }
-    ensures no_stray { SameStrays (session_task talk.entry.input.now talk.entry.script.now talk.entry.limit) (S.told shelf.old) (S.told shelf.new) }
-{
-    let texts = match read_texts(alloc, shelf, talk.input, talk.script) {
-        Ok(texts) => texts,
-        Err(refusal) => return Err(refusal),
-    };
-    let mut opening = match opening_of(alloc, talk.input, &texts.source, &texts.script) {
-        Ok(opening) => opening,
-        Err(refusal) => return Err(refusal),
-    };
-    session_law();
-    match send_transcript(alloc, &mut opening.session, &opening.calls, talk.limit, out) {
-        Ok(comes) => Ok(status_if(comes)),
-        Err(OutErr::Failed) => Err(Refusal::Output),
-        Err(OutErr::NoMemory) => Err(Refusal::NoMemory),
-    }
-}
-
-// What is read for a session.
-#[derive(Drop)]
-struct Texts {
-    source: Vec<u8>,
-    script: Vec<u8>,
-}
-
-fn read_texts<'a, S: Shelf>(
-    alloc: Global,
-    shelf: &mut S,
-    input: &'a str,
-    script: &'a str,
-) -> Result<Texts, Refusal<'a>>
-    ensures read { IfOk result (λ t. AreContents (S.told shelf.old).holds (source_file input.now ∷ script_file script.now ∷ []) (t.source.items ∷ t.script.items ∷ [])) }
-    ensures refused { IfErr result (RefusesPair (source_file input.now) (script_file script.now) (S.told shelf.old) (S.told shelf.new)) }
-    ensures same_files { (S.told shelf.new).holds ≡ (S.told shelf.old).holds }
-    ensures same_writes { (S.told shelf.new).write_faults ≡ (S.told shelf.old).write_faults }
-    ensures no_stray { HoldsInputs (S.told shelf.old).holds (source_file input.now ∷ script_file script.now ∷ []) →
-        OnSome (S.told shelf.old).holds ((S.told shelf.new).strays ≡ (S.told shelf.old).strays) }
-{
-    let source = match read_input(alloc, shelf, input, SOURCE_MAX) {
-        Ok(bytes) => bytes,
-        Err(refusal) => return Err(refusal),
-    };
-    match read_input(alloc, shelf, script, SCRIPT_MAX) {
-        Ok(bytes) => Ok(Texts {
-            source,
-            script: bytes,
-        }),
-        Err(refusal) => Err(refusal),
-    }
-}
 
 /// A session in which no call was made, and the calls that are to be made.
 #[derive(Drop)]
@@ -98,9 +28,9 @@ pub struct Opening {
     pub calls: Script,
 }
 
-// A session of the circuit of a source, and the calls of a script, or why the source in the file of this name or the script is
-// refused.
-fn opening_of<'a>(
+/// A session of the circuit of a source, and the calls of a script, or why the source in the file of this name or the script is
+/// refused.
+pub fn opening_of<'a>(
     alloc: Global,
     name: &'a str,
     source: &[u8],
@@ -138,5 +68,24 @@ fn opening_of<'a>(
     match Session::new(alloc, sim) {
         Ok(session) => Ok(Opening { session, calls }),
         Err(_) => Err(Refusal::NoMemory),
+    }
+}
+
+/// Makes the calls of a session, each for at most `limit` cycles, and prints each reply as it comes.
+pub fn converse<'a, O: Sink>(
+    alloc: Global,
+    opening: Opening,
+    limit: u64,
+    out: &mut O,
+) -> Result<Status, Refusal<'a>>
+    requires ready { IsReady opening.session }
+    requires calls { AreCallsOf opening.session.net opening.calls }
+    ensures { GivesByPrinting (Answer.Replies opening limit) (O.told out.old) (O.told out.new) result }
+{
+    let mut opening = opening;
+    match send_transcript(alloc, &mut opening.session, &opening.calls, limit, out) {
+        Ok(comes) => Ok(status_if(comes)),
+        Err(OutErr::Failed) => Err(Refusal::Output),
+        Err(OutErr::NoMemory) => Err(Refusal::NoMemory),
     }
 }

@@ -2,7 +2,7 @@
 
 ghost use Rattle.std.specs.Prelude.{◌≡◌, ◌≤◌, length, IfOk, IfErr};
 ghost use Rattle.safl_circuit.specs.Names.{names_of};
-ghost use Rattle.safl_source.specs.Sources.{HasFewSites, IsSourceOf};
+ghost use Rattle.safl_compiler.specs.Sources.{HasFewSites, IsSourceOf};
 ghost use Rattle.safl_tree.specs.Printable.{IsPrintable};
 ghost use Rattle.safl_tree.specs.Shown.{shown_program};
 ghost use Rattle.safl_tree.specs.Source.{SpellsProgram};
@@ -10,14 +10,15 @@ ghost use Rattle.safl_term.specs.Checked.{program_of};
 ghost use Rattle.safl_typing.specs.Forms.{IsFormOf, shown};
 ghost use Rattle.safl_tool.specs.CommandTasks.{RefusesSourceOf};
 ghost use Rattle.safl_task.specs.Limits.{source_max};
-ghost use Rattle.safl_task.specs.Lines.{source_line};
-ghost use Rattle.safl_task.specs.Refusals.{RefusesBy, status_of, line_of};
+ghost use Rattle.safl_tool.specs.Lines.{source_line};
+ghost use Rattle.safl_tool.specs.Refusals.{RefusesBy, status_of, line_of};
 ghost use Rattle.safl_tool.specs.Sources.{IsCompiled};
 
+use crate::refusal::{Refusal, column_number, line_number};
+use safl_compiler::{Accepted, CheckErr, accept, accepted_program, circuit_of, plan_of};
 use safl_net::Net;
 use safl_sites::Planned;
-use safl_source::{Accepted, CheckErr, accept, accepted_program, circuit_of, plan_of};
-use safl_task::{Refusal, Status, column_number, line_number};
+use safl_task::Status;
 use safl_term::Checked;
 use safl_word::{Fault, NoMemory};
 use std::alloc::Global;

@@ -1,22 +1,19 @@
 //! The top call.
 
-ghost use Rattle.std.specs.Prelude.{IfOk, IfErr, map, option_map, string_bytes};
+ghost use Rattle.std.specs.Prelude.{map, option_map, string_bytes};
 ghost use Rattle.safl_command.specs.Commands.{command_of, shown};
-ghost use Rattle.safl_tool.specs.CommandTasks.{task_of};
-ghost use Rattle.safl_task.specs.Endings.{Ended, Ends, KeepsAll, KeepsOthers, Left, Tells, SameStrays, Completes, outside};
-ghost use Rattle.safl_drive.specs.Asked.{SameUnasked};
-ghost use Rattle.safl_drive.specs.Stopping.{SameProbes};
-ghost use Rattle.safl_tool.specs.Tracing.{kinds_of};
-ghost use Rattle.safl_task.specs.Refusals.{StopsBy, SendsLine, SendsRefusal};
+ghost use Rattle.safl_tool.specs.Changes.{DoesOn, EndsOn, FollowsOn, SparesOn};
+ghost use Rattle.safl_tool.specs.Refusals.{SendsLine, SendsRefusal};
 
+use crate::refusal::Refusal;
 use crate::work::perform;
-use safl_aig::laws::no_fault_law;
+use safl_aiger::laws::no_fault_law;
 use safl_command::{Command, read_words};
+use safl_compiler::laws::{not_both_law, one_program_law};
 use safl_io::{OutErr, Shelf, Sink};
 use safl_probe::Probe;
 use safl_session::laws as sessions;
-use safl_source::laws::{not_both_law, one_program_law};
-use safl_task::{Refusal, Status};
+use safl_task::Status;
 use safl_tree::laws as trees;
 use safl_verilog::laws as verilog;
 use safl_word::NoMemory;
@@ -35,31 +32,9 @@ pub fn run<S: Shelf, O: Sink, E: Sink>(
     probes: &mut Vec<Box<dyn Probe>>,
 ) -> Status
     // The cause of each status, what was given, and what `err` got.
-    ensures ends { Ends (task_of (kinds_of (map (λ p. state p) probes.old.items)) (command_of (map string_bytes words.now)))
-        (outside (S.told shelf.old) (O.told out.old)) (outside (S.told shelf.new) (O.told out.new))
-        (map (λ p. state p) probes.old.items) (map (λ p. state p) probes.new.items) (E.told err.old) (E.told err.new) result }
-    // At every status but Ok, NoResult, WriteFault, ProbeFault and NoMemory no file has changed, and nothing was printed.
-    ensures keeps { KeepsAll result (outside (S.told shelf.old) (O.told out.old)) (outside (S.told shelf.new) (O.told out.new)) }
-    // At every status each file that is no output is as it was.
-    ensures others { KeepsOthers (task_of (kinds_of (map (λ p. state p) probes.old.items)) (command_of (map string_bytes words.now)))
-        (outside (S.told shelf.old) (O.told out.old)) (outside (S.told shelf.new) (O.told out.new)) }
-    // At every status each output file is as it was or holds a prefix of its text, and `out` got a prefix of its text.
-    ensures left { Left (task_of (kinds_of (map (λ p. state p) probes.old.items)) (command_of (map string_bytes words.now)))
-        (outside (S.told shelf.old) (O.told out.old)) (outside (S.told shelf.new) (O.told out.new)) }
-    // What `err` got.
-    ensures tells { Tells (task_of (kinds_of (map (λ p. state p) probes.old.items)) (command_of (map string_bytes words.now)))
-        (outside (S.told shelf.old) (O.told out.old)) (outside (S.told shelf.new) (O.told out.new))
-        (map (λ p. state p) probes.old.items) (map (λ p. state p) probes.new.items) (E.told err.old) (E.told err.new) result }
-    // No name is used on a shelf that tells that it holds none of it.
-    ensures no_stray { SameStrays (task_of (kinds_of (map (λ p. state p) probes.old.items)) (command_of (map string_bytes words.now))) (S.told shelf.old) (S.told shelf.new) }
-    // Where a result is promised, and no count rose, it came or memory ran out.
-    ensures completes { Completes (task_of (kinds_of (map (λ p. state p) probes.old.items)) (command_of (map string_bytes words.now)))
-        (outside (S.told shelf.old) (O.told out.old)) (outside (S.told shelf.new) (O.told out.new))
-        (map (λ p. state p) probes.old.items) (map (λ p. state p) probes.new.items) result }
-    // Each probe that is not asked is as it was.
-    ensures unasked { SameUnasked (task_of (kinds_of (map (λ p. state p) probes.old.items)) (command_of (map string_bytes words.now))).asks probes.old.items probes.new.items }
-    // There are as many probes, of the same kinds in order, and none has fewer faults.
-    ensures probes { SameProbes (map (λ p. state p) probes.old.items) (map (λ p. state p) probes.new.items) }
+    ensures ends { EndsOn words.now S.told shelf.old shelf.new O.told out.old out.new E.told err.old err.new (λ p. state p) probes.old probes.new result }
+    // What follows of every command.
+    ensures follows { FollowsOn words.now S.told shelf.old shelf.new O.told out.old out.new E.told err.old err.new (λ p. state p) probes.old probes.new result }
 {
     one_program_law();
     not_both_law();
@@ -81,12 +56,8 @@ fn dispatch<S: Shelf, O: Sink, E: Sink>(
     err: &mut E,
     probes: &mut Vec<Box<dyn Probe>>,
 ) -> Status
-    ensures ends { Ends (task_of (kinds_of (map (λ p. state p) probes.old.items)) (command_of (map string_bytes words.now)))
-        (outside (S.told shelf.old) (O.told out.old)) (outside (S.told shelf.new) (O.told out.new))
-        (map (λ p. state p) probes.old.items) (map (λ p. state p) probes.new.items) (E.told err.old) (E.told err.new) result }
-    ensures no_stray { SameStrays (task_of (kinds_of (map (λ p. state p) probes.old.items)) (command_of (map string_bytes words.now))) (S.told shelf.old) (S.told shelf.new) }
-    ensures unasked { SameUnasked (task_of (kinds_of (map (λ p. state p) probes.old.items)) (command_of (map string_bytes words.now))).asks probes.old.items probes.new.items }
-    ensures probes { SameProbes (map (λ p. state p) probes.old.items) (map (λ p. state p) probes.new.items) }
+    ensures ends { EndsOn words.now S.told shelf.old shelf.new O.told out.old out.new E.told err.old err.new (λ p. state p) probes.old probes.new result }
+    ensures spares { SparesOn (command_of (map string_bytes words.now)) S.told shelf.old shelf.new O.told out.old out.new (λ p. state p) probes.old probes.new }
 {
     let command = match read_words(alloc, words) {
         Ok(command) => command,
@@ -106,14 +77,8 @@ fn obey<'a, S: Shelf, O: Sink>(
     out: &mut O,
     probes: &mut Vec<Box<dyn Probe>>,
 ) -> Result<Status, Refusal<'a>>
-    ensures ended { IfOk result (Ended (task_of (kinds_of (map (λ p. state p) probes.old.items)) (option_map shown command.now))
-        (outside (S.told shelf.old) (O.told out.old)) (outside (S.told shelf.new) (O.told out.new))) }
-    ensures refused { IfErr result (StopsBy (task_of (kinds_of (map (λ p. state p) probes.old.items)) (option_map shown command.now))
-        (outside (S.told shelf.old) (O.told out.old)) (outside (S.told shelf.new) (O.told out.new))
-        (map (λ p. state p) probes.old.items) (map (λ p. state p) probes.new.items)) }
-    ensures no_stray { SameStrays (task_of (kinds_of (map (λ p. state p) probes.old.items)) (option_map shown command.now)) (S.told shelf.old) (S.told shelf.new) }
-    ensures unasked { SameUnasked (task_of (kinds_of (map (λ p. state p) probes.old.items)) (option_map shown command.now)).asks probes.old.items probes.new.items }
-    ensures probes { SameProbes (map (λ p. state p) probes.old.items) (map (λ p. state p) probes.new.items) }
+    ensures does { DoesOn (option_map shown command.now) S.told shelf.old shelf.new O.told out.old out.new (λ p. state p) probes.old probes.new result }
+    ensures spares { SparesOn (option_map shown command.now) S.told shelf.old shelf.new O.told out.old out.new (λ p. state p) probes.old probes.new }
 {
     match command {
         Some(command) => perform(alloc, command, shelf, out, probes),

@@ -2,33 +2,33 @@
 
 ghost use Rattle.std.specs.Prelude.{◌≡◌, ◌≤◌, ◌++◌, [], length, map, OnOk, IfOk, IfErr, string_bytes};
 ghost use Rattle.safl_term.specs.Checked.{program_of};
-ghost use Rattle.safl_task.specs.Answers.{given_of, outputs_of};
+ghost use Rattle.safl_tool.specs.Answers.{printed};
 ghost use Rattle.safl_tool.specs.CommandTasks.{end_of_walk, GivesWalk, RefusesGiven};
 ghost use Rattle.safl_task.specs.Limits.{source_max};
 ghost use Rattle.safl_tool.specs.Printed.{walk_lines, short_line};
-ghost use Rattle.safl_task.specs.Refusals.{RefusesBy};
+ghost use Rattle.safl_tool.specs.Refusals.{RefusesBy};
 ghost use Rattle.safl_tool.specs.Walking.{Walks, WalksFrom};
 
+use crate::answer::Lines;
 use crate::arguments::read_arguments;
+use crate::refusal::{Refusal, push};
 use crate::source::check_source;
 use safl_command::Turns;
-use safl_core::{Machine, MachineErr, Walked, walk};
-use safl_task::{Answer, Refusal, push};
+use safl_core::{Machine, Walked, walk};
 use safl_term::Checked;
 use safl_word::{NoMemory, Raw, Word, push_decimal};
 use std::alloc::{AllocError, Global};
 
 /// What is printed of a walk of the machine of a source, or why the source in the file of this name is not walked.
-pub fn walk_outcome<'a>(
+pub fn walk_lines<'a>(
     alloc: Global,
     name: &'a str,
     source: &[u8],
     turns: Turns,
     args: &[String],
-) -> Result<Answer<'a>, Refusal<'a>>
+) -> Result<Lines, Refusal<'a>>
     requires { length source.now ≤ source_max }
-    ensures gives { IfOk result (λ a. GivesWalk (map string_bytes args.now) turns.seed turns.steps source.now (given_of a)) }
-    ensures prints { IfOk result (λ a. [] ≡ outputs_of a) }
+    ensures gives { IfOk result (λ l. GivesWalk (map string_bytes args.now) turns.seed turns.steps source.now (printed l)) }
     ensures refused { IfErr result (RefusesBy (RefusesGiven name.now (map string_bytes args.now) source.now)) }
 {
     let walked = match walk_machine(alloc, name, source, turns, args) {
@@ -36,7 +36,7 @@ pub fn walk_outcome<'a>(
         Err(refusal) => return Err(refusal),
     };
     match end_of_walk(alloc, turns.steps, walked) {
-        Ok(answer) => Ok(answer),
+        Ok(lines) => Ok(lines),
         Err(NoMemory) => Err(Refusal::NoMemory),
     }
 }
@@ -83,8 +83,8 @@ fn walk_with(
 {
     match Machine::new(alloc, checked, words) {
         Ok(mut machine) => Ok(walk(&mut machine, seed, u64::from(steps))),
-        Err(MachineErr::BadArgs) => unreachable!(),
-        Err(MachineErr::NoMemory) => Err(NoMemory),
+        // The words are main's arguments.
+        Err(_) => Err(NoMemory),
     }
 }
 
@@ -101,9 +101,8 @@ fn main_widths(alloc: Global, checked: &Checked) -> Result<Vec<u8>, AllocError>
 }
 
 // What is printed of what a walk gave.
-fn end_of_walk<'a>(alloc: Global, steps: u32, walked: Walked) -> Result<Answer<'a>, NoMemory>
-    ensures given { IfOk result (λ a. given_of a ≡ end_of_walk steps walked walked.result) }
-    ensures prints { IfOk result (λ a. [] ≡ outputs_of a) }
+fn end_of_walk(alloc: Global, steps: u32, walked: Walked) -> Result<Lines, NoMemory>
+    ensures { IfOk result (λ l. printed l ≡ end_of_walk steps walked walked.result) }
 {
     let mut text = Vec::new(alloc);
     let comes = match walked.result {
@@ -116,7 +115,7 @@ fn end_of_walk<'a>(alloc: Global, steps: u32, walked: Walked) -> Result<Answer<'
             false
         }
     };
-    Ok(Answer::Lines { comes, text })
+    Ok(Lines { comes, text })
 }
 
 fn push_walked(text: &mut Vec<u8>, word: Word, events: u64, units: u32) -> Result<(), NoMemory>

@@ -1,34 +1,37 @@
-//! What every command does: it reads its file, works out an answer, and gives it. A session alone reads two files, and gives its
-//! answer line by line. A run with traces goes its own way.
+//! What every command does: the probes that it asks are found, its files are read, its answer is worked out, and the answer is given.
 
-ghost use Rattle.std.specs.Prelude.{◌≡◌, ◌≤◌, List, IfOk, IfErr, IfSome, IfNone, Some, length, map};
-ghost use Rattle.safl_probe.specs.Probing.{ProbeState};
-ghost use Rattle.safl_drive.specs.Asked.{SameUnasked};
-ghost use Rattle.safl_drive.specs.Stopping.{SameProbes};
-ghost use Rattle.safl_tool.specs.Tracing.{kinds_of};
-ghost use Rattle.safl_command.specs.Commands.{shown, Session};
-ghost use Rattle.safl_task.specs.Answers.{Answers, Declines, IsForOutputs};
-ghost use Rattle.safl_tool.specs.CommandTasks.{plain_task_of, task_of};
-ghost use Rattle.safl_task.specs.Endings.{Ended, SameStrays, outside};
-ghost use Rattle.safl_task.specs.Inputs.{AreWithin, inputs_of};
-ghost use Rattle.safl_task.specs.Refusals.{StopsBy};
+ghost use Rattle.std.specs.Prelude.{◌≡◌, IfOk, IfErr, None, Some, map};
+ghost use Rattle.safl_command.specs.Commands.{shown};
+ghost use Rattle.safl_probe.specs.Asked.{asked};
+ghost use Rattle.safl_task.specs.Inputs.{shown_inputs, shown_contents};
+ghost use Rattle.safl_task.specs.Tasks.{AreContents};
+ghost use Rattle.safl_tool.specs.Answers.{Answers, traces_for};
+ghost use Rattle.safl_tool.specs.Asking.{traces_given};
+ghost use Rattle.safl_tool.specs.Changes.{DoesOn, DoesAskedOn, SparesOn, SparesAskedOn};
+ghost use Rattle.safl_tool.specs.CommandTasks.{command_task, traces_in};
+ghost use Rattle.safl_tool.specs.Reading.{content_at};
+ghost use Rattle.safl_tool.specs.Refusals.{Declines};
+ghost use Rattle.safl_tool.specs.Tracing.{AreAskedFor};
 
-use crate::bit_level::{bit_level_circuit, circuit_counts};
-use crate::build::{circuit, optimised};
-use crate::check::numbers;
-use crate::made::{made, made_outcome};
-use crate::report::plan_report;
-use crate::reshape::{copied, unfolded};
-use crate::run_file::netlist_outcome;
-use crate::session::{Talk, hold};
-use crate::simulate::circuit_outcome;
-use crate::tracing::trace;
-use crate::walk::walk_outcome;
-use safl_command::Command;
+use crate::answer::{Answer, give, printed, replied, traced, written};
+use crate::asking::asked_files;
+use crate::bit_level::{aig_text, aigstat_lines};
+use crate::build::{circuit_text, optimised_text};
+use crate::check::check_lines;
+use crate::made::{bench_lines, gen_lines};
+use crate::ready::ready_source;
+use crate::refusal::Refusal;
+use crate::report::report_lines;
+use crate::reshape::{copy_text, unfold_text};
+use crate::run_file::run_lines;
+use crate::session::opening_of;
+use crate::walk::walk_lines;
+use safl_command::{Command, Traces};
 use safl_io::{Shelf, Sink};
 use safl_probe::Probe;
-use safl_task::{Answer, Input, Refusal, Status, give, read_content};
-use std::alloc::Global;
+use safl_session::laws::session_law;
+use safl_task::{Input, Status, read_inputs};
+use std::alloc::{AllocError, Global};
 
 /// Does what a command asks for.
 pub fn perform<'a, S: Shelf, O: Sink>(
@@ -38,156 +41,141 @@ pub fn perform<'a, S: Shelf, O: Sink>(
     out: &mut O,
     probes: &mut Vec<Box<dyn Probe>>,
 ) -> Result<Status, Refusal<'a>>
-    ensures ended { IfOk result (Ended (task_of (kinds_of (map (λ p. state p) probes.old.items)) (Some (shown command.now)))
-        (outside (S.told shelf.old) (O.told out.old)) (outside (S.told shelf.new) (O.told out.new))) }
-    ensures refused { IfErr result (StopsBy (task_of (kinds_of (map (λ p. state p) probes.old.items)) (Some (shown command.now)))
-        (outside (S.told shelf.old) (O.told out.old)) (outside (S.told shelf.new) (O.told out.new))
-        (map (λ p. state p) probes.old.items) (map (λ p. state p) probes.new.items)) }
-    ensures no_stray { SameStrays (task_of (kinds_of (map (λ p. state p) probes.old.items)) (Some (shown command.now))) (S.told shelf.old) (S.told shelf.new) }
-    ensures unasked { SameUnasked (task_of (kinds_of (map (λ p. state p) probes.old.items)) (Some (shown command.now))).asks probes.old.items probes.new.items }
-    ensures probes { SameProbes (map (λ p. state p) probes.old.items) (map (λ p. state p) probes.new.items) }
+    ensures does { DoesOn (Some (shown command.now)) S.told shelf.old shelf.new O.told out.old out.new (λ p. state p) probes.old probes.new result }
+    ensures spares { SparesOn (Some (shown command.now)) S.told shelf.old shelf.new O.told out.old out.new (λ p. state p) probes.old probes.new }
+{
+    match asked_files(alloc, traces_of(command), probes) {
+        Ok(Some(files)) => carry_out(alloc, command, &files, shelf, out, probes),
+        Ok(None) => Err(Refusal::Usage),
+        Err(AllocError) => Err(Refusal::NoMemory),
+    }
+}
+
+// The files for the traces that a command asks for.
+fn traces_of(command: &Command) -> Option<&Traces>
+    ensures { traces_given result ≡ traces_in (shown command.now) }
 {
     match command {
-        Command::Trace(tracing) => trace(alloc, tracing, shelf, out, probes),
-        _ => perform_plain(alloc, command, shelf, out),
+        Command::Sim { traces, .. } => Some(traces),
+        _ => None,
     }
 }
 
-// Does what a command asks for that asks no probe.
-fn perform_plain<'a, S: Shelf, O: Sink>(
+// Does it, where the probes are asked for these files.
+fn carry_out<'a, S: Shelf, O: Sink>(
     alloc: Global,
     command: &'a Command,
+    files: &[Option<String>],
     shelf: &mut S,
     out: &mut O,
+    probes: &mut Vec<Box<dyn Probe>>,
 ) -> Result<Status, Refusal<'a>>
-    ensures ended { IfOk result (Ended (plain_task_of (Some (shown command.now)))
-        (outside (S.told shelf.old) (O.told out.old)) (outside (S.told shelf.new) (O.told out.new))) }
-    ensures refused { IfErr result (λ r. (ps : List ProbeState) → StopsBy (plain_task_of (Some (shown command.now)))
-        (outside (S.told shelf.old) (O.told out.old)) (outside (S.told shelf.new) (O.told out.new)) ps ps r) }
-    ensures no_stray { SameStrays (plain_task_of (Some (shown command.now))) (S.told shelf.old) (S.told shelf.new) }
+    requires { AreAskedFor (traces_in (shown command.now)) (asked files.now) (map (λ p. state p) probes.old.items) }
+    ensures does { DoesAskedOn (shown command.now) files.now S.told shelf.old shelf.new O.told out.old out.new (λ p. state p) probes.old probes.new result }
+    ensures spares { SparesAskedOn (shown command.now) files.now S.told shelf.old shelf.new O.told out.old out.new (λ p. state p) probes.old probes.new }
 {
-    match talk_of(command) {
-        Some(talk) => hold(alloc, shelf, out, talk),
-        None => give_answer(alloc, command, shelf, out),
-    }
-}
-
-// The session that a command asks for.
-fn talk_of(command: &Command) -> Option<Talk<'_>>
-    ensures session { IfSome result (λ t. shown command.now ≡ Session t.input.now t.script.now t.limit) }
-    ensures other { IfNone result (length (plain_task_of (Some (shown command.now))).inputs ≤ 1) }
-{
-    match command {
-        Command::Session {
-            input,
-            script,
-            limit,
-        } => Some(Talk {
-            input,
-            script,
-            limit: *limit,
-        }),
-        Command::Check { .. } => None,
-        Command::Build { .. } => None,
-        Command::Optimise { .. } => None,
-        Command::Sim { .. } => None,
-        Command::Trace(_) => None,
-        Command::Walk { .. } => None,
-        Command::Run { .. } => None,
-        Command::Report { .. } => None,
-        Command::Gen { .. } => None,
-        Command::Bench { .. } => None,
-        Command::CopySite { .. } => None,
-        Command::UnfoldSite { .. } => None,
-        Command::Aig { .. } => None,
-        Command::Aigstat { .. } => None,
-    }
-}
-
-// Does what a command asks for that reads one file at most.
-fn give_answer<'a, S: Shelf, O: Sink>(
-    alloc: Global,
-    command: &'a Command,
-    shelf: &mut S,
-    out: &mut O,
-) -> Result<Status, Refusal<'a>>
-    requires { length (plain_task_of (Some (shown command.now))).inputs ≤ 1 }
-    ensures ended { IfOk result (Ended (plain_task_of (Some (shown command.now)))
-        (outside (S.told shelf.old) (O.told out.old)) (outside (S.told shelf.new) (O.told out.new))) }
-    ensures refused { IfErr result (λ r. (ps : List ProbeState) → StopsBy (plain_task_of (Some (shown command.now)))
-        (outside (S.told shelf.old) (O.told out.old)) (outside (S.told shelf.new) (O.told out.new)) ps ps r) }
-    ensures no_stray { SameStrays (plain_task_of (Some (shown command.now))) (S.told shelf.old) (S.told shelf.new) }
-{
-    let bytes = match read_content(alloc, shelf, input_of(command)) {
-        Ok(bytes) => bytes,
-        Err(refusal) => return Err(refusal),
+    let Ok(inputs) = inputs_of(alloc, command) else {
+        return Err(Refusal::NoMemory);
     };
-    let answer = match answer_of(alloc, command, &bytes) {
+    let contents = match read_inputs(alloc, shelf, &inputs) {
+        Ok(contents) => contents,
+        Err(unread) => return Err(Refusal::of_unread(unread)),
+    };
+    let answer = match answer_of(alloc, command, &contents) {
         Ok(answer) => answer,
         Err(refusal) => return Err(refusal),
     };
-    give(shelf, out, answer)
+    give(alloc, answer, files, shelf, out, probes)
 }
 
-// The file that a command reads.
-fn input_of(command: &Command) -> Option<Input<'_>>
-    requires { length (plain_task_of (Some (shown command.now))).inputs ≤ 1 }
-    ensures { (plain_task_of (Some (shown command.now))).inputs ≡ inputs_of result }
+// The files that a command reads, in order.
+fn inputs_of(alloc: Global, command: &Command) -> Result<Vec<Input<'_>>, AllocError>
+    ensures { IfOk result (λ inputs. shown_inputs inputs.items ≡ (command_task (shown command.now)).inputs) }
 {
+    let mut inputs = Vec::new(alloc);
     match command {
-        Command::Check { input } => Some(Input::source(input)),
-        Command::Build { input, .. } => Some(Input::source(input)),
-        Command::Optimise { input, .. } => Some(Input::source(input)),
-        Command::Sim { input, .. } => Some(Input::source(input)),
-        Command::Trace(_) => None,
-        Command::Walk { input, .. } => Some(Input::source(input)),
-        Command::Run { input, .. } => Some(Input::verilog(input)),
-        Command::Report { input } => Some(Input::source(input)),
-        Command::Gen { .. } => None,
-        Command::Bench { .. } => None,
-        Command::CopySite { input, .. } => Some(Input::source(input)),
-        Command::UnfoldSite { input, .. } => Some(Input::source(input)),
-        Command::Session { .. } => unreachable!(),
-        Command::Aig { input, .. } => Some(Input::verilog(input)),
-        Command::Aigstat { input } => Some(Input::aig(input)),
+        Command::Check { input }
+        | Command::Build { input, .. }
+        | Command::Optimise { input, .. }
+        | Command::Sim { input, .. }
+        | Command::Walk { input, .. }
+        | Command::Report { input }
+        | Command::CopySite { input, .. }
+        | Command::UnfoldSite { input, .. } => inputs.push(Input::source(input))?,
+        Command::Run { input, .. } | Command::Aig { input, .. } => {
+            inputs.push(Input::verilog(input))?
+        }
+        Command::Aigstat { input } => inputs.push(Input::aig(input))?,
+        Command::Session { input, script, .. } => {
+            inputs.push(Input::source(input))?;
+            inputs.push(Input::script(script))?;
+        }
+        Command::Gen { .. } | Command::Bench { .. } => (),
+    }
+    Ok(inputs)
+}
+
+// The content at a place, which is empty where there is none.
+fn content(contents: &[Vec<u8>], place: usize) -> &[u8]
+    ensures { result.now ≡ content_at (shown_contents contents.now) place }
+{
+    match contents.get(place) {
+        Some(bytes) => bytes.as_slice(),
+        None => &[],
     }
 }
 
-// What a command gives of the bytes of its file, or why it refuses them.
+// What a command gives of the contents of its files, or why it refuses them.
 fn answer_of<'a>(
     alloc: Global,
     command: &'a Command,
-    bytes: &[u8],
+    contents: &[Vec<u8>],
 ) -> Result<Answer<'a>, Refusal<'a>>
-    requires { AreWithin (plain_task_of (Some (shown command.now))).inputs bytes.now }
-    ensures gives { IfOk result (Answers (plain_task_of (Some (shown command.now))) bytes.now) }
-    ensures outputs { IfOk result (IsForOutputs (plain_task_of (Some (shown command.now)))) }
-    ensures refused { IfErr result (Declines (plain_task_of (Some (shown command.now))) bytes.now) }
+    requires { AreContents None (command_task (shown command.now)).inputs (shown_contents contents.now) }
+    ensures answers { IfOk result (Answers (command_task (shown command.now)) (shown_contents contents.now)) }
+    ensures traces { IfOk result (λ a. traces_for a ≡ traces_in (shown command.now)) }
+    ensures refused { IfErr result (Declines (command_task (shown command.now)) (shown_contents contents.now)) }
 {
+    let first = content(contents, 0);
+    let second = content(contents, 1);
     match command {
-        Command::Check { input } => numbers(alloc, input, bytes),
-        Command::Build { input, output } => circuit(alloc, input, output, bytes),
-        Command::Optimise { input, output } => optimised(alloc, input, output, bytes),
-        Command::Sim { input, limit, args } => circuit_outcome(alloc, input, bytes, *limit, args),
-        Command::Walk { input, turns, args } => walk_outcome(alloc, input, bytes, *turns, args),
-        Command::Run { input, limit, args } => netlist_outcome(alloc, input, bytes, *limit, args),
-        Command::Report { input } => plan_report(alloc, input, bytes),
-        Command::Gen { seed, count } => made(alloc, *seed, *count),
-        Command::Bench { seed, count, limit } => made_outcome(alloc, *seed, *count, *limit),
+        Command::Check { input } => printed(check_lines(alloc, input, first)),
+        Command::Build { input, output } => written(output, circuit_text(alloc, input, first)),
+        Command::Optimise { input, output } => {
+            written(output, optimised_text(alloc, input, first))
+        }
+        Command::Sim {
+            input,
+            limit,
+            traces,
+            args,
+        } => traced(ready_source(alloc, input, first, args), *limit, traces),
+        Command::Walk { input, turns, args } => {
+            printed(walk_lines(alloc, input, first, *turns, args))
+        }
+        Command::Run { input, limit, args } => {
+            printed(run_lines(alloc, input, first, *limit, args))
+        }
+        Command::Report { input } => printed(report_lines(alloc, input, first)),
+        Command::Gen { seed, count } => printed(gen_lines(alloc, *seed, *count)),
+        Command::Bench { seed, count, limit } => {
+            printed(bench_lines(alloc, *seed, *count, *limit))
+        }
         Command::CopySite {
             input,
             output,
             site,
-        } => copied(alloc, input, output, bytes, *site),
+        } => written(output, copy_text(alloc, input, first, *site)),
         Command::UnfoldSite {
             input,
             output,
             site,
-        } => unfolded(alloc, input, output, bytes, *site),
-        Command::Session { .. } => unreachable!(),
-        // It asks probes.
-        Command::Trace(_) => Err(Refusal::Usage),
-        Command::Aig { input, output } => bit_level_circuit(alloc, input, output, bytes),
-        Command::Aigstat { input } => circuit_counts(alloc, input, bytes),
+        } => written(output, unfold_text(alloc, input, first, *site)),
+        Command::Session { input, limit, .. } => {
+            session_law();
+            replied(opening_of(alloc, input, first, second), *limit)
+        }
+        Command::Aig { input, output } => written(output, aig_text(alloc, input, first)),
+        Command::Aigstat { input } => printed(aigstat_lines(alloc, input, first)),
     }
 }

@@ -1,6 +1,7 @@
 -- How many expressions stand in one, itself counted.
 use Rattle.std.specs.Prelude.{ℕ, ◌+◌, ◌*◌}
 use Rattle.safl_tree.specs.declared.dismantle.At.{At}
+use Rattle.safl_tree.specs.declared.tree.Expr.{Expr}
 use Rattle.safl_tree.specs.declared.tree.Bind.{Bind}
 use Rattle.safl_tree.specs.declared.tree.Arm.{Arm}
 use Rattle.safl_tree.specs.Shown.{shown_tree}
@@ -29,6 +30,10 @@ abbrev mutual
   pub size_of_arms : Arms → ℕ
   size_of_arms (default_arm t) = size t
   size_of_arms (an_arm l t arms) = 2 * size l + size t + size_of_arms arms
+
+-- how many expressions stand in one of the code
+abbrev pub expr_size : Expr → ℕ
+expr_size e = size (shown_tree e)
 
 abbrev pub bind_size : Bind → ℕ
 bind_size b = size (shown_tree b.value)

@@ -3,8 +3,7 @@
 
 ghost use Rattle.std.specs.Prelude.{◌≡◌, ◌+◌, ◌<◌, ◌≤◌, IfSome, vec_len, vec_capacity};
 ghost use Rattle.std.specs.List.{sum_by};
-ghost use Rattle.safl_tree.specs.Shown.{shown_tree};
-ghost use Rattle.safl_tree.specs.Sizes.{size, bind_size, arm_size, work, work_at};
+ghost use Rattle.safl_tree.specs.Sizes.{bind_size, arm_size, work, work_at, expr_size};
 
 use crate::tree::{Arm, Bind, Expr, Node};
 use safl_word::Primitive;
@@ -48,7 +47,7 @@ fn step(at: At) -> Option<At>
 }
 
 fn leaf() -> Expr
-    ensures { size (shown_tree result) ≡ 1 }
+    ensures { expr_size result ≡ 1 }
 {
     unplaced(Node::Num(0))
 }
@@ -60,7 +59,7 @@ fn unplaced(node: Node) -> Expr
 }
 
 fn enter_if(mut condition: Box<Expr>, first: Box<Expr>, second: Box<Expr>, above: Expr) -> At
-    ensures { work_at result < work (1 + (size (shown_tree condition.value) + (size (shown_tree first.value) + size (shown_tree second.value)))) (size (shown_tree above)) }
+    ensures { work_at result < work (1 + (expr_size condition.value + (expr_size first.value + expr_size second.value))) (expr_size above) }
 {
     let here = Box::replace(&mut condition, above);
     At {
@@ -70,7 +69,7 @@ fn enter_if(mut condition: Box<Expr>, first: Box<Expr>, second: Box<Expr>, above
 }
 
 fn enter_let(binds: Vec<Bind>, mut body: Box<Expr>, above: Expr) -> At
-    ensures { work_at result < work (1 + (sum_by bind_size binds.items + size (shown_tree body.value))) (size (shown_tree above)) }
+    ensures { work_at result < work (1 + (sum_by bind_size binds.items + expr_size body.value)) (expr_size above) }
 {
     let here = Box::replace(&mut body, above);
     At {
@@ -80,7 +79,7 @@ fn enter_let(binds: Vec<Bind>, mut body: Box<Expr>, above: Expr) -> At
 }
 
 fn enter_case(mut scrutinee: Box<Expr>, arms: Vec<Arm>, default: Box<Expr>, above: Expr) -> At
-    ensures { work_at result < work (1 + (size (shown_tree scrutinee.value) + (sum_by arm_size arms.items + size (shown_tree default.value)))) (size (shown_tree above)) }
+    ensures { work_at result < work (1 + (expr_size scrutinee.value + (sum_by arm_size arms.items + expr_size default.value))) (expr_size above) }
 {
     let here = Box::replace(&mut scrutinee, above);
     At {
@@ -91,7 +90,7 @@ fn enter_case(mut scrutinee: Box<Expr>, arms: Vec<Arm>, default: Box<Expr>, abov
 
 // Operands or arguments: where there are none, the way goes up.
 fn enter_parts(mut es: Vec<Expr>, above: Expr) -> Option<At>
-    ensures { IfSome result (λ next. work_at next < work (2 + sum_by (λ e. size (shown_tree e)) es.items) (size (shown_tree above))) }
+    ensures { IfSome result (λ next. work_at next < work (2 + sum_by expr_size es.items) (expr_size above)) }
 {
     if es.is_empty() {
         es.destroy_empty();
@@ -107,15 +106,15 @@ fn enter_parts(mut es: Vec<Expr>, above: Expr) -> Option<At>
 // Takes the first of several expressions, and puts another in its place.
 fn replace_first(es: &mut Vec<Expr>, e: Expr) -> Expr
     requires { 0 < vec_len es.old }
-    ensures sum { size (shown_tree result) + sum_by (λ x. size (shown_tree x)) es.new.items ≡ sum_by (λ x. size (shown_tree x)) es.old.items + size (shown_tree e) }
-    ensures least { size (shown_tree result) ≤ sum_by (λ x. size (shown_tree x)) es.old.items }
+    ensures sum { expr_size result + sum_by expr_size es.new.items ≡ sum_by expr_size es.old.items + expr_size e }
+    ensures least { expr_size result ≤ sum_by expr_size es.old.items }
 {
     replace(&mut es[0], e)
 }
 
 // The next part of what is above, if that is no leaf.
 fn leave(above: Expr) -> Option<At>
-    ensures { IfSome result (λ next. size (shown_tree next.here) + size (shown_tree next.above) ≤ size (shown_tree above)) }
+    ensures { IfSome result (λ next. expr_size next.here + expr_size next.above ≤ expr_size above) }
 {
     match above.into_node() {
         Node::Num(_) => None,
@@ -136,7 +135,7 @@ fn leave(above: Expr) -> Option<At>
 }
 
 fn leave_let(mut binds: Vec<Bind>, link: Box<Expr>) -> At
-    ensures { size (shown_tree result.here) + size (shown_tree result.above) ≤ 1 + (sum_by bind_size binds.items + size (shown_tree link.value)) }
+    ensures { expr_size result.here + expr_size result.above ≤ 1 + (sum_by bind_size binds.items + expr_size link.value) }
 {
     match binds.pop() {
         Some(bind) => At {
@@ -154,7 +153,7 @@ fn leave_let(mut binds: Vec<Bind>, link: Box<Expr>) -> At
 }
 
 fn leave_case(link: Box<Expr>, mut arms: Vec<Arm>, default: Box<Expr>) -> At
-    ensures { size (shown_tree result.here) + size (shown_tree result.above) ≤ 1 + (size (shown_tree link.value) + (sum_by arm_size arms.items + size (shown_tree default.value))) }
+    ensures { expr_size result.here + expr_size result.above ≤ 1 + (expr_size link.value + (sum_by arm_size arms.items + expr_size default.value)) }
 {
     match arms.pop() {
         Some(arm) => {
@@ -177,7 +176,7 @@ fn leave_case(link: Box<Expr>, mut arms: Vec<Arm>, default: Box<Expr>) -> At
 // The label of an arm, or its value if the label is a leaf.
 fn next_of(arms: &mut Vec<Arm>, arm: Arm) -> Expr
     requires { vec_len arms.old < vec_capacity arms.old }
-    ensures { size (shown_tree result) + sum_by arm_size arms.new.items ≤ arm_size arm + sum_by arm_size arms.old.items }
+    ensures { expr_size result + sum_by arm_size arms.new.items ≤ arm_size arm + sum_by arm_size arms.old.items }
 {
     let Arm { label, value } = arm;
     match discard_leaf(label) {
@@ -197,7 +196,7 @@ fn next_of(arms: &mut Vec<Arm>, arm: Arm) -> Expr
 
 // None if the expression is a leaf.
 fn discard_leaf(e: Expr) -> Option<Expr>
-    ensures { IfSome result (λ x. (size (shown_tree x) ≡ size (shown_tree e)) × (2 ≤ size (shown_tree x))) }
+    ensures { IfSome result (λ x. (expr_size x ≡ expr_size e) × (2 ≤ expr_size x)) }
 {
     match e.into_node() {
         Node::Num(_) => None,
@@ -209,7 +208,7 @@ fn discard_leaf(e: Expr) -> Option<Expr>
 
 // The last operand or argument is next; the first one is what is above.
 fn leave_parts(mut es: Vec<Expr>) -> Option<At>
-    ensures { IfSome result (λ next. size (shown_tree next.here) + size (shown_tree next.above) ≤ 2 + sum_by (λ e. size (shown_tree e)) es.items) }
+    ensures { IfSome result (λ next. expr_size next.here + expr_size next.above ≤ 2 + sum_by expr_size es.items) }
 {
     match es.pop() {
         Some(e) => {

@@ -74,7 +74,8 @@ fn bindings_keep(bs: &[Bind], body: &Expr, levels: u16, depth: u16) -> bool
 
 #[cycle(keeps)]
 fn cases_keep(scrutinee: &Expr, arms: &[Arm], default: &Expr, levels: u16, depth: u16) -> bool
-    ensures { IsTrue result ↔ (Keeps levels depth (shown_tree scrutinee.now) × ArmsKeep levels depth (arms_of (shown_labelled arms.now) (shown_tree default.now))) }
+    ensures { IsTrue result ↔
+        (Keeps levels depth (shown_tree scrutinee.now) × ArmsKeep levels depth (arms_of (shown_labelled arms.now) (shown_tree default.now))) }
 {
     keeps(scrutinee, levels, depth) && arms_keep(arms, default, levels, depth)
 }

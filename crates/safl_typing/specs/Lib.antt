@@ -14,3 +14,4 @@ pub mod PlainScope
 pub mod PlainTyped
 pub mod PlainNames
 pub mod MayWalk
+pub mod Checking

@@ -1,10 +1,11 @@
 -- Which plain expression a value shows.
-use Rattle.std.specs.Prelude.{List, [], ◌∷◌}
+use Rattle.std.specs.Prelude.{◌≡◌, ℕ, List, [], ◌∷◌}
+use Rattle.safl_tree.specs.Tree.{Tree, Labelled, arms_of}
 use Rattle.safl_typing.specs.declared.expression.Bound.{Bound}
 use Rattle.safl_typing.specs.declared.expression.Expression as code
 use Rattle.safl_typing.specs.declared.expression.Expression.{Row_of-Expression, end_of-Expression, more_of-Expression, Row_of-Bound, end_of-Bound, more_of-Bound}
 use Rattle.safl_typing.specs.declared.expression.Expression.TheVariants as codes
-use Rattle.safl_typing.specs.Rewriting.{Expression, Number, Sized, Variable, If, Let, Op, Call, Expressions, no_expression, an_expression, Bindings, no_binding, a_binding}
+use Rattle.safl_typing.specs.Rewriting.{Expression, Number, Sized, Variable, If, Let, Op, Call, Expressions, no_expression, an_expression, Bindings, no_binding, a_binding, rewritten, rewritten_arms}
 
 abbrev mutual
   pub shown_expression : code.Expression → Expression
@@ -32,3 +33,7 @@ shown_expressions (e ∷ es) = an_expression (shown_expression e) (shown_express
 abbrev pub shown_bindings : List Bound → Bindings
 shown_bindings [] = no_binding
 shown_bindings (b ∷ bs) = a_binding b.place b.name b.width (shown_expression b.value) (shown_bindings bs)
+
+-- over the default of a `case` of this place, an expression is its arms, as ifs
+abbrev pub RewritesArms : ℕ → List Labelled → (default x : code.Expression) → Type 0
+RewritesArms place arms default x = (t : Tree) → shown_expression default ≡ rewritten t → shown_expression x ≡ rewritten_arms place (arms_of arms t)

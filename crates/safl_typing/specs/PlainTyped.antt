@@ -13,9 +13,10 @@ use Rattle.safl_typing.specs.declared.parts.TypedAll as code_all
 use Rattle.safl_typing.specs.declared.parts.TypedAlike as code_alike
 use Rattle.safl_typing.specs.declared.shape.Shape as code_shape
 use Rattle.safl_typing.specs.declared.shape.Shape.TheVariants as shapes
-use Rattle.safl_typing.specs.Rewriting.{Expressions, Shape, Alike, Comparing, Shifting, Resizing}
+use Rattle.safl_typing.specs.Rewriting.{Expressions, no_expression, Shape, Alike, Comparing, Shifting, Resizing}
+use Rattle.safl_typing.specs.Heads.{Slot, Known}
 use Rattle.safl_typing.specs.Typing.{At}
-use Rattle.safl_typing.specs.Walk.{Wanted, Any, Exactly, Typed, TypedAll, TypedAlike, all_any, amounts}
+use Rattle.safl_typing.specs.Walk.{Wanted, Any, Exactly, Typed, TypedAll, TypedAlike, all_any, amounts, check_alike}
 
 abbrev pub shown_wanted : code_wanted.Wanted → Wanted
 shown_wanted wants.Any = Any
@@ -62,6 +63,11 @@ SaysAll (Err e) r = Refuses e r
 abbrev pub SaysAlike : Result code_alike.TypedAlike CheckErr → Result TypedAlike Fault → Type 0
 SaysAlike (Ok x) r = r ≡ Ok (shown_alike x)
 SaysAlike (Err e) r = Refuses e r
+
+-- the result of the code is that of the walk over no operands, whatever is known and in scope
+abbrev pub SaysNoOperand : Result code_alike.TypedAlike CheckErr → ℕ → code_wanted.Wanted → Type 0
+SaysNoOperand result place wanted =
+    (k : Known) (s : List Slot) (site : ℕ) → SaysAlike result (check_alike k s site place (shown_wanted wanted) no_expression)
 
 abbrev pub shown_shape : code_shape.Shape → Shape
 shown_shape shapes.Alike = Alike

@@ -74,7 +74,8 @@ pub fn scrutinise(
     value: Expression,
     body: Expression,
 ) -> Result<Expression, NoMemory>
-    ensures made { IfOk result (λ x. shown_expression x ≡ Let place (a_binding place scrutinee None (shown_expression value) no_binding) (shown_expression body)) }
+    ensures made { IfOk result (λ x.
+        shown_expression x ≡ Let place (a_binding place scrutinee None (shown_expression value) no_binding) (shown_expression body)) }
     ensures marked { IfOk result (λ x. (k : Known) → IsMarked k value → IsMarked k body → IsMarked k x) }
 {
     let name = Name::new(alloc, SCRUTINEE)?;

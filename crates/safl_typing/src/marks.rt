@@ -1,10 +1,10 @@
 //! What an expression is marked with: whether it takes any width, and how many call sites it has.
 
-ghost use Rattle.std.specs.Prelude.{◌≡◌, ℕ, ◌+◌, ◌≤◌, ◌&&◌, List, min};
-ghost use Rattle.safl_typing.specs.Rewriting.{If, Let, Op, Call, flexible, all_flexible, shape, takes_width};
-ghost use Rattle.safl_typing.specs.Heads.{Known, callee, is_site, sites, sites_in, sites_bound};
+ghost use Rattle.std.specs.Prelude.{◌≡◌, ◌+◌, ◌≤◌, min};
+ghost use Rattle.safl_typing.specs.Rewriting.{flexible, all_flexible, shape, takes_width};
+ghost use Rattle.safl_typing.specs.Heads.{Known, sites, sites_in, sites_bound};
 ghost use Rattle.safl_typing.specs.Plain.{shown_expression, shown_expressions, shown_bindings};
-ghost use Rattle.safl_typing.specs.Marks.{IsMarkOf, IsMarked, AreMarked, BoundMarked};
+ghost use Rattle.safl_typing.specs.Marks.{IsMarkOf, IsMarked, AreMarked, BoundMarked, both_flexible, MarksChoice, MarksBinding, MarksOperation, MarksCall};
 
 use crate::expression::{Bound, Expression, Marks};
 use crate::shape::has_operands_width;
@@ -43,7 +43,7 @@ pub fn is_flexible(e: &Expression) -> bool
 
 /// Whether two branches are both flexible.
 pub fn are_both_flexible(first: &Expression, second: &Expression) -> bool
-    ensures { (k : Known) → IsMarked k first.now → IsMarked k second.now → result ≡ (flexible (shown_expression first.now) && flexible (shown_expression second.now)) }
+    ensures { (k : Known) → IsMarked k first.now → IsMarked k second.now → result ≡ both_flexible first.now second.now }
 {
     is_flexible(first) && is_flexible(second)
 }
@@ -92,7 +92,7 @@ fn are_flexible(es: &[Expression]) -> bool
 
 /// The marks of an if.
 pub fn marks_of_choice(condition: &Expression, first: &Expression, second: &Expression) -> Marks
-    ensures { (k : Known) (p : ℕ) → IsMarked k condition.now → IsMarked k first.now → IsMarked k second.now → IsMarkOf k (If p (shown_expression condition.now) (shown_expression first.now) (shown_expression second.now)) result }
+    ensures { MarksChoice condition.now first.now second.now result }
 {
     let flexible = are_both_flexible(first, second);
     let tested = add_sites(0, condition);
@@ -102,7 +102,7 @@ pub fn marks_of_choice(condition: &Expression, first: &Expression, second: &Expr
 
 /// The marks of a let.
 pub fn marks_of_binding(bound: &[Bound], body: &Expression) -> Marks
-    ensures { (k : Known) (p : ℕ) → BoundMarked k bound.now → IsMarked k body.now → IsMarkOf k (Let p (shown_bindings bound.now) (shown_expression body.now)) result }
+    ensures { MarksBinding bound.now body.now result }
 {
     let flexible = is_flexible(body);
     let sites = add_sites(add_bound_sites(0, bound), body);
@@ -111,7 +111,7 @@ pub fn marks_of_binding(bound: &[Bound], body: &Expression) -> Marks
 
 /// The marks of an operator with its operands.
 pub fn marks_of_operation(operator: Primitive, operands: &[Expression]) -> Marks
-    ensures { (k : Known) (p : ℕ) → AreMarked k operands.now → IsMarkOf k (Op p operator (shown_expressions operands.now)) result }
+    ensures { MarksOperation operator operands.now result }
 {
     let flexible = has_operands_width(operator) && are_flexible(operands);
     let sites = add_all_sites(0, operands);
@@ -121,7 +121,7 @@ pub fn marks_of_operation(operator: Primitive, operands: &[Expression]) -> Marks
 /// The marks of a call, which is so many sites itself.
 pub fn marks_of_call(own: u32, arguments: &[Expression]) -> Marks
     requires { own ≤ 1 }
-    ensures { (k : Known) (p : ℕ) (f : List ℕ) → own ≡ is_site (callee k f) → AreMarked k arguments.now → IsMarkOf k (Call p f (shown_expressions arguments.now)) result }
+    ensures { MarksCall own arguments.now result }
 {
     let sites = add_all_sites(own, arguments);
     Marks {

@@ -1,17 +1,15 @@
 //! Terms of several expressions, and terms made of their parts.
 
-ghost use Rattle.std.specs.Prelude.{◌≡◌, ℕ, ◌+◌, ◌++◌, List, [], ◌∷◌, length, IfOk, OnOk, Ok};
+ghost use Rattle.std.specs.Prelude.{◌≡◌, ℕ, ◌+◌, ◌++◌, [], ◌∷◌, length, IfOk, OnOk, Ok};
 ghost use Rattle.std.specs.List.{AllByRecursion};
 ghost use Rattle.safl_term.specs.Slots.{HasSlots};
 ghost use Rattle.safl_term.specs.Terms.{Nil, Cons, If, Let, Op, Call, Loop};
 ghost use Rattle.safl_term.specs.Tree.{shown_term, shown_terms};
-ghost use Rattle.safl_typing.specs.Rewriting.{no_expression};
-ghost use Rattle.safl_typing.specs.Heads as shown_heads;
 ghost use Rattle.safl_typing.specs.Typing.{slots};
-ghost use Rattle.safl_typing.specs.Walk.{settle, check_alike};
+ghost use Rattle.safl_typing.specs.Walk.{settle};
 ghost use Rattle.safl_typing.specs.Plain.{shown_bindings};
 ghost use Rattle.safl_typing.specs.PlainHeads.{shown_slots};
-ghost use Rattle.safl_typing.specs.PlainTyped.{shown_wanted, shown_all_typed, Says, SaysAll, SaysAlike};
+ghost use Rattle.safl_typing.specs.PlainTyped.{shown_wanted, shown_all_typed, Says, SaysAll, SaysAlike, SaysNoOperand};
 
 use crate::expression::Bound;
 use crate::heads::Slot;
@@ -48,7 +46,7 @@ pub fn none_typed(alloc: Global) -> TypedAll
 
 /// No operands: E14 where no width is expected.
 pub fn none_alike(alloc: Global, place: u32, wanted: Wanted) -> Result<TypedAlike, CheckErr>
-    ensures says { (k : shown_heads.Known) (s : List shown_heads.Slot) (site : ℕ) → SaysAlike result (check_alike k s site place (shown_wanted wanted) no_expression) }
+    ensures says { SaysNoOperand result place wanted }
     ensures slots { IfOk result (λ t. (n : ℕ) → AllByRecursion (HasSlots n) t.terms.items) }
 {
     match wanted {
@@ -62,8 +60,10 @@ pub fn none_alike(alloc: Global, place: u32, wanted: Wanted) -> Result<TypedAlik
 
 /// An expression, and those that follow it.
 pub fn put_first(first: Typed, rest: TypedAll) -> Result<TypedAll, CheckErr>
-    ensures says { SaysAll result (Ok (record { widths = first.width ∷ rest.widths.items; terms = Cons (shown_term first.term) (shown_terms rest.terms.items) })) }
-    ensures slots { IfOk result (λ t. (n : ℕ) → HasSlots n first.term → AllByRecursion (HasSlots n) rest.terms.items → AllByRecursion (HasSlots n) t.terms.items) }
+    ensures says { SaysAll result
+        (Ok (record { widths = first.width ∷ rest.widths.items; terms = Cons (shown_term first.term) (shown_terms rest.terms.items) })) }
+    ensures slots { IfOk result (λ t.
+        (n : ℕ) → HasSlots n first.term → AllByRecursion (HasSlots n) rest.terms.items → AllByRecursion (HasSlots n) t.terms.items) }
 {
     let mut all = rest;
     all.widths.insert(0, first.width)?;

@@ -1,10 +1,10 @@
 //! Rewriting each `case` as a let and ifs, and marking what is made.
 
 ghost use Rattle.std.specs.Prelude.{◌≡◌, [], ◌∷◌, IfOk};
-ghost use Rattle.safl_tree.specs.Tree.{Tree, trees_of, binds_of, arms_of};
+ghost use Rattle.safl_tree.specs.Tree.{trees_of, binds_of};
 ghost use Rattle.safl_tree.specs.Shown.{shown_tree, shown_trees, shown_bounds, shown_labelled};
-ghost use Rattle.safl_typing.specs.Rewriting.{rewritten, rewritten_all, rewritten_binds, rewritten_arms};
-ghost use Rattle.safl_typing.specs.Plain.{shown_expression, shown_expressions, shown_bindings};
+ghost use Rattle.safl_typing.specs.Rewriting.{rewritten, rewritten_all, rewritten_binds};
+ghost use Rattle.safl_typing.specs.Plain.{shown_expression, shown_expressions, shown_bindings, RewritesArms};
 ghost use Rattle.safl_typing.specs.PlainHeads.{known};
 ghost use Rattle.safl_typing.specs.Marks.{IsMarked, AreMarked, BoundMarked};
 
@@ -110,7 +110,7 @@ fn rewrite_arms(
     arms: &[Arm],
     default: Expression,
 ) -> Result<Expression, NoMemory>
-    ensures rewritten { IfOk result (λ x. (t : Tree) → shown_expression default ≡ rewritten t → shown_expression x ≡ rewritten_arms place (arms_of (shown_labelled arms.now) t)) }
+    ensures rewritten { IfOk result (λ x. RewritesArms place (shown_labelled arms.now) default x) }
     ensures marked { IfOk result (λ x. IsMarked (known heads.now unit) default → IsMarked (known heads.now unit) x) }
 {
     let mut body = default;

@@ -1,22 +1,21 @@
 //! The walk over an expression: its width and its term, or the first fault.
 
-ghost use Rattle.std.specs.Prelude.{◌≡◌, ◌+◌, ◌<◌, ◌^◌, ◌&&◌, ◌==◌, Bool, IfOk, length};
+ghost use Rattle.std.specs.Prelude.{◌≡◌, ◌<◌, ◌^◌, ◌==◌, Bool, IfOk, length};
 ghost use Rattle.safl_term.specs.Slots.{HasSlots};
 ghost use Rattle.safl_term.specs.Tree.{shown_term};
 ghost use Rattle.safl_word.specs.declared.fault.Rule.TheVariants as rules;
 ghost use Rattle.safl_typing.specs.declared.typed.CheckErr.TheVariants as errors;
-ghost use Rattle.safl_typing.specs.Rewriting.{If, Let, Op, Call, flexible, count, nodes};
-ghost use Rattle.safl_typing.specs.Heads.{sites};
-ghost use Rattle.safl_typing.specs.Typing.{widths_of};
-ghost use Rattle.safl_typing.specs.Ranges.{IsInRange, WideSlots};
-ghost use Rattle.safl_typing.specs.Walk.{fault_with, unless, needs, is_any, branches, exactly, check, check_all, check_alike, check_shift, check_bound};
+ghost use Rattle.safl_typing.specs.Rewriting.{Let, Op, Call, count};
+ghost use Rattle.safl_typing.specs.Ranges.{WideSlots};
+ghost use Rattle.safl_typing.specs.Walk.{fault_with, check, check_shift, check_bound};
 ghost use Rattle.safl_typing.specs.Plain.{shown_expression, shown_expressions, shown_bindings};
 ghost use Rattle.safl_typing.specs.PlainHeads.{shown_slots, shown_head};
 ghost use Rattle.safl_typing.specs.PlainContext.{seen};
 ghost use Rattle.safl_typing.specs.PlainScope.{shown_scope, HaveSlotsAfter};
-ghost use Rattle.safl_typing.specs.PlainTyped.{shown_wanted, HasWideWanted, HasWideWritten, Says, SaysAll, SaysAlike, operands_wanted};
+ghost use Rattle.safl_typing.specs.PlainTyped.{shown_wanted, HasWideWanted, HasWideWritten, Says, SaysAll, SaysAlike};
 ghost use Rattle.safl_typing.specs.Marks.{IsMarked, AreMarked, BoundMarked};
-ghost use Rattle.safl_typing.specs.MayWalk.{MayWalk, MayCheck, MayWalkAll, MayBind};
+ghost use Rattle.safl_typing.specs.MayWalk.{MayWalkAll, MayBind};
+ghost use Rattle.safl_typing.specs.Checking.{choice_between, MayCheckIn, MayCheckBoth, checked, checked_both, checked_alike, checked_operands, checked_arguments, counted_arguments};
 
 use crate::context::Context;
 use crate::expression::{Bound, Expression};
@@ -64,7 +63,7 @@ pub fn check_expression(
     wanted: Wanted,
     e: &Expression,
 ) -> Result<Typed, CheckErr>
-    requires able { MayCheck context.now.heads.now context.now.unit (shown_scope scope.now) lo (shown_expression e.now) }
+    requires able { MayCheckIn context.now scope.now lo (shown_expression e.now) }
     requires marked { IsMarked (seen context.now) e.now }
     requires wanted { HasWideWanted wanted }
     ensures says { Says result (check (seen context.now) (shown_scope scope.now) tail lo (shown_wanted wanted) (shown_expression e.now)) }
@@ -109,10 +108,10 @@ fn check_choice(
     condition: &Expression,
     both: Branches,
 ) -> Result<Typed, CheckErr>
-    requires able { MayCheck context.now.heads.now context.now.unit (shown_scope scope.now) position.first_site (If place (shown_expression condition.now) (shown_expression both.first.now) (shown_expression both.second.now)) }
+    requires able { MayCheckIn context.now scope.now position.first_site (choice_between place condition.now both) }
     requires marked { IsMarked (seen context.now) condition.now × IsMarked (seen context.now) both.first.now × IsMarked (seen context.now) both.second.now }
     requires wanted { HasWideWanted position.wanted }
-    ensures says { Says result (check (seen context.now) (shown_scope scope.now) position.tail position.first_site (shown_wanted position.wanted) (If place (shown_expression condition.now) (shown_expression both.entry.first.now) (shown_expression both.entry.second.now))) }
+    ensures says { Says result (checked context.now scope.now position (choice_between place condition.now both.entry)) }
     ensures slots { IfOk result (λ t. HasSlots (length (shown_scope scope.now)) t.term) }
 {
     let flexible = are_both_flexible(both.first, both.second);
@@ -139,11 +138,11 @@ fn check_branches(
     test: Term,
     both: Branches,
 ) -> Result<Typed, CheckErr>
-    requires able { MayWalk context.now.heads.now (shown_scope scope.now) position.first_site (IsInRange (shown_expression both.first.now) × IsInRange (shown_expression both.second.now)) (sites (seen context.now) (shown_expression both.first.now) + sites (seen context.now) (shown_expression both.second.now)) (nodes (shown_expression both.first.now) + nodes (shown_expression both.second.now)) }
+    requires able { MayCheckBoth context.now scope.now position.first_site both }
     requires marked { IsMarked (seen context.now) both.first.now × IsMarked (seen context.now) both.second.now }
     requires slots { HasSlots (length (shown_scope scope.now)) test }
     requires wanted { HasWideWanted position.wanted }
-    ensures says { Says result (branches (is_any (shown_wanted position.wanted) && flexible (shown_expression both.entry.first.now)) (shown_wanted position.wanted) (λ v. check (seen context.now) (shown_scope scope.now) position.tail position.first_site v (shown_expression both.entry.first.now)) (λ v. check (seen context.now) (shown_scope scope.now) position.tail (position.first_site + sites (seen context.now) (shown_expression both.entry.first.now)) v (shown_expression both.entry.second.now)) (shown_term test)) }
+    ensures says { Says result (checked_both context.now scope.now position both.entry (shown_term test)) }
     ensures slots { IfOk result (λ t. HasSlots (length (shown_scope scope.now)) t.term) }
 {
     let Position {
@@ -176,10 +175,10 @@ fn check_binding(
     bound: &[Bound],
     body: &Expression,
 ) -> Result<Typed, CheckErr>
-    requires able { MayCheck context.now.heads.now context.now.unit (shown_scope scope.now) position.first_site (Let place (shown_bindings bound.now) (shown_expression body.now)) }
+    requires able { MayCheckIn context.now scope.now position.first_site (Let place (shown_bindings bound.now) (shown_expression body.now)) }
     requires marked { BoundMarked (seen context.now) bound.now × IsMarked (seen context.now) body.now }
     requires wanted { HasWideWanted position.wanted }
-    ensures says { Says result (check (seen context.now) (shown_scope scope.now) position.tail position.first_site (shown_wanted position.wanted) (Let place (shown_bindings bound.now) (shown_expression body.now))) }
+    ensures says { Says result (checked context.now scope.now position (Let place (shown_bindings bound.now) (shown_expression body.now))) }
     ensures slots { IfOk result (λ t. HasSlots (length (shown_scope scope.now)) t.term) }
 {
     let flexible = is_flexible(body);
@@ -237,10 +236,10 @@ fn check_applied(
     operator: Primitive,
     operands: &[Expression],
 ) -> Result<Typed, CheckErr>
-    requires able { MayCheck context.now.heads.now context.now.unit (shown_scope scope.now) position.first_site (Op place operator (shown_expressions operands.now)) }
+    requires able { MayCheckIn context.now scope.now position.first_site (Op place operator (shown_expressions operands.now)) }
     requires marked { AreMarked (seen context.now) operands.now }
     requires wanted { HasWideWanted position.wanted }
-    ensures says { Says result (check (seen context.now) (shown_scope scope.now) position.tail position.first_site (shown_wanted position.wanted) (Op place operator (shown_expressions operands.now))) }
+    ensures says { Says result (checked context.now scope.now position (Op place operator (shown_expressions operands.now))) }
     ensures slots { IfOk result (λ t. HasSlots (length (shown_scope scope.now)) t.term) }
 {
     match shape_of(operator) {
@@ -293,7 +292,7 @@ fn check_alike(
     requires able { MayWalkAll context.now scope.now first_site operands.now }
     requires marked { AreMarked (seen context.now) operands.now }
     requires wanted { HasWideWanted wanted }
-    ensures says { SaysAlike result (check_alike (seen context.now) (shown_scope scope.now) first_site place (shown_wanted wanted) (shown_expressions operands.now)) }
+    ensures says { SaysAlike result (checked_alike context.now scope.now first_site place wanted operands.now) }
     ensures slots { IfOk result (λ t. HaveSlotsAfter scope.now t.terms.items) }
 {
     let Some((first, rest)) = operands.split_first() else {
@@ -351,7 +350,7 @@ fn check_operands(
     requires able { MayWalkAll context.now scope.now first_site operands.now }
     requires marked { AreMarked (seen context.now) operands.now }
     requires shifted { HasWideWritten shifted }
-    ensures says { SaysAll result (check_all (seen context.now) (shown_scope scope.now) first_site (operands_wanted shifted (shown_expressions operands.now)) (shown_expressions operands.now)) }
+    ensures says { SaysAll result (checked_operands context.now scope.now first_site shifted operands.now) }
     ensures slots { IfOk result (λ t. HaveSlotsAfter scope.now t.terms.items) }
 {
     let Some((first, rest)) = operands.split_first() else {
@@ -375,10 +374,10 @@ fn check_called(
     name: &Name,
     arguments: &[Expression],
 ) -> Result<Typed, CheckErr>
-    requires able { MayCheck context.now.heads.now context.now.unit (shown_scope scope.now) position.first_site (Call place name.now (shown_expressions arguments.now)) }
+    requires able { MayCheckIn context.now scope.now position.first_site (Call place name.now (shown_expressions arguments.now)) }
     requires marked { AreMarked (seen context.now) arguments.now }
     requires wanted { HasWideWanted position.wanted }
-    ensures says { Says result (check (seen context.now) (shown_scope scope.now) position.tail position.first_site (shown_wanted position.wanted) (Call place name.now (shown_expressions arguments.now))) }
+    ensures says { Says result (checked context.now scope.now position (Call place name.now (shown_expressions arguments.now))) }
     ensures slots { IfOk result (λ t. HasSlots (length (shown_scope scope.now)) t.term) }
 {
     let Position {
@@ -419,7 +418,7 @@ fn check_counted(
     requires marked { AreMarked (seen context.now) arguments.now }
     requires wide { WideSlots (shown_head head.now).params }
     requires counted { length head.now.params.items < 2 ^ 32 }
-    ensures says { SaysAll result (unless (needs (length (shown_head head.now).params == count (shown_expressions arguments.now)) (fault_with rules.E11 place (length (shown_head head.now).params) (count (shown_expressions arguments.now)))) (check_all (seen context.now) (shown_scope scope.now) first_site (exactly (widths_of (shown_head head.now).params)) (shown_expressions arguments.now))) }
+    ensures says { SaysAll result (counted_arguments context.now scope.now first_site place head.now arguments.now) }
     ensures slots { IfOk result (λ t. HaveSlotsAfter scope.now t.terms.items) }
 {
     let same = are_as_many(&head.params, arguments);
@@ -441,7 +440,7 @@ fn check_arguments(
     requires able { MayWalkAll context.now scope.now first_site arguments.now }
     requires marked { AreMarked (seen context.now) arguments.now }
     requires params { WideSlots (shown_slots params.now) }
-    ensures says { SaysAll result (check_all (seen context.now) (shown_scope scope.now) first_site (exactly (widths_of (shown_slots params.now))) (shown_expressions arguments.now)) }
+    ensures says { SaysAll result (checked_arguments context.now scope.now first_site (shown_slots params.now) arguments.now) }
     ensures slots { IfOk result (λ t. HaveSlotsAfter scope.now t.terms.items) }
 {
     let Some((first, rest)) = arguments.split_first() else {

@@ -13,11 +13,11 @@ use Rattle.safl_net.proofs.Growth.{wired_before}
 use Rattle.safl_net.proofs.Naming.{pushed}
 use Rattle.safl_net.specs.Bits.{on}
 use Rattle.safl_circuit.specs.Equations.{Registers, Inputs, Choice, want, wants_at, go}
-use Rattle.safl_gates.specs.declared.loads.Load.{Load}
-use Rattle.safl_gates.specs.Tables.{bit_or, on_in, taken_at, LoadsFit}
-use Rattle.safl_gates.specs.Sources.{IsSource, Builds}
-use Rattle.safl_gates.specs.Rows.{AreBits, on_any, frees, row_in, row_at}
-use Rattle.safl_gates.proofs.Rows.{any_append, row_kept, row_free, frees_long, bits_push}
+use Rattle.safl_lower.specs.declared.loads.Load.{Load}
+use Rattle.safl_lower.specs.Tables.{bit_or, on_in, taken_at, LoadsFit}
+use Rattle.safl_lower.specs.Sources.{IsSource, Builds}
+use Rattle.safl_lower.specs.Rows.{AreBits, on_any, frees, row_in, row_at}
+use Rattle.safl_lower.proofs.JoinedRows.{any_append, row_kept, row_free, frees_long, bits_push}
 use Rattle.safl_unit.specs.declared.parts.UnitPins.{UnitPins}
 use Rattle.safl_unit.proofs.Tables.{get_same, get_end}
 use Rattle.safl_unit.specs.Arbiters.{want_at, site_row, tally, RowsFree}

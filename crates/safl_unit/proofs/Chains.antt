@@ -10,15 +10,15 @@ use Rattle.safl_net.specs.Netlist.{Netlist}
 use Rattle.safl_net.specs.Growth.{Val, Wired, words}
 use Rattle.safl_net.proofs.Growth.{wired_before}
 use Rattle.safl_net.specs.Bits.{on, gate}
-use Rattle.safl_gates.specs.declared.loads.Load.{Load}
-use Rattle.safl_gates.specs.Sources.{IsSource, AreSources, Builds}
-use Rattle.safl_gates.specs.Tables.{load_in, sig_in, taken, taken_in, taken_at, taken_from, on_in, on_from, FitsIn, LoadFits, SomeFit, IsBitIn, BitsFit}
-use Rattle.safl_gates.specs.Rows.{maybe_one, AreBits, AllFit, on_any, first_taken, bit_joins, total, row_at, any_at, first_at, RowsAreBits, RowsFit}
-use Rattle.safl_gates.specs.Joints.{IsAnyOf, IsFirstOf}
-use Rattle.safl_gates.proofs.Rows.{any_pushed, bits_pushed, first_pushed, fit_pushed}
-use Rattle.safl_gates.proofs.Cells.{sources_length}
-use Rattle.safl_gates.proofs.Joining.{or_false}
-use Rattle.safl_gates.proofs.Building.{sources_kept}
+use Rattle.safl_lower.specs.declared.loads.Load.{Load}
+use Rattle.safl_lower.specs.Sources.{IsSource, AreSources, Builds}
+use Rattle.safl_lower.specs.Tables.{load_in, sig_in, taken, taken_in, taken_at, taken_from, on_in, on_from, FitsIn, LoadFits, SomeFit, IsBitIn, BitsFit}
+use Rattle.safl_lower.specs.Rows.{maybe_one, AreBits, AllFit, on_any, first_taken, bit_joins, total, row_at, any_at, first_at, RowsAreBits, RowsFit}
+use Rattle.safl_lower.specs.Joints.{IsAnyOf, IsFirstOf}
+use Rattle.safl_lower.proofs.JoinedRows.{any_pushed, bits_pushed, first_pushed, fit_pushed}
+use Rattle.safl_lower.proofs.Cells.{sources_length}
+use Rattle.safl_lower.proofs.Joining.{or_false}
+use Rattle.safl_lower.proofs.Building.{sources_kept}
 use Rattle.safl_unit.specs.declared.parts.Outcomes.{Outcomes}
 use Rattle.safl_unit.specs.Stages.{OutcomesFit}
 use Rattle.safl_unit.specs.Edges.{one_below, bit_of, operands_in, ShowsBits, ShowsLoads}

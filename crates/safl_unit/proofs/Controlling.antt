@@ -7,11 +7,11 @@ use Rattle.safl_net.specs.Netlist.{Netlist}
 use Rattle.safl_net.specs.Growth.{Val, Wired}
 use Rattle.safl_net.specs.Bits.{on}
 use Rattle.safl_circuit.specs.Equations.{Registers, Inputs, Choice, want}
-use Rattle.safl_gates.specs.declared.loads.Load.{Load}
-use Rattle.safl_gates.specs.Sources.{IsSource, Builds}
-use Rattle.safl_gates.specs.Tables.{pin, load_bit, bit_or, load_in, taken_in, one_word, FitsIn}
-use Rattle.safl_gates.proofs.Building.{source_kept}
-use Rattle.safl_gates.proofs.Kept.{maybe_load_kept}
+use Rattle.safl_lower.specs.declared.loads.Load.{Load}
+use Rattle.safl_lower.specs.Sources.{IsSource, Builds}
+use Rattle.safl_lower.specs.Tables.{pin, load_bit, bit_or, load_in, taken_in, one_word, FitsIn}
+use Rattle.safl_lower.proofs.Building.{source_kept}
+use Rattle.safl_lower.proofs.KnownLoads.{maybe_load_kept}
 use Rattle.safl_unit.specs.declared.parts.Pins.{Pins}
 use Rattle.safl_unit.specs.declared.parts.Returns.{Returns}
 use Rattle.safl_unit.specs.declared.parts.Outcomes.{Outcomes}

@@ -12,7 +12,7 @@ use Rattle.safl_term.specs.Sizes.{nodes}
 use Rattle.safl_circuit.specs.Equations.{Choice}
 use Rattle.safl_circuit.specs.Names.{names_of}
 use Rattle.safl_circuit.specs.Layout.{lines, site_lines, unit_lines, function_wires, site_wires, layout_inputs, layout_registers, layout_wires}
-use Rattle.safl_gates.specs.Sources.{HasRoom}
+use Rattle.safl_lower.specs.Sources.{HasRoom}
 use Rattle.safl_unit.specs.Stages.{body_nodes}
 use Rattle.safl_net.specs.Netlist.{Netlist}
 use Rattle.safl_unit.specs.Finished.{input_line, open_register, open_wire, declared_signals, declared_net}

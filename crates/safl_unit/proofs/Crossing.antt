@@ -10,10 +10,10 @@ use Rattle.safl_net.specs.Netlist.{Netlist}
 use Rattle.safl_net.specs.Growth.{Val, words}
 use Rattle.safl_net.specs.Bits.{on, gate}
 use Rattle.safl_circuit.specs.Equations.{Registers, Inputs, Choice, body_wants, want, wants_at, go, go_words, end_word, loop_words, end_in, loop_in, go_in, load_in as loads_from, ends, loops, starts, loads, starts_it, if_other}
-use Rattle.safl_gates.specs.declared.loads.Load.{Load}
-use Rattle.safl_gates.specs.Sources.{Builds}
-use Rattle.safl_gates.specs.Tables.{pin, taken_in, taken_at, taken_from, on_from, one_word}
-use Rattle.safl_gates.proofs.Kept.{load_kept, some_kept}
+use Rattle.safl_lower.specs.declared.loads.Load.{Load}
+use Rattle.safl_lower.specs.Sources.{Builds}
+use Rattle.safl_lower.specs.Tables.{pin, taken_in, taken_at, taken_from, on_from, one_word}
+use Rattle.safl_lower.proofs.KnownLoads.{load_kept, some_kept}
 use Rattle.safl_unit.specs.declared.parts.Outcomes.{Outcomes}
 use Rattle.safl_unit.specs.declared.parts.Pins.{Pins}
 use Rattle.safl_unit.specs.Stages.{called, OutcomesFit, HasOutcomes, HasGoes, HasEnds, HasLoads, HasStarts, HasClears, HasEntries, HasRivals}

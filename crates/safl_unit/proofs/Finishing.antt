@@ -16,9 +16,9 @@ use Rattle.safl_net.proofs.Saying.{says_on, says_output}
 use Rattle.safl_circuit.specs.Equations.{Choice, many}
 use Rattle.safl_circuit.specs.Names.{Names, names_of, of_function, of_site, of_param}
 use Rattle.safl_circuit.specs.Layout.{named, layout_inputs, layout_registers, layout_wires}
-use Rattle.safl_gates.specs.Sources.{IsSource, AreSources}
-use Rattle.safl_gates.specs.Tables.{pin, EachAt}
-use Rattle.safl_gates.proofs.Cells.{sources_length}
+use Rattle.safl_lower.specs.Sources.{IsSource, AreSources}
+use Rattle.safl_lower.specs.Tables.{pin, EachAt}
+use Rattle.safl_lower.proofs.Cells.{sources_length}
 use Rattle.safl_unit.specs.declared.parts.UnitPins.{UnitPins}
 use Rattle.safl_unit.specs.declared.parts.MemberPins.{MemberPins}
 use Rattle.safl_unit.specs.declared.parts.SitePins.{SitePins}

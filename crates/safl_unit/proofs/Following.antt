@@ -5,7 +5,7 @@ use Rattle.safl_term.specs.Program.{Program, unit_for}
 use Rattle.safl_term.specs.Readiness.{or_else}
 use Rattle.safl_net.specs.Growth.{Val, words}
 use Rattle.safl_circuit.specs.Equations.{Registers, Inputs, Choice, many, ret, go, ends, starts, loads, loop_words, clears, starts_it, starts_other, or_word, next}
-use Rattle.safl_gates.specs.Tables.{one_word}
+use Rattle.safl_lower.specs.Tables.{one_word}
 use Rattle.safl_unit.specs.declared.parts.UnitPins.{UnitPins}
 use Rattle.safl_unit.specs.declared.parts.MemberPins.{MemberPins}
 use Rattle.safl_unit.specs.declared.parts.SitePins.{SitePins}

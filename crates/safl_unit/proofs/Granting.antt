@@ -10,12 +10,12 @@ use Rattle.safl_net.specs.Growth.{Val, Wired}
 use Rattle.safl_net.proofs.Growth.{wired_before}
 use Rattle.safl_net.specs.Bits.{on}
 use Rattle.safl_net.specs.Bits.{gate}
-use Rattle.safl_gates.proofs.BitWords.{same}
+use Rattle.safl_lower.proofs.BitWords.{same}
 use Rattle.safl_circuit.specs.Equations.{Registers, Inputs, Choice, want, wants_at, go}
-use Rattle.safl_gates.specs.declared.loads.Load.{Load}
-use Rattle.safl_gates.specs.Sources.{IsSource, Builds}
-use Rattle.safl_gates.specs.Tables.{EachAt, taken_at, taken_in, pin}
-use Rattle.safl_gates.proofs.Building.{source_kept}
+use Rattle.safl_lower.specs.declared.loads.Load.{Load}
+use Rattle.safl_lower.specs.Sources.{IsSource, Builds}
+use Rattle.safl_lower.specs.Tables.{EachAt, taken_at, taken_in, pin}
+use Rattle.safl_lower.proofs.Building.{source_kept}
 use Rattle.safl_unit.specs.declared.parts.Pins.{Pins}
 use Rattle.safl_unit.specs.Cycles.{InEachCycle}
 use Rattle.safl_unit.specs.Stages.{called, HasGoes}

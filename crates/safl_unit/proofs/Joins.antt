@@ -6,10 +6,10 @@ use Rattle.safl_term.specs.Sizes.{nodes}
 use Rattle.safl_term.specs.Readiness.{or_else}
 use Rattle.safl_net.specs.Netlist.{Netlist}
 use Rattle.safl_net.specs.Growth.{Val}
-use Rattle.safl_gates.specs.declared.loads.Load.{Load}
-use Rattle.safl_gates.specs.Tables.{EachAt, taken_in, load_in, FitsIn, SomeFit}
-use Rattle.safl_gates.specs.Rows.{AllFit, first_taken, row_at, RowsFit}
-use Rattle.safl_gates.proofs.Rows.{append_none, fit_push, first_pushed}
+use Rattle.safl_lower.specs.declared.loads.Load.{Load}
+use Rattle.safl_lower.specs.Tables.{EachAt, taken_in, load_in, FitsIn, SomeFit}
+use Rattle.safl_lower.specs.Rows.{AllFit, first_taken, row_at, RowsFit}
+use Rattle.safl_lower.proofs.JoinedRows.{append_none, fit_push, first_pushed}
 use Rattle.safl_lower.specs.Loads.{load_cost, loads_cost}
 use Rattle.safl_unit.specs.Stages.{body_nodes}
 use Rattle.safl_unit.specs.Outcomes.{PushesLoads, maybe_load}

@@ -7,11 +7,11 @@ use Rattle.safl_net.specs.Growth.{Val}
 use Rattle.safl_net.proofs.Growth.{wired_before}
 use Rattle.safl_lower.specs.declared.parts.SitePorts.{SitePorts}
 use Rattle.safl_circuit.specs.Equations.{Registers, Inputs, Choice}
-use Rattle.safl_gates.specs.declared.loads.Load.{Load}
-use Rattle.safl_gates.specs.Sources.{Builds}
-use Rattle.safl_gates.specs.Tables.{load_in}
-use Rattle.safl_gates.proofs.Building.{source_kept, sources_kept}
-use Rattle.safl_gates.proofs.Kept.{load_kept, maybe_load_kept, some_kept, bits_kept}
+use Rattle.safl_lower.specs.declared.loads.Load.{Load}
+use Rattle.safl_lower.specs.Sources.{Builds}
+use Rattle.safl_lower.specs.Tables.{load_in}
+use Rattle.safl_lower.proofs.Building.{source_kept, sources_kept}
+use Rattle.safl_lower.proofs.KnownLoads.{load_kept, maybe_load_kept, some_kept, bits_kept}
 use Rattle.safl_unit.specs.declared.parts.UnitPins.{UnitPins}
 use Rattle.safl_unit.specs.declared.parts.MemberPins.{MemberPins}
 use Rattle.safl_unit.specs.declared.parts.SitePins.{SitePins}

@@ -7,7 +7,7 @@ use Rattle.safl_net.specs.declared.cell.Sig.{Sig}
 use Rattle.safl_circuit.specs.Equations.{Choice, many}
 use Rattle.safl_circuit.specs.Names.{Names, names_of, of_function, of_param}
 use Rattle.safl_circuit.specs.Layout.{Line, lines, unit_lines, site_lines, layout_registers}
-use Rattle.safl_gates.specs.Tables.{EachAt}
+use Rattle.safl_lower.specs.Tables.{EachAt}
 use Rattle.safl_unit.specs.declared.parts.UnitPins.{UnitPins}
 use Rattle.safl_unit.specs.declared.parts.MemberPins.{MemberPins}
 use Rattle.safl_unit.specs.declared.parts.SitePins.{SitePins}

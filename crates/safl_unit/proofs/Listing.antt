@@ -9,7 +9,7 @@ use Rattle.safl_net.specs.declared.cell.Sig.{Sig}
 use Rattle.safl_circuit.specs.Equations.{Choice}
 use Rattle.safl_circuit.specs.Names.{Names, names_of, of_param}
 use Rattle.safl_circuit.specs.Layout.{Line, lines, function_wires, site_wires, layout_wires}
-use Rattle.safl_gates.specs.Tables.{pin}
+use Rattle.safl_lower.specs.Tables.{pin}
 use Rattle.safl_unit.specs.declared.parts.UnitPins.{UnitPins}
 use Rattle.safl_unit.specs.declared.parts.MemberPins.{MemberPins}
 use Rattle.safl_unit.specs.declared.parts.SitePins.{SitePins}

@@ -23,9 +23,9 @@ use Rattle.safl_lower.specs.Lowering.{returned_word, was_sent, goes_of}
 use Rattle.safl_lower.specs.Bodies.{CanLower, IsLowered, back_at, sent_at, answer_at, wanted_at}
 use Rattle.safl_lower.proofs.FromProgram.{side}
 use Rattle.safl_circuit.specs.Equations.{Registers, Choice, on_wires, path, body_says, body_wants, end_word, goes_to}
-use Rattle.safl_gates.specs.Sources.{IsSource, AreSources, Builds, HasRoom}
-use Rattle.safl_gates.specs.Tables.{one_word}
-use Rattle.safl_gates.proofs.Building.{builds_on, builds_within, sources_kept}
+use Rattle.safl_lower.specs.Sources.{IsSource, AreSources, Builds, HasRoom}
+use Rattle.safl_lower.specs.Tables.{one_word}
+use Rattle.safl_lower.proofs.Building.{builds_on, builds_within, sources_kept}
 use Rattle.safl_unit.specs.declared.parts.Returns.{Returns}
 use Rattle.safl_unit.specs.declared.parts.MemberPins.{MemberPins}
 use Rattle.safl_unit.specs.declared.parts.Pins.{Pins}

@@ -9,12 +9,12 @@ use Rattle.safl_net.specs.Growth.{Val, Wired}
 use Rattle.safl_net.proofs.Growth.{wired_before}
 use Rattle.safl_net.specs.Bits.{on}
 use Rattle.safl_circuit.specs.Equations.{many}
-use Rattle.safl_gates.specs.Sources.{Builds}
-use Rattle.safl_gates.specs.Tables.{sig_in, on_in, on_from, IsBitIn, BitsFit}
-use Rattle.safl_gates.specs.Rows.{maybe_one, AreBits, on_any, on_two}
-use Rattle.safl_gates.proofs.BitWords.{same}
-use Rattle.safl_gates.proofs.Kept.{bits_kept}
-use Rattle.safl_gates.proofs.Rows.{any_append, two_append, bits_push, append_none}
+use Rattle.safl_lower.specs.Sources.{Builds}
+use Rattle.safl_lower.specs.Tables.{sig_in, on_in, on_from, IsBitIn, BitsFit}
+use Rattle.safl_lower.specs.Rows.{maybe_one, AreBits, on_any, on_two}
+use Rattle.safl_lower.proofs.BitWords.{same}
+use Rattle.safl_lower.proofs.KnownLoads.{bits_kept}
+use Rattle.safl_lower.proofs.JoinedRows.{any_append, two_append, bits_push, append_none}
 use Rattle.safl_unit.specs.Edges.{one_below, entry_row, others_on, rival, ShowsBelow}
 use Rattle.safl_unit.proofs.Granting.{same_test}
 use Rattle.safl_unit.proofs.Groups.{many_true}

@@ -13,13 +13,13 @@ use Rattle.safl_net.specs.Growth.{Val, words}
 use Rattle.safl_lower.specs.declared.parts.Body.{Body}
 use Rattle.safl_net.specs.Bits.{on, gate}
 use Rattle.safl_circuit.specs.Equations.{Registers, Inputs, Choice, end_word, body_wants, body_says, goes_to, loop_from}
-use Rattle.safl_gates.specs.declared.loads.Load.{Load}
-use Rattle.safl_gates.specs.Sources.{IsSource, AreSources, Builds}
-use Rattle.safl_gates.specs.Tables.{EachAt, taken, taken_in, taken_at, load_in, one_word, LoadFits, LoadsFit, SomeFit}
-use Rattle.safl_gates.specs.Rows.{AllFit, first_taken, row_at, first_at, load_joins, total, RowsFit}
-use Rattle.safl_gates.specs.Joints.{IsFirstOf}
-use Rattle.safl_gates.proofs.Kept.{loads_kept}
-use Rattle.safl_gates.proofs.Rows.{fit_kept, total_bare}
+use Rattle.safl_lower.specs.declared.loads.Load.{Load}
+use Rattle.safl_lower.specs.Sources.{IsSource, AreSources, Builds}
+use Rattle.safl_lower.specs.Tables.{EachAt, taken, taken_in, taken_at, load_in, one_word, LoadFits, LoadsFit, SomeFit}
+use Rattle.safl_lower.specs.Rows.{AllFit, first_taken, row_at, first_at, load_joins, total, RowsFit}
+use Rattle.safl_lower.specs.Joints.{IsFirstOf}
+use Rattle.safl_lower.proofs.KnownLoads.{loads_kept}
+use Rattle.safl_lower.proofs.JoinedRows.{fit_kept, total_bare}
 use Rattle.safl_lower.specs.Loads.{loads_cost}
 use Rattle.safl_unit.specs.declared.parts.Pins.{Pins}
 use Rattle.safl_unit.specs.declared.parts.Outcomes.{Outcomes}

@@ -19,8 +19,8 @@ use Rattle.safl_circuit.specs.Equations.{Registers, Inputs, Choice, next}
 use Rattle.safl_circuit.specs.Names.{Names, names_of, of_function, of_site, registers_now, registers_next, input_now}
 use Rattle.safl_circuit.specs.Layout.{Line, lines, site_wires, each_line, input_kind, register_kind, wire_kind, output_lines, layout_inputs, layout_registers, layout_wires, layout_outputs, temporaries, IsCopy, HasPlan}
 use Rattle.safl_circuit.specs.Scheme.{Agree, Wires, Scheme}
-use Rattle.safl_gates.specs.Tables.{pin}
-use Rattle.safl_gates.proofs.Cells.{sources_length}
+use Rattle.safl_lower.specs.Tables.{pin}
+use Rattle.safl_lower.proofs.Cells.{sources_length}
 use Rattle.safl_unit.specs.declared.parts.Bank.{Bank}
 use Rattle.safl_unit.specs.declared.parts.Pins.{Pins}
 use Rattle.safl_unit.specs.declared.parts.Controls.{Controls}

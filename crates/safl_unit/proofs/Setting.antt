@@ -11,7 +11,7 @@ use Rattle.safl_net.specs.Growth.{Says}
 use Rattle.safl_net.proofs.Keeping.{Was, was}
 use Rattle.safl_net.proofs.Settling.{settles_same, settles_on, settles_next, settles_cell, steady_cell}
 use Rattle.safl_net.proofs.Saying.{says_same, says_on, says_next, says_cell}
-use Rattle.safl_gates.specs.Tables.{EachAt}
+use Rattle.safl_lower.specs.Tables.{EachAt}
 use Rattle.safl_unit.specs.Ties.{Tie, line_of, sig_of}
 use Rattle.safl_unit.specs.Finished.{open_register, open_wire, set_register, set_wire}
 use Rattle.safl_unit.specs.Setting.{with_kinds, next_kind, copy_kind, Takes}

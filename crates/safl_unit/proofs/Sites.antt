@@ -5,9 +5,9 @@ use Rattle.safl_term.specs.Program.{Program, unit_for}
 use Rattle.safl_net.specs.Growth.{Val}
 use Rattle.safl_net.specs.Bits.{on, gate}
 use Rattle.safl_circuit.specs.Equations.{Registers, Choice, ret, on_wires, word_on}
-use Rattle.safl_gates.specs.Sources.{IsSource, Builds}
-use Rattle.safl_gates.specs.Tables.{EachAt, pin}
-use Rattle.safl_gates.proofs.Building.{source_kept}
+use Rattle.safl_lower.specs.Sources.{IsSource, Builds}
+use Rattle.safl_lower.specs.Tables.{EachAt, pin}
+use Rattle.safl_lower.proofs.Building.{source_kept}
 use Rattle.safl_unit.specs.declared.parts.UnitPins.{UnitPins}
 use Rattle.safl_unit.specs.declared.parts.SitePins.{SitePins}
 use Rattle.safl_unit.specs.declared.returns.SiteReturn.{SiteReturn}

@@ -9,10 +9,10 @@ use Rattle.safl_word.specs.Words.{Word}
 use Rattle.safl_net.specs.Bits.{on}
 use Rattle.safl_circuit.specs.Equations.{Choice, many, or_word}
 use Rattle.safl_net.proofs.Growth.{wired_before}
-use Rattle.safl_gates.specs.declared.loads.Load.{Load}
-use Rattle.safl_gates.specs.Sources.{IsSource, AreSources, Builds}
-use Rattle.safl_gates.specs.Tables.{EachAt, pin, load_in, sig_in, taken_in, taken_from, on_in, on_from}
-use Rattle.safl_gates.proofs.Joining.{words_show}
+use Rattle.safl_lower.specs.declared.loads.Load.{Load}
+use Rattle.safl_lower.specs.Sources.{IsSource, AreSources, Builds}
+use Rattle.safl_lower.specs.Tables.{EachAt, pin, load_in, sig_in, taken_in, taken_from, on_in, on_from}
+use Rattle.safl_lower.proofs.Joining.{words_show}
 use Rattle.safl_unit.specs.declared.parts.UnitPins.{UnitPins}
 use Rattle.safl_unit.specs.declared.parts.MemberPins.{MemberPins}
 use Rattle.safl_unit.specs.declared.parts.SitePins.{SitePins}

@@ -3,7 +3,7 @@ use Rattle.std.proofs.Common.{◌≡◌, ℕ, zero, suc, ◌<◌, List, [], ◌�
 use Rattle.std.proofs.lemmas.Option.{slice_get-get_or, get_or_from_slice_get}
 use Rattle.safl_net.specs.declared.cell.Sig.{Sig}
 use Rattle.safl_net.proofs.Naming.{pushed}
-use Rattle.safl_gates.specs.Tables.{pin, EachAt}
+use Rattle.safl_lower.specs.Tables.{pin, EachAt}
 
 pub each_none : {A : Type 0} (P : ℕ → A → Type 0) → EachAt [] P
 each_none P i x e = absurd (cc)

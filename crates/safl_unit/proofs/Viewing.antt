@@ -11,7 +11,7 @@ use Rattle.safl_net.specs.Growth.{Val, words}
 use Rattle.safl_circuit.specs.Equations.{Registers, Choice, many}
 use Rattle.safl_circuit.specs.Names.{Names, names_of, of_function, of_site, of_param, is_unit, is_site, as_word, as_words, view}
 use Rattle.safl_circuit.specs.Layout.{named}
-use Rattle.safl_gates.specs.Tables.{EachAt}
+use Rattle.safl_lower.specs.Tables.{EachAt}
 use Rattle.safl_unit.specs.declared.parts.UnitPins.{UnitPins}
 use Rattle.safl_unit.specs.declared.parts.MemberPins.{MemberPins}
 use Rattle.safl_unit.specs.declared.parts.SitePins.{SitePins}

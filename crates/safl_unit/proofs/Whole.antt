@@ -8,9 +8,9 @@ use Rattle.safl_net.specs.Netlist.{Netlist}
 use Rattle.safl_net.specs.Bits.{on}
 use Rattle.safl_net.proofs.Growth.{wired_before}
 use Rattle.safl_circuit.specs.Equations.{Choice, starts, clears, starts_it, starts_other}
-use Rattle.safl_gates.specs.declared.loads.Load.{Load}
-use Rattle.safl_gates.specs.Tables.{pin, taken_from, on_from}
-use Rattle.safl_gates.specs.Sources.{Builds}
+use Rattle.safl_lower.specs.declared.loads.Load.{Load}
+use Rattle.safl_lower.specs.Tables.{pin, taken_from, on_from}
+use Rattle.safl_lower.specs.Sources.{Builds}
 use Rattle.safl_unit.specs.declared.parts.Pins.{Pins}
 use Rattle.safl_unit.specs.declared.parts.Bank.{Bank}
 use Rattle.safl_unit.specs.declared.parts.UnitPins.{UnitPins}

@@ -13,8 +13,8 @@ use Rattle.safl_circuit.specs.Equations.{Registers, Inputs, Choice, want, wants_
 use Rattle.safl_calls.specs.Picks.{first}
 use Rattle.safl_circuit.specs.Names.{Names, of_function, of_site, bit}
 use Rattle.safl_circuit.specs.Scheme.{Wires}
-use Rattle.safl_gates.specs.Sources.{IsSource}
-use Rattle.safl_gates.specs.Tables.{pin}
+use Rattle.safl_lower.specs.Sources.{IsSource}
+use Rattle.safl_lower.specs.Tables.{pin}
 use Rattle.safl_unit.specs.declared.parts.UnitPins.{UnitPins}
 use Rattle.safl_unit.specs.declared.parts.Pins.{Pins}
 use Rattle.safl_unit.specs.declared.parts.Controls.{Controls}

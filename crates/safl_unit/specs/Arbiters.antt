@@ -7,10 +7,11 @@ use Rattle.safl_net.specs.Netlist.{Netlist}
 use Rattle.safl_net.specs.Growth.{Val, Wired}
 use Rattle.safl_net.specs.Bits.{on}
 use Rattle.safl_circuit.specs.Equations.{Choice}
-use Rattle.safl_gates.specs.declared.loads.Load.{Load}
-use Rattle.safl_gates.specs.Tables.{bit_or}
-use Rattle.safl_gates.specs.Rows.{AreBits, frees, row_at}
+use Rattle.safl_lower.specs.declared.loads.Load.{Load}
+use Rattle.safl_lower.specs.Tables.{bit_or}
+use Rattle.safl_lower.specs.Rows.{AreBits, frees, row_at}
 use Rattle.safl_unit.specs.declared.parts.UnitPins.{UnitPins}
+use Rattle.safl_unit.specs.declared.parts.Pins.{Pins}
 
 -- the bit of a number
 abbrev pub want_at : List Load → ℕ → Sig
@@ -20,6 +21,10 @@ want_at ls k = bit_or (record { 0 = 0 }) (slice_get ls k)
 unfoldable pub site_row : Program → List Load → ℕ → ℕ → List Sig
 site_row C ls u zero = []
 site_row C ls u (suc m) = site_row C ls u m ++ cond (u == unit_for C (suc m)) (want_at ls (suc m) ∷ []) []
+
+-- a site's rank is the number of sites of its unit before it
+abbrev pub AreRanks : Program → List Load → List ℕ → Type 0
+AreRanks C ls ranks = (m : ℕ) (q : ℕ) → slice_get ranks (suc m) ≡ Some q → q ≡ length (site_row C ls (unit_for C (suc m)) m)
 
 -- the sum below a number
 unfoldable pub tally : (ℕ → ℕ) → ℕ → ℕ
@@ -31,4 +36,9 @@ pub record RowsFree (C : Program) (P : Choice) (n : Netlist) (us : List UnitPins
   pub count : length out ≡ m
   pub fits : (u : ℕ) → AreBits n (row_at out u)
   pub long : (u : ℕ) → u < m → P.arbiter (C.unit u) ≡ true → length (row_at out u) ≡ length (row_at rows u)
-  pub shows : (v : Val) → Wired n v → (u : ℕ) (x : UnitPins) → u < m → slice_get us u ≡ Some x → P.arbiter (C.unit u) ≡ true → map (on v) (row_at out u) ≡ frees v (not (on v x.run)) (row_at rows u)
+  pub shows : (v : Val) → Wired n v → (u : ℕ) (x : UnitPins) → u < m → slice_get us u ≡ Some x → P.arbiter (C.unit u) ≡ true
+      → map (on v) (row_at out u) ≡ frees v (not (on v x.run)) (row_at rows u)
+
+-- and those of all units
+abbrev pub AllRowsFree : Program → Choice → Netlist → Pins → List (Vec Sig Global) → List (Vec Sig Global) → Type 0
+AllRowsFree C P n p rows out = RowsFree C P n p.bank.units.items rows out C.functions

@@ -1,12 +1,14 @@
 -- All that comes at the edge.
-use Rattle.std.specs.Prelude.{◌≡◌, [], ◌∷◌, length}
+use Rattle.std.specs.Prelude.{◌≡◌, List, [], ◌∷◌, length, Result, IfOk}
 use Rattle.safl_term.specs.Program.{Program}
+use Rattle.safl_net.specs.declared.cell.Sig.{Sig}
 use Rattle.safl_net.specs.Netlist.{Netlist}
 use Rattle.safl_circuit.specs.Equations.{Choice}
-use Rattle.safl_gates.specs.Tables.{SomeFit, BitsFit}
+use Rattle.safl_lower.specs.Tables.{SomeFit, BitsFit}
 use Rattle.safl_unit.specs.declared.parts.Pins.{Pins}
+use Rattle.safl_unit.specs.declared.parts.Outcomes.{Outcomes}
 use Rattle.safl_unit.specs.declared.events.Events.{Events}
-use Rattle.safl_unit.specs.Stages.{HasEnds, HasLoads, HasStarts, HasClears, HasEntries, HasRivals}
+use Rattle.safl_unit.specs.Stages.{HasOutcomes, HasGoes, HasEnds, HasLoads, HasStarts, HasClears, HasEntries, HasRivals}
 
 pub record HasEvents (C : Program) (P : Choice) (n : Netlist) (p : Pins) (e : Events) : Type 0 where
   pub ends : HasEnds C P n p e.ends.items
@@ -15,6 +17,10 @@ pub record HasEvents (C : Program) (P : Choice) (n : Netlist) (p : Pins) (e : Ev
   pub loads : HasLoads C P n p e.loads.items
   pub entries : HasEntries C P n p e.entries.items
   pub rivals : HasRivals C P n p e.rivals.items
+
+-- on success, where outcomes and starts are those of a program, so are the events
+abbrev pub GivesEvents : {E : Type 0} → Result Events E → Program → Choice → Netlist → Netlist → Outcomes → List Sig → Type 0
+GivesEvents r C P old new o goes = (p : Pins) → HasOutcomes C P old p o → HasGoes C P old p goes → IfOk r (λ e. HasEvents C P new p e)
 
 -- the tables have their widths
 pub record EventsFit (C : Program) (n : Netlist) (e : Events) : Type 0 where

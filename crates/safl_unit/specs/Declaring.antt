@@ -1,12 +1,13 @@
 -- The lines of a circuit in the order in which they are declared.
-use Rattle.std.specs.Prelude.{◌≡◌, ℕ, ◌<◌, List, [], ◌∷◌, ◌++◌, map, length, Some, None, false, cond, ◌==◌, codes, slice_get}
+use Rattle.std.specs.Prelude.{◌≡◌, ℕ, suc, ◌<◌, List, [], ◌∷◌, ◌++◌, map, length, Some, None, false, cond, ◌==◌, codes, slice_get}
 use Rattle.safl_term.specs.Program.{Program, unit_for}
+use Rattle.safl_net.specs.declared.cell.Sig.{Sig}
 use Rattle.safl_net.specs.Netlist.{Netlist, Signal}
 use Rattle.safl_net.specs.Making.{refusal}
 use Rattle.safl_circuit.specs.Equations.{Choice, many}
 use Rattle.safl_circuit.specs.Names.{Names, of_function, of_param, of_site}
-use Rattle.safl_circuit.specs.Layout.{Line, lines, named, site_lines}
-use Rattle.safl_gates.specs.Tables.{EachAt}
+use Rattle.safl_circuit.specs.Layout.{Line, lines, named, site_lines, site_wires}
+use Rattle.safl_lower.specs.Tables.{EachAt}
 use Rattle.safl_unit.specs.declared.parts.UnitPins.{UnitPins}
 use Rattle.safl_unit.specs.declared.parts.MemberPins.{MemberPins}
 use Rattle.safl_unit.specs.declared.parts.SitePins.{SitePins}
@@ -39,6 +40,17 @@ argument_lines C D f = named (map (of_param D f) (D.params f)) (C.params f)
 abbrev pub function_lines : Program → Names → ℕ → List Line
 function_lines C D f = unit_head C D f ++ (at_line C D f ++ argument_lines C D f)
 
+-- the registers of all functions
+abbrev pub own_lines : Program → Names → List Line
+own_lines C D = lines (function_lines C D) C.functions
+
+-- the registers of a unit, and the register `at` of a function, where the next signal has this number
+abbrev pub UnitPinned : Program → Names → ℕ → ℕ → UnitPins → Type 0
+UnitPinned C D f next u = map sig_of (unit_ties C D f (Some u)) ≡ numbered next (length (unit_head C D f))
+
+abbrev pub AtPinned : Program → Names → ℕ → ℕ → Sig → Type 0
+AtPinned C D f next s = cond (many C f) (s ∷ []) [] ≡ numbered next (length (at_line C D f))
+
 -- the registers of a function, where the next signal has this number
 pub record Pinned (C : Program) (D : Names) (f next : ℕ) (before : List UnitPins) (u : UnitPins) (m : MemberPins) : Type 0 where
   pub order : map sig_of (unit_ties C D f (Some u) ++ member_ties C D f (Some m)) ≡ numbered next (length (function_lines C D f))
@@ -55,6 +67,17 @@ pub record FunctionsPinned (C : Program) (D : Names) (first f : ℕ) (us : List 
   pub args : EachAt ms (λ g m. length m.args.items ≡ length (C.params g))
   pub lone : EachAt ms (λ g m. many C g ≡ false → (u : UnitPins) → slice_get us g ≡ Some u → m.at ≡ u.run)
 
+-- and of all functions
+abbrev pub AllFunctionsPinned : Program → Names → ℕ → List UnitPins → List MemberPins → Type 0
+AllFunctionsPinned C D first us ms = FunctionsPinned C D first C.functions us ms
+
+-- the registers and the named wires of all sites
+abbrev pub call_lines : Program → Choice → List Line
+call_lines C P = lines (site_lines C P) (suc C.sites)
+
+abbrev pub call_wires : Program → Choice → List Line
+call_wires C P = lines (site_wires C P) (suc C.sites)
+
 -- the registers of a site, where the next signal has this number
 pub record SitePinned (C : Program) (P : Choice) (k next : ℕ) (us : List UnitPins) (s : SitePins) : Type 0 where
   pub order : map sig_of (call_registers C P k (Some s)) ≡ numbered next (length (site_lines C P k))
@@ -65,6 +88,10 @@ pub record SitesPinned (C : Program) (P : Choice) (first k : ℕ) (us : List Uni
   pub sites_length : length ss ≡ k
   pub order : map sig_of (ties (site_ties C P ss) k) ≡ numbered first (length (lines (site_lines C P) k))
   pub spare : EachAt ss (λ j s. 0 < j → P.kept j ≡ false → (u : UnitPins) → slice_get us (C.callee j) ≡ Some u → s.keep ≡ u.res)
+
+-- and of all sites
+abbrev pub AllSitesPinned : Program → Choice → ℕ → List UnitPins → List SitePins → Type 0
+AllSitesPinned C P first us ss = SitesPinned C P first (suc C.sites) us ss
 
 -- the ports of a function's arguments
 abbrev pub port_lines : Program → Names → ℕ → List Line

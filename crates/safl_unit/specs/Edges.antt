@@ -1,13 +1,17 @@
 -- What the tables of an edge show under a valuation.
-use Rattle.std.specs.Prelude.{◌≡◌, ℕ, zero, suc, ◌<◌, ◌==◌, ◌++◌, List, [], length, Option, Some, None, Bool, false, cond, not, ◌&&◌, ◌||◌, slice_get}
+use Rattle.std.specs.Prelude.{◌≡◌, ℕ, zero, suc, ◌<◌, ◌==◌, ◌++◌, List, [], ◌∷◌, length, Option}
+use Rattle.std.specs.Prelude.{Some, None, Bool, false, cond, not, ◌&&◌, ◌||◌, is_some, slice_get}
 use Rattle.safl_word.specs.Words.{Word}
-use Rattle.safl_term.specs.Program.{Program}
+use Rattle.safl_term.specs.Program.{Program, unit_for}
 use Rattle.safl_net.specs.declared.cell.Sig.{Sig}
 use Rattle.safl_net.specs.Netlist.{Netlist}
 use Rattle.safl_net.specs.Growth.{Val, Wired, words}
-use Rattle.safl_gates.specs.declared.loads.Load.{Load}
-use Rattle.safl_gates.specs.Tables.{taken_from, sig_in, on_in, on_from, SomeFit, BitsFit}
-use Rattle.safl_gates.specs.Rows.{on_any, on_two, maybe_one}
+use Rattle.safl_net.specs.Bits.{on, gate}
+use Rattle.safl_calls.specs.Picks.{first}
+use Rattle.safl_lower.specs.declared.loads.Load.{Load}
+use Rattle.safl_lower.specs.Tables.{pin, taken_at, taken_from, sig_in, on_in, on_from, SomeFit, BitsFit}
+use Rattle.safl_lower.specs.Rows.{on_any, on_two, maybe_one}
+use Rattle.safl_unit.specs.declared.parts.Outcomes.{Outcomes}
 
 -- it holds of a number below n
 unfoldable pub one_below : (ℕ → Bool) → ℕ → Bool
@@ -53,3 +57,37 @@ others_on v row own = on_two v row || (on_any v row && not (on_in v own))
 -- it is another member of the unit, with its bit
 abbrev pub rival : Program → (ℕ → Bool) → ℕ → ℕ → Bool
 rival C e f g = (C.unit g == C.unit f) && (not (g == f) && e g)
+
+-- it shows whether another than the function's own bit is 1, where its unit has another member
+abbrev pub ShowsOthers : Netlist → Bool → List Sig → Option Sig → Option Sig → Type 0
+ShowsOthers n many row own o = (v : Val) → Wired n v → on_in v o ≡ (many && others_on v row own)
+
+-- ---- what comes to each unit and function
+
+-- by unit, the word of the first member that ends
+abbrev pub ShowsEnds : Program → Netlist → Outcomes → List (Option Load) → Type 0
+ShowsEnds C n o all =
+    ShowsLoads n all C.functions (λ u. C.result u ∷ []) (λ v u. first (λ f. gate (u == C.unit f) (taken_at v o.ends.items f)) C.functions)
+
+-- by function, the arguments of the first site that starts and calls it
+abbrev pub ShowsArguments : Program → Netlist → Outcomes → List Sig → List (Option Load) → Type 0
+ShowsArguments C n o goes all = ShowsLoads n all C.functions C.params
+    (λ v f. first (λ k. gate ((f == C.callee k) && on v (pin goes k)) (operands_in v (slice_get o.wants.items k))) (suc C.sites))
+
+-- by unit, that a site starts it
+abbrev pub ShowsStarts : Program → Netlist → List Sig → List (Option Sig) → Type 0
+ShowsStarts C n goes bits = ShowsBits n bits C.functions (λ v u. one_below (λ k. (u == unit_for C k) && on v (pin goes k)) (suc C.sites))
+
+-- by unit, that a member ends or is looped to
+abbrev pub ShowsClears : Program → Netlist → Outcomes → List (Option Load) → List (Option Sig) → Type 0
+ShowsClears C n o ends bits = ShowsBits n bits C.functions
+    (λ v u. is_some (taken_from v ends u) || one_below (λ h. (u == C.unit h) && is_some (taken_from v o.loops.items h)) C.functions)
+
+-- by function, that a site or a tail call starts it
+abbrev pub ShowsEntries : Program → Netlist → Outcomes → List (Option Load) → List (Option Sig) → Type 0
+ShowsEntries C n o loads bits = ShowsBits n bits C.functions
+    (λ v f. is_some (taken_from v loads f) || one_below (λ h. (f == h) && is_some (taken_from v o.loops.items h)) C.functions)
+
+-- by function, that another member of its unit has its bit
+abbrev pub ShowsRivals : Program → Netlist → List (Option Sig) → List (Option Sig) → Type 0
+ShowsRivals C n entries bits = ShowsBelow n bits C.functions (λ v f. one_below (rival C (on_from v entries) f) C.functions)

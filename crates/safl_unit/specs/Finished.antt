@@ -1,7 +1,8 @@
 -- The circuit before its temporaries are made, and when all is set.
-use Rattle.std.specs.Prelude.{◌≡◌, ℕ, suc, ◌+◌, ◌<◌, ◌≤◌, List, [], ◌∷◌, ◌++◌, map, length, Some, None, codes, is_some, slice_get, false}
+use Rattle.std.specs.Prelude.{◌≡◌, ℕ, suc, ◌+◌, ◌<◌, ◌≤◌, List, [], ◌∷◌, ◌++◌, map, length, Some, None, Result, IfOk, codes, is_some, slice_get, false}
 use Rattle.safl_term.specs.Program.{Program}
 use Rattle.safl_net.specs.declared.cell.Op.TheVariants.{Copy}
+use Rattle.safl_net.specs.declared.cell.Sig.{Sig}
 use Rattle.safl_net.specs.Netlist.{Netlist, Signal, Input, Reg, Wire}
 use Rattle.safl_net.specs.Valuations.{IsAcyclic}
 use Rattle.safl_net.specs.Growth.{Says}
@@ -9,13 +10,16 @@ use Rattle.safl_net.specs.Bits.{on}
 use Rattle.safl_circuit.specs.Equations.{Choice, many, end_word, loop_words, want, ret, go}
 use Rattle.safl_circuit.specs.Names.{Names}
 use Rattle.safl_circuit.specs.Layout.{Line, layout_inputs, layout_registers, layout_wires}
-use Rattle.safl_gates.specs.Sources.{IsSource}
-use Rattle.safl_gates.specs.Tables.{pin, EachAt}
+use Rattle.safl_lower.specs.Sources.{IsSource}
+use Rattle.safl_lower.specs.Tables.{pin, EachAt}
 use Rattle.safl_unit.specs.declared.parts.UnitPins.{UnitPins}
 use Rattle.safl_unit.specs.declared.parts.Bank.{Bank}
 use Rattle.safl_unit.specs.declared.parts.Pins.{Pins}
+use Rattle.safl_unit.specs.declared.parts.Returns.{Returns}
+use Rattle.safl_unit.specs.declared.parts.Outcomes.{Outcomes}
 use Rattle.safl_unit.specs.declared.parts.Controls.{Controls}
 use Rattle.safl_unit.specs.Cycles.{InEachCycle}
+use Rattle.safl_unit.specs.Stages.{HasReturns, HasOutcomes, HasGoes}
 use Rattle.safl_unit.specs.Ties.{Tie, sig_of, numbered, register_ties, wire_ties}
 
 -- ---- the signals that are declared
@@ -74,6 +78,11 @@ pub record HasControls (C : Program) (P : Choice) (n : Netlist) (p : Pins) (T : 
   pub rets : InEachCycle C P n p (λ v r i. (k : ℕ) → 0 < k → k ≤ C.sites → on v (pin T.rets.items k) ≡ ret C r k)
   pub goes : InEachCycle C P n p (λ v r i. (k : ℕ) → k ≤ C.sites → on v (pin T.goes.items k) ≡ go C P r i k)
 
+-- on success, where returns, outcomes and starts are those of a program, so are the controls
+abbrev pub GivesControls : {E : Type 0} → Result Controls E → Netlist → Netlist → Returns → Outcomes → List Sig → Type 0
+GivesControls r old new s o goes = (C : Program) (P : Choice) (p : Pins)
+    → HasReturns C P old p s → HasOutcomes C P old p o → HasGoes C P old p goes → IfOk r (λ t. HasControls C P new p t)
+
 -- ---- the signals when all is set
 
 abbrev pub set_register : Tie → Signal
@@ -87,7 +96,8 @@ set_wire t = record { name = t.0.0; width = t.0.1; kind = Wire (Some (record { o
 pub record Finishes (C : Program) (D : Names) (P : Choice) (p : Pins) (next : Bank) (T : Controls) (old new : Netlist) : Type 0 where
   pub more : List Signal
   pub before : old.signals ≡ declared_signals C D P ++ more
-  pub signals : new.signals ≡ (map input_line (layout_inputs C D) ++ (map set_register (register_ties C D P next) ++ map set_wire (wire_ties C D P p.first_wire T))) ++ more
+  pub signals : new.signals ≡ (map input_line (layout_inputs C D) ++ (map set_register (register_ties C D P next)
+      ++ map set_wire (wire_ties C D P p.first_wire T))) ++ more
   pub main : UnitPins
   pub is_main : slice_get p.bank.units.items C.main ≡ Some main
   pub outputs : new.outputs ≡ (codes "done", main.fin.0) ∷ (codes "result", main.res.0) ∷ []

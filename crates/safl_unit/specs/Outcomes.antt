@@ -5,9 +5,9 @@ use Rattle.safl_term.specs.Checked.{CheckedProgram, program_of, first_site_of}
 use Rattle.safl_term.specs.Sizes.{nodes}
 use Rattle.safl_net.specs.Netlist.{Netlist}
 use Rattle.safl_net.specs.Growth.{Val}
-use Rattle.safl_gates.specs.declared.loads.Load.{Load}
-use Rattle.safl_gates.specs.Tables.{load_in, taken, taken_at, taken_from, one_word}
-use Rattle.safl_gates.specs.Rows.{row_at}
+use Rattle.safl_lower.specs.declared.loads.Load.{Load}
+use Rattle.safl_lower.specs.Tables.{load_in, taken, taken_at, taken_from, one_word}
+use Rattle.safl_lower.specs.Rows.{row_at}
 use Rattle.safl_lower.specs.declared.parts.SitePorts.{SitePorts}
 use Rattle.safl_lower.specs.declared.parts.Body.{Body}
 use Rattle.safl_lower.specs.Loads.{loads_cost}

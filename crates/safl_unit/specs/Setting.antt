@@ -38,6 +38,10 @@ pub record Takes (n : Netlist) (t : ℕ) (k : Kind) (s : Sig) : Type 0 where
 abbrev pub at_ties : Program → Names → ℕ → Sig → List Tie
 at_ties C D f s = cond (many C f) (((of_function D (codes "at$") f, 1), s) ∷ []) []
 
+-- the registers of a function, of a bank
+abbrev pub bank_ties : Program → Names → Bank → ℕ → List Tie
+bank_ties C D b f = function_ties C D b.units.items b.members.items f
+
 -- the registers of all functions
 abbrev pub own_ties : Program → Names → Bank → List Tie
 own_ties C D b = ties (function_ties C D b.units.items b.members.items) C.functions
@@ -46,7 +50,8 @@ own_ties C D b = ties (function_ties C D b.units.items b.members.items) C.functi
 pub record IsSet (C : Program) (D : Names) (P : Choice) (p : Pins) (next : Bank) (T : Controls) (old new : Netlist) : Type 0 where
   pub more : List Signal
   pub before : old.signals ≡ declared_signals C D P ++ more
-  pub signals : new.signals ≡ (map input_line (layout_inputs C D) ++ (map set_register (register_ties C D P next) ++ map set_wire (wire_ties C D P p.first_wire T))) ++ more
+  pub signals : new.signals ≡ (map input_line (layout_inputs C D) ++ (map set_register (register_ties C D P next)
+      ++ map set_wire (wire_ties C D P p.first_wire T))) ++ more
   pub outputs : new.outputs ≡ []
   pub count : length new.signals ≡ length old.signals
   pub names : map (λ g. g.name) new.signals ≡ map (λ g. g.name) old.signals

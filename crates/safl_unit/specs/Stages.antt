@@ -9,10 +9,11 @@ use Rattle.safl_lower.specs.declared.parts.SitePorts.{SitePorts}
 use Rattle.safl_net.specs.Bits.{on}
 use Rattle.safl_term.specs.Sizes.{nodes}
 use Rattle.safl_lower.specs.Lowering.{returned_word, was_sent}
-use Rattle.safl_circuit.specs.Equations.{Registers, Inputs, Choice, ret, on_wires, body_wants, end_word, loop_words, go, ends, loads, starts, clears, starts_it, starts_other, next}
-use Rattle.safl_gates.specs.declared.loads.Load.{Load}
-use Rattle.safl_gates.specs.Sources.{IsSource}
-use Rattle.safl_gates.specs.Tables.{pin, taken_at, taken_from, on_from, one_word, LoadsFit, SomeFit, BitsFit}
+use Rattle.safl_circuit.specs.Equations.{Registers, Inputs, Choice, ret, on_wires, body_wants, end_word, loop_words}
+use Rattle.safl_circuit.specs.Equations.{go, ends, loads, starts, clears, starts_it, starts_other, next}
+use Rattle.safl_lower.specs.declared.loads.Load.{Load}
+use Rattle.safl_lower.specs.Sources.{IsSource}
+use Rattle.safl_lower.specs.Tables.{pin, taken_at, taken_from, on_from, one_word, LoadsFit, SomeFit, BitsFit}
 use Rattle.safl_unit.specs.declared.parts.Bank.{Bank}
 use Rattle.safl_unit.specs.declared.parts.Pins.{Pins}
 use Rattle.safl_unit.specs.declared.parts.Returns.{Returns}

@@ -1,22 +1,20 @@
 //! The sites of each unit in a row, and for each of them that the unit rests and none before it wants.
 
-ghost use Rattle.std.specs.Prelude.{◌≡◌, ℕ, suc, ◌+◌, ◌*◌, ◌^◌, ◌≤◌, ◌∷◌, true, not, map, length, Some, slice_get, IfOk, OnOk};
-ghost use Rattle.safl_term.specs.Checked.{program_of};
-ghost use Rattle.safl_term.specs.Program.{unit_for};
+ghost use Rattle.std.specs.Prelude.{◌≡◌, ℕ, suc, ◌+◌, ◌*◌, ◌^◌, ◌≤◌, ◌∷◌, true, not, map, length, IfOk, OnOk};
 ghost use Rattle.safl_net.specs.Names.{IsTidy};
 ghost use Rattle.safl_net.specs.Growth.{Val, Wired};
 ghost use Rattle.safl_net.specs.Bits.{on};
-ghost use Rattle.safl_gates.specs.Sources.{IsSource, Builds, HasRoom};
-ghost use Rattle.safl_gates.specs.Heights.{AllWithin};
-ghost use Rattle.safl_gates.specs.Rows.{AreBits, frees, row_at};
-ghost use Rattle.safl_unit.specs.Arbiters.{site_row, tally, RowsFree};
-ghost use Rattle.safl_unit.specs.Cycles.{PinsFit, choice_of};
+ghost use Rattle.safl_lower.specs.Sources.{IsSource, Builds, HasRoom};
+ghost use Rattle.safl_lower.specs.Heights.{AllWithin};
+ghost use Rattle.safl_lower.specs.Rows.{AreBits, frees, row_at};
+ghost use Rattle.safl_unit.specs.Arbiters.{site_row, tally, AreRanks, AllRowsFree};
+ghost use Rattle.safl_unit.specs.Cycles.{PinsFit, choice_of, program_in};
 
 use crate::arrivals::{callee_of, function_count, site_count, unit_of};
 use crate::parts::{Outcomes, Pins};
-use safl_gates::gates::inverse;
-use safl_gates::joins::{no_rows, push_at};
-use safl_gates::trees::free_before;
+use safl_lower::gates::inverse;
+use safl_lower::rows::{no_rows, push_at};
+use safl_lower::trees::free_before;
 use safl_net::{Net, Sig};
 use safl_sites::Planned;
 use safl_word::NoMemory;
@@ -31,11 +29,11 @@ pub struct Wants {
 
 /// The sites of each unit.
 pub fn unit_wants(alloc: Global, p: &Planned, outcomes: &Outcomes) -> Result<Wants, NoMemory>
-    requires wants { length outcomes.now.wants.items ≡ suc (program_of p.now.program).sites }
-    ensures count { IfOk result (λ w. length w.rows.items ≡ (program_of p.now.program).functions) }
-    ensures rows { IfOk result (λ w. (u : ℕ) → row_at w.rows.items u ≡ site_row (program_of p.now.program) outcomes.now.wants.items u (program_of p.now.program).sites) }
-    ensures ranks_count { IfOk result (λ w. length w.ranks.items ≡ suc (program_of p.now.program).sites) }
-    ensures ranks { IfOk result (λ w. (m : ℕ) (q : ℕ) → slice_get w.ranks.items (suc m) ≡ Some q → q ≡ length (site_row (program_of p.now.program) outcomes.now.wants.items (unit_for (program_of p.now.program) (suc m)) m)) }
+    requires wants { length outcomes.now.wants.items ≡ suc (program_in p.now).sites }
+    ensures count { IfOk result (λ w. length w.rows.items ≡ (program_in p.now).functions) }
+    ensures rows { IfOk result (λ w. (u : ℕ) → row_at w.rows.items u ≡ site_row (program_in p.now) outcomes.now.wants.items u (program_in p.now).sites) }
+    ensures ranks_count { IfOk result (λ w. length w.ranks.items ≡ suc (program_in p.now).sites) }
+    ensures ranks { IfOk result (λ w. AreRanks (program_in p.now) outcomes.now.wants.items w.ranks.items) }
 {
     let functions = function_count(p);
     let mut rows = no_rows(alloc, functions)?;
@@ -95,13 +93,13 @@ pub fn unit_frees(
     rows: &Vec<Vec<Sig>>,
 ) -> Result<Vec<Vec<Sig>>, NoMemory>
     requires tidy { IsTidy net.old }
-    requires pins { PinsFit (program_of p.now.program) net.old pins.now }
-    requires count { length rows.now.items ≡ (program_of p.now.program).functions }
+    requires pins { PinsFit (program_in p.now) net.old pins.now }
+    requires count { length rows.now.items ≡ (program_in p.now).functions }
     requires rows { (u : ℕ) → AreBits net.old (row_at rows.now.items u) }
-    requires room { HasRoom net.old (3 * tally (λ u. length (row_at rows.now.items u)) (program_of p.now.program).functions) }
+    requires room { HasRoom net.old (3 * tally (λ u. length (row_at rows.now.items u)) (program_in p.now).functions) }
     ensures tidy { IsTidy net.new }
-    ensures built { OnOk result (Builds net.old net.new (3 * tally (λ u. length (row_at rows.now.items u)) (program_of p.now.program).functions)) }
-    ensures done { IfOk result (λ out. RowsFree (program_of p.now.program) (choice_of p.now) net.new pins.now.bank.units.items rows.now.items out.items (program_of p.now.program).functions) }
+    ensures built { OnOk result (Builds net.old net.new (3 * tally (λ u. length (row_at rows.now.items u)) (program_in p.now).functions)) }
+    ensures done { IfOk result (λ out. AllRowsFree (program_in p.now) (choice_of p.now) net.new pins.now rows.now.items out.items) }
 {
     let functions = function_count(p);
     let mut out = Vec::new(alloc);

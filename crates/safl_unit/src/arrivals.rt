@@ -1,25 +1,22 @@
 //! What comes to each unit and function at the edge: its ends, starts, loads and clears.
 
-ghost use Rattle.std.specs.Prelude.{◌≡◌, ℕ, suc, ◌+◌, ◌*◌, ◌<◌, ◌≤◌, ◌==◌, ◌&&◌, ◌||◌, List, [], ◌∷◌, length, map, Option, Some, None, IfOk, OnOk, slice_get, is_some};
-ghost use Rattle.safl_term.specs.Checked.{IsChecked, program_of};
-ghost use Rattle.safl_term.specs.Program.{unit_for};
+ghost use Rattle.std.specs.Prelude.{◌≡◌, ℕ, suc, ◌+◌, ◌*◌, ◌<◌, ◌≤◌, List, length, map, Option, Some, None, IfOk, OnOk, slice_get};
+ghost use Rattle.safl_term.specs.Checked.{IsChecked};
 ghost use Rattle.safl_sites.specs.Plan.{IsPlan};
 ghost use Rattle.safl_sites.specs.Planned.{arbiter_of, kept_of};
 ghost use Rattle.safl_net.specs.Names.{IsTidy};
-ghost use Rattle.safl_net.specs.Growth.{Val, Wired};
-ghost use Rattle.safl_net.specs.Bits.{on, gate};
-ghost use Rattle.safl_calls.specs.Picks.{first};
-ghost use Rattle.safl_gates.specs.Sources.{IsSource, Builds, HasRoom};
-ghost use Rattle.safl_gates.specs.Rows.{maybe_one, row_at};
-ghost use Rattle.safl_gates.specs.Tables.{pin, load_in, taken_at, taken_from, on_in, on_from, IsBitIn, BitsFit, SomeFit};
+ghost use Rattle.safl_lower.specs.Sources.{IsSource, Builds, HasRoom};
+ghost use Rattle.safl_lower.specs.Rows.{maybe_one, row_at};
+ghost use Rattle.safl_lower.specs.Tables.{pin, load_in, IsBitIn, BitsFit, SomeFit, JoinsSome};
 ghost use Rattle.safl_unit.specs.Stages.{OutcomesFit};
-ghost use Rattle.safl_unit.specs.Edges.{one_below, bit_of, operands_in, ShowsBits, ShowsLoads};
+ghost use Rattle.safl_unit.specs.Edges.{bit_of, ShowsEnds, ShowsArguments, ShowsStarts, ShowsClears, ShowsEntries};
+ghost use Rattle.safl_unit.specs.Cycles.{program_in};
 
 use crate::parts::Outcomes;
-use safl_gates::joins::{
+use safl_lower::loads::{Load, add_bit, load_of};
+use safl_lower::rows::{
     join_bits, join_loads, no_load_rows, no_rows, push_at, push_load, push_some,
 };
-use safl_gates::loads::{Load, add_bit, load_of};
 use safl_net::{Net, Sig};
 use safl_sites::Planned;
 use safl_term::Checked;
@@ -34,11 +31,11 @@ pub fn unit_ends(
     outcomes: &Outcomes,
 ) -> Result<Vec<Option<Load>>, NoMemory>
     requires tidy { IsTidy net.old }
-    requires outcomes { OutcomesFit (program_of p.now.program) net.old outcomes.now }
-    requires room { HasRoom net.old (2 * (program_of p.now.program).functions) }
+    requires outcomes { OutcomesFit (program_in p.now) net.old outcomes.now }
+    requires room { HasRoom net.old (2 * (program_in p.now).functions) }
     ensures tidy { IsTidy net.new }
-    ensures built { OnOk result (Builds net.old net.new (2 * (program_of p.now.program).functions)) }
-    ensures done { IfOk result (λ all. ShowsLoads net.new all.items (program_of p.now.program).functions (λ u. (program_of p.now.program).result u ∷ []) (λ v u. first (λ f. gate (u == (program_of p.now.program).unit f) (taken_at v outcomes.now.ends.items f)) (program_of p.now.program).functions)) }
+    ensures built { OnOk result (Builds net.old net.new (2 * (program_in p.now).functions)) }
+    ensures done { IfOk result (λ all. ShowsEnds (program_in p.now) net.new outcomes.now all.items) }
 {
     let functions = function_count(p);
     let mut rows = no_load_rows(alloc, functions)?;
@@ -61,13 +58,13 @@ pub fn function_loads(
     goes: &[Sig],
 ) -> Result<Vec<Option<Load>>, NoMemory>
     requires tidy { IsTidy net.old }
-    requires outcomes { OutcomesFit (program_of p.now.program) net.old outcomes.now }
-    requires count { length goes.now ≡ suc (program_of p.now.program).sites }
-    requires goes { (k : ℕ) → k ≤ (program_of p.now.program).sites → IsSource net.old (pin goes.now k) 1 }
-    requires room { HasRoom net.old (17 * (program_of p.now.program).sites + 17) }
+    requires outcomes { OutcomesFit (program_in p.now) net.old outcomes.now }
+    requires count { length goes.now ≡ suc (program_in p.now).sites }
+    requires goes { (k : ℕ) → k ≤ (program_in p.now).sites → IsSource net.old (pin goes.now k) 1 }
+    requires room { HasRoom net.old (17 * (program_in p.now).sites + 17) }
     ensures tidy { IsTidy net.new }
-    ensures built { OnOk result (Builds net.old net.new (17 * (program_of p.now.program).sites + 17)) }
-    ensures done { IfOk result (λ all. ShowsLoads net.new all.items (program_of p.now.program).functions (program_of p.now.program).params (λ v f. first (λ k. gate ((f == (program_of p.now.program).callee k) && on v (pin goes.now k)) (operands_in v (slice_get outcomes.now.wants.items k))) (suc (program_of p.now.program).sites))) }
+    ensures built { OnOk result (Builds net.old net.new (17 * (program_in p.now).sites + 17)) }
+    ensures done { IfOk result (λ all. ShowsArguments (program_in p.now) net.new outcomes.now goes.now all.items) }
 {
     let functions = function_count(p);
     let mut rows = no_load_rows(alloc, functions)?;
@@ -91,12 +88,12 @@ pub fn unit_starts(
     goes: &[Sig],
 ) -> Result<Vec<Option<Sig>>, NoMemory>
     requires tidy { IsTidy net.old }
-    requires count { length goes.now ≡ suc (program_of p.now.program).sites }
-    requires goes { (k : ℕ) → k ≤ (program_of p.now.program).sites → IsSource net.old (pin goes.now k) 1 }
-    requires room { HasRoom net.old ((program_of p.now.program).sites + 1) }
+    requires count { length goes.now ≡ suc (program_in p.now).sites }
+    requires goes { (k : ℕ) → k ≤ (program_in p.now).sites → IsSource net.old (pin goes.now k) 1 }
+    requires room { HasRoom net.old ((program_in p.now).sites + 1) }
     ensures tidy { IsTidy net.new }
-    ensures built { OnOk result (Builds net.old net.new ((program_of p.now.program).sites + 1)) }
-    ensures done { IfOk result (λ bits. ShowsBits net.new bits.items (program_of p.now.program).functions (λ v u. one_below (λ k. (u == unit_for (program_of p.now.program) k) && on v (pin goes.now k)) (suc (program_of p.now.program).sites))) }
+    ensures built { OnOk result (Builds net.old net.new ((program_in p.now).sites + 1)) }
+    ensures done { IfOk result (λ bits. ShowsStarts (program_in p.now) net.new goes.now bits.items) }
 {
     let functions = function_count(p);
     let mut rows = no_rows(alloc, functions)?;
@@ -120,13 +117,13 @@ pub fn unit_clears(
     ends: &[Option<Load>],
 ) -> Result<Vec<Option<Sig>>, NoMemory>
     requires tidy { IsTidy net.old }
-    requires outcomes { OutcomesFit (program_of p.now.program) net.old outcomes.now }
-    requires count { length ends.now ≡ (program_of p.now.program).functions }
+    requires outcomes { OutcomesFit (program_in p.now) net.old outcomes.now }
+    requires count { length ends.now ≡ (program_in p.now).functions }
     requires ends { (ws : ℕ → List ℕ) × SomeFit net.old ends.now ws }
-    requires room { HasRoom net.old (program_of p.now.program).functions }
+    requires room { HasRoom net.old (program_in p.now).functions }
     ensures tidy { IsTidy net.new }
-    ensures built { OnOk result (Builds net.old net.new (program_of p.now.program).functions) }
-    ensures done { IfOk result (λ bits. ShowsBits net.new bits.items (program_of p.now.program).functions (λ v u. is_some (taken_from v ends.now u) || one_below (λ h. (u == (program_of p.now.program).unit h) && is_some (taken_from v outcomes.now.loops.items h)) (program_of p.now.program).functions)) }
+    ensures built { OnOk result (Builds net.old net.new (program_in p.now).functions) }
+    ensures done { IfOk result (λ bits. ShowsClears (program_in p.now) net.new outcomes.now ends.now bits.items) }
 {
     let functions = function_count(p);
     let mut rows = load_rows(alloc, ends, functions)?;
@@ -148,13 +145,13 @@ pub fn function_entries(
     loads: &[Option<Load>],
 ) -> Result<Vec<Option<Sig>>, NoMemory>
     requires tidy { IsTidy net.old }
-    requires outcomes { OutcomesFit (program_of p.now.program) net.old outcomes.now }
-    requires count { length loads.now ≡ (program_of p.now.program).functions }
+    requires outcomes { OutcomesFit (program_in p.now) net.old outcomes.now }
+    requires count { length loads.now ≡ (program_in p.now).functions }
     requires loads { (ws : ℕ → List ℕ) × SomeFit net.old loads.now ws }
-    requires room { HasRoom net.old (program_of p.now.program).functions }
+    requires room { HasRoom net.old (program_in p.now).functions }
     ensures tidy { IsTidy net.new }
-    ensures built { OnOk result (Builds net.old net.new (program_of p.now.program).functions) }
-    ensures done { IfOk result (λ bits. ShowsBits net.new bits.items (program_of p.now.program).functions (λ v f. is_some (taken_from v loads.now f) || one_below (λ h. (f == h) && is_some (taken_from v outcomes.now.loops.items h)) (program_of p.now.program).functions)) }
+    ensures built { OnOk result (Builds net.old net.new (program_in p.now).functions) }
+    ensures done { IfOk result (λ bits. ShowsEntries (program_in p.now) net.new outcomes.now loads.now bits.items) }
 {
     let functions = function_count(p);
     let mut all = load_bits(alloc, loads, functions)?;
@@ -169,7 +166,7 @@ pub fn function_entries(
 pub fn program(p: &Planned) -> &Checked
     ensures same { result.now ≡ p.now.program }
     ensures checked { IsChecked p.now.program }
-    ensures plan { IsPlan (program_of p.now.program) (arbiter_of p.now) (kept_of p.now) }
+    ensures plan { IsPlan (program_in p.now) (arbiter_of p.now) (kept_of p.now) }
 {
     let c = p.checked();
     let functions = c.functions();
@@ -179,7 +176,7 @@ pub fn program(p: &Planned) -> &Checked
 
 /// The number of functions.
 pub fn function_count(p: &Planned) -> u32
-    ensures count { result ≡ (program_of p.now.program).functions }
+    ensures count { result ≡ (program_in p.now).functions }
     ensures checked { IsChecked p.now.program }
 {
     program(p).functions()
@@ -187,7 +184,7 @@ pub fn function_count(p: &Planned) -> u32
 
 /// The number of sites.
 pub fn site_count(p: &Planned) -> u32
-    ensures count { result ≡ (program_of p.now.program).sites }
+    ensures count { result ≡ (program_in p.now).sites }
     ensures small { result ≤ 4000 }
 {
     program(p).sites()
@@ -195,19 +192,19 @@ pub fn site_count(p: &Planned) -> u32
 
 /// The unit of a function.
 pub fn unit_of(p: &Planned, f: u32) -> u32
-    requires { f < (program_of p.now.program).functions }
-    ensures number { result ≡ (program_of p.now.program).unit f }
+    requires { f < (program_in p.now).functions }
+    ensures number { result ≡ (program_in p.now).unit f }
     ensures within { result ≤ f }
-    ensures width { (program_of p.now.program).result result ≡ (program_of p.now.program).result f }
+    ensures width { (program_in p.now).result result ≡ (program_in p.now).result f }
 {
     program(p).unit(f)
 }
 
 /// The function that a site calls; site 0 is the call of main from outside.
 pub fn callee_of(p: &Planned, k: u32) -> u32
-    requires { k ≤ (program_of p.now.program).sites }
-    ensures number { result ≡ (program_of p.now.program).callee k }
-    ensures within { result < (program_of p.now.program).functions }
+    requires { k ≤ (program_in p.now).sites }
+    ensures number { result ≡ (program_in p.now).callee k }
+    ensures within { result < (program_in p.now).functions }
 {
     program(p).callee(k)
 }
@@ -215,9 +212,9 @@ pub fn callee_of(p: &Planned, k: u32) -> u32
 /// The function in whose body a site stands.
 pub fn caller_of(p: &Planned, k: u32) -> u32
     requires least { 1 ≤ k }
-    requires most { k ≤ (program_of p.now.program).sites }
-    ensures number { result ≡ (program_of p.now.program).caller k }
-    ensures within { result < (program_of p.now.program).functions }
+    requires most { k ≤ (program_in p.now).sites }
+    ensures number { result ≡ (program_in p.now).caller k }
+    ensures within { result < (program_in p.now).functions }
 {
     program(p).caller(k)
 }
@@ -293,7 +290,7 @@ pub fn add_some(
     ensures built { Builds net.old net.new 1 }
     ensures count { length bits.new.items ≡ length bits.old.items }
     ensures fits { OnOk result (BitsFit net.new bits.new.items) }
-    ensures shows { OnOk result ((v : Val) → Wired net.new v → (i : ℕ) → on_from v bits.new.items i ≡ (on_from v bits.old.items i || ((i == place) && on_in v bit))) }
+    ensures shows { OnOk result (JoinsSome net.new place bit bits.old.items bits.new.items) }
 {
     match bit {
         None => Ok(()),

@@ -5,21 +5,21 @@ ghost use Rattle.safl_term.specs.Checked.{IsChecked, program_of};
 ghost use Rattle.safl_term.specs.Sizes.{nodes};
 ghost use Rattle.safl_net.specs.Names.{IsTidy};
 ghost use Rattle.safl_net.specs.Bits.{on};
-ghost use Rattle.safl_gates.specs.declared.loads.Load.{Load as load};
-ghost use Rattle.safl_gates.specs.Sources.{IsSource, Builds, HasRoom};
-ghost use Rattle.safl_gates.specs.Rows.{load_joins, row_at, total};
+ghost use Rattle.safl_lower.specs.declared.loads.Load.{Load as load};
+ghost use Rattle.safl_lower.specs.Sources.{IsSource, Builds, HasRoom};
+ghost use Rattle.safl_lower.specs.Rows.{load_joins, row_at, total};
 ghost use Rattle.safl_lower.specs.Loads.{load_cost, loads_cost};
 ghost use Rattle.safl_circuit.specs.Equations.{Choice, path};
-ghost use Rattle.safl_unit.specs.Cycles.{choice_of, PinsFit, InEachCycle};
+ghost use Rattle.safl_unit.specs.Cycles.{choice_of, PinsFit, InEachCycle, program_in};
 ghost use Rattle.safl_unit.specs.Stages.{body_nodes, HasReturns, HasOutcomes};
 ghost use Rattle.safl_unit.specs.Outcomes.{AreOwnPorts, HasBody, PushesLoads, maybe_load};
 
 use crate::arrivals::program;
 use crate::names::has_peers;
 use crate::parts::{Outcomes, Pins, Returns};
-use safl_gates::gates::both;
-use safl_gates::joins::{join_loads, no_load_rows, push_load};
-use safl_gates::loads::Load;
+use safl_lower::gates::both;
+use safl_lower::loads::Load;
+use safl_lower::rows::{join_loads, no_load_rows, push_load};
 use safl_lower::{Body, Ports, SitePorts, lower};
 use safl_net::{Net, Sig};
 use safl_sites::Planned;
@@ -47,12 +47,12 @@ pub fn lower_bodies(
     returns: &Returns,
 ) -> Result<Outcomes, NoMemory>
     requires tidy { IsTidy net.old }
-    requires pins { PinsFit (program_of p.now.program) net.old pins.now }
-    requires returns { HasReturns (program_of p.now.program) (choice_of p.now) net.old pins.now returns.now }
-    requires room { HasRoom net.old (33 * body_nodes (program_of p.now.program) (program_of p.now.program).functions + 33 * (program_of p.now.program).functions) }
+    requires pins { PinsFit (program_in p.now) net.old pins.now }
+    requires returns { HasReturns (program_in p.now) (choice_of p.now) net.old pins.now returns.now }
+    requires room { HasRoom net.old (33 * body_nodes (program_in p.now) (program_in p.now).functions + 33 * (program_in p.now).functions) }
     ensures tidy { IsTidy net.new }
-    ensures built { OnOk result (Builds net.old net.new (33 * body_nodes (program_of p.now.program) (program_of p.now.program).functions + 33 * (program_of p.now.program).functions)) }
-    ensures done { IfOk result (λ o. HasOutcomes (program_of p.now.program) (choice_of p.now) net.new pins.now o) }
+    ensures built { OnOk result (Builds net.old net.new (33 * body_nodes (program_in p.now) (program_in p.now).functions + 33 * (program_in p.now).functions)) }
+    ensures done { IfOk result (λ o. HasOutcomes (program_in p.now) (choice_of p.now) net.new pins.now o) }
 {
     let c = p.checked();
     let mut all = no_outcomes(alloc, c.functions(), pins)?;
@@ -109,12 +109,12 @@ fn body_of(
     returns: &Returns,
 ) -> Result<Body, NoMemory>
     requires tidy { IsTidy net.old }
-    requires function { f < (program_of p.now.program).functions }
-    requires pins { PinsFit (program_of p.now.program) net.old pins.now }
-    requires returns { HasReturns (program_of p.now.program) (choice_of p.now) net.old pins.now returns.now }
-    requires room { HasRoom net.old (32 * nodes ((program_of p.now.program).body f) + 33) }
+    requires function { f < (program_in p.now).functions }
+    requires pins { PinsFit (program_in p.now) net.old pins.now }
+    requires returns { HasReturns (program_in p.now) (choice_of p.now) net.old pins.now returns.now }
+    requires room { HasRoom net.old (32 * nodes ((program_in p.now).body f) + 33) }
     ensures tidy { IsTidy net.new }
-    ensures built { OnOk result (Builds net.old net.new (32 * nodes ((program_of p.now.program).body f) + 33)) }
+    ensures built { OnOk result (Builds net.old net.new (32 * nodes ((program_in p.now).body f) + 33)) }
     ensures done { IfOk result (λ b. HasBody p.now.program (choice_of p.now) net.new pins.now f b) }
 {
     let c = program(p);

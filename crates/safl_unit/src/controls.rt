@@ -1,18 +1,14 @@
 //! The signals that the named wires copy.
 
 ghost use Rattle.std.specs.Prelude.{◌≡◌, map, IfOk, OnOk};
-ghost use Rattle.safl_term.specs.Program.{Program};
 ghost use Rattle.safl_net.specs.Names.{IsTidy};
-ghost use Rattle.safl_gates.specs.Sources.{Builds, HasRoom};
-ghost use Rattle.safl_gates.specs.Tables.{load_bit, bit_or};
-ghost use Rattle.safl_circuit.specs.Equations.{Choice};
-ghost use Rattle.safl_unit.specs.declared.parts.Pins.{Pins};
-ghost use Rattle.safl_unit.specs.Stages.{HasReturns, HasOutcomes, HasGoes};
-ghost use Rattle.safl_unit.specs.Finished.{HasControls};
+ghost use Rattle.safl_lower.specs.Sources.{Builds, HasRoom};
+ghost use Rattle.safl_lower.specs.Tables.{load_bit, bit_or};
+ghost use Rattle.safl_unit.specs.Finished.{GivesControls};
 
 use crate::parts::{Controls, Outcomes, Returns};
-use safl_gates::gates::zero;
-use safl_gates::loads::Load;
+use safl_lower::gates::zero;
+use safl_lower::loads::Load;
 use safl_net::{Net, Sig};
 use safl_word::NoMemory;
 use std::alloc::{AllocError, Global};
@@ -30,7 +26,7 @@ pub fn controls(
     requires room { HasRoom net.old 1 }
     ensures tidy { IsTidy net.new }
     ensures built { OnOk result (Builds net.old net.new 1) }
-    ensures done { (C : Program) (P : Choice) (pins : Pins) → HasReturns C P net.old pins returns.now → HasOutcomes C P net.old pins outcomes.now → HasGoes C P net.old pins goes.now → IfOk result (λ t. HasControls C P net.new pins t) }
+    ensures done { GivesControls result net.old net.new returns.now outcomes.now goes.now }
 {
     let never = zero(net)?;
     let ends = bits_of(alloc, &outcomes.ends)?;

@@ -1,6 +1,6 @@
 //! The ports, registers and named wires of a circuit.
 
-ghost use Rattle.std.specs.Prelude.{◌≡◌, ◌+◌, ◌*◌, ◌<◌, ◌≤◌, ◌++◌, [], ◌∷◌, suc, map, length, Some, None, false, cond, slice_get, codes, IfOk, OnOk};
+ghost use Rattle.std.specs.Prelude.{◌≡◌, ◌+◌, ◌*◌, ◌<◌, ◌≤◌, ◌++◌, [], ◌∷◌, map, length, Some, None, false, slice_get, codes, IfOk, OnOk};
 ghost use Rattle.safl_term.specs.Program.{arity};
 ghost use Rattle.safl_term.specs.Checked.{IsChecked, program_of, param_names};
 ghost use Rattle.safl_sites.specs.Plan.{IsPlan};
@@ -11,11 +11,12 @@ ghost use Rattle.safl_circuit.specs.Layout.{lines, named, site_lines, function_w
 ghost use Rattle.safl_net.specs.Names.{IsTidy};
 ghost use Rattle.safl_net.specs.Making.{refusal};
 ghost use Rattle.safl_net.specs.Settled.{IsSettled};
-ghost use Rattle.safl_gates.specs.Sources.{HasRoom};
-ghost use Rattle.safl_unit.specs.Cycles.{choice_of, PinsFit};
-ghost use Rattle.safl_unit.specs.Ties.{sig_of, numbered, unit_ties};
+ghost use Rattle.safl_lower.specs.Sources.{HasRoom};
+ghost use Rattle.safl_unit.specs.Cycles.{choice_of, PinsFit, program_in};
+ghost use Rattle.safl_unit.specs.Ties.{numbered};
 ghost use Rattle.safl_unit.specs.Finished.{input_line, open_register, open_wire, declared_net, ArePins};
-ghost use Rattle.safl_unit.specs.Declaring.{with_signals, MayAdd, unit_head, at_line, argument_lines, function_lines, port_lines, arbiter_line, Pinned, FunctionsPinned, SitePinned, SitesPinned};
+ghost use Rattle.safl_unit.specs.Declaring.{with_signals, MayAdd, unit_head, at_line, argument_lines, function_lines, port_lines, arbiter_line, Pinned};
+ghost use Rattle.safl_unit.specs.Declaring.{SitePinned, UnitPinned, AtPinned, own_lines, AllFunctionsPinned, call_lines, AllSitesPinned, call_wires};
 
 use crate::arrivals::program;
 use crate::names::{argument_name, has_peers, headed, main_function, numbered};
@@ -85,7 +86,7 @@ fn add_unit(
     requires room { HasRoom net.old 3 }
     requires free { MayAdd net.old (map open_register (unit_head (program_of c.now) (names_of c.now) f)) }
     ensures added { OnOk result (net.new ≡ with_signals net.old (map open_register (unit_head (program_of c.now) (names_of c.now) f))) }
-    ensures order { IfOk result (λ u. map sig_of (unit_ties (program_of c.now) (names_of c.now) f (Some u)) ≡ numbered (length net.old.signals) (length (unit_head (program_of c.now) (names_of c.now) f))) }
+    ensures order { IfOk result (λ u. UnitPinned (program_of c.now) (names_of c.now) f (length net.old.signals) u) }
     ensures same { IfOk result (λ u. ((program_of c.now).unit f ≡ f → ⊥) → slice_get units.now ((program_of c.now).unit f) ≡ Some u) }
 {
     let unit = c.unit(f);
@@ -105,7 +106,7 @@ fn add_at(alloc: Global, net: &mut Net, c: &Checked, f: u32, run: Sig) -> Result
     requires room { HasRoom net.old 1 }
     requires free { MayAdd net.old (map open_register (at_line (program_of c.now) (names_of c.now) f)) }
     ensures added { OnOk result (net.new ≡ with_signals net.old (map open_register (at_line (program_of c.now) (names_of c.now) f))) }
-    ensures order { IfOk result (λ s. cond (many (program_of c.now) f) (s ∷ []) [] ≡ numbered (length net.old.signals) (length (at_line (program_of c.now) (names_of c.now) f))) }
+    ensures order { IfOk result (λ s. AtPinned (program_of c.now) (names_of c.now) f (length net.old.signals) s) }
     ensures lone { IfOk result (λ s. many (program_of c.now) f ≡ false → s ≡ run) }
 {
     if !has_peers(c, f) {
@@ -172,9 +173,9 @@ struct Functions {
 
 fn add_functions(alloc: Global, net: &mut Net, c: &Checked) -> Result<Functions, NoMemory>
     requires room { HasRoom net.old (20 * (program_of c.now).functions) }
-    requires free { MayAdd net.old (map open_register (lines (function_lines (program_of c.now) (names_of c.now)) (program_of c.now).functions)) }
-    ensures added { OnOk result (net.new ≡ with_signals net.old (map open_register (lines (function_lines (program_of c.now) (names_of c.now)) (program_of c.now).functions))) }
-    ensures pinned { IfOk result (λ r. FunctionsPinned (program_of c.now) (names_of c.now) (length net.old.signals) (program_of c.now).functions r.units.items r.members.items) }
+    requires free { MayAdd net.old (map open_register (own_lines (program_of c.now) (names_of c.now))) }
+    ensures added { OnOk result (net.new ≡ with_signals net.old (map open_register (own_lines (program_of c.now) (names_of c.now)))) }
+    ensures pinned { IfOk result (λ r. AllFunctionsPinned (program_of c.now) (names_of c.now) (length net.old.signals) r.units.items r.members.items) }
 {
     let mut units = Vec::new(alloc);
     let mut members = Vec::new(alloc);
@@ -195,12 +196,12 @@ fn add_site(
     units: &[UnitPins],
 ) -> Result<SitePins, NoMemory>
     requires least { 1 ≤ k }
-    requires most { k ≤ (program_of p.now.program).sites }
-    requires units { length units.now ≡ (program_of p.now.program).functions }
+    requires most { k ≤ (program_in p.now).sites }
+    requires units { length units.now ≡ (program_in p.now).functions }
     requires room { HasRoom net.old 3 }
-    requires free { MayAdd net.old (map open_register (site_lines (program_of p.now.program) (choice_of p.now) k)) }
-    ensures added { OnOk result (net.new ≡ with_signals net.old (map open_register (site_lines (program_of p.now.program) (choice_of p.now) k))) }
-    ensures pinned { IfOk result (λ s. SitePinned (program_of p.now.program) (choice_of p.now) k (length net.old.signals) units.now s) }
+    requires free { MayAdd net.old (map open_register (site_lines (program_in p.now) (choice_of p.now) k)) }
+    ensures added { OnOk result (net.new ≡ with_signals net.old (map open_register (site_lines (program_in p.now) (choice_of p.now) k))) }
+    ensures pinned { IfOk result (λ s. SitePinned (program_in p.now) (choice_of p.now) k (length net.old.signals) units.now s) }
 {
     let c = program(p);
     let callee = c.callee(k);
@@ -221,11 +222,11 @@ fn add_sites(
     p: &Planned,
     units: &[UnitPins],
 ) -> Result<Vec<SitePins>, NoMemory>
-    requires units { length units.now ≡ (program_of p.now.program).functions }
-    requires room { HasRoom net.old (3 * (program_of p.now.program).sites + 3) }
-    requires free { MayAdd net.old (map open_register (lines (site_lines (program_of p.now.program) (choice_of p.now)) (suc (program_of p.now.program).sites))) }
-    ensures added { OnOk result (net.new ≡ with_signals net.old (map open_register (lines (site_lines (program_of p.now.program) (choice_of p.now)) (suc (program_of p.now.program).sites)))) }
-    ensures pinned { IfOk result (λ s. SitesPinned (program_of p.now.program) (choice_of p.now) (length net.old.signals) (suc (program_of p.now.program).sites) units.now s.items) }
+    requires units { length units.now ≡ (program_in p.now).functions }
+    requires room { HasRoom net.old (3 * (program_in p.now).sites + 3) }
+    requires free { MayAdd net.old (map open_register (call_lines (program_in p.now) (choice_of p.now))) }
+    ensures added { OnOk result (net.new ≡ with_signals net.old (map open_register (call_lines (program_in p.now) (choice_of p.now)))) }
+    ensures pinned { IfOk result (λ s. AllSitesPinned (program_in p.now) (choice_of p.now) (length net.old.signals) units.now s.items) }
 {
     let c = program(p);
     let mut sites = Vec::new(alloc);
@@ -274,11 +275,11 @@ fn add_arbiter_wire(
     k: u32,
     callee: u32,
 ) -> Result<(), NoMemory>
-    requires callee { callee ≡ (program_of p.now.program).callee k }
-    requires function { callee < (program_of p.now.program).functions }
+    requires callee { callee ≡ (program_in p.now).callee k }
+    requires function { callee < (program_in p.now).functions }
     requires room { HasRoom net.old 1 }
-    requires free { MayAdd net.old (map open_wire (arbiter_line (program_of p.now.program) (choice_of p.now) k)) }
-    ensures { OnOk result (net.new ≡ with_signals net.old (map open_wire (arbiter_line (program_of p.now.program) (choice_of p.now) k))) }
+    requires free { MayAdd net.old (map open_wire (arbiter_line (program_in p.now) (choice_of p.now) k)) }
+    ensures { OnOk result (net.new ≡ with_signals net.old (map open_wire (arbiter_line (program_in p.now) (choice_of p.now) k))) }
 {
     if !p.arbiter(callee) {
         return Ok(());
@@ -290,10 +291,10 @@ fn add_arbiter_wire(
 // The named wires of a site.
 fn add_call_wires(alloc: Global, net: &mut Net, p: &Planned, k: u32) -> Result<(), NoMemory>
     requires least { 1 ≤ k }
-    requires most { k ≤ (program_of p.now.program).sites }
+    requires most { k ≤ (program_in p.now).sites }
     requires room { HasRoom net.old 4 }
-    requires free { MayAdd net.old (map open_wire (site_wires (program_of p.now.program) (choice_of p.now) k)) }
-    ensures { OnOk result (net.new ≡ with_signals net.old (map open_wire (site_wires (program_of p.now.program) (choice_of p.now) k))) }
+    requires free { MayAdd net.old (map open_wire (site_wires (program_in p.now) (choice_of p.now) k)) }
+    ensures { OnOk result (net.new ≡ with_signals net.old (map open_wire (site_wires (program_in p.now) (choice_of p.now) k))) }
 {
     let c = program(p);
     let callee = c.callee(k);
@@ -306,9 +307,9 @@ fn add_call_wires(alloc: Global, net: &mut Net, p: &Planned, k: u32) -> Result<(
 
 // The named wires of all sites.
 fn add_all_call_wires(alloc: Global, net: &mut Net, p: &Planned) -> Result<(), NoMemory>
-    requires room { HasRoom net.old (4 * (program_of p.now.program).sites + 4) }
-    requires free { MayAdd net.old (map open_wire (lines (site_wires (program_of p.now.program) (choice_of p.now)) (suc (program_of p.now.program).sites))) }
-    ensures { OnOk result (net.new ≡ with_signals net.old (map open_wire (lines (site_wires (program_of p.now.program) (choice_of p.now)) (suc (program_of p.now.program).sites)))) }
+    requires room { HasRoom net.old (4 * (program_in p.now).sites + 4) }
+    requires free { MayAdd net.old (map open_wire (call_wires (program_in p.now) (choice_of p.now))) }
+    ensures { OnOk result (net.new ≡ with_signals net.old (map open_wire (call_wires (program_in p.now) (choice_of p.now)))) }
 {
     let c = program(p);
     for k in 1..c.sites() + 1 {
@@ -336,9 +337,9 @@ fn add_ports(alloc: Global, net: &mut Net, c: &Checked, f: u32) -> Result<Vec<Si
 
 // All named wires.
 fn add_wires(alloc: Global, net: &mut Net, p: &Planned) -> Result<(), NoMemory>
-    requires room { HasRoom net.old (2 * (program_of p.now.program).functions + 4 * (program_of p.now.program).sites + 5) }
-    requires free { MayAdd net.old (map open_wire (layout_wires (program_of p.now.program) (names_of p.now.program) (choice_of p.now))) }
-    ensures { OnOk result (net.new ≡ with_signals net.old (map open_wire (layout_wires (program_of p.now.program) (names_of p.now.program) (choice_of p.now)))) }
+    requires room { HasRoom net.old (2 * (program_in p.now).functions + 4 * (program_in p.now).sites + 5) }
+    requires free { MayAdd net.old (map open_wire (layout_wires (program_in p.now) (names_of p.now.program) (choice_of p.now))) }
+    ensures { OnOk result (net.new ≡ with_signals net.old (map open_wire (layout_wires (program_in p.now) (names_of p.now.program) (choice_of p.now)))) }
 {
     add_all_body_wires(alloc, net, p.checked())?;
     add_all_call_wires(alloc, net, p)?;
@@ -356,13 +357,13 @@ pub struct Declared {
 /// The ports, registers and named wires of a program's circuit in their order, the registers without next signals and
 /// the wires without cells.
 pub fn declare(alloc: Global, p: &Planned) -> Result<Declared, NoMemory>
-    ensures net { IfOk result (λ d. d.net ≡ declared_net (program_of p.now.program) (names_of p.now.program) (choice_of p.now)) }
-    ensures pins { IfOk result (λ d. ArePins (program_of p.now.program) (names_of p.now.program) (choice_of p.now) d.pins) }
-    ensures fits { IfOk result (λ d. PinsFit (program_of p.now.program) d.net d.pins) }
+    ensures net { IfOk result (λ d. d.net ≡ declared_net (program_in p.now) (names_of p.now.program) (choice_of p.now)) }
+    ensures pins { IfOk result (λ d. ArePins (program_in p.now) (names_of p.now.program) (choice_of p.now) d.pins) }
+    ensures fits { IfOk result (λ d. PinsFit (program_in p.now) d.net d.pins) }
     ensures tidy { IfOk result (λ d. IsTidy d.net) }
     ensures settled { IfOk result (λ d. IsSettled d.net) }
     ensures checked { IsChecked p.now.program }
-    ensures plan { IsPlan (program_of p.now.program) (arbiter_of p.now) (kept_of p.now) }
+    ensures plan { IsPlan (program_in p.now) (arbiter_of p.now) (kept_of p.now) }
 {
     let c = program(p);
     let main = main_function(c);

@@ -1,22 +1,21 @@
 //! The next words of all registers, which they take at the edge.
 
-ghost use Rattle.std.specs.Prelude.{◌≡◌, ℕ, suc, ◌+◌, ◌*◌, ◌≤◌, ◌⊎◌, [], ◌∷◌, length, Some, slice_get, IfOk, OnOk};
-ghost use Rattle.safl_term.specs.Checked.{IsChecked, program_of};
+ghost use Rattle.std.specs.Prelude.{◌≡◌, ℕ, suc, ◌+◌, ◌*◌, ◌≤◌, [], ◌∷◌, length, IfOk, OnOk};
+ghost use Rattle.safl_term.specs.Checked.{IsChecked};
 ghost use Rattle.safl_net.specs.Names.{IsTidy};
-ghost use Rattle.safl_net.specs.Growth.{Val, Wired};
-ghost use Rattle.safl_gates.specs.Sources.{IsSource, Builds, HasRoom};
-ghost use Rattle.safl_gates.specs.Tables.{pin, taken_in, on_in, FitsIn, SomeFit, IsBitIn, BitsFit};
-ghost use Rattle.safl_unit.specs.Cycles.{UnitFits, PinsFit, choice_of};
+ghost use Rattle.safl_lower.specs.Sources.{IsSource, Builds, HasRoom};
+ghost use Rattle.safl_lower.specs.Tables.{pin, FitsIn, SomeFit, IsBitIn, BitsFit};
+ghost use Rattle.safl_unit.specs.Cycles.{UnitFits, PinsFit, choice_of, program_in};
 ghost use Rattle.safl_unit.specs.Stages.{ReturnsFit, OutcomesFit, HasReturns, HasOutcomes, HasGoes, HasNext};
 ghost use Rattle.safl_unit.specs.Coming.{EventsFit};
-ghost use Rattle.safl_unit.specs.Steps.{UnitStep, UnitsNext, MembersNext, SitesNext};
+ghost use Rattle.safl_unit.specs.Steps.{AllUnitsNext, GivesUnit, AllMembersNext, AllSitesNext};
 
 use crate::arrivals::{callee_of, caller_of, function_count, site_count, unit_of};
 use crate::events::{Events, edge_events};
 use crate::names::has_peers;
 use crate::next::{Entry, next_member, next_site, next_unit};
 use crate::parts::{Bank, MemberPins, Outcomes, Pins, Returns, SitePins, UnitPins};
-use safl_gates::loads::Load;
+use safl_lower::loads::Load;
 use safl_net::{Net, Sig};
 use safl_sites::Planned;
 use safl_word::NoMemory;
@@ -33,14 +32,14 @@ pub fn edge(
     goes: &[Sig],
 ) -> Result<Bank, NoMemory>
     requires tidy { IsTidy net.old }
-    requires pins { PinsFit (program_of p.now.program) net.old pins.now }
-    requires returns { HasReturns (program_of p.now.program) (choice_of p.now) net.old pins.now returns.now }
-    requires outcomes { HasOutcomes (program_of p.now.program) (choice_of p.now) net.old pins.now outcomes.now }
-    requires goes { HasGoes (program_of p.now.program) (choice_of p.now) net.old pins.now goes.now }
-    requires room { HasRoom net.old (64 * (program_of p.now.program).functions + 32 * (program_of p.now.program).sites + 32) }
+    requires pins { PinsFit (program_in p.now) net.old pins.now }
+    requires returns { HasReturns (program_in p.now) (choice_of p.now) net.old pins.now returns.now }
+    requires outcomes { HasOutcomes (program_in p.now) (choice_of p.now) net.old pins.now outcomes.now }
+    requires goes { HasGoes (program_in p.now) (choice_of p.now) net.old pins.now goes.now }
+    requires room { HasRoom net.old (64 * (program_in p.now).functions + 32 * (program_in p.now).sites + 32) }
     ensures tidy { IsTidy net.new }
-    ensures built { OnOk result (Builds net.old net.new (64 * (program_of p.now.program).functions + 32 * (program_of p.now.program).sites + 32)) }
-    ensures done { IfOk result (λ b. HasNext (program_of p.now.program) (choice_of p.now) net.new pins.now b) }
+    ensures built { OnOk result (Builds net.old net.new (64 * (program_in p.now).functions + 32 * (program_in p.now).sites + 32)) }
+    ensures done { IfOk result (λ b. HasNext (program_in p.now) (choice_of p.now) net.new pins.now b) }
 {
     let events = edge_events(alloc, net, p, outcomes, goes)?;
     let units = next_units(alloc, net, p, pins, &events.ends, &events.starts)?;
@@ -63,16 +62,16 @@ pub fn next_units(
     starts: &[Option<Sig>],
 ) -> Result<Vec<UnitPins>, NoMemory>
     requires tidy { IsTidy net.old }
-    requires pins { PinsFit (program_of p.now.program) net.old pins.now }
-    requires ends_count { length ends.now ≡ (program_of p.now.program).functions }
-    requires ends { SomeFit net.old ends.now (λ u. (program_of p.now.program).result u ∷ []) }
-    requires starts_count { length starts.now ≡ (program_of p.now.program).functions }
+    requires pins { PinsFit (program_in p.now) net.old pins.now }
+    requires ends_count { length ends.now ≡ (program_in p.now).functions }
+    requires ends { SomeFit net.old ends.now (λ u. (program_in p.now).result u ∷ []) }
+    requires starts_count { length starts.now ≡ (program_in p.now).functions }
     requires starts { BitsFit net.old starts.now }
-    requires room { HasRoom net.old (5 * (program_of p.now.program).functions) }
+    requires room { HasRoom net.old (5 * (program_in p.now).functions) }
     ensures tidy { IsTidy net.new }
-    ensures built { OnOk result (Builds net.old net.new (5 * (program_of p.now.program).functions)) }
+    ensures built { OnOk result (Builds net.old net.new (5 * (program_in p.now).functions)) }
     ensures checked { IsChecked p.now.program }
-    ensures done { IfOk result (λ all. UnitsNext (program_of p.now.program) net.new pins.now.bank.units.items ends.now starts.now all.items (program_of p.now.program).functions) }
+    ensures done { IfOk result (λ all. AllUnitsNext (program_in p.now) net.new pins.now ends.now starts.now all.items) }
 {
     let functions = function_count(p);
     let mut all = Vec::new(alloc);
@@ -102,7 +101,7 @@ fn unit_after(
     requires room { HasRoom net.old 5 }
     ensures tidy { IsTidy net.new }
     ensures built { OnOk result (Builds net.old net.new 5) }
-    ensures done { (w : ℕ) → FitsIn net.old end.now (w ∷ []) → UnitFits net.old now w → IfOk result (λ y. (slice_get all.now unit ≡ Some y) ⊎ (UnitFits net.new y w × ((v : Val) → Wired net.new v → UnitStep v (taken_in v end.now) (on_in v start) now y))) }
+    ensures done { GivesUnit result net.old net.new all.now unit end.now start now }
 {
     if unit < all.len() {
         return Ok(all[unit]);
@@ -121,13 +120,13 @@ pub fn next_members(
     outcomes: &Outcomes,
 ) -> Result<Vec<MemberPins>, NoMemory>
     requires tidy { IsTidy net.old }
-    requires pins { PinsFit (program_of p.now.program) net.old pins.now }
-    requires events { EventsFit (program_of p.now.program) net.old events.now }
-    requires outcomes { OutcomesFit (program_of p.now.program) net.old outcomes.now }
-    requires room { HasRoom net.old (35 * (program_of p.now.program).functions) }
+    requires pins { PinsFit (program_in p.now) net.old pins.now }
+    requires events { EventsFit (program_in p.now) net.old events.now }
+    requires outcomes { OutcomesFit (program_in p.now) net.old outcomes.now }
+    requires room { HasRoom net.old (35 * (program_in p.now).functions) }
     ensures tidy { IsTidy net.new }
-    ensures built { OnOk result (Builds net.old net.new (35 * (program_of p.now.program).functions)) }
-    ensures done { IfOk result (λ all. MembersNext (program_of p.now.program) net.new pins.now.bank.members.items events.now.entries.items events.now.rivals.items events.now.loads.items outcomes.now.loops.items all.items (program_of p.now.program).functions) }
+    ensures built { OnOk result (Builds net.old net.new (35 * (program_in p.now).functions)) }
+    ensures done { IfOk result (λ all. AllMembersNext (program_in p.now) net.new pins.now events.now outcomes.now all.items) }
 {
     let functions = function_count(p);
     let mut all = Vec::new(alloc);
@@ -156,16 +155,16 @@ pub fn next_sites(
     clears: &[Option<Sig>],
 ) -> Result<Vec<SitePins>, NoMemory>
     requires tidy { IsTidy net.old }
-    requires pins { PinsFit (program_of p.now.program) net.old pins.now }
-    requires returns { ReturnsFit (program_of p.now.program) net.old returns.now }
-    requires goes_count { length goes.now ≡ suc (program_of p.now.program).sites }
-    requires goes { (k : ℕ) → k ≤ (program_of p.now.program).sites → IsSource net.old (pin goes.now k) 1 }
-    requires clears_count { length clears.now ≡ (program_of p.now.program).functions }
+    requires pins { PinsFit (program_in p.now) net.old pins.now }
+    requires returns { ReturnsFit (program_in p.now) net.old returns.now }
+    requires goes_count { length goes.now ≡ suc (program_in p.now).sites }
+    requires goes { (k : ℕ) → k ≤ (program_in p.now).sites → IsSource net.old (pin goes.now k) 1 }
+    requires clears_count { length clears.now ≡ (program_in p.now).functions }
     requires clears { BitsFit net.old clears.now }
-    requires room { HasRoom net.old (7 * (program_of p.now.program).sites) }
+    requires room { HasRoom net.old (7 * (program_in p.now).sites) }
     ensures tidy { IsTidy net.new }
-    ensures built { OnOk result (Builds net.old net.new (7 * (program_of p.now.program).sites)) }
-    ensures done { IfOk result (λ all. SitesNext (program_of p.now.program) (choice_of p.now) net.new pins.now.bank.units.items pins.now.bank.sites.items returns.now.ret.items goes.now clears.now all.items (program_of p.now.program).sites) }
+    ensures built { OnOk result (Builds net.old net.new (7 * (program_in p.now).sites)) }
+    ensures done { IfOk result (λ all. AllSitesNext (program_in p.now) (choice_of p.now) net.new pins.now returns.now goes.now clears.now all.items) }
 {
     let first = pins.bank.sites[0];
     let mut all = one_site(alloc, first)?;

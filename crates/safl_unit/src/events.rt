@@ -1,19 +1,17 @@
 //! All that comes at the edge.
 
-ghost use Rattle.std.specs.Prelude.{◌≡◌, ℕ, suc, ◌+◌, ◌*◌, ◌≤◌, length, IfOk, OnOk};
-ghost use Rattle.safl_term.specs.Checked.{program_of};
+ghost use Rattle.std.specs.Prelude.{◌≡◌, ℕ, suc, ◌+◌, ◌*◌, ◌≤◌, length, OnOk};
 ghost use Rattle.safl_net.specs.Names.{IsTidy};
-ghost use Rattle.safl_gates.specs.Sources.{IsSource, Builds, HasRoom};
-ghost use Rattle.safl_gates.specs.Tables.{pin};
-ghost use Rattle.safl_unit.specs.declared.parts.Pins.{Pins};
-ghost use Rattle.safl_unit.specs.Cycles.{choice_of};
-ghost use Rattle.safl_unit.specs.Stages.{OutcomesFit, HasOutcomes, HasGoes};
-ghost use Rattle.safl_unit.specs.Coming.{HasEvents};
+ghost use Rattle.safl_lower.specs.Sources.{IsSource, Builds, HasRoom};
+ghost use Rattle.safl_lower.specs.Tables.{pin};
+ghost use Rattle.safl_unit.specs.Cycles.{choice_of, program_in};
+ghost use Rattle.safl_unit.specs.Stages.{OutcomesFit};
+ghost use Rattle.safl_unit.specs.Coming.{GivesEvents};
 
 use crate::arrivals::{function_entries, function_loads, unit_clears, unit_ends, unit_starts};
 use crate::parts::Outcomes;
 use crate::rivals::function_rivals;
-use safl_gates::loads::Load;
+use safl_lower::loads::Load;
 use safl_net::{Net, Sig};
 use safl_sites::Planned;
 use safl_word::NoMemory;
@@ -43,13 +41,13 @@ pub fn edge_events(
     goes: &[Sig],
 ) -> Result<Events, NoMemory>
     requires tidy { IsTidy net.old }
-    requires outcomes { OutcomesFit (program_of p.now.program) net.old outcomes.now }
-    requires count { length goes.now ≡ suc (program_of p.now.program).sites }
-    requires goes { (k : ℕ) → k ≤ (program_of p.now.program).sites → IsSource net.old (pin goes.now k) 1 }
-    requires room { HasRoom net.old (11 * (program_of p.now.program).functions + 18 * (program_of p.now.program).sites + 18) }
+    requires outcomes { OutcomesFit (program_in p.now) net.old outcomes.now }
+    requires count { length goes.now ≡ suc (program_in p.now).sites }
+    requires goes { (k : ℕ) → k ≤ (program_in p.now).sites → IsSource net.old (pin goes.now k) 1 }
+    requires room { HasRoom net.old (11 * (program_in p.now).functions + 18 * (program_in p.now).sites + 18) }
     ensures tidy { IsTidy net.new }
-    ensures built { OnOk result (Builds net.old net.new (11 * (program_of p.now.program).functions + 18 * (program_of p.now.program).sites + 18)) }
-    ensures done { (pins : Pins) → HasOutcomes (program_of p.now.program) (choice_of p.now) net.old pins outcomes.now → HasGoes (program_of p.now.program) (choice_of p.now) net.old pins goes.now → IfOk result (λ e. HasEvents (program_of p.now.program) (choice_of p.now) net.new pins e) }
+    ensures built { OnOk result (Builds net.old net.new (11 * (program_in p.now).functions + 18 * (program_in p.now).sites + 18)) }
+    ensures done { GivesEvents result (program_in p.now) (choice_of p.now) net.old net.new outcomes.now goes.now }
 {
     let ends = unit_ends(alloc, net, p, outcomes)?;
     let loads = function_loads(alloc, net, p, outcomes, goes)?;

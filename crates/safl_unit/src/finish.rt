@@ -10,12 +10,12 @@ ghost use Rattle.safl_net.specs.Settled.{IsSettled};
 ghost use Rattle.safl_net.specs.Growth.{Grows};
 ghost use Rattle.safl_circuit.specs.Names.{names_of};
 ghost use Rattle.safl_circuit.specs.Layout.{layout_wires};
-ghost use Rattle.safl_gates.specs.Sources.{HasRoom};
-ghost use Rattle.safl_gates.specs.Tables.{EachAt};
-ghost use Rattle.safl_unit.specs.Cycles.{choice_of, BankFits, PinsFit};
-ghost use Rattle.safl_unit.specs.Ties.{sig_of, unit_ties, function_ties, site_ties, register_ties, ties, want_wire, body_ties, call_ties, wire_ties};
+ghost use Rattle.safl_lower.specs.Sources.{HasRoom};
+ghost use Rattle.safl_lower.specs.Tables.{EachAt};
+ghost use Rattle.safl_unit.specs.Cycles.{choice_of, BankFits, PinsFit, program_in};
+ghost use Rattle.safl_unit.specs.Ties.{sig_of, unit_ties, site_ties, register_ties, ties, want_wire, body_ties, call_ties, wire_ties};
 ghost use Rattle.safl_unit.specs.Finished.{declared_net, ArePins, ControlsFit, Finishes};
-ghost use Rattle.safl_unit.specs.Setting.{with_kinds, next_kind, copy_kind, Takes, at_ties, IsSet, own_ties};
+ghost use Rattle.safl_unit.specs.Setting.{with_kinds, next_kind, copy_kind, Takes, at_ties, IsSet, own_ties, bank_ties};
 
 use crate::arrivals::program;
 use crate::names::{has_peers, main_function};
@@ -100,7 +100,7 @@ fn add_function(all: &mut Vec<Sig>, c: &Checked, next: &Bank, f: u32) -> Result<
     requires units { length next.now.units.items ≡ (program_of c.now).functions }
     requires members { length next.now.members.items ≡ (program_of c.now).functions }
     requires args { EachAt next.now.members.items (λ g m. length m.args.items ≡ arity (program_of c.now) g) }
-    ensures { OnOk result (all.new.items ≡ all.old.items ++ map sig_of (function_ties (program_of c.now) (names_of c.now) next.now.units.items next.now.members.items f)) }
+    ensures { OnOk result (all.new.items ≡ all.old.items ++ map sig_of (bank_ties (program_of c.now) (names_of c.now) next.now f)) }
 {
     let unit = next.units[f as usize];
     let member = &next.members[f as usize];
@@ -126,9 +126,9 @@ fn add_functions(all: &mut Vec<Sig>, c: &Checked, next: &Bank) -> Result<(), All
 // The next signals of a site's registers.
 fn add_site(all: &mut Vec<Sig>, p: &Planned, next: &Bank, k: u32) -> Result<(), AllocError>
     requires least { 1 ≤ k }
-    requires most { k ≤ (program_of p.now.program).sites }
-    requires sites { length next.now.sites.items ≡ suc (program_of p.now.program).sites }
-    ensures { OnOk result (all.new.items ≡ all.old.items ++ map sig_of (site_ties (program_of p.now.program) (choice_of p.now) next.now.sites.items k)) }
+    requires most { k ≤ (program_in p.now).sites }
+    requires sites { length next.now.sites.items ≡ suc (program_in p.now).sites }
+    ensures { OnOk result (all.new.items ≡ all.old.items ++ map sig_of (site_ties (program_in p.now) (choice_of p.now) next.now.sites.items k)) }
 {
     let site = next.sites[k as usize];
     if !p.kept(k) {
@@ -141,11 +141,11 @@ fn add_site(all: &mut Vec<Sig>, p: &Planned, next: &Bank, k: u32) -> Result<(), 
 
 // The next signals of all registers, in their order.
 fn register_sources(alloc: Global, p: &Planned, next: &Bank) -> Result<Vec<Sig>, AllocError>
-    requires units { length next.now.units.items ≡ (program_of p.now.program).functions }
-    requires members { length next.now.members.items ≡ (program_of p.now.program).functions }
-    requires args { EachAt next.now.members.items (λ g m. length m.args.items ≡ arity (program_of p.now.program) g) }
-    requires sites { length next.now.sites.items ≡ suc (program_of p.now.program).sites }
-    ensures { IfOk result (λ v. v.items ≡ map sig_of (register_ties (program_of p.now.program) (names_of p.now.program) (choice_of p.now) next.now)) }
+    requires units { length next.now.units.items ≡ (program_in p.now).functions }
+    requires members { length next.now.members.items ≡ (program_in p.now).functions }
+    requires args { EachAt next.now.members.items (λ g m. length m.args.items ≡ arity (program_in p.now) g) }
+    requires sites { length next.now.sites.items ≡ suc (program_in p.now).sites }
+    ensures { IfOk result (λ v. v.items ≡ map sig_of (register_ties (program_in p.now) (names_of p.now.program) (choice_of p.now) next.now)) }
 {
     let c = program(p);
     let mut all = Vec::new(alloc);
@@ -179,12 +179,12 @@ fn add_call(
     place: Sig,
 ) -> Result<(), AllocError>
     requires least { 1 ≤ k }
-    requires most { k ≤ (program_of p.now.program).sites }
-    requires wants { length controls.now.wants.items ≡ suc (program_of p.now.program).sites }
-    requires rets { length controls.now.rets.items ≡ suc (program_of p.now.program).sites }
-    requires goes { length controls.now.goes.items ≡ suc (program_of p.now.program).sites }
-    requires place { place.0 ≡ want_wire (program_of p.now.program) (choice_of p.now) first k }
-    ensures { OnOk result (all.new.items ≡ all.old.items ++ map sig_of (call_ties (program_of p.now.program) (choice_of p.now) first controls.now k)) }
+    requires most { k ≤ (program_in p.now).sites }
+    requires wants { length controls.now.wants.items ≡ suc (program_in p.now).sites }
+    requires rets { length controls.now.rets.items ≡ suc (program_in p.now).sites }
+    requires goes { length controls.now.goes.items ≡ suc (program_in p.now).sites }
+    requires place { place.0 ≡ want_wire (program_in p.now) (choice_of p.now) first k }
+    ensures { OnOk result (all.new.items ≡ all.old.items ++ map sig_of (call_ties (program_in p.now) (choice_of p.now) first controls.now k)) }
 {
     let c = program(p);
     let want = controls.wants[k as usize];
@@ -205,13 +205,13 @@ fn wire_sources(
     controls: &Controls,
     first: u32,
 ) -> Result<Vec<Sig>, AllocError>
-    requires ends { length controls.now.ends.items ≡ (program_of p.now.program).functions }
-    requires loops { length controls.now.loops.items ≡ (program_of p.now.program).functions }
-    requires wants { length controls.now.wants.items ≡ suc (program_of p.now.program).sites }
-    requires rets { length controls.now.rets.items ≡ suc (program_of p.now.program).sites }
-    requires goes { length controls.now.goes.items ≡ suc (program_of p.now.program).sites }
-    requires room { first + length (layout_wires (program_of p.now.program) (names_of p.now.program) (choice_of p.now)) < 4294967296 }
-    ensures { IfOk result (λ v. v.items ≡ map sig_of (wire_ties (program_of p.now.program) (names_of p.now.program) (choice_of p.now) first controls.now)) }
+    requires ends { length controls.now.ends.items ≡ (program_in p.now).functions }
+    requires loops { length controls.now.loops.items ≡ (program_in p.now).functions }
+    requires wants { length controls.now.wants.items ≡ suc (program_in p.now).sites }
+    requires rets { length controls.now.rets.items ≡ suc (program_in p.now).sites }
+    requires goes { length controls.now.goes.items ≡ suc (program_in p.now).sites }
+    requires room { first + length (layout_wires (program_in p.now) (names_of p.now.program) (choice_of p.now)) < 4294967296 }
+    ensures { IfOk result (λ v. v.items ≡ map sig_of (wire_ties (program_in p.now) (names_of p.now.program) (choice_of p.now) first controls.now)) }
 {
     let c = program(p);
     let mut all = Vec::new(alloc);
@@ -235,12 +235,12 @@ fn set_all(
 ) -> Result<(), AllocError>
     requires tidy { IsTidy net.old }
     requires room { HasRoom net.old 0 }
-    requires grown { Grows (declared_net (program_of p.now.program) (names_of p.now.program) (choice_of p.now)) net.old }
-    requires pins { ArePins (program_of p.now.program) (names_of p.now.program) (choice_of p.now) pins.now }
-    requires next { BankFits (program_of p.now.program) net.old next.now }
-    requires controls { ControlsFit (program_of p.now.program) net.old controls.now }
+    requires grown { Grows (declared_net (program_in p.now) (names_of p.now.program) (choice_of p.now)) net.old }
+    requires pins { ArePins (program_in p.now) (names_of p.now.program) (choice_of p.now) pins.now }
+    requires next { BankFits (program_in p.now) net.old next.now }
+    requires controls { ControlsFit (program_in p.now) net.old controls.now }
     ensures tidy { IsTidy net.new }
-    ensures set { OnOk result (IsSet (program_of p.now.program) (names_of p.now.program) (choice_of p.now) pins.now next.now controls.now net.old net.new) }
+    ensures set { OnOk result (IsSet (program_in p.now) (names_of p.now.program) (choice_of p.now) pins.now next.now controls.now net.old net.new) }
 {
     let c = program(p);
     let nexts = register_sources(alloc, p, next)?;
@@ -278,14 +278,14 @@ pub fn finish(
 ) -> Result<(), NoMemory>
     requires tidy { IsTidy net.old }
     requires room { HasRoom net.old 0 }
-    requires grown { Grows (declared_net (program_of p.now.program) (names_of p.now.program) (choice_of p.now)) net.old }
+    requires grown { Grows (declared_net (program_in p.now) (names_of p.now.program) (choice_of p.now)) net.old }
     requires settled { IsSettled net.old }
-    requires pins { ArePins (program_of p.now.program) (names_of p.now.program) (choice_of p.now) pins.now }
-    requires fits { PinsFit (program_of p.now.program) net.old pins.now }
-    requires next { BankFits (program_of p.now.program) net.old next.now }
-    requires controls { ControlsFit (program_of p.now.program) net.old controls.now }
+    requires pins { ArePins (program_in p.now) (names_of p.now.program) (choice_of p.now) pins.now }
+    requires fits { PinsFit (program_in p.now) net.old pins.now }
+    requires next { BankFits (program_in p.now) net.old next.now }
+    requires controls { ControlsFit (program_in p.now) net.old controls.now }
     ensures tidy { IsTidy net.new }
-    ensures done { OnOk result (Finishes (program_of p.now.program) (names_of p.now.program) (choice_of p.now) pins.now next.now controls.now net.old net.new) }
+    ensures done { OnOk result (Finishes (program_in p.now) (names_of p.now.program) (choice_of p.now) pins.now next.now controls.now net.old net.new) }
 {
     let c = program(p);
     let main = main_function(c);

@@ -1,19 +1,18 @@
 //! Which sites start: where a unit has an arbiter, its lowest site that wants, while the unit rests.
 
 ghost use Rattle.std.specs.Prelude.{◌≡◌, ℕ, ◌+◌, ◌*◌, ◌<◌, ◌≤◌, ◌&&◌, true, not, cond, length, slice_get, IfOk, OnOk};
-ghost use Rattle.safl_term.specs.Checked.{program_of};
 ghost use Rattle.safl_net.specs.Names.{IsTidy};
 ghost use Rattle.safl_net.specs.Growth.{Val, Wired};
 ghost use Rattle.safl_net.specs.Bits.{on};
-ghost use Rattle.safl_gates.specs.Sources.{IsSource, Builds, HasRoom};
-ghost use Rattle.safl_gates.specs.Tables.{on_in};
-ghost use Rattle.safl_gates.specs.Rows.{AreBits};
-ghost use Rattle.safl_unit.specs.Cycles.{choice_of, PinsFit};
+ghost use Rattle.safl_lower.specs.Sources.{IsSource, Builds, HasRoom};
+ghost use Rattle.safl_lower.specs.Tables.{on_in};
+ghost use Rattle.safl_lower.specs.Rows.{AreBits};
+ghost use Rattle.safl_unit.specs.Cycles.{choice_of, PinsFit, program_in};
 ghost use Rattle.safl_unit.specs.Stages.{HasOutcomes, HasGoes};
 
 use crate::arbiters::{unit_frees, unit_wants};
 use crate::parts::{Outcomes, Pins};
-use safl_gates::gates::{both, inverse};
+use safl_lower::gates::{both, inverse};
 use safl_net::{Net, Sig};
 use safl_sites::Planned;
 use safl_word::NoMemory;
@@ -28,12 +27,12 @@ pub fn grants(
     outcomes: &Outcomes,
 ) -> Result<Vec<Sig>, NoMemory>
     requires tidy { IsTidy net.old }
-    requires pins { PinsFit (program_of p.now.program) net.old pins.now }
-    requires outcomes { HasOutcomes (program_of p.now.program) (choice_of p.now) net.old pins.now outcomes.now }
-    requires room { HasRoom net.old (5 * (program_of p.now.program).sites + 2) }
+    requires pins { PinsFit (program_in p.now) net.old pins.now }
+    requires outcomes { HasOutcomes (program_in p.now) (choice_of p.now) net.old pins.now outcomes.now }
+    requires room { HasRoom net.old (5 * (program_in p.now).sites + 2) }
     ensures tidy { IsTidy net.new }
-    ensures built { OnOk result (Builds net.old net.new (5 * (program_of p.now.program).sites + 2)) }
-    ensures done { IfOk result (λ s. HasGoes (program_of p.now.program) (choice_of p.now) net.new pins.now s.items) }
+    ensures built { OnOk result (Builds net.old net.new (5 * (program_in p.now).sites + 2)) }
+    ensures done { IfOk result (λ s. HasGoes (program_in p.now) (choice_of p.now) net.new pins.now s.items) }
 {
     let c = p.checked();
     let functions = c.functions();

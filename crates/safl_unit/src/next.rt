@@ -5,16 +5,16 @@ ghost use Rattle.safl_net.specs.Names.{IsTidy};
 ghost use Rattle.safl_net.specs.Growth.{Val, Wired};
 ghost use Rattle.safl_net.specs.Bits.{on};
 ghost use Rattle.safl_circuit.specs.Equations.{or_word};
-ghost use Rattle.safl_gates.specs.Sources.{IsSource, Builds, HasRoom};
-ghost use Rattle.safl_gates.specs.Tables.{taken_in, on_in, FitsIn, IsBitIn};
+ghost use Rattle.safl_lower.specs.Sources.{IsSource, Builds, HasRoom};
+ghost use Rattle.safl_lower.specs.Tables.{taken_in, on_in, FitsIn, IsBitIn};
 ghost use Rattle.safl_unit.specs.Cycles.{UnitFits, MemberFits, SiteFits};
-ghost use Rattle.safl_unit.specs.Steps.{UnitStep, MemberStep, SiteStep};
+ghost use Rattle.safl_unit.specs.Steps.{UnitStep, SiteStep, KeepsMember, IsNextMember};
 
 use crate::arrivals::load_bit;
 use crate::parts::{MemberPins, SitePins, UnitPins};
 use crate::returns::site_word;
-use safl_gates::gates::{and_none, either, mux, or_some, zero};
-use safl_gates::loads::{Load, load_words};
+use safl_lower::gates::{and_none, either, mux, or_some, zero};
+use safl_lower::loads::{Load, load_words};
 use safl_net::{Net, Sig};
 use safl_word::NoMemory;
 use std::alloc::Global;
@@ -67,8 +67,8 @@ pub fn next_member(
     requires room { HasRoom net.old (3 + 2 * length member.now.args.items) }
     ensures tidy { IsTidy net.new }
     ensures built { OnOk result (Builds net.old net.new (3 + 2 * length member.now.args.items)) }
-    ensures fits { (ws : List ℕ) → FitsIn net.old load.now ws → FitsIn net.old looped.now ws → MemberFits net.old member.now ws → IfOk result (λ y. MemberFits net.new y ws) }
-    ensures shows { IfOk result (λ y. (v : Val) → Wired net.new v → MemberStep v many (on_in v entry.own) (on_in v entry.rival) (taken_in v load.now) (taken_in v looped.now) member.now y) }
+    ensures fits { KeepsMember result net.old net.new load.now looped.now member.now }
+    ensures shows { IfOk result (λ y. IsNextMember net.new many entry load.now looped.now member.now y) }
 {
     let at = next_at(net, many, entry.own, entry.rival, member.at)?;
     let kept = load_words(alloc, net, looped, &member.args)?;

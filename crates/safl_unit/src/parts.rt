@@ -1,7 +1,7 @@
 //! The signals of a circuit, by what they stand for.
 
-use safl_gates::loads::Load;
 use safl_lower::SitePorts;
+use safl_lower::loads::Load;
 use safl_net::Sig;
 
 /// The registers of a unit.

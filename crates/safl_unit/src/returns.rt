@@ -1,19 +1,18 @@
 //! What the call sites show: their values are delivered, they have returned, and their words.
 
 ghost use Rattle.std.specs.Prelude.{◌≡◌, ℕ, suc, ◌+◌, ◌*◌, ◌≤◌, ◌&&◌, ◌||◌, not, cond, length, Some, IfOk, OnOk};
-ghost use Rattle.safl_term.specs.Checked.{program_of};
 ghost use Rattle.safl_net.specs.Names.{IsTidy};
 ghost use Rattle.safl_net.specs.Growth.{Val, Wired};
 ghost use Rattle.safl_net.specs.Bits.{on};
-ghost use Rattle.safl_gates.specs.Sources.{IsSource, Builds, HasRoom};
-ghost use Rattle.safl_unit.specs.Cycles.{choice_of, UnitFits, SiteFits, PinsFit};
+ghost use Rattle.safl_lower.specs.Sources.{IsSource, Builds, HasRoom};
+ghost use Rattle.safl_unit.specs.Cycles.{choice_of, UnitFits, SiteFits, PinsFit, program_in};
 ghost use Rattle.safl_unit.specs.Stages.{PortFits, HasReturns};
 ghost use Rattle.safl_unit.specs.Returning.{SiteShown};
 
 use crate::arrivals::program;
 use crate::parts::{Pins, Returns, SitePins, UnitPins};
-use safl_gates::gates::{both, either, inverse, mux};
 use safl_lower::SitePorts;
+use safl_lower::gates::{both, either, inverse, mux};
 use safl_net::{Net, Sig};
 use safl_sites::Planned;
 use safl_word::NoMemory;
@@ -29,11 +28,11 @@ pub struct SiteReturn {
 /// What each site shows.
 pub fn returns(alloc: Global, net: &mut Net, p: &Planned, pins: &Pins) -> Result<Returns, NoMemory>
     requires tidy { IsTidy net.old }
-    requires pins { PinsFit (program_of p.now.program) net.old pins.now }
-    requires room { HasRoom net.old (5 * (program_of p.now.program).sites) }
+    requires pins { PinsFit (program_in p.now) net.old pins.now }
+    requires room { HasRoom net.old (5 * (program_in p.now).sites) }
     ensures tidy { IsTidy net.new }
-    ensures built { OnOk result (Builds net.old net.new (5 * (program_of p.now.program).sites)) }
-    ensures done { IfOk result (λ s. HasReturns (program_of p.now.program) (choice_of p.now) net.new pins.now s) }
+    ensures built { OnOk result (Builds net.old net.new (5 * (program_in p.now).sites)) }
+    ensures done { IfOk result (λ s. HasReturns (program_in p.now) (choice_of p.now) net.new pins.now s) }
 {
     let c = program(p);
     let mut all = no_returns(alloc, pins.start)?;

@@ -1,21 +1,21 @@
 //! Which functions have another member of their unit that starts.
 
-ghost use Rattle.std.specs.Prelude.{◌≡◌, ℕ, ◌+◌, ◌*◌, ◌<◌, ◌≤◌, ◌&&◌, List, length, IfOk, OnOk};
-ghost use Rattle.safl_term.specs.Checked.{program_of};
+ghost use Rattle.std.specs.Prelude.{◌≡◌, ℕ, ◌+◌, ◌*◌, ◌<◌, ◌≤◌, List, length, IfOk, OnOk};
 ghost use Rattle.safl_net.specs.declared.cell.Sig.{Sig};
 ghost use Rattle.safl_net.specs.Names.{IsTidy};
 ghost use Rattle.safl_net.specs.Growth.{Val, Wired};
-ghost use Rattle.safl_gates.specs.Sources.{Builds, HasRoom};
-ghost use Rattle.safl_gates.specs.Tables.{on_in, on_from, IsBitIn, BitsFit};
-ghost use Rattle.safl_gates.specs.Rows.{bit_joins, row_at, total};
-ghost use Rattle.safl_gates.specs.Joints.{IsSeveralOf, IsSeveralIn};
-ghost use Rattle.safl_unit.specs.Edges.{one_below, entry_row, others_on, rival, ShowsBelow};
+ghost use Rattle.safl_lower.specs.Sources.{Builds, HasRoom};
+ghost use Rattle.safl_lower.specs.Tables.{on_in, IsBitIn, BitsFit};
+ghost use Rattle.safl_lower.specs.Rows.{bit_joins, row_at, total};
+ghost use Rattle.safl_lower.specs.Joints.{IsSeveralOf, IsSeveralIn};
+ghost use Rattle.safl_unit.specs.Edges.{entry_row, others_on, ShowsRivals, ShowsOthers};
+ghost use Rattle.safl_unit.specs.Cycles.{program_in};
 
 use crate::arrivals::{function_count, unit_of};
 use crate::names::has_peers;
-use safl_gates::gates::{and_not, or_some};
-use safl_gates::joins::{join_several, no_rows, push_some};
-use safl_gates::trees::Several;
+use safl_lower::gates::{and_not, or_some};
+use safl_lower::rows::{join_several, no_rows, push_some};
+use safl_lower::trees::Several;
 use safl_net::{Net, Sig};
 use safl_sites::Planned;
 use safl_word::NoMemory;
@@ -29,12 +29,12 @@ pub fn function_rivals(
     entries: &[Option<Sig>],
 ) -> Result<Vec<Option<Sig>>, NoMemory>
     requires tidy { IsTidy net.old }
-    requires count { length entries.now ≡ (program_of p.now.program).functions }
+    requires count { length entries.now ≡ (program_in p.now).functions }
     requires entries { BitsFit net.old entries.now }
-    requires room { HasRoom net.old (7 * (program_of p.now.program).functions) }
+    requires room { HasRoom net.old (7 * (program_in p.now).functions) }
     ensures tidy { IsTidy net.new }
-    ensures built { OnOk result (Builds net.old net.new (7 * (program_of p.now.program).functions)) }
-    ensures done { IfOk result (λ bits. ShowsBelow net.new bits.items (program_of p.now.program).functions (λ v f. one_below (rival (program_of p.now.program) (on_from v entries.now) f) (program_of p.now.program).functions)) }
+    ensures built { OnOk result (Builds net.old net.new (7 * (program_in p.now).functions)) }
+    ensures done { IfOk result (λ bits. ShowsRivals (program_in p.now) net.new entries.now bits.items) }
 {
     let functions = function_count(p);
     let rows = unit_entries(alloc, p, entries)?;
@@ -56,10 +56,10 @@ fn unit_entries(
     p: &Planned,
     entries: &[Option<Sig>],
 ) -> Result<Vec<Vec<Sig>>, NoMemory>
-    requires count { length entries.now ≡ (program_of p.now.program).functions }
-    ensures count { IfOk result (λ rows. length rows.items ≡ (program_of p.now.program).functions) }
-    ensures rows { IfOk result (λ rows. (u : ℕ) → row_at rows.items u ≡ entry_row (program_of p.now.program) entries.now u (program_of p.now.program).functions) }
-    ensures gates { IfOk result (λ rows. total bit_joins rows.items ≤ (program_of p.now.program).functions) }
+    requires count { length entries.now ≡ (program_in p.now).functions }
+    ensures count { IfOk result (λ rows. length rows.items ≡ (program_in p.now).functions) }
+    ensures rows { IfOk result (λ rows. (u : ℕ) → row_at rows.items u ≡ entry_row (program_in p.now) entries.now u (program_in p.now).functions) }
+    ensures gates { IfOk result (λ rows. total bit_joins rows.items ≤ (program_in p.now).functions) }
 {
     let functions = function_count(p);
     let mut rows = no_rows(alloc, functions)?;
@@ -85,7 +85,7 @@ fn member_rival(
     ensures tidy { IsTidy net.new }
     ensures built { OnOk result (Builds net.old net.new 3) }
     ensures fits { IfOk result (λ o. IsBitIn net.new o) }
-    ensures value { (row : List Sig) → IsSeveralIn net.old row several.now → IfOk result (λ o. (v : Val) → Wired net.new v → on_in v o ≡ (many && others_on v row own)) }
+    ensures value { (row : List Sig) → IsSeveralIn net.old row several.now → IfOk result (λ o. ShowsOthers net.new many row own o) }
 {
     if !many {
         return Ok(None);

@@ -2,8 +2,10 @@
 #![tactic(auto)]
 
 pub mod fault;
+pub mod fault_text;
 pub mod laws;
 pub mod token;
 
 pub use crate::fault::{VFault, VRule};
+pub use crate::fault_text::push_vfault;
 pub use crate::token::{Keyword, Sort, Symbol, Token, TokenKind};

@@ -47,10 +47,17 @@ shown_declarations text ds = map (shown_declaration text) ds
 
 abbrev pub shown_statement : List ℕ → Statement → Files.Statement
 shown_statement text (stated.Assign x e) = Files.Assign (shown_spot text x) (shown_expression text e)
-shown_statement text (stated.Always u) = Files.Always (shown_spot text u.clock) (shown_spot text u.reset) (shown_spot text u.target) (shown_spot text u.initial) (shown_spot text u.second) (shown_spot text u.source)
+shown_statement text (stated.Always u) =
+    Files.Always (shown_spot text u.clock) (shown_spot text u.reset) (shown_spot text u.target)
+    (shown_spot text u.initial) (shown_spot text u.second) (shown_spot text u.source)
 
 abbrev pub shown_statements : List ℕ → List Statement → List Files.Statement
 shown_statements text ss = map (shown_statement text) ss
 
 abbrev pub shown_file : List ℕ → File → Files.File
-shown_file text f = record { header = shown_spots text f.header.items; declarations = shown_declarations text f.declarations.items; statements = shown_statements text f.statements.items }
+shown_file text f =
+    record {
+      header = shown_spots text f.header.items;
+      declarations = shown_declarations text f.declarations.items;
+      statements = shown_statements text f.statements.items;
+    }

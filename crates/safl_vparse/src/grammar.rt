@@ -1,9 +1,9 @@
 //! Expressions, declarations, statements and files.
 
 ghost use Rattle.std.specs.Prelude.{◌≡◌, [], ◌∷◌, IfOk};
-ghost use Rattle.safl_verilog.specs.Reader.{read_constant, read_inverted, read_binary, read_choice, read_joined, read_slice, read_named, read_cell, read_written_range, read_range, read_decl, read_assign, read_otherwise, read_at_reset, read_always, read_stmt, read_another_id, read_ids, read_another_decl, read_decls, read_another_stmt, read_stmts, read_body, read_file, read_text};
-ghost use Rattle.safl_vparse.specs.Shown.{shown_all, shown_spot, shown_spots, shown_expression, shown_range, shown_declaration, shown_declarations, shown_statement, shown_statements, shown_file};
-ghost use Rattle.safl_vparse.specs.Gives.{Gives};
+ghost use Rattle.safl_verilog.specs.Reader.{read_constant, read_inverted, read_binary, read_choice, read_joined, read_slice, read_named, read_cell, read_written_range, read_range, read_decl, read_assign, read_at_reset, read_always, read_stmt, read_another_id, read_ids, read_another_decl, read_decls, read_another_stmt, read_stmts, read_body, read_file, read_text};
+ghost use Rattle.safl_vparse.specs.Shown.{shown_spots, shown_declarations, shown_statements};
+ghost use Rattle.safl_vparse.specs.Reads.{spot_in, otherwise_in, ReadsExpression, ReadsRange, ReadsDeclaration, ReadsStatement, ReadsNames, ReadsDeclarations, ReadsStatements, ReadsFile};
 
 use crate::file::{Declaration, Expression, File, Range, Span, Statement, Update};
 use crate::parser::{Parser, Read, ReadError};
@@ -13,7 +13,7 @@ use std::alloc::{AllocError, Global};
 impl<'s> Parser<'s> {
     #[tactic(auto, unfolding(safl_verilog::specs::Reader::read_constant))]
     fn constant<'a>(&self, tokens: &'a [Token]) -> Read<'a, Expression>
-        ensures { Gives self.now.text.now (λ x. (shown_expression self.now.text.now x.0, x.1.now)) result (read_constant (shown_all self.now.text.now tokens.now)) }
+        ensures { ReadsExpression self.now tokens.now result read_constant }
     {
         let (l, rest) = self.literal(tokens)?;
         Ok((Expression::Literal(l), rest))
@@ -21,7 +21,7 @@ impl<'s> Parser<'s> {
 
     #[tactic(auto, unfolding(safl_verilog::specs::Reader::read_inverted))]
     fn inverted<'a>(&self, tokens: &'a [Token]) -> Read<'a, Expression>
-        ensures { Gives self.now.text.now (λ x. (shown_expression self.now.text.now x.0, x.1.now)) result (read_inverted (shown_all self.now.text.now tokens.now)) }
+        ensures { ReadsExpression self.now tokens.now result read_inverted }
     {
         let (_, rest) = self.symbol(tokens, Symbol::Tilde)?;
         let (a, rest) = self.identifier(rest)?;
@@ -30,7 +30,7 @@ impl<'s> Parser<'s> {
 
     #[tactic(auto, unfolding(safl_verilog::specs::Reader::read_binary))]
     fn binary<'a>(&self, a: Span, tokens: &'a [Token]) -> Read<'a, Expression>
-        ensures { Gives self.now.text.now (λ x. (shown_expression self.now.text.now x.0, x.1.now)) result (read_binary (shown_spot self.now.text.now a) (shown_all self.now.text.now tokens.now)) }
+        ensures { ReadsExpression self.now tokens.now result (read_binary (spot_in self.now a)) }
     {
         let (operator, rest) = self.operator(tokens)?;
         let (b, rest) = self.identifier(rest)?;
@@ -39,7 +39,7 @@ impl<'s> Parser<'s> {
 
     #[tactic(auto, unfolding(safl_verilog::specs::Reader::read_choice))]
     fn choice<'a>(&self, a: Span, tokens: &'a [Token]) -> Read<'a, Expression>
-        ensures { Gives self.now.text.now (λ x. (shown_expression self.now.text.now x.0, x.1.now)) result (read_choice (shown_spot self.now.text.now a) (shown_all self.now.text.now tokens.now)) }
+        ensures { ReadsExpression self.now tokens.now result (read_choice (spot_in self.now a)) }
     {
         let (_, rest) = self.symbol(tokens, Symbol::Question)?;
         let (b, rest) = self.identifier(rest)?;
@@ -50,7 +50,7 @@ impl<'s> Parser<'s> {
 
     #[tactic(auto, unfolding(safl_verilog::specs::Reader::read_joined))]
     fn joined<'a>(&self, tokens: &'a [Token]) -> Read<'a, Expression>
-        ensures { Gives self.now.text.now (λ x. (shown_expression self.now.text.now x.0, x.1.now)) result (read_joined (shown_all self.now.text.now tokens.now)) }
+        ensures { ReadsExpression self.now tokens.now result read_joined }
     {
         let (_, rest) = self.symbol(tokens, Symbol::OpenBrace)?;
         let (a, rest) = self.identifier(rest)?;
@@ -62,7 +62,7 @@ impl<'s> Parser<'s> {
 
     #[tactic(auto, unfolding(safl_verilog::specs::Reader::read_slice))]
     fn slice<'a>(&self, a: Span, tokens: &'a [Token]) -> Read<'a, Expression>
-        ensures { Gives self.now.text.now (λ x. (shown_expression self.now.text.now x.0, x.1.now)) result (read_slice (shown_spot self.now.text.now a) (shown_all self.now.text.now tokens.now)) }
+        ensures { ReadsExpression self.now tokens.now result (read_slice (spot_in self.now a)) }
     {
         let (_, rest) = self.symbol(tokens, Symbol::OpenBracket)?;
         let (high, rest) = self.number(rest)?;
@@ -75,7 +75,7 @@ impl<'s> Parser<'s> {
     // What begins with a name.
     #[tactic(auto, unfolding(safl_verilog::specs::Reader::read_named))]
     fn named<'a>(&self, tokens: &'a [Token]) -> Read<'a, Expression>
-        ensures { Gives self.now.text.now (λ x. (shown_expression self.now.text.now x.0, x.1.now)) result (read_named (shown_all self.now.text.now tokens.now)) }
+        ensures { ReadsExpression self.now tokens.now result read_named }
     {
         let (a, rest) = self.identifier(tokens)?;
         if self.comes_operator(rest) {
@@ -91,7 +91,7 @@ impl<'s> Parser<'s> {
 
     #[tactic(auto, unfolding(safl_verilog::specs::Reader::read_cell))]
     fn expression<'a>(&self, tokens: &'a [Token]) -> Read<'a, Expression>
-        ensures { Gives self.now.text.now (λ x. (shown_expression self.now.text.now x.0, x.1.now)) result (read_cell (shown_all self.now.text.now tokens.now)) }
+        ensures { ReadsExpression self.now tokens.now result read_cell }
     {
         if self.comes(tokens, TokenKind::Sized) {
             self.constant(tokens)
@@ -106,7 +106,7 @@ impl<'s> Parser<'s> {
 
     #[tactic(auto, unfolding(safl_verilog::specs::Reader::read_written_range))]
     fn written_range<'a>(&self, tokens: &'a [Token]) -> Read<'a, Option<Range>>
-        ensures { Gives self.now.text.now (λ x. (shown_range self.now.text.now x.0, x.1.now)) result (read_written_range (shown_all self.now.text.now tokens.now)) }
+        ensures { ReadsRange self.now tokens.now result read_written_range }
     {
         let (_, rest) = self.symbol(tokens, Symbol::OpenBracket)?;
         let (high, rest) = self.number(rest)?;
@@ -118,7 +118,7 @@ impl<'s> Parser<'s> {
 
     #[tactic(auto, unfolding(safl_verilog::specs::Reader::read_range))]
     fn range<'a>(&self, tokens: &'a [Token]) -> Read<'a, Option<Range>>
-        ensures { Gives self.now.text.now (λ x. (shown_range self.now.text.now x.0, x.1.now)) result (read_range (shown_all self.now.text.now tokens.now)) }
+        ensures { ReadsRange self.now tokens.now result read_range }
     {
         if self.comes(tokens, TokenKind::Symbol(Symbol::OpenBracket)) {
             self.written_range(tokens)
@@ -129,7 +129,7 @@ impl<'s> Parser<'s> {
 
     #[tactic(auto, unfolding(safl_verilog::specs::Reader::read_decl))]
     fn declaration<'a>(&self, tokens: &'a [Token]) -> Read<'a, Declaration>
-        ensures { Gives self.now.text.now (λ x. (shown_declaration self.now.text.now x.0, x.1.now)) result (read_decl (shown_all self.now.text.now tokens.now)) }
+        ensures { ReadsDeclaration self.now tokens.now result read_decl }
     {
         let (sort, rest) = self.sort(tokens)?;
         let (range, rest) = self.range(rest)?;
@@ -140,7 +140,7 @@ impl<'s> Parser<'s> {
 
     #[tactic(auto, unfolding(safl_verilog::specs::Reader::read_assign))]
     fn assign<'a>(&self, tokens: &'a [Token]) -> Read<'a, Statement>
-        ensures { Gives self.now.text.now (λ x. (shown_statement self.now.text.now x.0, x.1.now)) result (read_assign (shown_all self.now.text.now tokens.now)) }
+        ensures { ReadsStatement self.now tokens.now result read_assign }
     {
         let (_, rest) = self.word(tokens, Keyword::Assign)?;
         let (target, rest) = self.identifier(rest)?;
@@ -160,7 +160,7 @@ impl<'s> Parser<'s> {
         initial: Span,
         tokens: &'a [Token],
     ) -> Read<'a, Statement>
-        ensures { Gives self.now.text.now (λ x. (shown_statement self.now.text.now x.0, x.1.now)) result (read_otherwise (shown_spot self.now.text.now clock) (shown_spot self.now.text.now reset) (shown_spot self.now.text.now target) (shown_spot self.now.text.now initial) (shown_all self.now.text.now tokens.now)) }
+        ensures { ReadsStatement self.now tokens.now result (otherwise_in self.now clock reset target initial) }
     {
         let (_, rest) = self.word(tokens, Keyword::Else)?;
         let (second, rest) = self.identifier(rest)?;
@@ -183,7 +183,7 @@ impl<'s> Parser<'s> {
     // What follows the clock.
     #[tactic(auto, unfolding(safl_verilog::specs::Reader::read_at_reset))]
     fn at_reset<'a>(&self, clock: Span, tokens: &'a [Token]) -> Read<'a, Statement>
-        ensures { Gives self.now.text.now (λ x. (shown_statement self.now.text.now x.0, x.1.now)) result (read_at_reset (shown_spot self.now.text.now clock) (shown_all self.now.text.now tokens.now)) }
+        ensures { ReadsStatement self.now tokens.now result (read_at_reset (spot_in self.now clock)) }
     {
         let (_, rest) = self.word(tokens, Keyword::If)?;
         let (_, rest) = self.symbol(rest, Symbol::OpenParen)?;
@@ -198,7 +198,7 @@ impl<'s> Parser<'s> {
 
     #[tactic(auto, unfolding(safl_verilog::specs::Reader::read_always))]
     fn always<'a>(&self, tokens: &'a [Token]) -> Read<'a, Statement>
-        ensures { Gives self.now.text.now (λ x. (shown_statement self.now.text.now x.0, x.1.now)) result (read_always (shown_all self.now.text.now tokens.now)) }
+        ensures { ReadsStatement self.now tokens.now result read_always }
     {
         let (_, rest) = self.word(tokens, Keyword::Always)?;
         let (_, rest) = self.symbol(rest, Symbol::At)?;
@@ -211,7 +211,7 @@ impl<'s> Parser<'s> {
 
     #[tactic(auto, unfolding(safl_verilog::specs::Reader::read_stmt))]
     fn statement<'a>(&self, tokens: &'a [Token]) -> Read<'a, Statement>
-        ensures { Gives self.now.text.now (λ x. (shown_statement self.now.text.now x.0, x.1.now)) result (read_stmt (shown_all self.now.text.now tokens.now)) }
+        ensures { ReadsStatement self.now tokens.now result read_stmt }
     {
         if self.comes(tokens, TokenKind::Keyword(Keyword::Assign)) {
             self.assign(tokens)
@@ -222,7 +222,7 @@ impl<'s> Parser<'s> {
 
     #[tactic(auto, unfolding(safl_verilog::specs::Reader::read_another_id))]
     fn another_name<'a>(&self, mut names: Vec<Span>, tokens: &'a [Token]) -> Read<'a, Vec<Span>>
-        ensures { Gives self.now.text.now (λ x. (shown_spots self.now.text.now x.0.items, x.1.now)) result (read_another_id (shown_spots self.now.text.now names.items) (shown_all self.now.text.now tokens.now)) }
+        ensures { ReadsNames self.now tokens.now result (read_another_id (shown_spots self.now.text.now names.items)) }
     {
         let (_, rest) = self.symbol(tokens, Symbol::Comma)?;
         let (name, rest) = self.identifier(rest)?;
@@ -233,7 +233,7 @@ impl<'s> Parser<'s> {
     // The names of the header.
     #[tactic(auto, unfolding(safl_verilog::specs::Reader::read_ids))]
     fn names<'a>(&self, tokens: &'a [Token]) -> Read<'a, Vec<Span>>
-        ensures { Gives self.now.text.now (λ x. (shown_spots self.now.text.now x.0.items, x.1.now)) result (read_ids (shown_all self.now.text.now tokens.now)) }
+        ensures { ReadsNames self.now tokens.now result read_ids }
     {
         let (first, rest) = self.identifier(tokens)?;
         let mut names = single(self.alloc, first)?;
@@ -252,7 +252,7 @@ impl<'s> Parser<'s> {
         mut declarations: Vec<Declaration>,
         tokens: &'a [Token],
     ) -> Read<'a, Vec<Declaration>>
-        ensures { Gives self.now.text.now (λ x. (shown_declarations self.now.text.now x.0.items, x.1.now)) result (read_another_decl (shown_declarations self.now.text.now declarations.items) (shown_all self.now.text.now tokens.now)) }
+        ensures { ReadsDeclarations self.now tokens.now result (read_another_decl (shown_declarations self.now.text.now declarations.items)) }
     {
         let (declaration, rest) = self.declaration(tokens)?;
         declarations.push(declaration)?;
@@ -261,7 +261,7 @@ impl<'s> Parser<'s> {
 
     #[tactic(auto, unfolding(safl_verilog::specs::Reader::read_decls))]
     fn declarations<'a>(&self, tokens: &'a [Token]) -> Read<'a, Vec<Declaration>>
-        ensures { Gives self.now.text.now (λ x. (shown_declarations self.now.text.now x.0.items, x.1.now)) result (read_decls (shown_all self.now.text.now tokens.now)) }
+        ensures { ReadsDeclarations self.now tokens.now result read_decls }
     {
         let mut declarations = Vec::new(self.alloc);
         let mut rest = tokens;
@@ -279,7 +279,7 @@ impl<'s> Parser<'s> {
         mut statements: Vec<Statement>,
         tokens: &'a [Token],
     ) -> Read<'a, Vec<Statement>>
-        ensures { Gives self.now.text.now (λ x. (shown_statements self.now.text.now x.0.items, x.1.now)) result (read_another_stmt (shown_statements self.now.text.now statements.items) (shown_all self.now.text.now tokens.now)) }
+        ensures { ReadsStatements self.now tokens.now result (read_another_stmt (shown_statements self.now.text.now statements.items)) }
     {
         let (statement, rest) = self.statement(tokens)?;
         statements.push(statement)?;
@@ -288,7 +288,7 @@ impl<'s> Parser<'s> {
 
     #[tactic(auto, unfolding(safl_verilog::specs::Reader::read_stmts))]
     fn statements<'a>(&self, tokens: &'a [Token]) -> Read<'a, Vec<Statement>>
-        ensures { Gives self.now.text.now (λ x. (shown_statements self.now.text.now x.0.items, x.1.now)) result (read_stmts (shown_all self.now.text.now tokens.now)) }
+        ensures { ReadsStatements self.now tokens.now result read_stmts }
     {
         let mut statements = Vec::new(self.alloc);
         let mut rest = tokens;
@@ -303,7 +303,7 @@ impl<'s> Parser<'s> {
     // What follows the header.
     #[tactic(auto, unfolding(safl_verilog::specs::Reader::read_body))]
     fn body<'a>(&self, header: Vec<Span>, tokens: &'a [Token]) -> Read<'a, File>
-        ensures { Gives self.now.text.now (λ x. (shown_file self.now.text.now x.0, x.1.now)) result (read_body (shown_spots self.now.text.now header.items) (shown_all self.now.text.now tokens.now)) }
+        ensures { ReadsFile self.now tokens.now result (read_body (shown_spots self.now.text.now header.items)) }
     {
         let (declarations, rest) = self.declarations(tokens)?;
         let (statements, rest) = self.statements(rest)?;
@@ -320,7 +320,7 @@ impl<'s> Parser<'s> {
 
     #[tactic(auto, unfolding(safl_verilog::specs::Reader::read_file))]
     fn file<'a>(&self, tokens: &'a [Token]) -> Read<'a, File>
-        ensures { Gives self.now.text.now (λ x. (shown_file self.now.text.now x.0, x.1.now)) result (read_file (shown_all self.now.text.now tokens.now)) }
+        ensures { ReadsFile self.now tokens.now result read_file }
     {
         let (_, rest) = self.word(tokens, Keyword::Module)?;
         let (_, rest) = self.identifier(rest)?;
@@ -334,7 +334,7 @@ impl<'s> Parser<'s> {
     /// The file that all tokens are.
     #[tactic(auto, unfolding(safl_verilog::specs::Reader::read_text))]
     pub fn whole<'a>(&self, tokens: &'a [Token]) -> Read<'a, File>
-        ensures { Gives self.now.text.now (λ x. (shown_file self.now.text.now x.0, x.1.now)) result (read_text (shown_all self.now.text.now tokens.now)) }
+        ensures { ReadsFile self.now tokens.now result read_text }
     {
         let (file, rest) = self.file(tokens)?;
         match rest {

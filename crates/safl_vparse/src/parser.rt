@@ -5,8 +5,8 @@ ghost use Rattle.safl_grammar.specs.Sets.{Only, within};
 ghost use Rattle.safl_grammar.specs.Reading.{head_of};
 ghost use Rattle.safl_verilog.specs.Grammar.{keyword_code, symbol_code, code_of, operators, primitive_of, primitive_in, sort_of, sort_in, sort_codes};
 ghost use Rattle.safl_verilog.specs.Reader.{comes, read_code, read_word, read_symbol, read_operator, read_sort};
-ghost use Rattle.safl_vparse.specs.Shown.{shown_all, shown_spot};
-ghost use Rattle.safl_vparse.specs.Gives.{Gives};
+ghost use Rattle.safl_vparse.specs.Shown.{shown_all};
+ghost use Rattle.safl_vparse.specs.Reads.{ReadsSpot, ReadsOperator, ReadsSort};
 ghost use Rattle.safl_vparse.specs.declared.parser.ReadError.TheVariants as errors;
 
 use crate::file::Span;
@@ -159,7 +159,7 @@ impl<'s> Parser<'s> {
 
     // A token of this kind.
     fn of_kind<'a>(&self, tokens: &'a [Token], kind: TokenKind) -> Read<'a, Span>
-        ensures { Gives self.now.text.now (λ x. (shown_spot self.now.text.now x.0, x.1.now)) result (read_code (code_of kind) (shown_all self.now.text.now tokens.now)) }
+        ensures { ReadsSpot self.now tokens.now result (read_code (code_of kind)) }
     {
         match tokens {
             [first, rest @ ..] if is_of(first, kind) => Ok((span(first), rest)),
@@ -169,42 +169,42 @@ impl<'s> Parser<'s> {
 
     /// A keyword.
     pub fn word<'a>(&self, tokens: &'a [Token], keyword: Keyword) -> Read<'a, Span>
-        ensures { Gives self.now.text.now (λ x. (shown_spot self.now.text.now x.0, x.1.now)) result (read_word keyword (shown_all self.now.text.now tokens.now)) }
+        ensures { ReadsSpot self.now tokens.now result (read_word keyword) }
     {
         self.of_kind(tokens, TokenKind::Keyword(keyword))
     }
 
     /// A symbol.
     pub fn symbol<'a>(&self, tokens: &'a [Token], symbol: Symbol) -> Read<'a, Span>
-        ensures { Gives self.now.text.now (λ x. (shown_spot self.now.text.now x.0, x.1.now)) result (read_symbol symbol (shown_all self.now.text.now tokens.now)) }
+        ensures { ReadsSpot self.now tokens.now result (read_symbol symbol) }
     {
         self.of_kind(tokens, TokenKind::Symbol(symbol))
     }
 
     /// An identifier.
     pub fn identifier<'a>(&self, tokens: &'a [Token]) -> Read<'a, Span>
-        ensures { Gives self.now.text.now (λ x. (shown_spot self.now.text.now x.0, x.1.now)) result (read_code 1 (shown_all self.now.text.now tokens.now)) }
+        ensures { ReadsSpot self.now tokens.now result (read_code 1) }
     {
         self.of_kind(tokens, TokenKind::Identifier)
     }
 
     /// A number.
     pub fn number<'a>(&self, tokens: &'a [Token]) -> Read<'a, Span>
-        ensures { Gives self.now.text.now (λ x. (shown_spot self.now.text.now x.0, x.1.now)) result (read_code 2 (shown_all self.now.text.now tokens.now)) }
+        ensures { ReadsSpot self.now tokens.now result (read_code 2) }
     {
         self.of_kind(tokens, TokenKind::Number)
     }
 
     /// A sized number.
     pub fn literal<'a>(&self, tokens: &'a [Token]) -> Read<'a, Span>
-        ensures { Gives self.now.text.now (λ x. (shown_spot self.now.text.now x.0, x.1.now)) result (read_code 3 (shown_all self.now.text.now tokens.now)) }
+        ensures { ReadsSpot self.now tokens.now result (read_code 3) }
     {
         self.of_kind(tokens, TokenKind::Sized)
     }
 
     /// An operator.
     pub fn operator<'a>(&self, tokens: &'a [Token]) -> Read<'a, Primitive>
-        ensures { Gives self.now.text.now (λ x. (x.0, x.1.now)) result (read_operator (shown_all self.now.text.now tokens.now)) }
+        ensures { ReadsOperator self.now tokens.now result read_operator }
     {
         match tokens {
             [first, rest @ ..] => match operator_in(first.kind) {
@@ -217,7 +217,7 @@ impl<'s> Parser<'s> {
 
     /// The word that begins a declaration.
     pub fn sort<'a>(&self, tokens: &'a [Token]) -> Read<'a, Sort>
-        ensures { Gives self.now.text.now (λ x. (x.0, x.1.now)) result (read_sort (shown_all self.now.text.now tokens.now)) }
+        ensures { ReadsSort self.now tokens.now result read_sort }
     {
         match tokens {
             [first, rest @ ..] => match sort_in(first.kind) {

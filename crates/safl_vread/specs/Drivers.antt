@@ -1,8 +1,12 @@
 -- What gives declared names their words.
-use Rattle.std.specs.Prelude.{◌≡◌, ℕ, List, [], ◌∷◌, ◌++◌, length, None, Some, Result, Ok, Err, Bool, true, false, not, ◌||◌, slice_get}
+use Rattle.std.specs.Prelude.{◌≡◌, ℕ, List, [], ◌∷◌, ◌++◌, ◌≤◌, length, All, None, Some, Result, Ok, Err, Bool, true, false, not, ◌||◌, slice_get}
 use Rattle.std.proofs.Common.{bytes_eq}
 use Rattle.safl_word.specs.Words.{Word}
+use Rattle.safl_word.specs.Numerals.{value}
+use Rattle.safl_word.specs.declared.primitive.Primitive.TheVariants as prims
 use Rattle.safl_net.specs.declared.cell.Op.{Op}
+use Rattle.safl_net.specs.declared.cell.Op.TheVariants as ops
+use Rattle.safl_net.specs.Widths.{op_width}
 use Rattle.safl_verilog.specs.declared.fault.VRule.TheVariants as rules
 use Rattle.safl_verilog.specs.declared.fault.VFault.{VFault}
 use Rattle.safl_verilog.specs.declared.token.Sort.{Sort}
@@ -16,7 +20,8 @@ use Rattle.safl_vread.specs.declared.driver.Operands.TheVariants as operand
 use Rattle.safl_vread.specs.declared.driver.Driver.{Driver}
 use Rattle.safl_vread.specs.declared.driver.Driver.TheVariants as driver
 use Rattle.safl_vread.specs.Firsts.{first}
-use Rattle.safl_vread.specs.Scopes.{Shows}
+use Rattle.safl_vread.specs.declared.scope.Scope.{Scope}
+use Rattle.safl_vread.specs.Scopes.{declared_in, spot_in, Shows}
 
 -- a name is declared, as an item shows, and passes the test
 pub record Found (ds : List Declaration) (x : Spot) (p : Declaration → Bool) (item : Item) : Type 0 where
@@ -29,6 +34,14 @@ pub record Found (ds : List Declaration) (x : Spot) (p : Declaration → Bool) (
 abbrev pub Chosen : List Declaration → Spot → (Declaration → Bool) → VFault → Result Item VFault → Type 0
 Chosen ds x p f (Ok item) = Found ds x p item
 Chosen ds x p f (Err g) = (passes p (find ds x.bytes) ≡ false) × (g ≡ f)
+
+-- the operation of a slice with these ends
+abbrev pub bits_between : Spot → Spot → Op
+bits_between high low = ops.Apply (prims.Bits (value 10 high.bytes) (value 10 low.bytes))
+
+-- the operation gives no word, whatever the widths of its operands
+abbrev pub HasNoWidth : Op → Type 0
+HasNoWidth op = (ws : List ℕ) → All (λ w. w ≤ 128) ws → op_width op ws ≡ None
 
 abbrev pub is_open : Driver → Bool
 is_open driver.Open = true
@@ -102,6 +115,10 @@ abbrev pub Steps : List Declaration → List Statement → Statement → Result 
 Steps ds before s (Ok r) = Sets ds before s r.0 r.1
 Steps ds before s (Err f) = Some f ≡ first (statement_faults ds before s)
 
+-- what a statement does after any statements that have these drivers
+abbrev pub StepsFrom : Scope → List Driver → Statement → Result (ℕ × Driver) VFault → Type 0
+StepsFrom s drivers x result = (before : List Statement) → HasDrivers (declared_in s) before drivers → Steps (declared_in s) before x result
+
 -- no fault, or the first one
 abbrev pub Judges : {A : Type 0} → List VFault → Result A VFault → Type 0
 Judges faults (Ok x) = faults ≡ []
@@ -118,13 +135,25 @@ register_faults ds before clock reset target second =
 
 -- the register of an update, or the first of these faults
 abbrev pub Names : List Declaration → List Statement → (clock reset target second : Spot) → Result Item VFault → Type 0
-Names ds before clock reset target second (Ok item) = (register_faults ds before clock reset target second ≡ []) × (is_none (updated before target.bytes) ≡ true) × Found ds target (λ d. is_reg d.sort) item
+Names ds before clock reset target second (Ok item) =
+    (register_faults ds before clock reset target second ≡ [])
+    × (is_none (updated before target.bytes) ≡ true)
+    × Found ds target (λ d. is_reg d.sort) item
 Names ds before clock reset target second (Err f) = Some f ≡ first (register_faults ds before clock reset target second)
 
+-- the register that an update names after any statements that have these drivers, or the first of these faults
+abbrev pub NamesFrom : Scope → List Driver → Update → Result Item VFault → Type 0
+NamesFrom s drivers u result =
+    (before : List Statement) → HasDrivers (declared_in s) before drivers
+    → Names (declared_in s) before (spot_in s u.clock) (spot_in s u.reset) (spot_in s u.target) (spot_in s u.second) result
+
 abbrev pub always_at : List ℕ → Update → Statement
-always_at text u = Always (shown_spot text u.clock) (shown_spot text u.reset) (shown_spot text u.target) (shown_spot text u.initial) (shown_spot text u.second) (shown_spot text u.source)
+always_at text u =
+    Always (shown_spot text u.clock) (shown_spot text u.reset) (shown_spot text u.target)
+    (shown_spot text u.initial) (shown_spot text u.second) (shown_spot text u.source)
 
 -- the faults of a declaration that is driven or not
 abbrev pub open_faults : Sort → ℕ → Driver → List VFault
 open_faults sort place v =
-    where_not (not (is_wire sort || is_output sort) || not (is_open v)) (at rules.V07 place) ++ where_not (not (is_reg sort) || not (is_open v)) (at rules.V08 place)
+    where_not (not (is_wire sort || is_output sort) || not (is_open v)) (at rules.V07 place)
+    ++ where_not (not (is_reg sort) || not (is_open v)) (at rules.V08 place)

@@ -1,7 +1,7 @@
 -- The net of declarations and what drives them.
-use Rattle.std.specs.Prelude.{◌≡◌, ℕ, zero, suc, ◌<◌, List, [], ◌∷◌, ◌++◌, map, length, All, Option, Some, None, true, ◌||◌, slice_get, slice_index, if◌then◌else◌}
+use Rattle.std.specs.Prelude.{◌≡◌, ℕ, zero, suc, ◌<◌, List, [], ◌∷◌, ◌++◌, map, length, All, Option, Some, None, true, false, ◌||◌, slice_get, slice_index, if◌then◌else◌}
 use Rattle.safl_net.specs.Netlist.{Netlist, Signal, Kind, Input, Reg, Wire, width_of}
-use Rattle.safl_net.specs.Names.{is_good}
+use Rattle.safl_net.specs.Names.{is_good, named_signal}
 use Rattle.safl_net.specs.Widths.{op_width}
 use Rattle.safl_verilog.specs.declared.token.Sort.{Sort}
 use Rattle.safl_verilog.specs.declared.token.Sort.TheVariants as sorts
@@ -56,6 +56,11 @@ SuitsIn n ns s (driver.Next w p) = width_of n (slice_index ns p) ≡ width_of n 
 -- names of signals and outputs are good
 abbrev pub GoodNames : List Declaration → Type 0
 GoodNames ds = (i : ℕ) (d : Declaration) → slice_get ds i ≡ Some d → (is_signal d || is_output d.sort) ≡ true → is_good d.name.bytes ≡ true
+
+-- no output has the name of one of these signals
+abbrev pub HasNewOutputs : List Declaration → List Signal → Type 0
+HasNewOutputs ds gs =
+    (i : ℕ) → (d : Declaration) → slice_get ds i ≡ Some d → is_output d.sort ≡ true → named_signal gs d.name.bytes ≡ false
 
 -- what a signal of this sort is, by the numbers of the signals of places
 abbrev pub kind_with : List ℕ → Sort → Driver → Kind

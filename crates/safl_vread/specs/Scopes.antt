@@ -1,12 +1,46 @@
 -- What a name is declared as.
 use Rattle.std.specs.Prelude.{◌≡◌, List, [], Option, None, Some, slice_get}
+use Rattle.safl_verilog.specs.Files
 use Rattle.safl_verilog.specs.Files.{Spot, Declaration, File}
 use Rattle.safl_verilog.specs.Faults.{is_signal, range_width}
+use Rattle.safl_vparse.specs.declared.file.Span.{Span}
+use Rattle.safl_vparse.specs.declared.file.Expression.{Expression}
+use Rattle.safl_vparse.specs.declared.file.Statement.{Statement}
+use Rattle.safl_vparse.specs.Shown.{shown_spot, shown_spots, shown_expression, shown_declarations, shown_statement, shown_statements}
 use Rattle.safl_vread.specs.declared.scope.Item.{Item}
+use Rattle.safl_vread.specs.declared.scope.Scope.{Scope}
+
+-- what a scope declares
+abbrev pub declared_in : Scope → List Declaration
+declared_in s = shown_declarations s.text.now s.declarations.now
+
+-- what a span of its text shows
+abbrev pub spot_in : Scope → Span → Spot
+spot_in s x = shown_spot s.text.now x
+
+-- what spans of its text show
+abbrev pub spots_in : Scope → List Span → List Spot
+spots_in s xs = shown_spots s.text.now xs
+
+-- what an expression of its text shows
+abbrev pub expression_in : Scope → Expression → Files.Expression
+expression_in s e = shown_expression s.text.now e
+
+-- what a statement of its text shows
+abbrev pub statement_in : Scope → Statement → Files.Statement
+statement_in s x = shown_statement s.text.now x
+
+-- what statements of its text show
+abbrev pub statements_in : Scope → List Statement → List Files.Statement
+statements_in s xs = shown_statements s.text.now xs
 
 -- a file without statements
 abbrev pub without_statements : List Spot → List Declaration → File
 without_statements hs ds = record { header = hs; declarations = ds; statements = [] }
+
+-- the file of a header and of what a scope declares, without statements
+abbrev pub file_in : Scope → List Span → File
+file_in s header = without_statements (spots_in s header) (declared_in s)
 
 -- an item shows a declaration, which stands at its place
 pub record Shows (ds : List Declaration) (d : Declaration) (item : Item) : Type 0 where

@@ -1,5 +1,5 @@
 -- Which declarations are those of signals, and their numbers.
-use Rattle.std.specs.Prelude.{◌≡◌, ℕ, ◌<◌, List, map, length, Bool, false, true, Some, slice_get, slice_index}
+use Rattle.std.specs.Prelude.{◌≡◌, ℕ, ◌<◌, List, ◌++◌, map, filter, length, Bool, false, true, Some, slice_get, slice_index}
 use Rattle.safl_verilog.specs.declared.token.Sort.{Sort}
 use Rattle.safl_verilog.specs.declared.token.Sort.TheVariants as sorts
 use Rattle.safl_verilog.specs.Files.{Declaration}
@@ -16,6 +16,10 @@ is_of sorts.Wire d = is_wire d.sort
 -- the places of the signals' declarations, in the order of their numbers
 abbrev pub IsOrder : List Declaration → List ℕ → Type 0
 IsOrder ds order = map (slice_get ds) order ≡ map Some (signals_of ds)
+
+-- behind the places before stand those of the signals of this sort
+abbrev pub AddsPlaces : List Declaration → Sort → (before after : List ℕ) → Type 0
+AddsPlaces ds sort before after = map (slice_get ds) after ≡ map (slice_get ds) before ++ map Some (filter (is_of sort) ds)
 
 -- for each declaration a number of a signal, which is that of its own signal where it has one
 pub record AreNumbers (ds : List Declaration) (order numbers : List ℕ) : Type 0 where

@@ -1,13 +1,14 @@
 //! Expressions, and their widths.
 
-ghost use Rattle.std.specs.Prelude.{◌≡◌, ℕ, List, [], ◌≤◌, ◌<◌, slice_index, length, ◌∷◌, All, IfOk, IfSome, IfNone, Some, None, unwrap_or, map};
+ghost use Rattle.std.specs.Prelude.{◌≡◌, [], ◌≤◌, ◌<◌, slice_index, length, ◌∷◌, All, IfOk, IfSome, IfNone, Some, None, unwrap_or, map};
 ghost use Rattle.std.specs.List.{flat_map};
 ghost use Rattle.safl_word.specs.Numerals.{value};
 ghost use Rattle.safl_net.specs.Widths.{op_width};
 ghost use Rattle.safl_verilog.specs.declared.fault.VRule.TheVariants as rules;
 ghost use Rattle.safl_verilog.specs.Faults.{at, is_signal, number_faults, expression_number_faults, unfit_faults, operation, operands, expression_width};
-ghost use Rattle.safl_vparse.specs.Shown.{shown_spot, shown_declarations, shown_expression};
-ghost use Rattle.safl_vread.specs.Drivers.{Chosen, AreAt, places_of, Judges};
+ghost use Rattle.safl_vparse.specs.Shown.{shown_spot, shown_expression};
+ghost use Rattle.safl_vread.specs.Drivers.{Chosen, AreAt, places_of, Judges, bits_between, HasNoWidth};
+ghost use Rattle.safl_vread.specs.Scopes.{declared_in, spot_in, expression_in};
 
 use crate::driver::Operands;
 use crate::scope::{Item, Scope};
@@ -20,7 +21,7 @@ use safl_word::Primitive;
 
 /// The signal of a name, or V04 at it.
 pub fn signal(scope: &Scope, name: Span) -> Result<Item, VFault>
-    ensures { Chosen (shown_declarations scope.now.text.now scope.now.declarations.now) (shown_spot scope.now.text.now name) is_signal (at rules.V04 name.start) result }
+    ensures { Chosen (declared_in scope.now) (spot_in scope.now name) is_signal (at rules.V04 name.start) result }
 {
     match scope.find(bytes_of(scope.text, name)) {
         None => Err(fault_at(VRule::V04, name.start)),
@@ -36,8 +37,8 @@ pub fn signal(scope: &Scope, name: Span) -> Result<Item, VFault>
 
 /// The places of the signals of an expression's names, or V04 at the first that isn't one.
 pub fn operands_of(scope: &Scope, e: &Expression) -> Result<Operands, VFault>
-    ensures faults { Judges (flat_map (unfit_faults (shown_declarations scope.now.text.now scope.now.declarations.now)) (operands (shown_expression scope.now.text.now e.now))) result }
-    ensures places { IfOk result (λ xs. AreAt (shown_declarations scope.now.text.now scope.now.declarations.now) (places_of xs) (operands (shown_expression scope.now.text.now e.now))) }
+    ensures faults { Judges (flat_map (unfit_faults (declared_in scope.now)) (operands (expression_in scope.now e.now))) result }
+    ensures places { IfOk result (λ xs. AreAt (declared_in scope.now) (places_of xs) (operands (expression_in scope.now e.now))) }
 {
     match e {
         Expression::Literal(_) => Ok(Operands::None),
@@ -51,16 +52,16 @@ pub fn operands_of(scope: &Scope, e: &Expression) -> Result<Operands, VFault>
 }
 
 fn one_operand(scope: &Scope, a: Span) -> Result<Operands, VFault>
-    ensures faults { Judges (flat_map (unfit_faults (shown_declarations scope.now.text.now scope.now.declarations.now)) (shown_spot scope.now.text.now a ∷ [])) result }
-    ensures places { IfOk result (λ xs. AreAt (shown_declarations scope.now.text.now scope.now.declarations.now) (places_of xs) (shown_spot scope.now.text.now a ∷ [])) }
+    ensures faults { Judges (flat_map (unfit_faults (declared_in scope.now)) (spot_in scope.now a ∷ [])) result }
+    ensures places { IfOk result (λ xs. AreAt (declared_in scope.now) (places_of xs) (spot_in scope.now a ∷ [])) }
 {
     let a = signal(scope, a)?;
     Ok(Operands::One(a.place))
 }
 
 fn two_operands(scope: &Scope, a: Span, b: Span) -> Result<Operands, VFault>
-    ensures faults { Judges (flat_map (unfit_faults (shown_declarations scope.now.text.now scope.now.declarations.now)) (shown_spot scope.now.text.now a ∷ shown_spot scope.now.text.now b ∷ [])) result }
-    ensures places { IfOk result (λ xs. AreAt (shown_declarations scope.now.text.now scope.now.declarations.now) (places_of xs) (shown_spot scope.now.text.now a ∷ shown_spot scope.now.text.now b ∷ [])) }
+    ensures faults { Judges (flat_map (unfit_faults (declared_in scope.now)) (spot_in scope.now a ∷ spot_in scope.now b ∷ [])) result }
+    ensures places { IfOk result (λ xs. AreAt (declared_in scope.now) (places_of xs) (spot_in scope.now a ∷ spot_in scope.now b ∷ [])) }
 {
     let a = signal(scope, a)?;
     let b = signal(scope, b)?;
@@ -68,8 +69,8 @@ fn two_operands(scope: &Scope, a: Span, b: Span) -> Result<Operands, VFault>
 }
 
 fn three_operands(scope: &Scope, a: Span, b: Span, c: Span) -> Result<Operands, VFault>
-    ensures faults { Judges (flat_map (unfit_faults (shown_declarations scope.now.text.now scope.now.declarations.now)) (shown_spot scope.now.text.now a ∷ shown_spot scope.now.text.now b ∷ shown_spot scope.now.text.now c ∷ [])) result }
-    ensures places { IfOk result (λ xs. AreAt (shown_declarations scope.now.text.now scope.now.declarations.now) (places_of xs) (shown_spot scope.now.text.now a ∷ shown_spot scope.now.text.now b ∷ shown_spot scope.now.text.now c ∷ [])) }
+    ensures faults { Judges (flat_map (unfit_faults (declared_in scope.now)) (spot_in scope.now a ∷ spot_in scope.now b ∷ spot_in scope.now c ∷ [])) result }
+    ensures places { IfOk result (λ xs. AreAt (declared_in scope.now) (places_of xs) (spot_in scope.now a ∷ spot_in scope.now b ∷ spot_in scope.now c ∷ [])) }
 {
     let a = signal(scope, a)?;
     let b = signal(scope, b)?;
@@ -82,7 +83,7 @@ fn three_operands(scope: &Scope, a: Span, b: Span, c: Span) -> Result<Operands, 
 pub fn operation_of(text: &[u8], e: &Expression) -> Option<Op>
     requires { expression_number_faults (shown_expression text.now e.now) ≡ [] }
     ensures some { IfSome result (λ op. op ≡ operation (shown_expression text.now e.now)) }
-    ensures none { IfNone result ((ws : List ℕ) → All (λ w. w ≤ 128) ws → op_width (operation (shown_expression text.now e.now)) ws ≡ None) }
+    ensures none { IfNone result (HasNoWidth (operation (shown_expression text.now e.now))) }
 {
     match e {
         Expression::Literal(l) => match literal(bytes_of(text, *l)) {
@@ -101,8 +102,8 @@ pub fn operation_of(text: &[u8], e: &Expression) -> Option<Op>
 fn slice_of(text: &[u8], high: Span, low: Span) -> Option<Op>
     requires high { number_faults (shown_spot text.now high) ≡ [] }
     requires low { number_faults (shown_spot text.now low) ≡ [] }
-    ensures some { IfSome result (λ op. op ≡ Op.Apply (Primitive.Bits (value 10 (shown_spot text.now high).bytes) (value 10 (shown_spot text.now low).bytes))) }
-    ensures none { IfNone result ((ws : List ℕ) → All (λ w. w ≤ 128) ws → op_width (Op.Apply (Primitive.Bits (value 10 (shown_spot text.now high).bytes) (value 10 (shown_spot text.now low).bytes))) ws ≡ None) }
+    ensures some { IfSome result (λ op. op ≡ bits_between (shown_spot text.now high) (shown_spot text.now low)) }
+    ensures none { IfNone result (HasNoWidth (bits_between (shown_spot text.now high) (shown_spot text.now low))) }
 {
     match (index_of(text, high), index_of(text, low)) {
         (Some(high), Some(low)) => Some(Op::Apply(Primitive::Bits(high, low))),
@@ -143,10 +144,10 @@ fn width_of(scope: &Scope, op: Op, operands: Operands) -> u8
 
 /// The width of an expression with this operation on the signals of these places, in bits; 0 where they don't fit.
 pub fn expression_width(scope: &Scope, e: &Expression, op: Option<Op>, places: Operands) -> u8
-    requires places { AreAt (shown_declarations scope.now.text.now scope.now.declarations.now) (places_of places) (operands (shown_expression scope.now.text.now e.now)) }
-    requires some { IfSome op (λ op. op ≡ operation (shown_expression scope.now.text.now e.now)) }
-    requires none { IfNone op ((ws : List ℕ) → All (λ w. w ≤ 128) ws → op_width (operation (shown_expression scope.now.text.now e.now)) ws ≡ None) }
-    ensures width { result ≡ expression_width (shown_declarations scope.now.text.now scope.now.declarations.now) (shown_expression scope.now.text.now e.now) }
+    requires places { AreAt (declared_in scope.now) (places_of places) (operands (expression_in scope.now e.now)) }
+    requires some { IfSome op (λ op. op ≡ operation (expression_in scope.now e.now)) }
+    requires none { IfNone op (HasNoWidth (operation (expression_in scope.now e.now))) }
+    ensures width { result ≡ expression_width (declared_in scope.now) (expression_in scope.now e.now) }
     ensures zero { op ≡ None → result ≡ 0 }
 {
     match op {

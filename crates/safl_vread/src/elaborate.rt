@@ -3,11 +3,12 @@
 ghost use Rattle.std.specs.Prelude.{◌≡◌, [], IfOk};
 ghost use Rattle.std.specs.List.{flat_map};
 ghost use Rattle.safl_verilog.specs.Faults.{faults, declared_number_faults, stated_number_faults, repeat_faults, declared_names};
-ghost use Rattle.safl_vparse.specs.Shown.{shown_spots, shown_declarations, shown_statements, shown_file};
+ghost use Rattle.safl_vparse.specs.Shown.{shown_declarations, shown_statements, shown_file};
 ghost use Rattle.safl_vread.specs.Drivers.{HasDrivers};
 ghost use Rattle.safl_vread.specs.Firsts.{Answers};
 ghost use Rattle.safl_vread.specs.Lists.{bytes_of_all};
 ghost use Rattle.safl_vread.specs.Parts.{parts_at, later_faults};
+ghost use Rattle.safl_vread.specs.Scopes.{declared_in, spots_in, statements_in};
 
 use crate::driver::Driver;
 use crate::missing::missing_fault;
@@ -72,10 +73,10 @@ fn all_drivers(
     listed: &Names,
     statements: &[Statement],
 ) -> Result<Vec<Driver>, VErr>
-    requires numbers { flat_map stated_number_faults (shown_statements scope.now.text.now statements.now) ≡ [] }
-    requires listed { listed.now ≡ bytes_of_all (shown_spots scope.now.text.now header.now) }
+    requires numbers { flat_map stated_number_faults (statements_in scope.now statements.now) ≡ [] }
+    requires listed { listed.now ≡ bytes_of_all (spots_in scope.now header.now) }
     ensures faults { Answers (later_faults (parts_at scope.now.text.now header.now scope.now.declarations.now statements.now)) result }
-    ensures drivers { IfOk result (λ v. HasDrivers (shown_declarations scope.now.text.now scope.now.declarations.now) (shown_statements scope.now.text.now statements.now) v.items) }
+    ensures drivers { IfOk result (λ v. HasDrivers (declared_in scope.now) (statements_in scope.now statements.now) v.items) }
 {
     if let Some(fault) = port_fault(scope, header, listed) {
         return Err(VErr::Refused(fault));

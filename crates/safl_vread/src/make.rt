@@ -1,17 +1,18 @@
 //! The net of what a file declares and drives.
 
-ghost use Rattle.std.specs.Prelude.{◌≡◌, ℕ, ◌<◌, ◌≤◌, List, [], ◌∷◌, map, length, All, Some, None, true, false, slice_get, slice_index, IfOk, OnOk};
-ghost use Rattle.safl_net.specs.Names.{is_good, has_name, named_signal};
+ghost use Rattle.std.specs.Prelude.{◌≡◌, ℕ, ◌<◌, ◌≤◌, List, [], ◌∷◌, map, length, All, Some, None, true, false, slice_index, IfOk, OnOk};
+ghost use Rattle.safl_net.specs.Names.{is_good, has_name};
 ghost use Rattle.safl_net.specs.Netlist.{Wire, Reg, width_of};
 ghost use Rattle.safl_net.specs.Making.{with_signal, with_kind, kind_at};
 ghost use Rattle.safl_net.specs.Widths.{op_width};
-ghost use Rattle.safl_verilog.specs.Files.{File, Declaration as Declared};
+ghost use Rattle.safl_verilog.specs.Files.{File};
 ghost use Rattle.safl_verilog.specs.Faults.{is_output, range_width};
 ghost use Rattle.safl_verilog.specs.Netlists.{signals_of, netlist};
-ghost use Rattle.safl_vparse.specs.Shown.{shown_declaration, shown_declarations};
+ghost use Rattle.safl_vparse.specs.Shown.{shown_declaration};
 ghost use Rattle.safl_vread.specs.Drivers.{HasDrivers, places_of};
 ghost use Rattle.safl_vread.specs.Signals.{IsOrder, AreNumbers};
-ghost use Rattle.safl_vread.specs.Nets.{Fits, AllFit, SuitsIn, AllSuit, GoodNames, kind_with, opened_kind, opened, signal_with, signals_at, output_with, outputs_with, with_outputs};
+ghost use Rattle.safl_vread.specs.Nets.{Fits, AllFit, SuitsIn, AllSuit, GoodNames, kind_with, opened_kind, opened, signal_with, signals_at, output_with, outputs_with, with_outputs, HasNewOutputs};
+ghost use Rattle.safl_vread.specs.Scopes.{declared_in};
 
 use crate::driver::{Driver, Operands};
 use crate::places::{numbers_of, order_of};
@@ -25,12 +26,12 @@ use std::alloc::{AllocError, Global};
 /// The net of a file that keeps all rules, by what it declares and what drives each declared name.
 pub fn net_of(alloc: Global, scope: &Scope, drivers: &[Driver]) -> Result<Net, AllocError>
     requires full { length drivers.now ≡ length scope.now.declarations.now }
-    requires fit { AllFit (shown_declarations scope.now.text.now scope.now.declarations.now) drivers.now }
-    requires suit { AllSuit (shown_declarations scope.now.text.now scope.now.declarations.now) drivers.now }
-    requires names { GoodNames (shown_declarations scope.now.text.now scope.now.declarations.now) }
-    requires some { 0 < length (signals_of (shown_declarations scope.now.text.now scope.now.declarations.now)) }
+    requires fit { AllFit (declared_in scope.now) drivers.now }
+    requires suit { AllSuit (declared_in scope.now) drivers.now }
+    requires names { GoodNames (declared_in scope.now) }
+    requires some { 0 < length (signals_of (declared_in scope.now)) }
     requires few { length scope.now.declarations.now < 4294967295 }
-    ensures { IfOk result (λ net. (f : File) → f.declarations ≡ shown_declarations scope.now.text.now scope.now.declarations.now → HasDrivers f.declarations f.statements drivers.now → net ≡ netlist f) }
+    ensures { IfOk result (λ net. (f : File) → f.declarations ≡ declared_in scope.now → HasDrivers f.declarations f.statements drivers.now → net ≡ netlist f) }
 {
     let order = order_of(alloc, scope)?;
     let numbers = numbers_of(alloc, scope, &order)?;
@@ -49,12 +50,13 @@ fn declare(
     order: &[usize],
 ) -> Result<(), AllocError>
     requires full { length drivers.now ≡ length scope.now.declarations.now }
-    requires fit { AllFit (shown_declarations scope.now.text.now scope.now.declarations.now) drivers.now }
-    requires order { IsOrder (shown_declarations scope.now.text.now scope.now.declarations.now) order.now }
-    requires names { GoodNames (shown_declarations scope.now.text.now scope.now.declarations.now) }
+    requires fit { AllFit (declared_in scope.now) drivers.now }
+    requires order { IsOrder (declared_in scope.now) order.now }
+    requires names { GoodNames (declared_in scope.now) }
     requires few { length order.now < 4294967295 }
     requires empty { net.old ≡ record { signals = []; outputs = [] } }
-    ensures { OnOk result ((ns : List ℕ) → net.new ≡ record { signals = map opened (signals_at (shown_declarations scope.now.text.now scope.now.declarations.now) drivers.now ns order.now); outputs = [] }) }
+    ensures { OnOk result ((ns : List ℕ) →
+        net.new ≡ record { signals = map opened (signals_at (declared_in scope.now) drivers.now ns order.now); outputs = [] }) }
 {
     for place in order {
         let d = scope.declarations[*place];
@@ -99,13 +101,13 @@ fn declare_one(
 // Sets what drives the signals of these places.
 fn connect(net: &mut Net, scope: &Scope, drivers: &[Driver], order: &[usize], numbers: &[u32])
     requires full { length drivers.now ≡ length scope.now.declarations.now }
-    requires fit { AllFit (shown_declarations scope.now.text.now scope.now.declarations.now) drivers.now }
-    requires suit { AllSuit (shown_declarations scope.now.text.now scope.now.declarations.now) drivers.now }
-    requires order { IsOrder (shown_declarations scope.now.text.now scope.now.declarations.now) order.now }
+    requires fit { AllFit (declared_in scope.now) drivers.now }
+    requires suit { AllSuit (declared_in scope.now) drivers.now }
+    requires order { IsOrder (declared_in scope.now) order.now }
     requires few { length order.now < 4294967295 }
-    requires numbers { AreNumbers (shown_declarations scope.now.text.now scope.now.declarations.now) order.now numbers.now }
-    requires opened { net.old.signals ≡ map opened (signals_at (shown_declarations scope.now.text.now scope.now.declarations.now) drivers.now numbers.now order.now) }
-    ensures { net.new ≡ record { signals = signals_at (shown_declarations scope.now.text.now scope.now.declarations.now) drivers.now numbers.now order.now; outputs = net.old.outputs } }
+    requires numbers { AreNumbers (declared_in scope.now) order.now numbers.now }
+    requires opened { net.old.signals ≡ map opened (signals_at (declared_in scope.now) drivers.now numbers.now order.now) }
+    ensures { net.new ≡ record { signals = signals_at (declared_in scope.now) drivers.now numbers.now order.now; outputs = net.old.outputs } }
 {
     for (i, place) in order.iter().enumerate() {
         let sort = scope.declarations[*place].sort;
@@ -168,14 +170,14 @@ fn set_cell(net: &mut Net, s: Sig, op: Op, operands: Operands, numbers: &[u32])
 // The outputs among the declarations.
 fn show(net: &mut Net, scope: &Scope, drivers: &[Driver], numbers: &[u32]) -> Result<(), AllocError>
     requires full { length drivers.now ≡ length scope.now.declarations.now }
-    requires fit { AllFit (shown_declarations scope.now.text.now scope.now.declarations.now) drivers.now }
+    requires fit { AllFit (declared_in scope.now) drivers.now }
     requires few { length scope.now.declarations.now < 4294967295 }
     requires numbers { length numbers.now ≡ length scope.now.declarations.now }
     requires known { (p : ℕ) → slice_index numbers.now p < length net.old.signals }
-    requires names { GoodNames (shown_declarations scope.now.text.now scope.now.declarations.now) }
-    requires new { (i : ℕ) → (d : Declared) → slice_get (shown_declarations scope.now.text.now scope.now.declarations.now) i ≡ Some d → is_output d.sort ≡ true → named_signal net.old.signals d.name.bytes ≡ false }
+    requires names { GoodNames (declared_in scope.now) }
+    requires new { HasNewOutputs (declared_in scope.now) net.old.signals }
     requires empty { net.old.outputs ≡ [] }
-    ensures { OnOk result (net.new ≡ with_outputs net.old (outputs_with numbers.now (shown_declarations scope.now.text.now scope.now.declarations.now) drivers.now)) }
+    ensures { OnOk result (net.new ≡ with_outputs net.old (outputs_with numbers.now (declared_in scope.now) drivers.now)) }
 {
     for (i, d) in scope.declarations.iter().enumerate() {
         show_one(net, scope.text, d, &drivers[i], numbers)?;

@@ -4,9 +4,9 @@ ghost use Rattle.std.specs.Prelude.{◌≡◌, List, length};
 ghost use Rattle.std.specs.List.{flat_map};
 ghost use Rattle.safl_verilog.specs.Files.{Statement as Stated};
 ghost use Rattle.safl_verilog.specs.Faults.{missing_faults};
-ghost use Rattle.safl_vparse.specs.Shown.{shown_declarations};
 ghost use Rattle.safl_vread.specs.Firsts.{first};
 ghost use Rattle.safl_vread.specs.Drivers.{HasDrivers, open_faults};
+ghost use Rattle.safl_vread.specs.Scopes.{declared_in};
 
 use crate::driver::Driver;
 use crate::scope::Scope;
@@ -17,7 +17,7 @@ use safl_vparse::Declaration;
 /// V07 or V08 at the first declared name that the statements left without a word; these are its drivers after them.
 pub fn missing_fault(scope: &Scope, drivers: &[Driver]) -> Option<VFault>
     requires { length drivers.now ≡ length scope.now.declarations.now }
-    ensures { (ss : List Stated) → HasDrivers (shown_declarations scope.now.text.now scope.now.declarations.now) ss drivers.now → result ≡ first (flat_map (missing_faults ss) (shown_declarations scope.now.text.now scope.now.declarations.now)) }
+    ensures { (ss : List Stated) → HasDrivers (declared_in scope.now) ss drivers.now → result ≡ first (flat_map (missing_faults ss) (declared_in scope.now)) }
 {
     for (i, d) in scope.declarations.iter().enumerate() {
         let fault = open_fault(d, &drivers[i]);

@@ -1,11 +1,12 @@
 //! The rules on numbers in declarations, slices and literals.
 
-ghost use Rattle.std.specs.Prelude.{◌≡◌, ◌==◌, ◌++◌};
+ghost use Rattle.std.specs.Prelude.{◌≡◌, ◌==◌, []};
 ghost use Rattle.std.specs.List.{flat_map};
 ghost use Rattle.safl_word.specs.Numerals.{value};
-ghost use Rattle.safl_verilog.specs.Faults.{number_faults, literal_faults, range_faults, declared_number_faults, expression_number_faults, stated_number_faults};
+ghost use Rattle.safl_verilog.specs.Faults.{number_faults, literal_faults, range_faults, declared_number_faults, expression_number_faults, stated_number_faults, all_number_faults};
 ghost use Rattle.safl_vparse.specs.Shown.{shown_spot, shown_range, shown_declarations, shown_expression, shown_statement, shown_statements};
 ghost use Rattle.safl_vread.specs.Firsts.{first};
+ghost use Rattle.safl_vread.specs.Parts.{parts_at};
 
 use crate::spans::{bytes_of, fault_at};
 use safl_verilog::{VFault, VRule};
@@ -19,7 +20,7 @@ pub fn number_fault(
     declarations: &[Declaration],
     statements: &[Statement],
 ) -> Option<VFault>
-    ensures { result ≡ first (flat_map declared_number_faults (shown_declarations text.now declarations.now) ++ flat_map stated_number_faults (shown_statements text.now statements.now)) }
+    ensures { result ≡ first (all_number_faults (parts_at text.now [] declarations.now statements.now)) }
 {
     let declared = declared_fault(text, declarations);
     if declared.is_some() {

@@ -1,9 +1,10 @@
 //! Places of declarations, and numbers of signals.
 
-ghost use Rattle.std.specs.Prelude.{◌≡◌, ◌<◌, ◌^◌, ◌++◌, map, filter, length, Some, slice_get, IfOk, OnOk};
+ghost use Rattle.std.specs.Prelude.{◌≡◌, ◌<◌, ◌^◌, length, IfOk, OnOk};
 ghost use Rattle.safl_verilog.specs.Netlists.{signals_of};
-ghost use Rattle.safl_vparse.specs.Shown.{shown_declaration, shown_declarations};
-ghost use Rattle.safl_vread.specs.Signals.{is_of, IsOrder, AreNumbers};
+ghost use Rattle.safl_vparse.specs.Shown.{shown_declaration};
+ghost use Rattle.safl_vread.specs.Signals.{is_of, IsOrder, AreNumbers, AddsPlaces};
+ghost use Rattle.safl_vread.specs.Scopes.{declared_in};
 
 use crate::scope::Scope;
 use crate::spans::{bytes_of, is_clock, is_reset};
@@ -14,7 +15,7 @@ use std::alloc::{AllocError, Global};
 /// The places of the declarations of signals in the order of the signals' numbers: inputs but for the clock and the
 /// reset, then registers, then wires.
 pub fn order_of(alloc: Global, scope: &Scope) -> Result<Vec<usize>, AllocError>
-    ensures { IfOk result (λ order. IsOrder (shown_declarations scope.now.text.now scope.now.declarations.now) order.items) }
+    ensures { IfOk result (λ order. IsOrder (declared_in scope.now) order.items) }
 {
     let mut order = Vec::new(alloc);
     add_places(scope, Sort::Input, &mut order)?;
@@ -25,7 +26,7 @@ pub fn order_of(alloc: Global, scope: &Scope) -> Result<Vec<usize>, AllocError>
 
 // The places of the signals of this sort, after those before.
 fn add_places(scope: &Scope, sort: Sort, order: &mut Vec<usize>) -> Result<(), AllocError>
-    ensures { OnOk result (map (slice_get (shown_declarations scope.now.text.now scope.now.declarations.now)) order.new.items ≡ map (slice_get (shown_declarations scope.now.text.now scope.now.declarations.now)) order.old.items ++ map Some (filter (is_of sort) (shown_declarations scope.now.text.now scope.now.declarations.now))) }
+    ensures { OnOk result (AddsPlaces (declared_in scope.now) sort order.old.items order.new.items) }
 {
     for (i, d) in scope.declarations.iter().enumerate() {
         if is_of(scope.text, sort, d) {
@@ -49,10 +50,10 @@ fn is_of(text: &[u8], sort: Sort, d: &Declaration) -> bool
 
 /// For each declaration the number of its signal, where it is that of one.
 pub fn numbers_of(alloc: Global, scope: &Scope, order: &[usize]) -> Result<Vec<u32>, AllocError>
-    requires order { IsOrder (shown_declarations scope.now.text.now scope.now.declarations.now) order.now }
+    requires order { IsOrder (declared_in scope.now) order.now }
     requires some { 0 < length order.now }
     requires few { length order.now < 2 ^ 32 }
-    ensures { IfOk result (λ numbers. AreNumbers (shown_declarations scope.now.text.now scope.now.declarations.now) order.now numbers.items) }
+    ensures { IfOk result (λ numbers. AreNumbers (declared_in scope.now) order.now numbers.items) }
 {
     let mut numbers = vec![in alloc; 0u32; scope.declarations.len()]?;
     for (i, place) in order.iter().enumerate() {

@@ -5,10 +5,10 @@ ghost use Rattle.std.specs.Prelude.{◌≡◌, ◌==◌, ◌&&◌, ◌||◌, not
 ghost use Rattle.std.specs.List.{flat_map};
 ghost use Rattle.safl_verilog.specs.Files.{Spot};
 ghost use Rattle.safl_verilog.specs.Faults.{among, find, passes, is_input, is_output, is_port, range_width, has_ports, header_faults, port_faults, all_port_faults};
-ghost use Rattle.safl_vparse.specs.Shown.{shown_spot, shown_spots, shown_declaration, shown_declarations};
+ghost use Rattle.safl_vparse.specs.Shown.{shown_spot, shown_declaration};
 ghost use Rattle.safl_vread.specs.Firsts.{first};
 ghost use Rattle.safl_vread.specs.Lists.{bytes_of_all};
-ghost use Rattle.safl_vread.specs.Scopes.{without_statements};
+ghost use Rattle.safl_vread.specs.Scopes.{declared_in, spots_in, file_in};
 
 use crate::names::Names;
 use crate::scope::Scope;
@@ -18,8 +18,8 @@ use safl_vparse::{Declaration, Span};
 
 /// The first fault of V10 of a file with this header, whose names are those that are listed.
 pub fn port_fault(scope: &Scope, header: &[Span], listed: &Names) -> Option<VFault>
-    requires { listed.now ≡ bytes_of_all (shown_spots scope.now.text.now header.now) }
-    ensures { result ≡ first (all_port_faults (without_statements (shown_spots scope.now.text.now header.now) (shown_declarations scope.now.text.now scope.now.declarations.now))) }
+    requires { listed.now ≡ bytes_of_all (spots_in scope.now header.now) }
+    ensures { result ≡ first (all_port_faults (file_in scope.now header.now)) }
 {
     let undeclared = undeclared_fault(scope, header);
     if undeclared.is_some() {
@@ -38,7 +38,7 @@ pub fn port_fault(scope: &Scope, header: &[Span], listed: &Names) -> Option<VFau
 
 // At a name of the header that isn't declared as a port.
 fn undeclared_fault(scope: &Scope, header: &[Span]) -> Option<VFault>
-    ensures { result ≡ first (flat_map (header_faults (without_statements (shown_spots scope.now.text.now header.now) (shown_declarations scope.now.text.now scope.now.declarations.now))) (shown_spots scope.now.text.now header.now)) }
+    ensures { result ≡ first (flat_map (header_faults (file_in scope.now header.now)) (spots_in scope.now header.now)) }
 {
     for x in header {
         if !is_port_name(scope, bytes_of(scope.text, *x)) {
@@ -50,8 +50,8 @@ fn undeclared_fault(scope: &Scope, header: &[Span]) -> Option<VFault>
 
 // At a declared port that the header doesn't list.
 fn unlisted_fault(scope: &Scope, header: &[Span], listed: &Names) -> Option<VFault>
-    requires { listed.now ≡ bytes_of_all (shown_spots scope.now.text.now header.now) }
-    ensures { result ≡ first (flat_map (port_faults (without_statements (shown_spots scope.now.text.now header.now) (shown_declarations scope.now.text.now scope.now.declarations.now))) (shown_declarations scope.now.text.now scope.now.declarations.now)) }
+    requires { listed.now ≡ bytes_of_all (spots_in scope.now header.now) }
+    ensures { result ≡ first (flat_map (port_faults (file_in scope.now header.now)) (declared_in scope.now)) }
 {
     for d in scope.declarations {
         if !is_listed(scope.text, d, listed) {
@@ -69,7 +69,7 @@ fn is_listed(text: &[u8], d: &Declaration, listed: &Names) -> bool
 
 // `clk`, `rst` and `start` are inputs of width 1, `done` is an output of width 1, and `result` is an output.
 fn has_ports(scope: &Scope) -> bool
-    ensures { result ≡ has_ports (shown_declarations scope.now.text.now scope.now.declarations.now) }
+    ensures { result ≡ has_ports (declared_in scope.now) }
 {
     is_input_bit(scope, b"clk")
         && is_input_bit(scope, b"rst")
@@ -106,7 +106,7 @@ fn is_output(sort: Sort) -> bool
 }
 
 fn is_port_name(scope: &Scope, name: &[u8]) -> bool
-    ensures { result ≡ passes (λ d. is_port d.sort) (find (shown_declarations scope.now.text.now scope.now.declarations.now) name.now) }
+    ensures { result ≡ passes (λ d. is_port d.sort) (find (declared_in scope.now) name.now) }
 {
     match scope.find(name) {
         None => false,
@@ -115,7 +115,7 @@ fn is_port_name(scope: &Scope, name: &[u8]) -> bool
 }
 
 fn is_input_bit(scope: &Scope, name: &[u8]) -> bool
-    ensures { result ≡ passes (λ d. is_input d.sort && (range_width d.range == 1)) (find (shown_declarations scope.now.text.now scope.now.declarations.now) name.now) }
+    ensures { result ≡ passes (λ d. is_input d.sort && (range_width d.range == 1)) (find (declared_in scope.now) name.now) }
 {
     match scope.find(name) {
         None => false,
@@ -124,7 +124,7 @@ fn is_input_bit(scope: &Scope, name: &[u8]) -> bool
 }
 
 fn is_output_bit(scope: &Scope, name: &[u8]) -> bool
-    ensures { result ≡ passes (λ d. is_output d.sort && (range_width d.range == 1)) (find (shown_declarations scope.now.text.now scope.now.declarations.now) name.now) }
+    ensures { result ≡ passes (λ d. is_output d.sort && (range_width d.range == 1)) (find (declared_in scope.now) name.now) }
 {
     match scope.find(name) {
         None => false,
@@ -133,7 +133,7 @@ fn is_output_bit(scope: &Scope, name: &[u8]) -> bool
 }
 
 fn is_output_name(scope: &Scope, name: &[u8]) -> bool
-    ensures { result ≡ passes (λ d. is_output d.sort) (find (shown_declarations scope.now.text.now scope.now.declarations.now) name.now) }
+    ensures { result ≡ passes (λ d. is_output d.sort) (find (declared_in scope.now) name.now) }
 {
     match scope.find(name) {
         None => false,

@@ -39,11 +39,11 @@ pub struct Scope<'t> {
 impl<'t> Scope<'t> {
     ghost use Rattle.std.specs.Prelude.{◌≡◌, ◌<◌, length, slice_index};
     ghost use Rattle.safl_verilog.specs.Faults.{find};
-    ghost use Rattle.safl_vread.specs.Scopes.{Describes};
+    ghost use Rattle.safl_vread.specs.Scopes.{Describes, declared_in};
 
     /// What a name is declared as.
     pub fn find(&self, name: &[u8]) -> Option<Item>
-        ensures { Describes (shown_declarations self.now.text.now self.now.declarations.now) (find (shown_declarations self.now.text.now self.now.declarations.now) name.now) result }
+        ensures { Describes (declared_in self.now) (find (declared_in self.now) name.now) result }
     {
         match self.names.place(name) {
             None => None,

@@ -2,12 +2,13 @@
 
 ghost use Rattle.std.specs.Prelude.{◌≡◌, ℕ, List, [], ◌∷◌, ◌<◌, ◌&&◌, ◌||◌, ◌==◌, not, length, true, IfOk, IfErr};
 ghost use Rattle.std.specs.List.{flat_map};
-ghost use Rattle.safl_verilog.specs.Files.{Statement as Stated, Assign, Always};
+ghost use Rattle.safl_verilog.specs.Files.{Assign, Always};
 ghost use Rattle.safl_verilog.specs.declared.fault.VRule.TheVariants as rules;
 ghost use Rattle.safl_verilog.specs.Faults.{at, is_target, is_reg, is_wire, is_output, is_plain, stated_number_faults, literal_faults, expression_number_faults, all_statement_faults};
-ghost use Rattle.safl_vparse.specs.Shown.{shown_spot, shown_declarations, shown_expression, shown_statement, shown_statements};
+ghost use Rattle.safl_vparse.specs.Shown.{shown_expression};
 ghost use Rattle.safl_vread.specs.Firsts.{Answers};
-ghost use Rattle.safl_vread.specs.Drivers.{Chosen, is_open, HasDrivers, Steps, Names, always_at};
+ghost use Rattle.safl_vread.specs.Drivers.{Chosen, is_open, HasDrivers, always_at, StepsFrom, NamesFrom};
+ghost use Rattle.safl_vread.specs.Scopes.{declared_in, spot_in, expression_in, statement_in, statements_in};
 
 use crate::cells::{expression_width, operands_of, operation_of, signal};
 use crate::driver::Driver;
@@ -25,9 +26,9 @@ pub fn drivers_of(
     scope: &Scope,
     statements: &[Statement],
 ) -> Result<Vec<Driver>, VErr>
-    requires { flat_map stated_number_faults (shown_statements scope.now.text.now statements.now) ≡ [] }
-    ensures faults { Answers (all_statement_faults (shown_declarations scope.now.text.now scope.now.declarations.now) [] (shown_statements scope.now.text.now statements.now)) result }
-    ensures drivers { IfOk result (λ v. HasDrivers (shown_declarations scope.now.text.now scope.now.declarations.now) (shown_statements scope.now.text.now statements.now) v.items) }
+    requires { flat_map stated_number_faults (statements_in scope.now statements.now) ≡ [] }
+    ensures faults { Answers (all_statement_faults (declared_in scope.now) [] (statements_in scope.now statements.now)) result }
+    ensures drivers { IfOk result (λ v. HasDrivers (declared_in scope.now) (statements_in scope.now statements.now) v.items) }
 {
     let mut drivers = vec![in alloc; Driver::Open; scope.declarations.len()]?;
     for s in statements {
@@ -46,8 +47,8 @@ fn driver_of(
     statement: &Statement,
 ) -> Result<(usize, Driver), VFault>
     requires full { length drivers.now ≡ length scope.now.declarations.now }
-    requires numbers { stated_number_faults (shown_statement scope.now.text.now statement.now) ≡ [] }
-    ensures steps { (before : List Stated) → HasDrivers (shown_declarations scope.now.text.now scope.now.declarations.now) before drivers.now → Steps (shown_declarations scope.now.text.now scope.now.declarations.now) before (shown_statement scope.now.text.now statement.now) result }
+    requires numbers { stated_number_faults (statement_in scope.now statement.now) ≡ [] }
+    ensures steps { StepsFrom scope.now drivers.now (statement_in scope.now statement.now) result }
     ensures within { IfOk result (λ r. r.0 < length drivers.now) }
 {
     match statement {
@@ -64,8 +65,8 @@ fn assignment(
     value: &Expression,
 ) -> Result<(usize, Driver), VFault>
     requires full { length drivers.now ≡ length scope.now.declarations.now }
-    requires numbers { expression_number_faults (shown_expression scope.now.text.now value.now) ≡ [] }
-    ensures steps { (before : List Stated) → HasDrivers (shown_declarations scope.now.text.now scope.now.declarations.now) before drivers.now → Steps (shown_declarations scope.now.text.now scope.now.declarations.now) before (Assign (shown_spot scope.now.text.now target) (shown_expression scope.now.text.now value.now)) result }
+    requires numbers { expression_number_faults (expression_in scope.now value.now) ≡ [] }
+    ensures steps { StepsFrom scope.now drivers.now (Assign (spot_in scope.now target) (expression_in scope.now value.now)) result }
     ensures within { IfOk result (λ r. r.0 < length drivers.now) }
 {
     let item = assigned_name(scope, target)?;
@@ -86,7 +87,7 @@ fn assignment(
 
 // The wire or output of a name, or V04 at it.
 fn assigned_name(scope: &Scope, name: Span) -> Result<Item, VFault>
-    ensures { Chosen (shown_declarations scope.now.text.now scope.now.declarations.now) (shown_spot scope.now.text.now name) is_target (at rules.V04 name.start) result }
+    ensures { Chosen (declared_in scope.now) (spot_in scope.now name) is_target (at rules.V04 name.start) result }
 {
     match scope.find(bytes_of(scope.text, name)) {
         None => Err(fault_at(VRule::V04, name.start)),
@@ -141,8 +142,8 @@ fn width_fault(place: u32, wanted: u8, found: u8) -> VFault
 // What an update drives.
 fn update_of(scope: &Scope, drivers: &[Driver], update: &Update) -> Result<(usize, Driver), VFault>
     requires full { length drivers.now ≡ length scope.now.declarations.now }
-    requires numbers { literal_faults (shown_spot scope.now.text.now update.now.initial) ≡ [] }
-    ensures steps { (before : List Stated) → HasDrivers (shown_declarations scope.now.text.now scope.now.declarations.now) before drivers.now → Steps (shown_declarations scope.now.text.now scope.now.declarations.now) before (always_at scope.now.text.now update.now) result }
+    requires numbers { literal_faults (spot_in scope.now update.now.initial) ≡ [] }
+    ensures steps { StepsFrom scope.now drivers.now (always_at scope.now.text.now update.now) result }
     ensures within { IfOk result (λ r. r.0 < length drivers.now) }
 {
     let item = updated_name(scope, drivers, update)?;
@@ -164,7 +165,7 @@ fn update_of(scope: &Scope, drivers: &[Driver], update: &Update) -> Result<(usiz
 // The register that is updated, or V08.
 fn updated_name(scope: &Scope, drivers: &[Driver], update: &Update) -> Result<Item, VFault>
     requires full { length drivers.now ≡ length scope.now.declarations.now }
-    ensures names { (before : List Stated) → HasDrivers (shown_declarations scope.now.text.now scope.now.declarations.now) before drivers.now → Names (shown_declarations scope.now.text.now scope.now.declarations.now) before (shown_spot scope.now.text.now update.now.clock) (shown_spot scope.now.text.now update.now.reset) (shown_spot scope.now.text.now update.now.target) (shown_spot scope.now.text.now update.now.second) result }
+    ensures names { NamesFrom scope.now drivers.now update.now result }
     ensures within { IfOk result (λ item. item.place < length drivers.now) }
 {
     if !is_clock(bytes_of(scope.text, update.clock)) {
@@ -189,7 +190,7 @@ fn updated_name(scope: &Scope, drivers: &[Driver], update: &Update) -> Result<It
 
 // The register of a name, or V08 at it.
 fn register(scope: &Scope, name: Span) -> Result<Item, VFault>
-    ensures { Chosen (shown_declarations scope.now.text.now scope.now.declarations.now) (shown_spot scope.now.text.now name) (λ d. is_reg d.sort) (at rules.V08 name.start) result }
+    ensures { Chosen (declared_in scope.now) (spot_in scope.now name) (λ d. is_reg d.sort) (at rules.V08 name.start) result }
 {
     match scope.find(bytes_of(scope.text, name)) {
         None => Err(fault_at(VRule::V08, name.start)),

@@ -2,10 +2,11 @@
 
 ghost use Rattle.std.specs.Prelude.{◌≡◌, ◌++◌, ◌<◌, length, codes, OnOk};
 ghost use Rattle.std.specs.List.{flat_map};
-ghost use Rattle.safl_net.specs.Netlist.{width_of};
 ghost use Rattle.safl_net.specs.Rules.{IsNetlist};
 ghost use Rattle.safl_net.specs.Making.{kind_at, name_at};
-ghost use Rattle.safl_net.specs.Written.{header, declarations, port, declaration, if_input, if_register, if_wire, input_port, output_port, input_declaration, output_declaration, register_declaration, wire_declaration};
+ghost use Rattle.safl_net.specs.Written.{header, declarations, port, if_input, if_register, if_wire, input_port, output_port};
+ghost use Rattle.safl_net.specs.Written.{input_declaration, output_declaration, register_declaration, wire_declaration};
+ghost use Rattle.safl_vwrite.specs.Lines.{signal_declaration};
 
 use crate::pieces::{push, push_declaration, push_port};
 use safl_net::{Net, Sig, SigKind};
@@ -73,7 +74,7 @@ fn declare_inputs(out: &mut Vec<u8>, net: &Net) -> Result<(), NoMemory>
 
 fn declare_input(out: &mut Vec<u8>, net: &Net, s: Sig) -> Result<(), NoMemory>
     requires { s.0 < length net.now.signals }
-    ensures { OnOk result (out.new.items ≡ out.old.items ++ if_input (kind_at net.now s.0) (declaration (codes "input") (width_of net.now s.0) (name_at net.now s.0))) }
+    ensures { OnOk result (out.new.items ≡ out.old.items ++ if_input (kind_at net.now s.0) (signal_declaration net.now (codes "input") s.0)) }
 {
     match net.kind(s) {
         SigKind::Input => push_declaration(out, b"input", net.width(s), net.name(s)),
@@ -103,7 +104,7 @@ fn declare_registers(out: &mut Vec<u8>, net: &Net) -> Result<(), NoMemory>
 
 fn declare_register(out: &mut Vec<u8>, net: &Net, s: Sig) -> Result<(), NoMemory>
     requires { s.0 < length net.now.signals }
-    ensures { OnOk result (out.new.items ≡ out.old.items ++ if_register (kind_at net.now s.0) (declaration (codes "reg") (width_of net.now s.0) (name_at net.now s.0))) }
+    ensures { OnOk result (out.new.items ≡ out.old.items ++ if_register (kind_at net.now s.0) (signal_declaration net.now (codes "reg") s.0)) }
 {
     match net.kind(s) {
         SigKind::Reg => push_declaration(out, b"reg", net.width(s), net.name(s)),
@@ -122,7 +123,7 @@ fn declare_wires(out: &mut Vec<u8>, net: &Net) -> Result<(), NoMemory>
 
 fn declare_wire(out: &mut Vec<u8>, net: &Net, s: Sig) -> Result<(), NoMemory>
     requires { s.0 < length net.now.signals }
-    ensures { OnOk result (out.new.items ≡ out.old.items ++ if_wire (kind_at net.now s.0) (declaration (codes "wire") (width_of net.now s.0) (name_at net.now s.0))) }
+    ensures { OnOk result (out.new.items ≡ out.old.items ++ if_wire (kind_at net.now s.0) (signal_declaration net.now (codes "wire") s.0)) }
 {
     match net.kind(s) {
         SigKind::Wire => push_declaration(out, b"wire", net.width(s), net.name(s)),

@@ -7,3 +7,5 @@ pub mod Tokens
 pub mod Faults
 pub mod TokenLaws
 pub mod Spacing
+pub mod Halves
+pub mod Narrow

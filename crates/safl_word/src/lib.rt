@@ -1,9 +1,11 @@
-//! Words of 1 to 128 bits, and the primitives on them.
+//! Words of 1 to 128 bits, and the primitives on them, also on words of at most 64 bits alone; and tables of numbers in two halves.
 #![tactic(auto)]
 
 pub mod bytes;
 pub mod fault;
+pub mod halves;
 pub mod laws;
+pub mod narrow;
 pub mod numbers;
 pub mod operators;
 pub mod primitive;
@@ -12,6 +14,8 @@ pub mod token;
 pub mod word;
 
 pub use crate::fault::{Fault, NoMemory, Rule};
+pub use crate::halves::{Numbers, from_halves, high_half, low_half};
+pub use crate::narrow::{LOW_MAX, narrow_one, narrow_two};
 pub use crate::numbers::{argument, decimal, numeral, push_binary, push_decimal};
 pub use crate::operators::{apply, result_width};
 pub use crate::primitive::Primitive;

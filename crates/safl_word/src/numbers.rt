@@ -2,12 +2,15 @@
 
 ghost use Rattle.std.specs.Prelude.{◌≡◌, ◌↔◌, ◌+◌, ◌*◌, ◌/◌, ◌%◌, ◌^◌, ◌<◌, ◌≤◌, [], ◌∷◌, ◌++◌, true, length, take, is_some, IsSome, IfSome, OnOk, OnErr, decimal};
 ghost use Rattle.safl_word.specs.declared.word.TheConstants.{ARGUMENT_MAX, DECIMAL_MAX, WIDTH_MAX};
-ghost use Rattle.safl_word.specs.Numerals.{binary, digit, is_digit, value, IsBounded};
+ghost use Rattle.safl_word.specs.Numerals.{binary, digit, is_digit, value, IsBounded, IsNumeral};
 
 use crate::bytes::{digit, is_digit};
 use crate::fault::NoMemory;
 use crate::word::{ARGUMENT_MAX, DECIMAL_MAX, Raw};
 use itoa::Buffer;
+
+// Each number of so many digits is below 2 to the 64th.
+const SHORT_MAX: usize = 19;
 
 /// The number of a numeral of this base, of at most so many digits: None exactly where the bytes are none, or its
 /// number is not below 2 to the 128th.
@@ -58,7 +61,27 @@ pub fn argument(bytes: &[u8]) -> Option<Raw>
     ensures some { IsSome result ↔ IsBounded 10 ARGUMENT_MAX (2 ^ WIDTH_MAX) bytes.now }
     ensures value { IfSome result (λ n. n ≡ value 10 bytes.now) }
 {
-    numeral(10, ARGUMENT_MAX, bytes)
+    if bytes.is_empty() || bytes.len() > SHORT_MAX {
+        return numeral(10, ARGUMENT_MAX, bytes);
+    }
+    Some(Raw::from(short_number(bytes)?))
+}
+
+// The number of a text of few bytes, where these are digits.
+fn short_number(text: &[u8]) -> Option<u64>
+    requires some { 0 < length text.now }
+    requires short { length text.now ≤ 19 }
+    ensures some { IsSome result ↔ IsNumeral 10 text.now }
+    ensures value { IfSome result (λ n. n ≡ value 10 text.now) }
+{
+    let mut number = 0;
+    for c in text {
+        if !c.is_ascii_digit() {
+            return None;
+        }
+        number = 10 * number + u64::from(*c - b'0');
+    }
+    Some(number)
 }
 
 /// Appends the shortest decimal digits of a number, and nothing where memory runs out.

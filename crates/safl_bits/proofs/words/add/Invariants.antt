@@ -1,6 +1,6 @@
 use Rattle.std.proofs.Common.{◌≡◌, ◌+◌, ◌*◌, ◌^◌, length, take}
 use Rattle.safl_word.specs.Primitives.{bit_of}
-use Rattle.safl_aig.specs.Literals.{Assignment, on, shown}
+use Rattle.safl_aiger.specs.Literals.{Assignment, on, shown}
 use Rattle.safl_bits.specs.Gates.{IsLiteral, AreLiterals, Grows, Holds}
 use Rattle.safl_bits.proofs.words.add.Given as goal
 

@@ -1,5 +1,5 @@
 use Rattle.std.proofs.Common.{◌≡◌, ◌==◌, not, take}
-use Rattle.safl_aig.specs.Literals.{Assignment, on, shown}
+use Rattle.safl_aiger.specs.Literals.{Assignment, on, shown}
 use Rattle.safl_bits.specs.Gates.{IsLiteral, Grows, Holds}
 use Rattle.safl_bits.proofs.words.any.Given as goal
 

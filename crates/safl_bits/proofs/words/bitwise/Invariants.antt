@@ -1,5 +1,5 @@
 use Rattle.std.proofs.Common.{◌≡◌, ◌*◌, length, take}
-use Rattle.safl_aig.specs.Literals.{Assignment, shown}
+use Rattle.safl_aiger.specs.Literals.{Assignment, shown}
 use Rattle.safl_bits.specs.Gates.{AreLiterals, Grows, Holds}
 use Rattle.safl_bits.specs.Operators.{gate_number}
 use Rattle.safl_bits.proofs.words.bitwise.Given as goal

@@ -1,5 +1,5 @@
 use Rattle.std.proofs.Common.{◌≡◌, ◌+◌, ◌^◌, length, take}
-use Rattle.safl_aig.specs.Literals.{Assignment, shown}
+use Rattle.safl_aiger.specs.Literals.{Assignment, shown}
 use Rattle.safl_bits.specs.Gates.{Gates, AreLiterals}
 use Rattle.safl_bits.proofs.words.complement.Given as goal
 

@@ -1,5 +1,5 @@
 use Rattle.std.proofs.Common.{◌≡◌, ◌%◌, ◌^◌, false, length}
-use Rattle.safl_aig.specs.Literals.{Assignment, on, shown}
+use Rattle.safl_aiger.specs.Literals.{Assignment, on, shown}
 use Rattle.safl_bits.specs.Gates.{Gates, IsLiteral, AreLiterals}
 use Rattle.safl_bits.proofs.words.constant.Given as goal
 

@@ -1,5 +1,5 @@
 use Rattle.std.proofs.Common.{◌+◌, ◌*◌, ◌^◌, ◌<◌, ◌&&◌, ◌||◌, not, nat_le, length, take, sym, ap, ◌∙◌, arith}
-use Rattle.safl_aig.specs.Literals.{on, shown}
+use Rattle.safl_aiger.specs.Literals.{on, shown}
 use Rattle.safl_bits.proofs.Growing.{grows_on, grows_within, holds_before}
 use Rattle.safl_bits.proofs.Places.{at, shown_more, taken_lt}
 use Rattle.safl_bits.proofs.Steps.{covers_step}

@@ -1,5 +1,5 @@
 use Rattle.std.proofs.Common.{◌≡◌, cond, length, take}
-use Rattle.safl_aig.specs.Literals.{Assignment, on, shown}
+use Rattle.safl_aiger.specs.Literals.{Assignment, on, shown}
 use Rattle.safl_bits.specs.Gates.{AreLiterals, Grows, Holds}
 use Rattle.safl_bits.proofs.words.masked.Given as goal
 

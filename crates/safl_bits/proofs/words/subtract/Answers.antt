@@ -1,6 +1,6 @@
 use Rattle.std.proofs.Common.{◌≡◌, ◌+◌, ◌*◌, ◌^◌, ◌<◌, not, length, ap, ◌∙◌, sym, subst}
 use Rattle.safl_word.specs.Primitives.{bit_of}
-use Rattle.safl_aig.specs.Literals.{on, shown}
+use Rattle.safl_aiger.specs.Literals.{on, shown}
 use Rattle.safl_bits.proofs.Growing.{holds_before}
 use Rattle.safl_bits.proofs.Places.{shown_lt}
 use Rattle.safl_bits.proofs.Steps.{difference_is}

@@ -1,9 +1,9 @@
 use Rattle.std.proofs.Common.{Some, Bool, sym, ap, subst, ◌∙◌, arith}
 use Rattle.safl_net.specs.Bits.{on, gate}
 use Rattle.safl_net.proofs.Growth.{wired_before}
-use Rattle.safl_gates.specs.Sources.{IsSource}
-use Rattle.safl_gates.specs.Tables.{one_word}
-use Rattle.safl_gates.proofs.Building.{source_grown, source_kept, builds_on, builds_within}
+use Rattle.safl_lower.specs.Sources.{IsSource}
+use Rattle.safl_lower.specs.Tables.{one_word}
+use Rattle.safl_lower.proofs.Building.{source_grown, source_kept, builds_on, builds_within}
 use Rattle.safl_lower.specs.declared.parts.Readiness.{Readiness}
 use Rattle.safl_lower.specs.Bits.{is_ready}
 use Rattle.safl_lower.proofs.Arms.{gate_none, gate_gate}

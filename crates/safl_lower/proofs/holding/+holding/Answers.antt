@@ -5,7 +5,7 @@ use Rattle.safl_term.specs.Tree.{shown_term, shown_terms}
 use Rattle.safl_term.proofs.PlainTrees.{shown_term-Op, shown_term-Let}
 use Rattle.safl_term.specs.Sizes.{nodes, nodes_in}
 use Rattle.safl_lower.specs.Typing.{holds_calls, hold_calls}
-use Rattle.safl_lower.proofs.Trees.{smaller_at, holds_at, none_so_far}
+use Rattle.safl_lower.proofs.ListedTerms.{smaller_at, holds_at, none_so_far}
 use Rattle.safl_lower.proofs.holding.+holding.Goals as goal
 
 -- ---- a list of terms

@@ -12,8 +12,8 @@ use Rattle.safl_lower.specs.Lowering.{was_sent, open_at}
 use Rattle.safl_lower.proofs.Whole.{in_range}
 use Rattle.safl_lower.proofs.Kept.{asked_end, three_gates, ready_kept}
 use Rattle.safl_lower.proofs.joins.ask.Goals as goal
-use Rattle.safl_gates.specs.Sources.{IsSource}
-use Rattle.safl_gates.proofs.Building.{source_grown, builds_on, builds_within}
+use Rattle.safl_lower.specs.Sources.{IsSource}
+use Rattle.safl_lower.proofs.Building.{source_grown, builds_on, builds_within}
 
 pub index-port-requires : goal.index-port-requires
 index-port-requires c =

@@ -5,7 +5,7 @@ use Rattle.safl_lower.specs.Bits.{is_ready}
 use Rattle.safl_lower.proofs.Arms.{chosen}
 use Rattle.safl_lower.proofs.Kept.{ready_kept}
 use Rattle.safl_lower.proofs.joins.choose.Goals as goal
-use Rattle.safl_gates.proofs.Building.{source_grown, builds_on, builds_within}
+use Rattle.safl_lower.proofs.Building.{source_grown, builds_on, builds_within}
 
 pub returns-in_err-selected-clause-built : goal.returns-in_err-selected-clause-built
 returns-in_err-selected-clause-built c = builds_within 5 (builds_on c.choose_value.ensures.built c.either_ready.ensures.built) (omega arith)

@@ -5,7 +5,7 @@ use Rattle.safl_net.specs.Bits.{on}
 use Rattle.safl_lower.specs.Bits.{is_ready}
 use Rattle.safl_lower.proofs.Kept.{weaker}
 use Rattle.safl_lower.proofs.joins.choose_value.Goals as goal
-use Rattle.safl_gates.specs.Sources.{IsSource}
+use Rattle.safl_lower.specs.Sources.{IsSource}
 
 pub returns-in_default : goal.returns-in_default
 returns-in_default c =

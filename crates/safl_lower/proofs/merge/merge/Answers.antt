@@ -5,8 +5,8 @@ use Rattle.safl_net.specs.declared.cell.Sig.{Sig}
 use Rattle.safl_net.specs.Growth.{words}
 use Rattle.safl_net.specs.Bits.{on, gate}
 use Rattle.safl_net.proofs.Growth.{grows_on}
-use Rattle.safl_gates.specs.Sources.{AreSources, Builds}
-use Rattle.safl_gates.specs.Tables.{taken_from}
+use Rattle.safl_lower.specs.Sources.{AreSources, Builds}
+use Rattle.safl_lower.specs.Tables.{taken_from}
 use Rattle.safl_lower.specs.Loads.{member_widths}
 use Rattle.safl_lower.proofs.Gathering.{merging_start, merging_step, merging_end, member_in, in_table, call_room, call_bit, call_sized}
 use Rattle.safl_lower.proofs.merge.merge.Goals as goal

@@ -6,7 +6,7 @@ use Rattle.safl_net.specs.declared.cell.Sig.{Sig}
 use Rattle.safl_net.specs.Growth.{Val, Wired, words}
 use Rattle.safl_lower.proofs.Extending.{cell_width, operand}
 use Rattle.safl_lower.proofs.primitives.apply.Goals as goal
-use Rattle.safl_gates.proofs.Building.{builds_within}
+use Rattle.safl_lower.proofs.Building.{builds_within}
 
 pub extend-requires-clause-narrow : goal.extend-requires-clause-narrow
 extend-requires-clause-narrow c =

@@ -3,9 +3,9 @@ use Rattle.safl_word.specs.Words.{Word}
 use Rattle.safl_net.proofs.Growth.{width_is}
 use Rattle.safl_lower.proofs.Extending.{joined_width, stays_wide, extended}
 use Rattle.safl_lower.proofs.primitives.extend.Goals as goal
-use Rattle.safl_gates.specs.Sources.{IsSource}
-use Rattle.safl_gates.proofs.Building.{source_grown, builds_on}
-use Rattle.safl_gates.proofs.Cells.{two_sources}
+use Rattle.safl_lower.specs.Sources.{IsSource}
+use Rattle.safl_lower.proofs.Building.{source_grown, builds_on}
+use Rattle.safl_lower.proofs.Cells.{two_sources}
 
 pub returns-then-narrow-width-clause-value : goal.returns-then-narrow-width-clause-value
 returns-then-narrow-width-clause-value c = λ v h.

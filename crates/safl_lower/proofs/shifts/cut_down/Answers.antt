@@ -3,9 +3,9 @@ use Rattle.safl_word.specs.Words.{Word}
 use Rattle.safl_net.proofs.Growth.{grows_on, width_is}
 use Rattle.safl_lower.proofs.Shifting.{compared_width, low_width, cut_value, cut_narrow}
 use Rattle.safl_lower.proofs.shifts.cut_down.Goals as goal
-use Rattle.safl_gates.specs.Sources.{IsSource}
-use Rattle.safl_gates.proofs.Building.{source_grown, builds_on, builds_within}
-use Rattle.safl_gates.proofs.Cells.{one_source, two_sources}
+use Rattle.safl_lower.specs.Sources.{IsSource}
+use Rattle.safl_lower.proofs.Building.{source_grown, builds_on, builds_within}
+use Rattle.safl_lower.proofs.Cells.{one_source, two_sources}
 
 pub operate-requires-clause-operands : goal.operate-requires-clause-operands
 operate-requires-clause-operands c =

@@ -1,8 +1,8 @@
 use Rattle.std.proofs.Common.{[], ◌∷◌, slice_index_or, arith}
 use Rattle.safl_lower.proofs.Shifting.{operands, two_there, cell_width, shift_value, shifts_it}
 use Rattle.safl_lower.proofs.shifts.shift.Goals as goal
-use Rattle.safl_gates.proofs.Building.{source_grown, builds_on}
-use Rattle.safl_gates.proofs.Cells.{two_sources}
+use Rattle.safl_lower.proofs.Building.{source_grown, builds_on}
+use Rattle.safl_lower.proofs.Cells.{two_sources}
 
 pub bounds-operands-1 : goal.bounds-operands-1
 bounds-operands-1 c =

@@ -1,5 +1,5 @@
 use Rattle.std.proofs.Common.{◌≡◌, map, Some}
-use Rattle.safl_gates.specs.declared.loads.Load.{Load}
+use Rattle.safl_lower.specs.declared.loads.Load.{Load}
 use Rattle.safl_lower.proofs.tables.all_loads.Given as goal
 
 abbrev pub invariant-loop-place : goal.invariant-loop-place

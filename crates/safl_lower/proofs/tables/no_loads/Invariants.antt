@@ -1,5 +1,5 @@
 use Rattle.std.proofs.Common.{◌≡◌, ℕ, length, None, slice_get}
-use Rattle.safl_gates.specs.Tables.{load_in}
+use Rattle.safl_lower.specs.Tables.{load_in}
 use Rattle.safl_lower.proofs.tables.no_loads.Given as goal
 
 abbrev pub invariant-loop : goal.invariant-loop

@@ -18,11 +18,11 @@ use Rattle.safl_lower.proofs.Leaves.{lowers_const, lowers_var, lowers_op}
 use Rattle.safl_lower.proofs.Lists.{lowers_none, lowers_more}
 use Rattle.safl_lower.proofs.Able
 use Rattle.safl_lower.proofs.Members.{take_all}
-use Rattle.safl_lower.proofs.Trees.{forest_more, forest_at, smaller_at}
+use Rattle.safl_lower.proofs.ListedTerms.{forest_more, forest_at, smaller_at}
 use Rattle.safl_lower.proofs.Walk.{renamed, renamed_all, done_if, done_call, done_loop}
 use Rattle.safl_lower.proofs.terms.+terms.Goals as goal
-use Rattle.safl_gates.specs.Sources.{AreSources}
-use Rattle.safl_gates.proofs.Building.{source_grown}
+use Rattle.safl_lower.specs.Sources.{AreSources}
+use Rattle.safl_lower.proofs.Building.{source_grown}
 
 -- the same of another name of a term
 same_holds : {x y : declared.Term} → x ≡ y → holds_calls (shown_term y) ≡ true → holds_calls (shown_term x) ≡ true

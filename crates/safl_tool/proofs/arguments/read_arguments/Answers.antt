@@ -12,7 +12,7 @@ returns-in-None-clause-refused c =
       inr (unread c.args.widths.now (map string_bytes c.args.args.now) c.arguments.words.items c.arguments.i _ c.as_bytes.result.now (texts_long c.args.args.now ∙ same) c.arguments.invariant
           (shown_at c.args.widths.now c.arguments.i (omega (arith, here, same)) _ refl)
           (text_at c.args.args.now c.arguments.i c.index-args-i.result c.as_bytes.result.now here c.index-args-i.is c.as_bytes.ensures.value)
-          (c.in-None.ensures.none refl)),
+          c.in-None.ensures.none),
     )
 
 pub arguments-preserved : goal.arguments-preserved

@@ -1,7 +1,7 @@
 use Rattle.std.proofs.Common.{subst, inr, refl, ap, ◌∙◌}
-use Rattle.safl_blast.specs.declared.conversion.BlastErr.{BlastErr}
-use Rattle.safl_bit_text.specs.BitLevel.{IsRefused}
-use Rattle.safl_bit_text.specs.Lines.{register_line, weight_line}
+use Rattle.safl_aig.specs.declared.conversion.BlastErr.{BlastErr}
+use Rattle.safl_aig.specs.BitLevel.{IsRefused}
+use Rattle.safl_aig.specs.Lines.{register_line, weight_line}
 use Rattle.safl_tool.specs.BitLevel.{nonzero, heavy}
 use Rattle.safl_tool.proofs.bit_level.refusal_of_net.Goals as goal
 
@@ -11,7 +11,7 @@ name-requires c = (subst (λ (e : BlastErr). IsRefused c.args.net.now e) c.in-In
 pub returns-in-Ok : goal.returns-in-Ok
 returns-in-Ok c =
     let least = subst (λ (e : BlastErr). IsRefused c.args.net.now e) c.in-InitNotZero.is c.requires in
-    inr (nonzero c.in-InitNotZero.register.0 least refl (c.in-Ok.ensures ∙ ap register_line c.name.ensures))
+    inr (nonzero c.in-InitNotZero.register.0 least refl (ap register_line (c.in-Ok.ensures.ok ∙ c.name.ensures)))
 
 pub returns-in-TooLarge : goal.returns-in-TooLarge
 returns-in-TooLarge c =

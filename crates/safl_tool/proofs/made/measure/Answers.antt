@@ -1,5 +1,5 @@
 use Rattle.std.proofs.Common.{map, string_bytes}
-use Rattle.safl_sim.specs.Arguments.{argument_widths}
+use Rattle.safl_net.specs.Arguments.{argument_widths}
 use Rattle.safl_term.specs.Checked.{program_of}
 use Rattle.safl_circuit.specs.Names.{names_of}
 use Rattle.safl_tool.proofs.Giving.{outcome_given}

@@ -1,7 +1,7 @@
 use Rattle.std.proofs.Common.{◌≡◌, ◌<◌, ◌-◌, ℕ, List, length, true, slice_index, sym, ap, subst, ◌∙◌, arith, inl, inr}
 use Rattle.std.proofs.lemmas.List.{get_or_read}
 use Rattle.safl_net.specs.Netlist.{Netlist}
-use Rattle.safl_sim.specs.Arguments.{argument_widths}
+use Rattle.safl_net.specs.Arguments.{argument_widths}
 use Rattle.safl_sim.specs.Places.{resets}
 use Rattle.safl_sim.specs.Simulation.{Simulation}
 use Rattle.safl_session.specs.declared.script.ScriptErr.{ScriptErr}
@@ -10,7 +10,7 @@ use Rattle.safl_session.specs.Scripts.{IsScript, RefusesScript}
 use Rattle.safl_session.specs.Sessions.{Opened}
 use Rattle.safl_tool.specs.CommandTasks.{RefusesSourceOf, RefusesSession}
 use Rattle.safl_tool.proofs.Conversed.{misscripted, placed, count_not_memory, argument_not_memory, count_told, argument_told}
-use Rattle.safl_task.proofs.Ending.{refuses_more}
+use Rattle.safl_tool.proofs.Refusing.{refuses_more}
 use Rattle.safl_tool.proofs.session.opening_of.Goals as goal
 
 pub returns-in-Err-clause-refused : goal.returns-in-Err-clause-refused

@@ -1,8 +1,8 @@
 use Rattle.std.proofs.Common.{map, string_bytes, subst}
 use Rattle.std.specs.Prelude.{IfOk, IfErr}
 use Rattle.safl_net.specs.Netlist.{Netlist}
-use Rattle.safl_sim.specs.Arguments.{argument_widths}
-use Rattle.safl_task.specs.Refusals.{RefusesBy}
+use Rattle.safl_net.specs.Arguments.{argument_widths}
+use Rattle.safl_tool.specs.Refusals.{RefusesBy}
 use Rattle.safl_tool.specs.Arguments.{RefusesArguments}
 use Rattle.safl_tool.specs.Running.{Gives}
 use Rattle.safl_tool.proofs.simulate.run_circuit.Goals as goal

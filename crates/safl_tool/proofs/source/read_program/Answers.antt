@@ -1,6 +1,6 @@
 -- A refusal of the source is its first fault, with the line and the column of its place.
 use Rattle.std.proofs.Common.{subst, inr}
-use Rattle.safl_source.specs.Sources
+use Rattle.safl_compiler.specs.Sources
 use Rattle.safl_tool.proofs.source.read_program.Goals as goal
 
 pub returns-in-Err-Refused-clause-refused : goal.returns-in-Err-Refused-clause-refused

@@ -1,5 +1,5 @@
 use Rattle.std.proofs.Common.{inl, inr, ap, Err}
-use Rattle.safl_task.specs.Refusals.{sent, cut}
+use Rattle.safl_tool.specs.Refusals.{sent, cut}
 use Rattle.safl_tool.proofs.top.tell.Goals as goal
 
 pub returns-in-Ok : goal.returns-in-Ok

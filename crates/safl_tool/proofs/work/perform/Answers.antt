@@ -1,86 +1,55 @@
-use Rattle.std.proofs.Common.{◌≡◌, ℕ, List, Some, map, refl, sym, subst}
-use Rattle.std.specs.Prelude.{IfOk, IfErr}
-use Rattle.std.proofs.lemmas.Result.{IfErr-weaker}
+use Rattle.std.proofs.Common.{◌≡◌, List, map, refl, sym, ap, subst, ◌∙◌, inl}
 use Rattle.safl_probe.specs.Probing.{ProbeState}
-use Rattle.safl_drive.specs.Asked.{SameUnasked}
-use Rattle.safl_drive.proofs.Rounds.{unasked_same}
-use Rattle.safl_drive.proofs.Telling.{same_probes}
+use Rattle.safl_probe.specs.Asked.{Asked, asked}
 use Rattle.safl_command.specs.Commands.{shown}
-use Rattle.safl_command.specs.declared.command.Command.{Command}
-use Rattle.safl_command.specs.declared.command.Command.TheVariants as command
-use Rattle.safl_command.specs.declared.command.Tracing.{Tracing}
-use Rattle.safl_tool.specs.CommandTasks.{plain_task_of, task_of}
-use Rattle.safl_task.specs.Endings.{Outside, outside, Ended, SameStrays}
-use Rattle.safl_task.specs.Refusals.{StopsBy}
-use Rattle.safl_task.specs.Tasks.{Task}
-use Rattle.safl_tool.specs.Tracing.{kinds_of}
+use Rattle.safl_command.specs.Traces.{Traces}
+use Rattle.safl_task.specs.Endings.{starved}
+use Rattle.safl_tool.specs.Asking.{traces_given}
+use Rattle.safl_tool.specs.CommandTasks.{traces_in}
+use Rattle.safl_tool.specs.Tracing.{AreAskedFor, have_probes, kinds_of}
+use Rattle.safl_tool.specs.Worlds.{world}
+use Rattle.safl_tool.proofs.Performed.{spares_none, not_asked, does_asked, spares_asked}
 use Rattle.safl_tool.proofs.work.perform.Goals as goal
 
--- what is so of the task of a command that is no run with traces, by what is so of its plain task
-plain : (kinds : List ℕ) (m : Command) (P : Task → Type 0) → ((t : Tracing) → m ≡ command.Trace t → ⊥) → P (plain_task_of (Some (shown m))) → P (task_of kinds (Some (shown m)))
-plain kinds (command.Check input) P other p = p
-plain kinds (command.Build input output) P other p = p
-plain kinds (command.Optimise input output) P other p = p
-plain kinds (command.Sim input limit args) P other p = p
-plain kinds (command.Trace t) P other p = absurd (other t refl)
-plain kinds (command.Walk input turns args) P other p = p
-plain kinds (command.Run input limit args) P other p = p
-plain kinds (command.Report input) P other p = p
-plain kinds (command.Gen seed count) P other p = p
-plain kinds (command.Bench seed count limit) P other p = p
-plain kinds (command.CopySite input output site) P other p = p
-plain kinds (command.UnfoldSite input output site) P other p = p
-plain kinds (command.Session input script limit) P other p = p
-plain kinds (command.Aig input output) P other p = p
-plain kinds (command.Aigstat input) P other p = p
+-- the files are those that the command asks for
+handed : (t u : Traces) (ps qs : List ProbeState) (asks : Asked) → t ≡ u → qs ≡ ps → AreAskedFor t asks qs → AreAskedFor u asks ps
+handed t u ps qs asks e f a = subst (λ (x : Traces). AreAskedFor x asks ps) e (subst (λ (l : List ProbeState). AreAskedFor t asks l) f a)
 
-pub returns-in-Trace-clause-ended : goal.returns-in-Trace-clause-ended
-returns-in-Trace-clause-ended g c =
+pub carry_out-requires : goal.carry_out-requires
+carry_out-requires g c =
     let ps : List ProbeState = map (λ p. (goal.Probe-dyn g (p.vtable, p.value)).state p.value) c.args.probes.now.items in
-    let old : Outside = outside (g.S.Shelf.told c.args.shelf.now) (g.O.Sink.told c.args.out.now) in
-    let new : Outside = outside (g.S.Shelf.told c.trace.new.shelf) (g.O.Sink.told c.trace.new.out) in
-    subst (λ (m : Command). IfOk c.trace.result (Ended (task_of (kinds_of ps) (Some (shown m))) old new)) (sym c.in-Trace.is) c.trace.ensures.ended
+    let qs : List ProbeState = map (λ p. (goal.Probe-dyn g (p.vtable, p.value)).state p.value) c.deref.result.now in
+    subst (λ l. AreAskedFor (traces_in (shown c.args.command.now)) (asked l) ps) (sym c.deref-in-Ok-Some.ensures.value)
+    (handed _ (traces_in (shown c.args.command.now)) ps qs (asked c.in-Ok-Some.files.items) c.traces_of.ensures (ap (λ l. map (λ p. (goal.Probe-dyn g (p.vtable, p.value)).state p.value) l) c.deref.ensures.value) (rw c.in-Ok-Some.field-0-is at c.in-Ok-Some.ensures))
 
-pub returns-in-Trace-clause-refused : goal.returns-in-Trace-clause-refused
-returns-in-Trace-clause-refused g c =
+pub returns-in-Ok-Some-clause-does : goal.returns-in-Ok-Some-clause-does
+returns-in-Ok-Some-clause-does g c =
     let ps : List ProbeState = map (λ p. (goal.Probe-dyn g (p.vtable, p.value)).state p.value) c.args.probes.now.items in
-    let old : Outside = outside (g.S.Shelf.told c.args.shelf.now) (g.O.Sink.told c.args.out.now) in
-    let new : Outside = outside (g.S.Shelf.told c.trace.new.shelf) (g.O.Sink.told c.trace.new.out) in
-    let qs : List ProbeState = map (λ p. (goal.Probe-dyn g (p.vtable, p.value)).state p.value) c.trace.new.probes.items in
-    subst (λ (m : Command). IfErr c.trace.result (StopsBy (task_of (kinds_of ps) (Some (shown m))) old new ps qs)) (sym c.in-Trace.is) c.trace.ensures.refused
+    let qs : List ProbeState = map (λ p. (goal.Probe-dyn g (p.vtable, p.value)).state p.value) c.deref.result.now in
+    does_asked (shown c.args.command.now) (world (g.S.Shelf.told c.args.shelf.now) (g.O.Sink.told c.args.out.now) (λ p. (goal.Probe-dyn g (p.vtable, p.value)).state p.value) c.args.probes.now.items) (world (g.S.Shelf.told c.carry_out.new.shelf) (g.O.Sink.told c.carry_out.new.out) (λ p. (goal.Probe-dyn g (p.vtable, p.value)).state p.value) c.carry_out.new.probes.items) (asked c.deref-in-Ok-Some.result.now)
+    (subst (λ l. AreAskedFor (traces_in (shown c.args.command.now)) (asked l) ps) (sym c.deref-in-Ok-Some.ensures.value)
+    (handed _ (traces_in (shown c.args.command.now)) ps qs (asked c.in-Ok-Some.files.items) c.traces_of.ensures (ap (λ l. map (λ p. (goal.Probe-dyn g (p.vtable, p.value)).state p.value) l) c.deref.ensures.value) (rw c.in-Ok-Some.field-0-is at c.in-Ok-Some.ensures)))
+    c.carry_out.result c.carry_out.ensures.does
 
-pub returns-in-Trace-clause-no_stray : goal.returns-in-Trace-clause-no_stray
-returns-in-Trace-clause-no_stray g c =
+pub returns-in-Ok-Some-clause-spares : goal.returns-in-Ok-Some-clause-spares
+returns-in-Ok-Some-clause-spares g c =
     let ps : List ProbeState = map (λ p. (goal.Probe-dyn g (p.vtable, p.value)).state p.value) c.args.probes.now.items in
-    subst (λ (m : Command). SameStrays (task_of (kinds_of ps) (Some (shown m))) (g.S.Shelf.told c.args.shelf.now) (g.S.Shelf.told c.trace.new.shelf)) (sym c.in-Trace.is) c.trace.ensures.no_stray
+    let qs : List ProbeState = map (λ p. (goal.Probe-dyn g (p.vtable, p.value)).state p.value) c.deref.result.now in
+    spares_asked (shown c.args.command.now) (world (g.S.Shelf.told c.args.shelf.now) (g.O.Sink.told c.args.out.now) (λ p. (goal.Probe-dyn g (p.vtable, p.value)).state p.value) c.args.probes.now.items) (world (g.S.Shelf.told c.carry_out.new.shelf) (g.O.Sink.told c.carry_out.new.out) (λ p. (goal.Probe-dyn g (p.vtable, p.value)).state p.value) c.carry_out.new.probes.items) (asked c.deref-in-Ok-Some.result.now)
+    (subst (λ l. AreAskedFor (traces_in (shown c.args.command.now)) (asked l) ps) (sym c.deref-in-Ok-Some.ensures.value)
+    (handed _ (traces_in (shown c.args.command.now)) ps qs (asked c.in-Ok-Some.files.items) c.traces_of.ensures (ap (λ l. map (λ p. (goal.Probe-dyn g (p.vtable, p.value)).state p.value) l) c.deref.ensures.value) (rw c.in-Ok-Some.field-0-is at c.in-Ok-Some.ensures)))
+    c.carry_out.ensures.spares
 
-pub returns-in-Trace-clause-unasked : goal.returns-in-Trace-clause-unasked
-returns-in-Trace-clause-unasked g c =
-    let ps : List ProbeState = map (λ p. (goal.Probe-dyn g (p.vtable, p.value)).state p.value) c.args.probes.now.items in
-    subst (λ (m : Command). SameUnasked (task_of (kinds_of ps) (Some (shown m))).asks c.args.probes.now.items c.trace.new.probes.items) (sym c.in-Trace.is) c.trace.ensures.unasked
+pub returns-in-Ok-None-clause-does : goal.returns-in-Ok-None-clause-does
+returns-in-Ok-None-clause-does g c =
+    not_asked (shown c.args.command.now) (world (g.S.Shelf.told c.args.shelf.now) (g.O.Sink.told c.args.out.now) (λ p. (goal.Probe-dyn g (p.vtable, p.value)).state p.value) c.args.probes.now.items)
+    (ap (λ t. have_probes t (kinds_of (map (λ p. (goal.Probe-dyn g (p.vtable, p.value)).state p.value) c.args.probes.now.items))) (sym c.traces_of.ensures) ∙ ap (λ l. have_probes (traces_given c.traces_of.result) (kinds_of (map (λ p. (goal.Probe-dyn g (p.vtable, p.value)).state p.value) l))) (sym c.deref.ensures.value) ∙ (rw c.in-Ok-None.field-0-is at c.in-Ok-None.ensures))
 
-pub returns-in_default-clause-ended : goal.returns-in_default-clause-ended
-returns-in_default-clause-ended g c =
-    let ps : List ProbeState = map (λ p. (goal.Probe-dyn g (p.vtable, p.value)).state p.value) c.args.probes.now.items in
-    let old : Outside = outside (g.S.Shelf.told c.args.shelf.now) (g.O.Sink.told c.args.out.now) in
-    let new : Outside = outside (g.S.Shelf.told c.perform_plain.new.shelf) (g.O.Sink.told c.perform_plain.new.out) in
-    plain (kinds_of ps) c.args.command.now (λ (t : Task). IfOk c.perform_plain.result (Ended t old new)) c.in_default.not-Trace c.perform_plain.ensures.ended
+pub returns-in-Ok-None-clause-spares : goal.returns-in-Ok-None-clause-spares
+returns-in-Ok-None-clause-spares g c = spares_none _ _ _
 
-pub returns-in_default-clause-refused : goal.returns-in_default-clause-refused
-returns-in_default-clause-refused g c =
-    let ps : List ProbeState = map (λ p. (goal.Probe-dyn g (p.vtable, p.value)).state p.value) c.args.probes.now.items in
-    let old : Outside = outside (g.S.Shelf.told c.args.shelf.now) (g.O.Sink.told c.args.out.now) in
-    let new : Outside = outside (g.S.Shelf.told c.perform_plain.new.shelf) (g.O.Sink.told c.perform_plain.new.out) in
-    plain (kinds_of ps) c.args.command.now (λ (t : Task). IfErr c.perform_plain.result (StopsBy t old new ps ps)) c.in_default.not-Trace
-    (IfErr-weaker c.perform_plain.result _ _ (λ r h. h ps) c.perform_plain.ensures.refused)
+pub returns-in-Err-clause-does : goal.returns-in-Err-clause-does
+returns-in-Err-clause-does g c = starved (inl (record { files = refl; out = refl }))
 
-pub returns-in_default-clause-no_stray : goal.returns-in_default-clause-no_stray
-returns-in_default-clause-no_stray g c =
-    let ps : List ProbeState = map (λ p. (goal.Probe-dyn g (p.vtable, p.value)).state p.value) c.args.probes.now.items in
-    plain (kinds_of ps) c.args.command.now (λ (t : Task). SameStrays t (g.S.Shelf.told c.args.shelf.now) (g.S.Shelf.told c.perform_plain.new.shelf)) c.in_default.not-Trace c.perform_plain.ensures.no_stray
-
-pub returns-in_default-clause-unasked : goal.returns-in_default-clause-unasked
-returns-in_default-clause-unasked g c = unasked_same _ _
-
-pub returns-in_default-clause-probes : goal.returns-in_default-clause-probes
-returns-in_default-clause-probes g c = same_probes _ _ _
+pub returns-in-Err-clause-spares : goal.returns-in-Err-clause-spares
+returns-in-Err-clause-spares g c = spares_none _ _ _

@@ -3,9 +3,9 @@ use Rattle.std.proofs.lemmas.Option.{slice_get_read}
 use Rattle.safl_term.specs.Checked.{program_of}
 use Rattle.safl_net.specs.declared.cell.Sig.{Sig}
 use Rattle.safl_net.specs.Bits.{on}
-use Rattle.safl_gates.specs.Rows.{AreBits, frees, row_at}
-use Rattle.safl_gates.proofs.Building.{builds_on, builds_within}
-use Rattle.safl_gates.proofs.Rows.{row_kept}
+use Rattle.safl_lower.specs.Rows.{AreBits, frees, row_at}
+use Rattle.safl_lower.proofs.Building.{builds_on, builds_within}
+use Rattle.safl_lower.proofs.JoinedRows.{row_kept}
 use Rattle.safl_unit.specs.Cycles.{choice_of}
 use Rattle.safl_unit.specs.Arbiters.{tally}
 use Rattle.safl_unit.proofs.Keeping.{pins_kept}

@@ -1,8 +1,8 @@
 use Rattle.std.proofs.Common.{◌*◌, length}
 use Rattle.safl_term.specs.Checked.{program_of}
 use Rattle.safl_net.specs.Names.{IsTidy}
-use Rattle.safl_gates.specs.Sources.{Builds}
-use Rattle.safl_gates.specs.Rows.{row_at}
+use Rattle.safl_lower.specs.Sources.{Builds}
+use Rattle.safl_lower.specs.Rows.{row_at}
 use Rattle.safl_unit.specs.Cycles.{choice_of}
 use Rattle.safl_unit.specs.Arbiters.{tally, RowsFree}
 use Rattle.safl_unit.proofs.arbiters.unit_frees.Given as goal

@@ -2,11 +2,11 @@ use Rattle.std.proofs.Common.{suc, ◌+◌, ◌*◌, ◌++◌, List, [], ◌∷�
 use Rattle.safl_net.specs.declared.cell.Sig.{Sig}
 use Rattle.safl_net.proofs.Growth.{wired_before}
 use Rattle.safl_net.specs.Bits.{on}
-use Rattle.safl_gates.specs.Rows.{frees}
-use Rattle.safl_gates.specs.Heights.{AllWithin, Stands}
-use Rattle.safl_gates.proofs.Heights.{all_own, gate_within, within_up}
-use Rattle.safl_gates.proofs.Building.{builds_on, builds_within}
-use Rattle.safl_gates.proofs.Rows.{row_kept}
+use Rattle.safl_lower.specs.Rows.{frees}
+use Rattle.safl_lower.specs.Heights.{AllWithin, Stands}
+use Rattle.safl_lower.proofs.Heights.{all_own, gate_within, within_up}
+use Rattle.safl_lower.proofs.Building.{builds_on, builds_within}
+use Rattle.safl_lower.proofs.JoinedRows.{row_kept}
 use Rattle.safl_unit.proofs.arbiters.unit_row.Goals as goal
 
 pub free_before-requires-clause-bits : goal.free_before-requires-clause-bits

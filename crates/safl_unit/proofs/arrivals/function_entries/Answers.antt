@@ -1,9 +1,9 @@
 use Rattle.std.proofs.Common.{◌≡◌, ℕ, ◌==◌, ◌&&◌, ◌||◌, is_some, refl, subst, arith}
 use Rattle.safl_term.specs.Checked.{program_of}
 use Rattle.safl_net.specs.Growth.{Val}
-use Rattle.safl_gates.specs.Tables.{taken_from, on_in}
-use Rattle.safl_gates.proofs.Building.{builds_same, builds_on, builds_within}
-use Rattle.safl_gates.proofs.Kept.{maybe_bit_kept}
+use Rattle.safl_lower.specs.Tables.{taken_from, on_in}
+use Rattle.safl_lower.proofs.Building.{builds_same, builds_on, builds_within}
+use Rattle.safl_lower.proofs.KnownLoads.{maybe_bit_kept}
 use Rattle.safl_unit.specs.Edges.{one_below, ShowsBits}
 use Rattle.safl_unit.proofs.Chains.{bits_of_loads, start_bits, more_bits, loop_there, loop_fits, loop_shown}
 use Rattle.safl_unit.proofs.arrivals.function_entries.Goals as goal

@@ -1,8 +1,8 @@
 use Rattle.std.proofs.Common.{◌==◌, ◌&&◌, ◌||◌, is_some}
 use Rattle.safl_term.specs.Checked.{program_of}
 use Rattle.safl_net.specs.Names.{IsTidy}
-use Rattle.safl_gates.specs.Sources.{Builds}
-use Rattle.safl_gates.specs.Tables.{taken_from}
+use Rattle.safl_lower.specs.Sources.{Builds}
+use Rattle.safl_lower.specs.Tables.{taken_from}
 use Rattle.safl_unit.specs.Edges.{one_below, ShowsBits}
 use Rattle.safl_unit.proofs.arrivals.function_entries.Given as goal
 

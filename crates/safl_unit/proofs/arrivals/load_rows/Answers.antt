@@ -2,10 +2,10 @@ use Rattle.std.proofs.Common.{ℕ, ◌<◌, List, length, take, Option, Vec, Glo
 use Rattle.std.proofs.lemmas.List.{length-take-le, length_push, take_all}
 use Rattle.std.proofs.lemmas.Option.{slice_get_read}
 use Rattle.safl_net.specs.declared.cell.Sig.{Sig}
-use Rattle.safl_gates.specs.declared.loads.Load.{Load}
-use Rattle.safl_gates.specs.Tables.{load_in}
-use Rattle.safl_gates.specs.Rows.{maybe_one, row_at}
-use Rattle.safl_gates.proofs.Joints.{take_next}
+use Rattle.safl_lower.specs.declared.loads.Load.{Load}
+use Rattle.safl_lower.specs.Tables.{load_in}
+use Rattle.safl_lower.specs.Rows.{maybe_one, row_at}
+use Rattle.safl_lower.proofs.Joints.{take_next}
 use Rattle.safl_unit.specs.Edges.{bit_of}
 use Rattle.safl_unit.proofs.Chains.{load_rows_more}
 use Rattle.safl_unit.proofs.arrivals.load_rows.Goals as goal

@@ -1,6 +1,6 @@
 use Rattle.std.proofs.Common.{◌≡◌, ℕ, length, take, slice_get}
-use Rattle.safl_gates.specs.Tables.{load_in}
-use Rattle.safl_gates.specs.Rows.{maybe_one, row_at}
+use Rattle.safl_lower.specs.Tables.{load_in}
+use Rattle.safl_lower.specs.Rows.{maybe_one, row_at}
 use Rattle.safl_unit.specs.Edges.{bit_of}
 use Rattle.safl_unit.proofs.arrivals.load_rows.Given as goal
 

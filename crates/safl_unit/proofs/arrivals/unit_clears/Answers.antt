@@ -2,9 +2,9 @@ use Rattle.std.proofs.Common.{◌≡◌, ℕ, ◌==◌, ◌&&◌, ◌||◌, List
 use Rattle.safl_term.specs.Checked.{program_of}
 use Rattle.safl_net.specs.declared.cell.Sig.{Sig}
 use Rattle.safl_net.specs.Growth.{Val}
-use Rattle.safl_gates.specs.Tables.{load_in, taken_from}
-use Rattle.safl_gates.specs.Rows.{bit_joins, total, RowsAreBits}
-use Rattle.safl_gates.proofs.Building.{builds_within}
+use Rattle.safl_lower.specs.Tables.{load_in, taken_from}
+use Rattle.safl_lower.specs.Rows.{bit_joins, total, RowsAreBits}
+use Rattle.safl_lower.proofs.Building.{builds_within}
 use Rattle.safl_unit.specs.Edges.{one_below, bit_of, ShowsBits}
 use Rattle.safl_unit.proofs.Chains.{BitRows, load_rows_total, start_load_rows, more_some_rows, joined_bits, loop_there, loop_fits, loop_shown}
 use Rattle.safl_unit.proofs.arrivals.unit_clears.Goals as goal

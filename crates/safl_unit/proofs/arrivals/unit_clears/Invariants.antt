@@ -1,7 +1,7 @@
 use Rattle.std.proofs.Common.{◌≤◌, ◌==◌, ◌&&◌, ◌||◌, is_some}
 use Rattle.safl_term.specs.Checked.{program_of}
-use Rattle.safl_gates.specs.Tables.{taken_from}
-use Rattle.safl_gates.specs.Rows.{bit_joins, total}
+use Rattle.safl_lower.specs.Tables.{taken_from}
+use Rattle.safl_lower.specs.Rows.{bit_joins, total}
 use Rattle.safl_unit.specs.Edges.{one_below}
 use Rattle.safl_unit.proofs.Chains.{BitRows}
 use Rattle.safl_unit.proofs.arrivals.unit_clears.Given as goal

@@ -2,8 +2,8 @@ use Rattle.std.proofs.Common.{◌≤◌, ◌*◌, ◌==◌, [], ◌∷◌}
 use Rattle.safl_term.specs.Checked.{program_of}
 use Rattle.safl_calls.specs.Picks.{first}
 use Rattle.safl_net.specs.Bits.{gate}
-use Rattle.safl_gates.specs.Tables.{taken_at}
-use Rattle.safl_gates.specs.Rows.{load_joins, total}
+use Rattle.safl_lower.specs.Tables.{taken_at}
+use Rattle.safl_lower.specs.Rows.{load_joins, total}
 use Rattle.safl_unit.proofs.Chains.{LoadRows}
 use Rattle.safl_unit.proofs.arrivals.unit_ends.Given as goal
 

@@ -2,8 +2,8 @@ use Rattle.std.proofs.Common.{◌≤◌, ◌==◌, ◌&&◌}
 use Rattle.safl_term.specs.Checked.{program_of}
 use Rattle.safl_term.specs.Program.{unit_for}
 use Rattle.safl_net.specs.Bits.{on}
-use Rattle.safl_gates.specs.Tables.{pin}
-use Rattle.safl_gates.specs.Rows.{bit_joins, total}
+use Rattle.safl_lower.specs.Tables.{pin}
+use Rattle.safl_lower.specs.Rows.{bit_joins, total}
 use Rattle.safl_unit.specs.Edges.{one_below}
 use Rattle.safl_unit.proofs.Chains.{BitRows}
 use Rattle.safl_unit.proofs.arrivals.unit_starts.Given as goal

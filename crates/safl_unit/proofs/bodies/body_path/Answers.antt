@@ -6,7 +6,7 @@ use Rattle.safl_net.specs.Netlist.{Netlist}
 use Rattle.safl_net.specs.Growth.{Val, Wired}
 use Rattle.safl_net.specs.Bits.{on}
 use Rattle.safl_circuit.specs.Equations.{Choice, many, path}
-use Rattle.safl_gates.specs.Sources.{Builds}
+use Rattle.safl_lower.specs.Sources.{Builds}
 use Rattle.safl_unit.specs.declared.parts.Pins.{Pins}
 use Rattle.safl_unit.specs.Cycles.{InEachCycle}
 use Rattle.safl_unit.proofs.Keeping.{cycle_before}

@@ -1,10 +1,10 @@
 use Rattle.std.proofs.Common.{◌≡◌, ℕ, slice_get, ◌<◌, List, Vec, Global, length, refl, subst, sym, ap, ◌∙◌, arith}
 use Rattle.safl_term.specs.Checked.{CheckedProgram, IsChecked, program_of}
-use Rattle.safl_gates.specs.declared.loads.Load.{Load}
-use Rattle.safl_gates.specs.Rows.{load_joins, total, row_at, RowsFit}
-use Rattle.safl_gates.specs.Tables.{load_in}
-use Rattle.safl_gates.specs.Joints.{IsFirstOf}
-use Rattle.safl_gates.proofs.Building.{builds_same, builds_on, builds_within}
+use Rattle.safl_lower.specs.declared.loads.Load.{Load}
+use Rattle.safl_lower.specs.Rows.{load_joins, total, row_at, RowsFit}
+use Rattle.safl_lower.specs.Tables.{load_in}
+use Rattle.safl_lower.specs.Joints.{IsFirstOf}
+use Rattle.safl_lower.proofs.Building.{builds_same, builds_on, builds_within}
 use Rattle.safl_unit.specs.declared.parts.Outcomes.{Outcomes}
 use Rattle.safl_unit.specs.declared.bodies.Gathered.{Gathered}
 use Rattle.safl_unit.specs.Cycles.{choice_of}

@@ -1,8 +1,8 @@
 use Rattle.std.proofs.Common.{ℕ, ◌+◌, ◌++◌, ◌∷◌, [], ◌≤◌, ◌==◌, cond, List, Option, length, length-append, map-id, rules, refl, sym, ap, subst, ◌∙◌, arith}
 use Rattle.std.proofs.lemmas.Iterator.Consumers.{YieldsList-turn, YieldsList-end}
 use Rattle.std.proofs.lemmas.Iterator.Adapters.{YieldsList-from_vec}
-use Rattle.safl_gates.specs.declared.loads.Load.{Load}
-use Rattle.safl_gates.specs.Rows.{load_joins, row_at, total}
+use Rattle.safl_lower.specs.declared.loads.Load.{Load}
+use Rattle.safl_lower.specs.Rows.{load_joins, row_at, total}
 use Rattle.safl_lower.specs.Loads.{loads_cost}
 use Rattle.safl_unit.specs.Outcomes.{PushesLoads, maybe_load}
 use Rattle.safl_unit.proofs.Joins.{cost_end, none_pushed, more_pushed}

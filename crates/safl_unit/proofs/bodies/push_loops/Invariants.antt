@@ -1,5 +1,5 @@
 use Rattle.std.proofs.Common.{◌≡◌, ◌+◌, ◌≤◌, length}
-use Rattle.safl_gates.specs.Rows.{load_joins, total}
+use Rattle.safl_lower.specs.Rows.{load_joins, total}
 use Rattle.safl_lower.specs.Loads.{loads_cost}
 use Rattle.safl_unit.specs.Outcomes.{PushesLoads}
 use Rattle.safl_unit.proofs.bodies.push_loops.Given as goal

@@ -1,7 +1,7 @@
 use Rattle.std.proofs.Common.{◌≡◌, ◌==◌, [], ◌++◌, cond, Bool, true, false, List, Option, sym, ap, ◌∙◌}
-use Rattle.safl_gates.specs.declared.loads.Load.{Load}
-use Rattle.safl_gates.specs.Rows.{row_at}
-use Rattle.safl_gates.proofs.Rows.{append_none}
+use Rattle.safl_lower.specs.declared.loads.Load.{Load}
+use Rattle.safl_lower.specs.Rows.{row_at}
+use Rattle.safl_lower.proofs.JoinedRows.{append_none}
 use Rattle.safl_unit.specs.Outcomes.{maybe_load}
 use Rattle.safl_unit.proofs.bodies.push_maybe.Goals as goal
 

@@ -3,7 +3,7 @@ use Rattle.safl_term.specs.Checked.{program_of}
 use Rattle.safl_net.specs.Netlist.{Netlist}
 use Rattle.safl_net.specs.Growth.{Grows}
 use Rattle.safl_circuit.specs.Names.{names_of}
-use Rattle.safl_gates.proofs.Building.{builds_on}
+use Rattle.safl_lower.proofs.Building.{builds_on}
 use Rattle.safl_unit.specs.Cycles.{choice_of}
 use Rattle.safl_unit.specs.Stages.{body_nodes, HasGoes}
 use Rattle.safl_unit.proofs.Keeping.{pins_kept, bank_kept, returns_kept, outcomes_kept, goes_kept, next_kept}

@@ -1,6 +1,6 @@
 use Rattle.std.proofs.Common.{List, Option, map, ap, ◌∙◌}
-use Rattle.safl_gates.specs.declared.loads.Load.{Load}
-use Rattle.safl_gates.specs.Tables.{load_bit, bit_or}
+use Rattle.safl_lower.specs.declared.loads.Load.{Load}
+use Rattle.safl_lower.specs.Tables.{load_bit, bit_or}
 use Rattle.safl_unit.proofs.Controlling.{has_controls}
 use Rattle.safl_unit.proofs.controls.controls.Goals as goal
 

@@ -1,10 +1,10 @@
 use Rattle.std.proofs.Common.{◌+◌, ◌*◌, List, [], ◌∷◌, Option, length, sym, ap, subst, ◌∙◌, arith}
 use Rattle.safl_term.specs.Checked.{program_of}
 use Rattle.safl_net.specs.declared.cell.Sig.{Sig}
-use Rattle.safl_gates.specs.declared.loads.Load.{Load}
-use Rattle.safl_gates.specs.Tables.{SomeFit, BitsFit}
-use Rattle.safl_gates.proofs.Building.{builds_on, builds_within}
-use Rattle.safl_gates.proofs.Kept.{bits_kept}
+use Rattle.safl_lower.specs.declared.loads.Load.{Load}
+use Rattle.safl_lower.specs.Tables.{SomeFit, BitsFit}
+use Rattle.safl_lower.proofs.Building.{builds_on, builds_within}
+use Rattle.safl_lower.proofs.KnownLoads.{bits_kept}
 use Rattle.safl_unit.specs.Cycles.{choice_of}
 use Rattle.safl_unit.specs.Steps.{UnitsNext, SitesNext}
 use Rattle.safl_unit.proofs.Keeping.{pins_kept, returns_kept, outcomes_kept, goes_kept}

@@ -5,12 +5,12 @@ use Rattle.safl_term.specs.Program.{Program, arity}
 use Rattle.safl_net.specs.declared.cell.Sig.{Sig}
 use Rattle.safl_net.specs.Netlist.{Netlist}
 use Rattle.safl_circuit.specs.Equations.{many}
-use Rattle.safl_gates.specs.declared.loads.Load.{Load}
-use Rattle.safl_gates.specs.Sources.{Builds}
-use Rattle.safl_gates.specs.Tables.{load_in, sig_in, taken_in, on_in, FitsIn, IsBitIn}
-use Rattle.safl_gates.proofs.Building.{builds_same, builds_on, builds_within}
-use Rattle.safl_gates.proofs.Kept.{maybe_load_kept, maybe_bit_kept}
-use Rattle.safl_gates.proofs.Cells.{sources_length}
+use Rattle.safl_lower.specs.declared.loads.Load.{Load}
+use Rattle.safl_lower.specs.Sources.{Builds}
+use Rattle.safl_lower.specs.Tables.{load_in, sig_in, taken_in, on_in, FitsIn, IsBitIn}
+use Rattle.safl_lower.proofs.Building.{builds_same, builds_on, builds_within}
+use Rattle.safl_lower.proofs.KnownLoads.{maybe_load_kept, maybe_bit_kept}
+use Rattle.safl_lower.proofs.Cells.{sources_length}
 use Rattle.safl_unit.specs.declared.parts.MemberPins.{MemberPins}
 use Rattle.safl_unit.specs.declared.parts.Pins.{Pins}
 use Rattle.safl_unit.specs.declared.parts.Outcomes.{Outcomes}

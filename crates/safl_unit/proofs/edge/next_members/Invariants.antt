@@ -1,7 +1,7 @@
 use Rattle.std.proofs.Common.{◌*◌}
 use Rattle.safl_term.specs.Checked.{program_of}
 use Rattle.safl_net.specs.Names.{IsTidy}
-use Rattle.safl_gates.specs.Sources.{Builds}
+use Rattle.safl_lower.specs.Sources.{Builds}
 use Rattle.safl_unit.specs.Steps.{MembersNext}
 use Rattle.safl_unit.proofs.edge.next_members.Given as goal
 

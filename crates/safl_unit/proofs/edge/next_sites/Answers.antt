@@ -5,10 +5,10 @@ use Rattle.safl_term.specs.Program.{Program}
 use Rattle.safl_net.specs.declared.cell.Sig.{Sig}
 use Rattle.safl_net.specs.Netlist.{Netlist}
 use Rattle.safl_net.specs.Bits.{on}
-use Rattle.safl_gates.specs.Sources.{IsSource, Builds}
-use Rattle.safl_gates.specs.Tables.{pin, sig_in, on_in, IsBitIn, BitsFit}
-use Rattle.safl_gates.proofs.Building.{builds_same, builds_on, builds_within, source_kept}
-use Rattle.safl_gates.proofs.Kept.{maybe_bit_kept}
+use Rattle.safl_lower.specs.Sources.{IsSource, Builds}
+use Rattle.safl_lower.specs.Tables.{pin, sig_in, on_in, IsBitIn, BitsFit}
+use Rattle.safl_lower.proofs.Building.{builds_same, builds_on, builds_within, source_kept}
+use Rattle.safl_lower.proofs.KnownLoads.{maybe_bit_kept}
 use Rattle.safl_unit.specs.declared.parts.UnitPins.{UnitPins}
 use Rattle.safl_unit.specs.declared.parts.SitePins.{SitePins}
 use Rattle.safl_unit.specs.declared.parts.Pins.{Pins}

@@ -2,10 +2,10 @@ use Rattle.std.proofs.Common.{◌≡◌, ℕ, ◌+◌, ◌*◌, ◌⊎◌, List,
 use Rattle.std.proofs.lemmas.Option.{slice_get_read, slice_get-get_or}
 use Rattle.safl_term.specs.Checked.{program_of}
 use Rattle.safl_net.specs.declared.cell.Sig.{Sig}
-use Rattle.safl_gates.specs.declared.loads.Load.{Load}
-use Rattle.safl_gates.specs.Tables.{load_in, sig_in, FitsIn, IsBitIn}
-use Rattle.safl_gates.proofs.Building.{builds_same, builds_on, builds_within}
-use Rattle.safl_gates.proofs.Kept.{maybe_load_kept, maybe_bit_kept}
+use Rattle.safl_lower.specs.declared.loads.Load.{Load}
+use Rattle.safl_lower.specs.Tables.{load_in, sig_in, FitsIn, IsBitIn}
+use Rattle.safl_lower.proofs.Building.{builds_same, builds_on, builds_within}
+use Rattle.safl_lower.proofs.KnownLoads.{maybe_load_kept, maybe_bit_kept}
 use Rattle.safl_unit.specs.declared.parts.UnitPins.{UnitPins}
 use Rattle.safl_unit.specs.Steps.{UnitsNext}
 use Rattle.safl_unit.proofs.Keeping.{unit_kept}

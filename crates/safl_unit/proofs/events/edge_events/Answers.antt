@@ -1,10 +1,10 @@
 use Rattle.std.proofs.Common.{ℕ, ◌+◌, ◌*◌, ◌==◌, ◌&&◌, ◌||◌, List, [], ◌∷◌, Option, length, is_some, sym, ap, subst, ◌∙◌, arith}
 use Rattle.safl_term.specs.Checked.{program_of}
 use Rattle.safl_net.specs.declared.cell.Sig.{Sig}
-use Rattle.safl_gates.specs.declared.loads.Load.{Load}
-use Rattle.safl_gates.specs.Tables.{SomeFit, BitsFit, taken_from, on_from}
-use Rattle.safl_gates.proofs.Building.{builds_on, builds_within, source_kept}
-use Rattle.safl_gates.proofs.Kept.{some_kept}
+use Rattle.safl_lower.specs.declared.loads.Load.{Load}
+use Rattle.safl_lower.specs.Tables.{SomeFit, BitsFit, taken_from, on_from}
+use Rattle.safl_lower.proofs.Building.{builds_on, builds_within, source_kept}
+use Rattle.safl_lower.proofs.KnownLoads.{some_kept}
 use Rattle.safl_unit.specs.Cycles.{choice_of}
 use Rattle.safl_unit.specs.Edges.{one_below, rival, ShowsBits, ShowsBelow}
 use Rattle.safl_unit.proofs.Keeping.{outcomes_kept, goes_kept, ends_kept, all_loads_kept, tests_kept}

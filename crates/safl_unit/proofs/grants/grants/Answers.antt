@@ -4,10 +4,10 @@ use Rattle.safl_term.specs.Program.{unit_for}
 use Rattle.safl_net.specs.declared.cell.Sig.{Sig}
 use Rattle.safl_net.proofs.Growth.{wired_before}
 use Rattle.safl_net.specs.Bits.{on}
-use Rattle.safl_gates.specs.Tables.{bit_or, on_in}
-use Rattle.safl_gates.specs.Rows.{AreBits, row_at}
-use Rattle.safl_gates.proofs.Building.{builds_on, builds_within, builds_same}
-use Rattle.safl_gates.proofs.Rows.{row_kept}
+use Rattle.safl_lower.specs.Tables.{bit_or, on_in}
+use Rattle.safl_lower.specs.Rows.{AreBits, row_at}
+use Rattle.safl_lower.proofs.Building.{builds_on, builds_within, builds_same}
+use Rattle.safl_lower.proofs.JoinedRows.{row_kept}
 use Rattle.safl_unit.specs.Cycles.{choice_of}
 use Rattle.safl_unit.specs.Arbiters.{want_at, site_row}
 use Rattle.safl_unit.proofs.Keeping.{pins_kept, outcomes_kept, cycle_before}

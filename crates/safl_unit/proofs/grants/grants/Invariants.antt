@@ -1,6 +1,6 @@
 use Rattle.safl_term.specs.Checked.{program_of}
 use Rattle.safl_net.specs.Names.{IsTidy}
-use Rattle.safl_gates.specs.Sources.{Builds}
+use Rattle.safl_lower.specs.Sources.{Builds}
 use Rattle.safl_unit.specs.Cycles.{choice_of}
 use Rattle.safl_unit.proofs.Granting.{Granted}
 use Rattle.safl_unit.proofs.grants.grants.Given as goal

@@ -1,6 +1,6 @@
 use Rattle.std.proofs.Common.{not}
 use Rattle.safl_net.specs.Bits.{on}
-use Rattle.safl_gates.proofs.Building.{builds_on}
+use Rattle.safl_lower.proofs.Building.{builds_on}
 use Rattle.safl_unit.proofs.Granting.{both_shown, on_ok}
 use Rattle.safl_unit.proofs.grants.main_grant.Goals as goal
 

@@ -3,9 +3,9 @@ use Rattle.safl_net.specs.declared.cell.Sig.{Sig}
 use Rattle.safl_net.specs.Netlist.{Netlist}
 use Rattle.safl_net.specs.Growth.{Val, Wired}
 use Rattle.safl_net.specs.Bits.{on}
-use Rattle.safl_gates.specs.Tables.{on_in}
-use Rattle.safl_gates.proofs.Cells.{get_there}
-use Rattle.safl_gates.proofs.Rows.{bit_of_row}
+use Rattle.safl_lower.specs.Tables.{on_in}
+use Rattle.safl_lower.proofs.Cells.{get_there}
+use Rattle.safl_lower.proofs.JoinedRows.{bit_of_row}
 use Rattle.safl_unit.proofs.grants.site_grant.Goals as goal
 
 shown : {E : Type 0} (m : Netlist) (r : Result Sig E) (t : Bool) (want : Sig) (f g : Val → Bool) → t ≡ true → ((v : Val) → f v ≡ (on v want && g v)) → IfOk r (λ s. (v : Val) → Wired m v → on v s ≡ f v) → IfOk r (λ s. (v : Val) → Wired m v → on v s ≡ cond t (on v want && g v) (on v want))

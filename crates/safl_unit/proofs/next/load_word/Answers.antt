@@ -1,4 +1,4 @@
-use Rattle.safl_gates.proofs.Joining.{first_fits}
+use Rattle.safl_lower.proofs.Joining.{first_fits}
 use Rattle.safl_unit.proofs.Stepping.{only_word, load_word_value}
 use Rattle.safl_unit.proofs.next.load_word.Goals as goal
 

@@ -4,11 +4,11 @@ use Rattle.safl_net.specs.Growth.{words}
 use Rattle.safl_net.proofs.Growth.{wired_before}
 use Rattle.safl_circuit.specs.Equations.{or_word}
 use Rattle.safl_word.specs.Words.{Word}
-use Rattle.safl_gates.specs.Sources.{AreSources}
-use Rattle.safl_gates.specs.Tables.{taken_in}
-use Rattle.safl_gates.proofs.Building.{builds_on, builds_within, source_kept, sources_kept}
-use Rattle.safl_gates.proofs.Kept.{maybe_load_kept}
-use Rattle.safl_gates.proofs.Joining.{as_many}
+use Rattle.safl_lower.specs.Sources.{AreSources}
+use Rattle.safl_lower.specs.Tables.{taken_in}
+use Rattle.safl_lower.proofs.Building.{builds_on, builds_within, source_kept, sources_kept}
+use Rattle.safl_lower.proofs.KnownLoads.{maybe_load_kept}
+use Rattle.safl_lower.proofs.Joining.{as_many}
 use Rattle.safl_unit.proofs.Options.{word_is}
 use Rattle.safl_unit.proofs.next.next_member.Goals as goal
 

@@ -2,8 +2,8 @@ use Rattle.std.proofs.Common.{◌≡◌, Bool, true, false, not, ◌&&◌, cond,
 use Rattle.safl_word.specs.Words.{Word}
 use Rattle.safl_net.specs.Bits.{on}
 use Rattle.safl_net.proofs.Growth.{wired_before}
-use Rattle.safl_gates.proofs.Building.{builds_on, source_kept}
-use Rattle.safl_gates.proofs.Kept.{maybe_bit_kept}
+use Rattle.safl_lower.proofs.Building.{builds_on, source_kept}
+use Rattle.safl_lower.proofs.KnownLoads.{maybe_bit_kept}
 use Rattle.safl_unit.proofs.next.next_site.Goals as goal
 
 turned : (kept ret : Bool) (res keep : Word) → kept ≡ true → cond (kept && not ret) keep res ≡ cond ret res keep

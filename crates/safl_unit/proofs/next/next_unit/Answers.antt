@@ -1,9 +1,9 @@
 use Rattle.std.proofs.Common.{[], ◌∷◌, Bool, ◌&&◌, ◌||◌, not, ap, ◌∙◌}
 use Rattle.safl_net.proofs.Growth.{wired_before}
 use Rattle.safl_net.specs.Bits.{on}
-use Rattle.safl_gates.specs.Tables.{on_in}
-use Rattle.safl_gates.proofs.Building.{builds_on, source_kept}
-use Rattle.safl_gates.proofs.Kept.{maybe_load_kept, maybe_bit_kept}
+use Rattle.safl_lower.specs.Tables.{on_in}
+use Rattle.safl_lower.proofs.Building.{builds_on, source_kept}
+use Rattle.safl_lower.proofs.KnownLoads.{maybe_load_kept, maybe_bit_kept}
 use Rattle.safl_unit.proofs.Chains.{load_bit_fits, load_bit_shows}
 use Rattle.safl_unit.proofs.next.next_unit.Goals as goal
 

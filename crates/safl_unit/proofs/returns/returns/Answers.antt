@@ -1,6 +1,6 @@
 use Rattle.std.proofs.Common.{◌≡◌, ℕ, suc, Bool, ◌+◌, ◌*◌, refl, sym, ap, subst, ◌∙◌, add-one, arith}
 use Rattle.safl_term.specs.Checked.{CheckedProgram, program_of}
-use Rattle.safl_gates.proofs.Building.{builds_same, builds_on, builds_within}
+use Rattle.safl_lower.proofs.Building.{builds_same, builds_on, builds_within}
 use Rattle.safl_unit.specs.Returning.{SiteShown}
 use Rattle.safl_unit.specs.Cycles.{choice_of}
 use Rattle.safl_unit.proofs.Keeping.{pins_kept}

@@ -4,13 +4,13 @@ use Rattle.safl_term.specs.Checked.{CheckedProgram, program_of}
 use Rattle.safl_net.specs.declared.cell.Sig.{Sig}
 use Rattle.safl_net.specs.Growth.{Val}
 use Rattle.safl_circuit.specs.Equations.{many}
-use Rattle.safl_gates.specs.declared.trees.Several.{Several}
-use Rattle.safl_gates.specs.Tables.{sig_in, on_from, IsBitIn}
-use Rattle.safl_gates.specs.Rows.{AreBits, bit_joins, row_at, total}
-use Rattle.safl_gates.specs.Joints.{IsSeveralIn, several_in}
-use Rattle.safl_gates.proofs.Building.{builds_same, builds_on, builds_within}
-use Rattle.safl_gates.proofs.Kept.{maybe_bit_kept}
-use Rattle.safl_gates.proofs.Joints.{several_in_kept}
+use Rattle.safl_lower.specs.declared.trees.Several.{Several}
+use Rattle.safl_lower.specs.Tables.{sig_in, on_from, IsBitIn}
+use Rattle.safl_lower.specs.Rows.{AreBits, bit_joins, row_at, total}
+use Rattle.safl_lower.specs.Joints.{IsSeveralIn, several_in}
+use Rattle.safl_lower.proofs.Building.{builds_same, builds_on, builds_within}
+use Rattle.safl_lower.proofs.KnownLoads.{maybe_bit_kept}
+use Rattle.safl_lower.proofs.Joints.{several_in_kept}
 use Rattle.safl_unit.specs.Edges.{one_below, entry_row, others_on, rival, ShowsBelow}
 use Rattle.safl_unit.proofs.Others.{entries_fit, rivals_are, below_none_yet, below_one_more}
 use Rattle.safl_unit.proofs.rivals.function_rivals.Goals as goal

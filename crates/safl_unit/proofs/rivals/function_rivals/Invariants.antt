@@ -1,8 +1,8 @@
 use Rattle.std.proofs.Common.{◌*◌}
 use Rattle.safl_term.specs.Checked.{program_of}
 use Rattle.safl_net.specs.Names.{IsTidy}
-use Rattle.safl_gates.specs.Sources.{Builds}
-use Rattle.safl_gates.specs.Tables.{on_from}
+use Rattle.safl_lower.specs.Sources.{Builds}
+use Rattle.safl_lower.specs.Tables.{on_from}
 use Rattle.safl_unit.specs.Edges.{one_below, rival, ShowsBelow}
 use Rattle.safl_unit.proofs.rivals.function_rivals.Given as goal
 

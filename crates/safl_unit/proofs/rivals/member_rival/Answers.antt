@@ -2,9 +2,9 @@ use Rattle.std.proofs.Common.{◌≡◌, List, [], ◌∷◌, length, Option, So
 use Rattle.safl_net.specs.declared.cell.Sig.{Sig}
 use Rattle.safl_net.specs.Netlist.{Netlist}
 use Rattle.safl_net.specs.Growth.{Val, Wired}
-use Rattle.safl_gates.specs.declared.trees.Several.{Several}
-use Rattle.safl_gates.specs.Tables.{on_in}
-use Rattle.safl_gates.specs.Joints.{IsSeveralOf, IsSeveralIn}
+use Rattle.safl_lower.specs.declared.trees.Several.{Several}
+use Rattle.safl_lower.specs.Tables.{on_in}
+use Rattle.safl_lower.specs.Joints.{IsSeveralOf, IsSeveralIn}
 use Rattle.safl_unit.specs.Edges.{others_on}
 use Rattle.safl_unit.proofs.rivals.member_rival.Goals as goal
 

@@ -3,10 +3,10 @@ use Rattle.std.proofs.lemmas.Bool.{false≢true}
 use Rattle.safl_net.specs.declared.cell.Sig.{Sig}
 use Rattle.safl_net.proofs.Growth.{wired_before}
 use Rattle.safl_net.specs.Bits.{on}
-use Rattle.safl_gates.specs.Rows.{on_any, on_two}
-use Rattle.safl_gates.proofs.Building.{builds_on}
-use Rattle.safl_gates.proofs.Kept.{maybe_bit_kept}
-use Rattle.safl_gates.proofs.Rows.{two_any}
+use Rattle.safl_lower.specs.Rows.{on_any, on_two}
+use Rattle.safl_lower.proofs.Building.{builds_on}
+use Rattle.safl_lower.proofs.KnownLoads.{maybe_bit_kept}
+use Rattle.safl_lower.proofs.JoinedRows.{two_any}
 use Rattle.safl_unit.specs.Edges.{others_on}
 use Rattle.safl_unit.proofs.rivals.several_rival.Goals as goal
 

@@ -2,9 +2,9 @@ use Rattle.std.proofs.Common.{◌≡◌, ℕ, ◌==◌, ◌++◌, List, [], cond
 use Rattle.std.proofs.lemmas.Option.{slice_get-get_or}
 use Rattle.safl_term.specs.Checked.{program_of}
 use Rattle.safl_net.specs.declared.cell.Sig.{Sig}
-use Rattle.safl_gates.specs.Tables.{sig_in}
-use Rattle.safl_gates.specs.Rows.{maybe_one, bit_joins}
-use Rattle.safl_gates.proofs.Rows.{total_bare}
+use Rattle.safl_lower.specs.Tables.{sig_in}
+use Rattle.safl_lower.specs.Rows.{maybe_one, bit_joins}
+use Rattle.safl_lower.proofs.JoinedRows.{total_bare}
 use Rattle.safl_unit.specs.Edges.{entry_row}
 use Rattle.safl_unit.proofs.Others.{entry_zero, entry_next}
 use Rattle.safl_unit.proofs.rivals.unit_entries.Goals as goal

@@ -1,6 +1,6 @@
 use Rattle.std.proofs.Common.{◌≡◌, ℕ, ◌≤◌, length}
 use Rattle.safl_term.specs.Checked.{program_of}
-use Rattle.safl_gates.specs.Rows.{bit_joins, row_at, total}
+use Rattle.safl_lower.specs.Rows.{bit_joins, row_at, total}
 use Rattle.safl_unit.specs.Edges.{entry_row}
 use Rattle.safl_unit.proofs.rivals.unit_entries.Given as goal
 

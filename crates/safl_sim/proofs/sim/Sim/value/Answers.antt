@@ -2,7 +2,7 @@ use Rattle.std.proofs.Common.{◌≡◌, ℕ, ◌<◌, length, sym, ap, subst, �
 use Rattle.safl_word.specs.Words.{IsWord}
 use Rattle.safl_net.specs.Netlist.{Netlist, width_of}
 use Rattle.safl_sim.specs.Simulation.{Simulation}
-use Rattle.safl_narrow.specs.Narrow.{word_of}
+use Rattle.safl_word.specs.Narrow.{word_of}
 use Rattle.safl_sim.proofs.Actions.{signal_word}
 use Rattle.safl_sim.proofs.sim.Sim.value.Goals as goal
 

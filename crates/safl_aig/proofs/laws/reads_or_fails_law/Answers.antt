@@ -1,5 +1,0 @@
-use Rattle.safl_aig.proofs.Deciding.{reads_or_fails}
-use Rattle.safl_aig.proofs.laws.reads_or_fails_law.Goals as goal
-
-pub returns : goal.returns
-returns c = reads_or_fails

@@ -1,6 +1,0 @@
-use Rattle.std.proofs.Common.{◌≡◌, [], replicate}
-use Rattle.safl_aig.specs.Circuits.{names_of}
-use Rattle.safl_aig.proofs.symbols.empty_names.Given as goal
-
-abbrev pub invariant-loop-i : goal.invariant-loop-i
-invariant-loop-i l = names_of l.all.items ≡ replicate l._i []

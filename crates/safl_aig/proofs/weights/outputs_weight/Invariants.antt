@@ -1,0 +1,10 @@
+use Rattle.std.proofs.Common.{◌≡◌, ◌*◌, ◌≤◌}
+use Rattle.safl_aig.specs.Bits.{summed}
+use Rattle.safl_aig.specs.Weights.{output_weight}
+use Rattle.safl_aig.proofs.weights.outputs_weight.Given as goal
+
+abbrev pub invariant-outputs : goal.invariant-outputs
+invariant-outputs l = record {
+  sum : l.sum ≡ summed (output_weight l.net) l.i;
+  few : l.sum ≤ 16384 * l.i;
+}

@@ -1,0 +1,10 @@
+use Rattle.std.proofs.Common.{◌≡◌, ◌*◌, ◌≤◌}
+use Rattle.safl_aig.specs.Bits.{summed}
+use Rattle.safl_aig.specs.Weights.{signal_weight}
+use Rattle.safl_aig.proofs.weights.signals_weight.Given as goal
+
+abbrev pub invariant-signals : goal.invariant-signals
+invariant-signals l = record {
+  sum : l.sum ≡ summed (signal_weight l.net) l.i;
+  few : l.sum ≤ 16384 * l.i;
+}

@@ -1,0 +1,33 @@
+-- The bit-level circuit of a netlist, and its text.
+use Rattle.std.specs.Prelude.{ℕ, ◌*◌, ◌≤◌, List, length, Err}
+use Rattle.safl_net.specs.Netlist.{Netlist}
+use Rattle.safl_aiger.specs.Circuits.{Circuit}
+use Rattle.safl_aiger.specs.Reads.{AigReads}
+use Rattle.safl_aig.specs.Mirrors.{SameBits}
+use Rattle.safl_aig.specs.Places.{HasNames, Answers}
+use Rattle.safl_aig.specs.Weights.{weight, most_weight, AllZero}
+use Rattle.safl_aig.specs.declared.conversion.BlastErr.{BlastErr}
+
+-- In every cycle, for every list of inputs, each bit of each register and output of the circuit is the netlist's; its inputs,
+-- latches and outputs are named for the netlist's bits, and it has at most 16 ANDs for each unit of the netlist's weight.
+pub record IsBitLevel (n : Netlist) (a : Circuit) : Type 0 where
+  pub same : SameBits n a
+  pub named : HasNames n a
+  pub few : length a.ands ≤ 16 * weight n
+
+-- all registers of the netlist reset to 0, and it is light enough
+pub record IsLight (n : Netlist) : Type 0 where
+  pub zero : AllZero n
+  pub light : weight n ≤ most_weight
+
+-- the text reads as a bit-level circuit of the netlist, which is one that has some
+pub record IsTextOf (n : Netlist) (text : List ℕ) : Type 0 where
+  pub light : IsLight n
+  pub circuit : Circuit
+  pub bits : IsBitLevel n circuit
+  pub reads : AigReads text circuit
+
+-- why the netlist is made no circuit: its least register that does not reset to 0; or all do, and its weight is too great; or
+-- neither, and memory ran out
+abbrev pub IsRefused : Netlist → BlastErr → Type 0
+IsRefused n e = Answers n (Err e)

@@ -1,0 +1,55 @@
+-- The bits of signals, in the net's order.
+use Rattle.std.specs.Prelude.{ℕ, zero, suc, ◌+◌, List, [], ◌++◌, length, Bool, true, false, cond, Option, Some, None, slice_get}
+use Rattle.safl_net.specs.Netlist.{Netlist, Kind, Input, Reg, Wire, width_of}
+use Rattle.safl_net.specs.Making.{kind_at}
+use Rattle.safl_aiger.specs.Literals.{bits_of}
+
+abbrev pub is_input : Kind → Bool
+is_input Input = true
+is_input (Reg init next) = false
+is_input (Wire cell) = false
+
+abbrev pub is_register : Kind → Bool
+is_register Input = false
+is_register (Reg init next) = true
+is_register (Wire cell) = false
+
+abbrev pub is_wire : Kind → Bool
+is_wire Input = false
+is_wire (Reg init next) = false
+is_wire (Wire cell) = true
+
+-- the lists for the first numbers, one after another
+abbrev pub gathered : {A : Type 0} → (ℕ → List A) → ℕ → List A
+gathered f zero = []
+gathered f (suc k) = gathered f k ++ f k
+
+-- the sum over the first numbers
+abbrev pub summed : (ℕ → ℕ) → ℕ → ℕ
+summed f zero = 0
+summed f (suc k) = summed f k + f k
+
+-- what stands for the signals of a kind
+abbrev pub of_kind : {A : Type 0} → (Kind → Bool) → Netlist → (ℕ → List A) → ℕ → List A
+of_kind test n f s = cond (test (kind_at n s)) (f s) []
+
+abbrev pub for_inputs : {A : Type 0} → Netlist → (ℕ → List A) → List A
+for_inputs n f = gathered (of_kind is_input n f) (length n.signals)
+
+abbrev pub for_registers : {A : Type 0} → Netlist → (ℕ → List A) → List A
+for_registers n f = gathered (of_kind is_register n f) (length n.signals)
+
+-- the signal that an output shows
+abbrev pub shown_in : Option (List ℕ × ℕ) → ℕ
+shown_in None = 0
+shown_in (Some o) = o.1
+
+abbrev pub output_at : Netlist → ℕ → ℕ
+output_at n i = shown_in (slice_get n.outputs i)
+
+abbrev pub for_outputs : {A : Type 0} → Netlist → (ℕ → List A) → List A
+for_outputs n f = gathered (λ i. f (output_at n i)) (length n.outputs)
+
+-- the bits of a signal, where signals have these numbers
+abbrev pub signal_bits : Netlist → (ℕ → ℕ) → ℕ → List Bool
+signal_bits n f s = bits_of (width_of n s) (f s)

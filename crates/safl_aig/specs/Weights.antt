@@ -1,0 +1,48 @@
+-- How heavy a net is.
+use Rattle.std.specs.Prelude.{◌≡◌, ℕ, ◌≢◌, ◌+◌, ◌<◌, List, ◌∷◌, length, Some, None}
+use Rattle.safl_net.specs.declared.cell.Op.{Op}
+use Rattle.safl_net.specs.declared.cell.Op.TheVariants.{Const, Copy, Mux, Apply}
+use Rattle.safl_net.specs.Netlist.{Netlist, Kind, Input, Reg, Wire, width_of}
+use Rattle.safl_net.specs.Making.{kind_at, widths}
+use Rattle.safl_net.specs.Valuations.{reset_state}
+use Rattle.safl_bits.specs.Weights.{greatest, apply_weight}
+use Rattle.safl_aig.specs.Bits.{summed, output_at}
+
+-- by the operation, the width of its word and those of its operands
+abbrev pub op_weight : Op → ℕ → List ℕ → ℕ
+op_weight (Const x) w ws = greatest (w ∷ ws)
+op_weight Copy w ws = greatest (w ∷ ws)
+op_weight Mux w ws = greatest (w ∷ ws)
+op_weight (Apply p) w ws = apply_weight p w ws
+
+abbrev pub kind_weight : Netlist → ℕ → Kind → ℕ
+kind_weight n w Input = w
+kind_weight n w (Reg init next) = w
+kind_weight n w (Wire None) = w
+kind_weight n w (Wire (Some c)) = op_weight c.op w (widths n c.operands)
+
+abbrev pub signal_weight : Netlist → ℕ → ℕ
+signal_weight n s = kind_weight n (width_of n s) (kind_at n s)
+
+abbrev pub output_weight : Netlist → ℕ → ℕ
+output_weight n i = width_of n (output_at n i)
+
+abbrev pub weight : Netlist → ℕ
+weight n = summed (signal_weight n) (length n.signals) + summed (output_weight n) (length n.outputs)
+
+-- the greatest weight of a net that is made a bit-level circuit
+abbrev pub most_weight : ℕ
+most_weight = 1000000
+
+-- the register's word at reset is not 0
+abbrev pub IsNonzero : Netlist → ℕ → Type 0
+IsNonzero n s = reset_state n s ≢ 0
+
+abbrev pub AllZero : Netlist → Type 0
+AllZero n = (s : ℕ) → reset_state n s ≡ 0
+
+-- the register's word at reset is not 0, and no register's before it
+pub record IsLeastNonzero (n : Netlist) (s : ℕ) : Type 0 where
+  pub known : s < length n.signals
+  pub nonzero : IsNonzero n s
+  pub least : (t : ℕ) → t < s → reset_state n t ≡ 0

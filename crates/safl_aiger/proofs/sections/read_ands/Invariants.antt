@@ -1,0 +1,11 @@
+use Rattle.std.proofs.Common.{◌≡◌, length}
+use Rattle.safl_aiger.specs.declared.reading.LineKind.TheVariants.{And}
+use Rattle.safl_aiger.specs.Reads.{kinds_from, and_numbers}
+use Rattle.safl_aiger.specs.Sections.{Passes}
+use Rattle.safl_aiger.proofs.sections.read_ands.Given as goal
+
+abbrev pub invariant-loop-i : goal.invariant-loop-i
+invariant-loop-i l = record {
+  count : length l.ands.items ≡ l.i;
+  passes : Passes l.text l.variables l.fn.at (kinds_from And l.first l.i) (and_numbers l.first l.ands.items) l.place;
+}

@@ -1,0 +1,6 @@
+use Rattle.std.proofs.Common.{◌≡◌, [], replicate}
+use Rattle.safl_aiger.specs.Circuits.{names_of}
+use Rattle.safl_aiger.proofs.symbols.empty_names.Given as goal
+
+abbrev pub invariant-loop-i : goal.invariant-loop-i
+invariant-loop-i l = names_of l.all.items ≡ replicate l._i []

@@ -1,0 +1,13 @@
+pub mod Literals
+pub mod Circuits
+pub mod Runs
+pub mod Texts
+pub mod Lines
+pub mod Reads
+pub mod RunLaws
+pub mod Sections
+pub mod Symbols
+pub mod Readings
+pub mod Rules
+pub mod ReadLaws
+pub mod TextLaws

@@ -1,0 +1,197 @@
+-- Which circuit a text is, and its first fault.
+use Rattle.std.specs.Prelude.{◌≡◌, ◌≢◌, ◌⊎◌, ℕ, zero, suc, ◌+◌, ◌*◌, ◌<◌, ◌≤◌, List, [], ◌∷◌, ◌++◌, map, length, replicate, Some, slice_get, slice_set, codes, decimal}
+use Rattle.safl_aiger.specs.declared.literal.Lit.{Lit}
+use Rattle.safl_aiger.specs.declared.reading.AigRule.{AigRule}
+use Rattle.safl_aiger.specs.declared.reading.AigRule.TheVariants.{B01, B02, B03, B04}
+use Rattle.safl_aiger.specs.declared.reading.LineKind.{LineKind}
+use Rattle.safl_aiger.specs.declared.reading.LineKind.TheVariants.{Input, Latch, Output, And}
+use Rattle.safl_aiger.specs.declared.symbols.Sort.{Sort}
+use Rattle.safl_aiger.specs.declared.symbols.Sort.TheVariants as sorts
+use Rattle.safl_aiger.specs.declared.reading.Header.{Header}
+use Rattle.safl_aiger.specs.declared.reading.Found.{Found}
+use Rattle.safl_aiger.specs.Circuits.{Circuit, latches, variables, base, IsCircuit}
+use Rattle.safl_aiger.specs.Lines.{lines, HasNumbers, HasCount}
+
+-- the numbers of a header, without that of variables
+pub record Counts : Type 0 where
+  pub inputs : ℕ
+  pub latches : ℕ
+  pub outputs : ℕ
+  pub ands : ℕ
+
+abbrev pub total : Counts → ℕ
+total c = c.inputs + c.latches + c.ands
+
+-- as the code keeps them
+abbrev pub counts : Header → Counts
+counts h = record { inputs = h.inputs; latches = h.latches; outputs = h.outputs; ands = h.ands }
+
+-- `aag`, a space and five numbers, the first of which is the sum of three others
+abbrev pub IsHeader : List ℕ → Counts → Type 0
+IsHeader line c = (rest : List ℕ) × (line ≡ codes "aag " ++ rest) × HasNumbers rest (total c ∷ c.inputs ∷ c.latches ∷ c.outputs ∷ c.ands ∷ [])
+
+-- how many numbers such a line has
+abbrev pub size : LineKind → ℕ
+size (Input v) = 1
+size (Latch v) = 2
+size Output = 1
+size (And v) = 3
+
+-- the numbers that were found of such a line
+abbrev pub numbers_found : LineKind → Found → List ℕ
+numbers_found (Input v) f = f.first ∷ []
+numbers_found (Latch v) f = f.first ∷ f.second ∷ []
+numbers_found Output f = f.first ∷ []
+numbers_found (And v) f = f.first ∷ f.second ∷ f.third ∷ []
+
+-- its own literal, literals of the circuit's variables, and operands below the own literal
+abbrev pub IsGood : ℕ → LineKind → List ℕ → Type 0
+IsGood most (Input v) (x ∷ []) = x ≡ 2 * v
+IsGood most (Latch v) (x ∷ (n ∷ [])) = (x ≡ 2 * v) × (n ≤ 2 * most + 1)
+IsGood most Output (x ∷ []) = x ≤ 2 * most + 1
+IsGood most (And v) (x ∷ (a ∷ (b ∷ []))) = (x ≡ 2 * v) × (a < 2 * v) × (b < 2 * v)
+IsGood most w ns = ⊥
+
+abbrev pub kinds_from : (ℕ → LineKind) → ℕ → ℕ → List LineKind
+kinds_from f first zero = []
+kinds_from f first (suc k) = f first ∷ kinds_from f (suc first) k
+
+-- the lines after the header
+abbrev pub line_kinds : Counts → List LineKind
+line_kinds c =
+    kinds_from Input 1 c.inputs ++ (kinds_from Latch (1 + c.inputs) c.latches ++ (replicate c.outputs Output ++ kinds_from And (1 + c.inputs + c.latches) c.ands))
+
+-- lines are as they have to be, with these numbers
+abbrev pub AreGood : ℕ → List LineKind → List (List ℕ) → List (List ℕ) → Type 0
+AreGood most [] [] [] = Unit {0}
+AreGood most (w ∷ ws) (l ∷ ls) (ns ∷ nss) = HasNumbers l ns × IsGood most w ns × AreGood most ws ls nss
+AreGood most _ _ _ = ⊥
+
+-- the numbers that the lines of a circuit have
+abbrev pub own_numbers : ℕ → ℕ → List (List ℕ)
+own_numbers first zero = []
+own_numbers first (suc k) = (2 * first ∷ []) ∷ own_numbers (suc first) k
+
+abbrev pub latch_numbers : ℕ → List Lit → List (List ℕ)
+latch_numbers first [] = []
+latch_numbers first (l ∷ ls) = (2 * first ∷ l.0 ∷ []) ∷ latch_numbers (suc first) ls
+
+abbrev pub output_numbers : List Lit → List (List ℕ)
+output_numbers ls = map (λ (l : Lit). l.0 ∷ []) ls
+
+abbrev pub and_numbers : ℕ → List (Lit × Lit) → List (List ℕ)
+and_numbers first [] = []
+and_numbers first (p ∷ ps) = (2 * first ∷ p.0.0 ∷ p.1.0 ∷ []) ∷ and_numbers (suc first) ps
+
+abbrev pub body_numbers : Circuit → List (List ℕ)
+body_numbers a = own_numbers 1 a.inputs ++ (latch_numbers (1 + a.inputs) a.nexts ++ (output_numbers a.outputs ++ and_numbers (base a) a.ands))
+
+-- names so far
+pub record Named : Type 0 where
+  pub inputs : List (List ℕ)
+  pub latches : List (List ℕ)
+  pub outputs : List (List ℕ)
+
+abbrev pub unnamed : Counts → Named
+unnamed c = record { inputs = replicate c.inputs []; latches = replicate c.latches []; outputs = replicate c.outputs [] }
+
+-- the names of a sort of places, and a place of that sort with another name
+abbrev pub names_for : Sort → Named → List (List ℕ)
+names_for sorts.Input n = n.inputs
+names_for sorts.Latch n = n.latches
+names_for sorts.Output n = n.outputs
+
+abbrev pub with_name : Sort → ℕ → List ℕ → Named → Named
+with_name sorts.Input k name n = record n { inputs = slice_set n.inputs k name }
+with_name sorts.Latch k name n = record n { latches = slice_set n.latches k name }
+with_name sorts.Output k name n = record n { outputs = slice_set n.outputs k name }
+
+-- the letter of a sort of places
+abbrev pub letter : Sort → ℕ
+letter sorts.Input = 105
+letter sorts.Latch = 108
+letter sorts.Output = 111
+
+-- the letter, a place, a space and a name
+abbrev pub symbol_line : Sort → ℕ → List ℕ → List ℕ
+symbol_line sort k name = (letter sort ∷ decimal k) ++ 32 ∷ name
+
+-- a symbol line names a place in range that has no name yet
+pub record NamesPlace (line : List ℕ) (old new : Named) : Type 0 where
+  pub sort : Sort
+  pub place : ℕ
+  pub name : List ℕ
+  pub is : line ≡ symbol_line sort place name
+  pub free : slice_get (names_for sort old) place ≡ Some []
+  pub some : name ≢ []
+  pub sets : new ≡ with_name sort place name old
+
+-- the line names no place that has no name yet
+abbrev pub Refuses : List ℕ → Named → Type 0
+Refuses line old = (new : Named) → ¬ (NamesPlace line old new)
+
+-- symbol lines one after another
+abbrev pub NamePlaces : List (List ℕ) → Named → Named → Type 0
+NamePlaces [] old new = new ≡ old
+NamePlaces (l ∷ ls) old new = (middle : Named) × NamesPlace l old middle × NamePlaces ls middle new
+
+-- the end, or a line `c`
+abbrev pub Ends : List (List ℕ) → Type 0
+Ends [] = Unit {0}
+Ends (l ∷ ls) = l ≡ codes "c"
+
+-- the first line is a header with these counts, and these lines follow
+pub record Begins (text : List ℕ) (c : Counts) (ls : List (List ℕ)) : Type 0 where
+  pub head : List ℕ
+  pub lines_are : lines text ≡ head ∷ ls
+  pub header : IsHeader head c
+
+abbrev pub counts_of : Circuit → Counts
+counts_of a = record { inputs = a.inputs; latches = latches a; outputs = length a.outputs; ands = length a.ands }
+
+abbrev pub named_of : Circuit → Named
+named_of a = record { inputs = a.input_names; latches = a.latch_names; outputs = a.output_names }
+
+-- the text is a header, the lines of a body, symbol lines, and whatever stands from a line `c` on
+pub record AigReads (text : List ℕ) (a : Circuit) : Type 0 where
+  pub circuit : IsCircuit a
+  pub body : List (List ℕ)
+  pub symbols : List (List ℕ)
+  pub rest : List (List ℕ)
+  pub begins : Begins text (counts_of a) (body ++ (symbols ++ rest))
+  pub good : AreGood (variables a) (line_kinds (counts_of a)) body (body_numbers a)
+  pub names : NamePlaces symbols (unnamed (counts_of a)) (named_of a)
+  pub ends : Ends rest
+
+-- the line has not as many numbers as its kind, or has numbers that are not good
+abbrev pub IsBad : ℕ → LineKind → List ℕ → AigRule → Type 0
+IsBad most w l e =
+    ((e ≡ B02) × (¬ (HasCount l (size w))))
+    ⊎ ((e ≡ B03) × ((ns : List ℕ) × HasNumbers l ns × (length ns ≡ size w) × (¬ (IsGood most w ns))))
+
+-- no line is left, or the next one is bad
+abbrev pub Breaks : ℕ → LineKind → List (List ℕ) → AigRule → Type 0
+Breaks most w [] e = e ≡ B02
+Breaks most w (l ∷ ls) e = IsBad most w l e
+
+-- so many lines are of their kinds, and the next one breaks this rule
+abbrev pub LineFault : ℕ → List LineKind → List (List ℕ) → AigRule → ℕ → Type 0
+LineFault most [] ls e k = ⊥
+LineFault most (w ∷ ws) ls e zero = Breaks most w ls e
+LineFault most (w ∷ ws) [] e (suc k) = ⊥
+LineFault most (w ∷ ws) (l ∷ ls) e (suc k) = (ns : List ℕ) × HasNumbers l ns × IsGood most w ns × LineFault most ws ls e k
+
+-- so many lines name places, and the next one is no `c` and names none
+abbrev pub SymbolFault : List (List ℕ) → Named → ℕ → Type 0
+SymbolFault [] old k = ⊥
+SymbolFault (l ∷ ls) old zero = (l ≢ codes "c") × Refuses l old
+SymbolFault (l ∷ ls) old (suc k) = (new : Named) × NamesPlace l old new × SymbolFault ls new k
+
+-- the first line that breaks a rule, counted from 1
+pub data HasFault (text : List ℕ) (e : AigRule) (n : ℕ) : Type 0 where
+  bad_header : ((c : Counts) (ls : List (List ℕ)) → ¬ (Begins text c ls)) → e ≡ B01 → n ≡ 1 → HasFault text e n
+  bad_line : (c : Counts) (ls : List (List ℕ)) (k : ℕ) → Begins text c ls
+      → LineFault (total c) (line_kinds c) ls e k → n ≡ 2 + k → HasFault text e n
+  bad_symbol : (c : Counts) (body ls : List (List ℕ)) (nss : List (List ℕ)) (k : ℕ) → Begins text c (body ++ ls)
+      → AreGood (total c) (line_kinds c) body nss → SymbolFault ls (unnamed c) k → e ≡ B04 → n ≡ 2 + length body + k
+      → HasFault text e n

@@ -1,0 +1,51 @@
+-- Lines of a text that are read one after another.
+use Rattle.std.specs.Prelude.{◌+◌, ◌<◌, ◌≡◌, ℕ, List, ◌∷◌, ◌++◌, length, drop}
+use Rattle.safl_aiger.specs.declared.reading.AigRule.{AigRule}
+use Rattle.safl_aiger.specs.declared.reading.LineKind.{LineKind}
+use Rattle.safl_aiger.specs.declared.sections.SectionErr.{SectionErr}
+use Rattle.safl_aiger.specs.declared.sections.SectionErr.TheVariants.{Stopped, NoMemory}
+use Rattle.safl_aiger.specs.Lines.{lines}
+use Rattle.safl_aiger.specs.declared.sections.Body.{Body}
+use Rattle.safl_aiger.specs.Reads.{AreGood, Breaks, Counts, total, line_kinds, own_numbers, latch_numbers, output_numbers, and_numbers}
+
+-- the lines from a place on are as they have to be, with these numbers, up to another place
+pub record Passes (text : List ℕ) (most at : ℕ) (ws : List LineKind) (nss : List (List ℕ)) (next : ℕ) : Type 0 where
+  pub front : List (List ℕ)
+  pub lines_are : lines (drop at text) ≡ front ++ lines (drop next text)
+  pub good : AreGood most ws front nss
+
+-- lines from a place on are as they have to be, and then one breaks a rule, that of this number, counted from 0
+pub record Stops (text : List ℕ) (most at : ℕ) (ws : List LineKind) (e : AigRule) (k : ℕ) : Type 0 where
+  pub done : List LineKind
+  pub kind : LineKind
+  pub left : List LineKind
+  pub nss : List (List ℕ)
+  pub next : ℕ
+  pub kinds : ws ≡ done ++ kind ∷ left
+  pub passes : Passes text most at done nss next
+  pub count : length done ≡ k
+  pub breaks : Breaks most kind (lines (drop next text)) e
+
+-- a section stops, or memory runs out
+abbrev pub Fails : List ℕ → ℕ → ℕ → List LineKind → SectionErr → Type 0
+Fails text most at ws (Stopped s) = Stops text most at ws s.rule s.place
+Fails text most at ws NoMemory = Unit {0}
+
+-- the line that stops is one of so many
+abbrev pub IsWithin : ℕ → SectionErr → Type 0
+IsWithin count (Stopped s) = s.place < count
+IsWithin count NoMemory = Unit {0}
+
+-- the same error, so many lines later
+abbrev pub Later : ℕ → SectionErr → SectionErr → Type 0
+Later k (Stopped s) (Stopped t) = (t.rule ≡ s.rule) × (t.place ≡ k + s.place)
+Later k (Stopped s) NoMemory = ⊥
+Later k NoMemory (Stopped t) = ⊥
+Later k NoMemory NoMemory = Unit {0}
+
+-- the body of a text with these counts
+pub record BodyIs (text : List ℕ) (at : ℕ) (c : Counts) (b : Body) : Type 0 where
+  pub latches : length b.nexts.items ≡ c.latches
+  pub outputs : length b.outputs.items ≡ c.outputs
+  pub ands : length b.ands.items ≡ c.ands
+  pub passes : Passes text (total c) at (line_kinds c) (own_numbers 1 c.inputs ++ (latch_numbers (1 + c.inputs) b.nexts.items ++ (output_numbers b.outputs.items ++ and_numbers (1 + c.inputs + c.latches) b.ands.items))) b.next

@@ -1,0 +1,58 @@
+-- The text of a bit-level circuit.
+use Rattle.std.specs.Prelude.{ℕ, zero, suc, ◌+◌, ◌*◌, List, [], ◌∷◌, ◌++◌, length, codes, decimal}
+use Rattle.std.specs.List.{flat_map}
+use Rattle.safl_aiger.specs.declared.literal.Lit.{Lit}
+use Rattle.safl_aiger.specs.Circuits.{Circuit, latches, variables, base}
+
+-- lines, each with its line feed
+abbrev pub joined : List (List ℕ) → List ℕ
+joined [] = []
+joined (l ∷ ls) = (l ++ 10 ∷ []) ++ joined ls
+
+-- numbers in decimal, with a space between
+abbrev pub numbers_line : ℕ → List ℕ → List ℕ
+numbers_line n ns = decimal n ++ flat_map (λ k. 32 ∷ decimal k) ns
+
+-- `aag`, and the numbers of variables, inputs, latches, outputs and ANDs
+abbrev pub header_line : Circuit → List ℕ
+header_line a = codes "aag " ++ numbers_line (variables a) (a.inputs ∷ latches a ∷ length a.outputs ∷ length a.ands ∷ [])
+
+-- the own literal of each input, latch and AND, the first the variable of this number, with the literals that it has
+abbrev pub input_text : ℕ → ℕ → List (List ℕ)
+input_text first zero = []
+input_text first (suc k) = numbers_line (2 * first) [] ∷ input_text (suc first) k
+
+abbrev pub latch_text : ℕ → List Lit → List (List ℕ)
+latch_text first [] = []
+latch_text first (l ∷ ls) = numbers_line (2 * first) (l.0 ∷ []) ∷ latch_text (suc first) ls
+
+abbrev pub output_text : List Lit → List (List ℕ)
+output_text [] = []
+output_text (l ∷ ls) = numbers_line l.0 [] ∷ output_text ls
+
+abbrev pub and_text : ℕ → List (Lit × Lit) → List (List ℕ)
+and_text first [] = []
+and_text first (p ∷ ps) = numbers_line (2 * first) (p.0.0 ∷ p.1.0 ∷ []) ∷ and_text (suc first) ps
+
+-- a place with a name has a symbol line: a letter and its number, a space and the name
+abbrev pub symbol_text : ℕ → ℕ → List ℕ → List (List ℕ)
+symbol_text letter k [] = []
+symbol_text letter k (c ∷ cs) = (letter ∷ decimal k ++ 32 ∷ c ∷ cs) ∷ []
+
+abbrev pub symbols_text : ℕ → ℕ → List (List ℕ) → List (List ℕ)
+symbols_text letter k [] = []
+symbols_text letter k (x ∷ xs) = symbol_text letter k x ++ symbols_text letter (suc k) xs
+
+abbrev pub written_lines : Circuit → List (List ℕ)
+written_lines a =
+    header_line a ∷ (input_text 1 a.inputs ++ (latch_text (1 + a.inputs) a.nexts ++ (output_text a.outputs ++ (and_text (base a) a.ands ++ (symbols_text 105 0 a.input_names ++ (symbols_text 108 0 a.latch_names ++ symbols_text 111 0 a.output_names))))))
+
+abbrev pub written : Circuit → List ℕ
+written a = joined (written_lines a)
+
+-- the lines after the header, up to the symbols, and those of symbols
+abbrev pub body_text : Circuit → List (List ℕ)
+body_text a = input_text 1 a.inputs ++ (latch_text (1 + a.inputs) a.nexts ++ (output_text a.outputs ++ and_text (base a) a.ands))
+
+abbrev pub symbol_lines : Circuit → List (List ℕ)
+symbol_lines a = symbols_text 105 0 a.input_names ++ (symbols_text 108 0 a.latch_names ++ symbols_text 111 0 a.output_names)

@@ -1,0 +1,18 @@
+//! The texts of the rules.
+
+ghost use Rattle.std.specs.Prelude.{◌≡◌};
+ghost use Rattle.safl_aiger.specs.Rules.{rule_text};
+
+use crate::reading::AigRule;
+
+/// A rule's number and its text, as `B01 bad header`.
+pub fn rule_text(rule: AigRule) -> &'static str
+    ensures { result.now ≡ rule_text rule }
+{
+    match rule {
+        AigRule::B01 => "B01 bad header",
+        AigRule::B02 => "B02 bad line",
+        AigRule::B03 => "B03 bad literal",
+        AigRule::B04 => "B04 bad symbol",
+    }
+}

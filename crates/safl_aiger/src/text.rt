@@ -1,0 +1,117 @@
+//! The text of a bit-level circuit.
+
+ghost use Rattle.std.specs.Prelude.{◌≡◌, ℕ, ◌+◌, ◌*◌, ◌<◌, ◌≤◌, ◌^◌, ◌++◌, ◌∷◌, [], length, All, IfOk, OnOk};
+ghost use Rattle.safl_aiger.specs.Circuits.{names_of};
+ghost use Rattle.safl_aiger.specs.Texts.{joined, numbers_line, input_text, latch_text, output_text, and_text, symbol_text, symbols_text, header_line, written};
+
+use crate::circuit::{Aig, Name};
+use crate::literal::Lit;
+use safl_word::{NoMemory, push_decimal};
+use std::alloc::Global;
+
+/// The text of a circuit: its header, then a line for each input, latch, output and AND, and one for each place that has a name.
+pub fn aig_text(alloc: Global, a: &Aig) -> Result<Vec<u8>, NoMemory>
+    ensures { IfOk result (λ text. text.items ≡ written a.now) }
+{
+    let mut out = Vec::new(alloc);
+    let inputs = a.inputs();
+    let latches = a.latches();
+    push_header(&mut out, a)?;
+    push_inputs(&mut out, inputs)?;
+    push_latches(&mut out, 1 + inputs, a.next_literals())?;
+    push_outputs(&mut out, a.output_literals())?;
+    push_ands(&mut out, 1 + inputs + latches, a.operands())?;
+    push_symbols(&mut out, b'i', a.input_names())?;
+    push_symbols(&mut out, b'l', a.latch_names())?;
+    push_symbols(&mut out, b'o', a.output_names())?;
+    Ok(out)
+}
+
+fn push_header(out: &mut Vec<u8>, a: &Aig) -> Result<(), NoMemory>
+    ensures { OnOk result (out.new.items ≡ out.old.items ++ joined (header_line a.now ∷ [])) }
+{
+    let inputs = a.inputs();
+    let latches = a.latches();
+    let ands = a.ands();
+    out.extend_from_slice(b"aag ")?;
+    push_numbers(
+        out,
+        inputs + latches + ands,
+        &[inputs, latches, a.outputs(), ands],
+    )
+}
+
+fn push_inputs(out: &mut Vec<u8>, count: u32) -> Result<(), NoMemory>
+    requires { count < 1073741824 }
+    ensures { OnOk result (out.new.items ≡ out.old.items ++ joined (input_text 1 count)) }
+{
+    for i in 0..count {
+        push_numbers(out, 2 * (1 + i), &[])?;
+    }
+    Ok(())
+}
+
+fn push_latches(out: &mut Vec<u8>, first: u32, nexts: &[Lit]) -> Result<(), NoMemory>
+    requires { first + length nexts.now ≤ 1073741824 }
+    ensures { OnOk result (out.new.items ≡ out.old.items ++ joined (latch_text first nexts.now)) }
+{
+    for i in 0..nexts.len() {
+        push_numbers(out, 2 * (first + i as u32), &[nexts[i].0])?;
+    }
+    Ok(())
+}
+
+fn push_outputs(out: &mut Vec<u8>, outputs: &[Lit]) -> Result<(), NoMemory>
+    ensures { OnOk result (out.new.items ≡ out.old.items ++ joined (output_text outputs.now)) }
+{
+    for i in 0..outputs.len() {
+        push_numbers(out, outputs[i].0, &[])?;
+    }
+    Ok(())
+}
+
+fn push_ands(out: &mut Vec<u8>, first: u32, ands: &[(Lit, Lit)]) -> Result<(), NoMemory>
+    requires { first + length ands.now ≤ 1073741824 }
+    ensures { OnOk result (out.new.items ≡ out.old.items ++ joined (and_text first ands.now)) }
+{
+    for i in 0..ands.len() {
+        let (left, right) = ands[i];
+        push_numbers(out, 2 * (first + i as u32), &[left.0, right.0])?;
+    }
+    Ok(())
+}
+
+fn push_symbols(out: &mut Vec<u8>, letter: u8, names: &[Name]) -> Result<(), NoMemory>
+    ensures { OnOk result (out.new.items ≡ out.old.items ++ joined (symbols_text letter 0 (names_of names.now))) }
+{
+    for i in 0..names.len() {
+        push_symbol(out, letter, i, &names[i].bytes)?;
+    }
+    Ok(())
+}
+
+fn push_symbol(out: &mut Vec<u8>, letter: u8, place: usize, name: &[u8]) -> Result<(), NoMemory>
+    ensures { OnOk result (out.new.items ≡ out.old.items ++ joined (symbol_text letter place name.now)) }
+{
+    if !name.is_empty() {
+        out.push(letter)?;
+        push_decimal(place as u128, out)?;
+        out.push(b' ')?;
+        out.extend_from_slice(name)?;
+        out.push(b'\n')?;
+    }
+    Ok(())
+}
+
+// A line of numbers.
+fn push_numbers(out: &mut Vec<u8>, first: u32, rest: &[u32]) -> Result<(), NoMemory>
+    ensures { OnOk result (out.new.items ≡ out.old.items ++ joined (numbers_line first rest.now ∷ [])) }
+{
+    push_decimal(u128::from(first), out)?;
+    for i in 0..rest.len() {
+        out.push(b' ')?;
+        push_decimal(u128::from(rest[i]), out)?;
+    }
+    out.push(b'\n')?;
+    Ok(())
+}

@@ -1,3 +1,0 @@
-pub mod GatheredLists
-pub mod Twins
-pub mod RunsAgree

@@ -1,4 +1,0 @@
-//! When one netlist does what another does, by the names of what is no temporary wire.
-#![tactic(auto)]
-
-pub mod laws;

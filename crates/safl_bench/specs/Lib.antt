@@ -1,0 +1,2 @@
+pub mod WideNets
+pub mod Bits

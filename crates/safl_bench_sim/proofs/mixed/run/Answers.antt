@@ -1,5 +1,0 @@
-use Rattle.std.proofs.Common.{[], ◌∷◌, ap}
-use Rattle.safl_bench_sim.proofs.mixed.run.Goals as goal
-
-pub tick-requires : goal.tick-requires
-tick-requires c = c.ticks.invariant.takes.takes (c.spread.result ∷ []) (ap (λ w. w ∷ []) c.spread.ensures)

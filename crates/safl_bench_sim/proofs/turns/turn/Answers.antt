@@ -1,5 +1,0 @@
-use Rattle.safl_bench_sim.proofs.Growing.{turned}
-use Rattle.safl_bench_sim.proofs.turns.turn.Goals as goal
-
-pub returns : goal.returns
-returns c = turned c.in_ok-chosen.chosen c.in_ok-chosen.ensures c.in_ok-last.ensures

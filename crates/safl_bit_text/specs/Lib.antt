@@ -1,2 +1,0 @@
-pub mod BitLevel
-pub mod Lines

@@ -1,0 +1,57 @@
+//! The circuit of a checked program.
+
+ghost use Rattle.std.specs.Prelude.{◌≡◌, ◌≤◌, length, IfOk};
+ghost use Rattle.safl_term.specs.Checked.{program_of};
+ghost use Rattle.safl_net.specs.Names.{IsTidy};
+ghost use Rattle.safl_net.specs.Whole.{IsWhole};
+ghost use Rattle.safl_net.specs.Arranged.{IsInOrder};
+ghost use Rattle.safl_net.specs.Arguments.{argument_widths};
+ghost use Rattle.safl_circuit.specs.Names.{names_of};
+ghost use Rattle.safl_compiler.specs.Circuits.{IsCircuitOf};
+
+use safl_net::Net;
+use safl_sites::{Planned, plan};
+use safl_term::Checked;
+use safl_unit::{SIGNALS_MAX, compile};
+use safl_word::NoMemory;
+use std::alloc::Global;
+
+/// The netlist of a checked program, with arbiters and kept words exactly as its plan has them. Fails only
+/// if out of memory.
+pub fn circuit_of(alloc: Global, checked: Checked) -> Result<Net, NoMemory>
+    ensures circuit { IfOk result (λ n. IsCircuitOf (program_of checked) (names_of checked) n) }
+    ensures tidy { IfOk result (λ n. IsTidy n) }
+    ensures whole { IfOk result IsWhole }
+    ensures in_order { IfOk result IsInOrder }
+    ensures params { IfOk result (λ n. argument_widths n.signals ≡ (program_of checked).params (program_of checked).main) }
+    ensures count { IfOk result (λ n. length n.signals ≤ SIGNALS_MAX) }
+{
+    let planned = plan_of(alloc, checked)?;
+    planned_circuit(alloc, &planned)
+}
+
+/// A checked program with its plan. Fails only if out of memory.
+pub fn plan_of(alloc: Global, checked: Checked) -> Result<Planned, NoMemory>
+    ensures { IfOk result (λ p. p.program ≡ checked) }
+{
+    match plan(alloc, checked) {
+        Ok(planned) => Ok(planned),
+        Err(_) => Err(NoMemory),
+    }
+}
+
+/// The netlist of a program by its plan, with arbiters and kept words exactly as the plan has them. Fails only
+/// if out of memory.
+#[tactic(auto, using(crate::proofs::Ports::ports))]
+pub fn planned_circuit(alloc: Global, p: &Planned) -> Result<Net, NoMemory>
+    ensures circuit { IfOk result (λ n. IsCircuitOf (program_of p.now.program) (names_of p.now.program) n) }
+    ensures tidy { IfOk result (λ n. IsTidy n) }
+    ensures whole { IfOk result IsWhole }
+    ensures in_order { IfOk result IsInOrder }
+    ensures params { IfOk result (λ n. argument_widths n.signals ≡ (program_of p.now.program).params (program_of p.now.program).main) }
+    ensures count { IfOk result (λ n. length n.signals ≤ SIGNALS_MAX) }
+{
+    let _checked = p.checked();
+    let circuit = compile(alloc, p)?;
+    Ok(circuit.into_net())
+}

@@ -1,9 +1,0 @@
-pub mod Growing
-pub mod Widths
-pub mod Telling
-pub mod Frames
-pub mod Rounds
-pub mod Whole
-pub mod Ends
-pub mod Stops
-pub mod Outcomes

@@ -1,9 +1,0 @@
-pub mod Asked
-pub mod Moments
-pub mod Growth
-pub mod Stopping
-pub mod Rooms
-pub mod Runs
-pub mod Schedules
-pub mod Watching
-pub mod Ending

@@ -1,7 +1,0 @@
-use Rattle.safl_gates.proofs.gates.operate.Goals as goal
-
-pub cell-requires-clause-operands : goal.cell-requires-clause-operands
-cell-requires-clause-operands c = c.requires.operands
-
-pub returns : goal.returns
-returns c = let e = c.cell.ensures in record { tidy = e.tidy; built = e.built; fits = e.fits; value = e.value; gate = e.gate }

@@ -1,0 +1,11 @@
+use Rattle.std.proofs.Common.{◌&&◌}
+use Rattle.safl_lower.proofs.Building.{builds_on}
+use Rattle.safl_lower.proofs.Cells.{with_not}
+use Rattle.safl_lower.proofs.gates.and_not.Goals as goal
+
+pub returns-clause-built : goal.returns-clause-built
+returns-clause-built c = builds_on c.inverse.ensures.built c.both.ensures.built
+
+pub returns-clause-value : goal.returns-clause-value
+returns-clause-value c =
+    with_not (λ p q. p && q) c.inverse.new.net c.both.new.net c.both.result c.args.a c.args.b c.in_ok-other.other c.both.ensures.built c.in_ok-other.ensures.value c.both.ensures.value

@@ -1,0 +1,18 @@
+use Rattle.std.proofs.Common.{[], ◌∷◌, refl}
+use Rattle.safl_lower.proofs.BitWords.{or_on}
+use Rattle.safl_lower.proofs.Cells.{two_sources}
+use Rattle.safl_lower.proofs.gates.either.Goals as goal
+
+pub operate-requires-clause-operands : goal.operate-requires-clause-operands
+operate-requires-clause-operands c = (1 ∷ 1 ∷ [], 1, two_sources c.requires.first c.requires.second, refl)
+
+pub returns : goal.returns
+returns c =
+    let e = c.operate.ensures in
+    record {
+      tidy = e.tidy;
+      built = e.built;
+      fits = e.fits (1 ∷ 1 ∷ []) 1 (two_sources c.requires.first c.requires.second) refl;
+      value = or_on c.args.net.now c.operate.new.net c.operate.result c.args.a c.args.b c.requires.first.width c.requires.second.width e.built.grows e.value;
+      gate = e.gate;
+    }

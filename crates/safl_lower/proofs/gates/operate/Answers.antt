@@ -1,0 +1,7 @@
+use Rattle.safl_lower.proofs.gates.operate.Goals as goal
+
+pub cell-requires-clause-operands : goal.cell-requires-clause-operands
+cell-requires-clause-operands c = c.requires.operands
+
+pub returns : goal.returns
+returns c = let e = c.cell.ensures in record { tidy = e.tidy; built = e.built; fits = e.fits; value = e.value; gate = e.gate }

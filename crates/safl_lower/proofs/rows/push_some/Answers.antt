@@ -1,0 +1,14 @@
+use Rattle.std.proofs.Common.{◌≡◌, ℕ, ◌==◌, [], ◌++◌, cond, Bool, true, false, List, Option, sym, ap, ◌∙◌}
+use Rattle.safl_net.specs.declared.cell.Sig.{Sig}
+use Rattle.safl_lower.specs.Rows.{maybe_one, row_at}
+use Rattle.safl_lower.proofs.JoinedRows.{append_none}
+use Rattle.safl_lower.proofs.rows.push_some.Goals as goal
+
+nothing : (xs : List Sig) (t : Bool) → xs ≡ xs ++ cond t [] []
+nothing xs true = append_none xs
+nothing xs false = append_none xs
+
+pub returns-in-None-clause-rows : goal.returns-in-None-clause-rows
+returns-in-None-clause-rows c = λ i.
+    nothing (row_at c.args.rows.now.items i) (i == c.args.place)
+    ∙ ap (λ (o : Option Sig). row_at c.args.rows.now.items i ++ cond (i == c.args.place) (maybe_one o) []) (sym c.in-None.is)

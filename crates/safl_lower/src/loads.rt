@@ -1,0 +1,136 @@
+//! Bits and words by number, to which those of one number after another are joined: of several the first counts.
+
+ghost use Rattle.std.specs.Prelude.{◌≡◌, ℕ, ◌+◌, ◌<◌, ◌++◌, List, ◌∷◌, Some, length, IfOk, OnOk};
+ghost use Rattle.std.specs.Option.{option_or, unwrap_or};
+ghost use Rattle.safl_net.specs.Names.{IsTidy};
+ghost use Rattle.safl_net.specs.Growth.{Val, words, Wired};
+ghost use Rattle.safl_net.specs.Bits.{on, gate};
+ghost use Rattle.safl_lower.specs.Sources.{IsSource, AreSources, Builds, HasRoom};
+ghost use Rattle.safl_lower.specs.Heights.{AllWithin, own_parts, load_parts};
+ghost use Rattle.safl_lower.specs.Tables.{taken, taken_in, LoadFits, FitsIn, SomeFit, BitsFit, JoinsBit, JoinsLoad, KeepsWidths};
+
+use crate::gates::{either, mux_all, or_some};
+use safl_net::{Net, Sig};
+use safl_word::NoMemory;
+use std::alloc::Global;
+
+/// Words that are taken where a bit is 1.
+#[derive(Drop)]
+pub struct Load {
+    pub bit: Sig,
+    pub words: Vec<Sig>,
+}
+
+/// A load of this bit and these words.
+pub fn load_of(alloc: Global, bit: Sig, operands: &[Sig]) -> Result<Load, NoMemory>
+    ensures bit { IfOk result (λ l. l.bit ≡ bit) }
+    ensures operands { IfOk result (λ l. l.words.items ≡ operands.now) }
+{
+    let words = Vec::from_slice(alloc, operands)?;
+    Ok(Load { bit, words })
+}
+
+/// Joins a bit to that of a number.
+pub fn add_bit(
+    net: &mut Net,
+    bits: &mut Vec<Option<Sig>>,
+    place: usize,
+    bit: Sig,
+) -> Result<(), NoMemory>
+    requires tidy { IsTidy net.old }
+    requires place { place < length bits.old.items }
+    requires fits { BitsFit net.old bits.old.items }
+    requires bit { IsSource net.old bit 1 }
+    requires room { HasRoom net.old 1 }
+    ensures tidy { IsTidy net.new }
+    ensures built { Builds net.old net.new 1 }
+    ensures count { length bits.new.items ≡ length bits.old.items }
+    ensures fits { OnOk result (BitsFit net.new bits.new.items) }
+    ensures shows { OnOk result (JoinsBit net.new place bit bits.old.items bits.new.items) }
+{
+    let joined = or_some(net, bits[place], bit)?;
+    bits[place] = Some(joined);
+    Ok(())
+}
+
+/// Joins a load to that of a number: the earlier one wins.
+pub fn add_load(
+    alloc: Global,
+    net: &mut Net,
+    loads: &mut Vec<Option<Load>>,
+    place: usize,
+    bit: Sig,
+    operands: &[Sig],
+) -> Result<(), NoMemory>
+    requires tidy { IsTidy net.old }
+    requires place { place < length loads.old.items }
+    requires fits { (ws : ℕ → List ℕ) × SomeFit net.old loads.old.items ws × AreSources net.old operands.now (ws place) }
+    requires bit { IsSource net.old bit 1 }
+    requires room { HasRoom net.old (1 + length operands.now) }
+    ensures tidy { IsTidy net.new }
+    ensures built { Builds net.old net.new (1 + length operands.now) }
+    ensures count { length loads.new.items ≡ length loads.old.items }
+    ensures fits { KeepsWidths result net.old net.new place operands.now loads.old.items loads.new.items }
+    ensures shows { OnOk result (JoinsLoad net.new place bit operands.now loads.old.items loads.new.items) }
+{
+    let joined = joined(alloc, net, &loads[place], bit, operands)?;
+    loads[place] = Some(joined);
+    Ok(())
+}
+
+/// A load, joined with another that follows it.
+pub fn joined(
+    alloc: Global,
+    net: &mut Net,
+    load: &Option<Load>,
+    bit: Sig,
+    operands: &[Sig],
+) -> Result<Load, NoMemory>
+    requires tidy { IsTidy net.old }
+    requires fits { (ws : List ℕ) × FitsIn net.old load.now ws × AreSources net.old operands.now ws }
+    requires bit { IsSource net.old bit 1 }
+    requires room { HasRoom net.old (1 + length operands.now) }
+    ensures tidy { IsTidy net.new }
+    ensures built { Builds net.old net.new (1 + length operands.now) }
+    ensures fits { (ws : List ℕ) → FitsIn net.old load.now ws → AreSources net.old operands.now ws → IfOk result (λ l. LoadFits net.new l ws) }
+    ensures shows { IfOk result (λ l. (v : Val) → Wired net.new v
+        → taken v l ≡ option_or (taken_in v load.now) (gate (on v bit) (Some (words v operands.now)))) }
+    ensures height { IfOk result (λ l. AllWithin net.new (load_parts load.now ++ (bit ∷ operands.now)) 1 (own_parts l)) }
+{
+    match load {
+        None => {
+            let words = Vec::from_slice(alloc, operands)?;
+            Ok(Load { bit, words })
+        }
+        Some(first) => {
+            let any = either(net, first.bit, bit)?;
+            let words = mux_all(alloc, net, first.bit, &first.words, operands)?;
+            Ok(Load { bit: any, words })
+        }
+    }
+}
+
+/// The words of a load where it is there and is taken, or else these.
+pub fn load_words(
+    alloc: Global,
+    net: &mut Net,
+    load: &Option<Load>,
+    operands: &[Sig],
+) -> Result<Vec<Sig>, NoMemory>
+    requires tidy { IsTidy net.old }
+    requires fits { (ws : List ℕ) × FitsIn net.old load.now ws × AreSources net.old operands.now ws }
+    requires room { HasRoom net.old (length operands.now) }
+    ensures tidy { IsTidy net.new }
+    ensures built { Builds net.old net.new (length operands.now) }
+    ensures fits { (ws : List ℕ) → FitsIn net.old load.now ws → AreSources net.old operands.now ws → IfOk result (λ xs. AreSources net.new xs.items ws) }
+    ensures shows { IfOk result (λ xs. (v : Val) → Wired net.new v → words v xs.items ≡ unwrap_or (taken_in v load.now) (words v operands.now)) }
+    ensures height { IfOk result (λ xs. AllWithin net.new (load_parts load.now ++ operands.now) 1 xs.items) }
+{
+    match load {
+        None => {
+            let words = Vec::from_slice(alloc, operands)?;
+            Ok(words)
+        }
+        Some(first) => mux_all(alloc, net, first.bit, &first.words, operands),
+    }
+}

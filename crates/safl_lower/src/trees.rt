@@ -1,0 +1,141 @@
+//! Trees: bits and loads in a row are joined by halves, so that few gates stand one after another.
+
+ghost use Rattle.std.specs.Prelude.{◌≡◌, ℕ, ◌+◌, ◌*◌, ◌<◌, ◌≤◌, ◌^◌, ◌++◌, List, map, length, IfOk, OnOk};
+ghost use Rattle.safl_net.specs.Names.{IsTidy};
+ghost use Rattle.safl_net.specs.Growth.{Val, Wired};
+ghost use Rattle.safl_net.specs.Bits.{on};
+ghost use Rattle.safl_lower.specs.Sources.{IsSource, Builds, HasRoom};
+ghost use Rattle.safl_lower.specs.Tables.{taken, LoadFits};
+ghost use Rattle.safl_lower.specs.Heights.{Within, AllWithin, StaysWithin, own_parts, parts};
+ghost use Rattle.safl_lower.specs.Joints.{IsSeveralOf};
+ghost use Rattle.safl_lower.specs.Rows.{AreBits, on_any, frees, AllFit, first_taken, bit_joins, load_joins};
+
+use crate::gates::{both, either, inverse, or_some};
+use crate::loads::{Load, joined};
+use safl_net::{Net, Sig};
+use safl_word::NoMemory;
+use std::alloc::Global;
+
+/// The bit that is 1 where one of these is. Of at most 2 ^ h bits, it stands at most h gates above them.
+pub fn any_of(net: &mut Net, bits: &[Sig]) -> Result<Sig, NoMemory>
+    requires tidy { IsTidy net.old }
+    requires some { 0 < length bits.now }
+    requires bits { AreBits net.old bits.now }
+    requires room { HasRoom net.old (bit_joins bits.now) }
+    ensures tidy { IsTidy net.new }
+    ensures built { OnOk result (Builds net.old net.new (bit_joins bits.now)) }
+    ensures fits { IfOk result (λ s. IsSource net.new s 1) }
+    ensures value { IfOk result (λ s. (v : Val) → Wired net.new v → on v s ≡ on_any v bits.now) }
+    ensures height { (h : ℕ) → length bits.now ≤ 2 ^ h → IfOk result (λ s. Within net.new bits.now h s.0) }
+{
+    if bits.len() == 1 {
+        return Ok(bits[0]);
+    }
+    let (low, high) = bits.split_at(bits.len() / 2);
+    let a = any_of(net, low)?;
+    let b = any_of(net, high)?;
+    let any = either(net, a, b)?;
+    Ok(any)
+}
+
+/// Whether one of several bits is 1, and whether two are, which is not there for one bit alone.
+#[derive(Clone, Copy)]
+pub struct Several {
+    pub any: Sig,
+    pub two: Option<Sig>,
+}
+
+/// Whether one of these bits is 1, and whether two are.
+pub fn several_of(net: &mut Net, bits: &[Sig]) -> Result<Several, NoMemory>
+    requires tidy { IsTidy net.old }
+    requires some { 0 < length bits.now }
+    requires bits { AreBits net.old bits.now }
+    requires room { HasRoom net.old (4 * bit_joins bits.now) }
+    ensures tidy { IsTidy net.new }
+    ensures built { OnOk result (Builds net.old net.new (4 * bit_joins bits.now)) }
+    ensures joined { IfOk result (λ s. IsSeveralOf net.new bits.now s) }
+{
+    if bits.len() == 1 {
+        return Ok(Several {
+            any: bits[0],
+            two: None,
+        });
+    }
+    let (left, right) = bits.split_at(bits.len() / 2);
+    let a = several_of(net, left)?;
+    let b = several_of(net, right)?;
+    let any = either(net, a.any, b.any)?;
+    let pair = both(net, a.any, b.any)?;
+    let first = or_some(net, a.two, pair)?;
+    let two = or_some(net, b.two, first)?;
+    Ok(Several {
+        any,
+        two: Some(two),
+    })
+}
+
+/// The bit that is 1 where one of these is; and for each of them, that it is free and none before it is 1. Of at most
+/// 2 ^ h bits, the first stands at most h gates above them, and the others at most h gates above `free`, if that stands
+/// h gates or more above them.
+pub fn free_before(
+    net: &mut Net,
+    bits: &[Sig],
+    free: Sig,
+    out: &mut Vec<Sig>,
+) -> Result<Sig, NoMemory>
+    requires tidy { IsTidy net.old }
+    requires some { 0 < length bits.now }
+    requires bits { AreBits net.old bits.now }
+    requires free { IsSource net.old free 1 }
+    requires out { AreBits net.old out.old.items }
+    requires room { HasRoom net.old (3 * bit_joins bits.now) }
+    ensures tidy { IsTidy net.new }
+    ensures built { OnOk result (Builds net.old net.new (3 * bit_joins bits.now)) }
+    ensures fits { IfOk result (λ s. IsSource net.new s 1) }
+    ensures out { OnOk result (AreBits net.new out.new.items) }
+    ensures long { OnOk result (length out.new.items ≡ length out.old.items + length bits.now) }
+    ensures value { IfOk result (λ s. (v : Val) → Wired net.new v → on v s ≡ on_any v bits.now) }
+    ensures frees { OnOk result ((v : Val) → Wired net.new v → map (on v) out.new.items ≡ map (on v) out.old.items ++ frees v (on v free) bits.now) }
+    ensures height { (h : ℕ) → length bits.now ≤ 2 ^ h → IfOk result (λ s. Within net.new bits.now h s.0) }
+    ensures deep { StaysWithin result net.old net.new bits.now free out.old.items out.new.items }
+{
+    if bits.len() == 1 {
+        out.push(free)?;
+        return Ok(bits[0]);
+    }
+    let (before, after) = bits.split_at(bits.len() / 2);
+    let a = free_before(net, before, free, out)?;
+    let rest = inverse(net, a)?;
+    let still = both(net, free, rest)?;
+    let b = free_before(net, after, still, out)?;
+    let any = either(net, a, b)?;
+    Ok(any)
+}
+
+/// A load of several, of which the first that is taken counts. Of at most 2 ^ h loads, its bit and its words stand at
+/// most h gates above theirs.
+pub fn first_of(alloc: Global, net: &mut Net, loads: &[Load]) -> Result<Load, NoMemory>
+    requires tidy { IsTidy net.old }
+    requires some { 0 < length loads.now }
+    requires fits { (ws : List ℕ) × AllFit net.old loads.now ws }
+    requires room { HasRoom net.old (load_joins loads.now) }
+    ensures tidy { IsTidy net.new }
+    ensures built { OnOk result (Builds net.old net.new (load_joins loads.now)) }
+    ensures fits { (ws : List ℕ) → AllFit net.old loads.now ws → IfOk result (λ l. LoadFits net.new l ws) }
+    ensures shows { IfOk result (λ l. (v : Val) → Wired net.new v → taken v l ≡ first_taken v loads.now) }
+    ensures height { (h : ℕ) → length loads.now ≤ 2 ^ h → IfOk result (λ l. AllWithin net.new (parts loads.now) h (own_parts l)) }
+{
+    if loads.len() == 1 {
+        let words = Vec::from_slice(alloc, &loads[0].words)?;
+        return Ok(Load {
+            bit: loads[0].bit,
+            words,
+        });
+    }
+    let (low, high) = loads.split_at(loads.len() / 2);
+    let a = first_of(alloc, net, low)?;
+    let b = first_of(alloc, net, high)?;
+    let first = Some(a);
+    let all = joined(alloc, net, &first, b.bit, &b.words)?;
+    Ok(all)
+}

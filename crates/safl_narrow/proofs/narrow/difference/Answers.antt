@@ -1,5 +1,0 @@
-use Rattle.safl_narrow.proofs.LowBits.{low_of_difference}
-use Rattle.safl_narrow.proofs.narrow.difference.Goals as goal
-
-pub returns : goal.returns
-returns c = let e = low_of_difference c.args.a c.args.b c.args.width c.requires.narrow c.requires.fits in cc

@@ -1,0 +1,78 @@
+-- The body of a function between ports that are inputs.
+use Rattle.std.proofs.Common.{◌≡◌, ℕ, zero, suc, ◌+◌, ◌≤◌, ◌<◌, List, [], ◌∷◌, length, slice_get, Some, sum_by, sym, ap, subst, ◌∙◌, arith}
+use Rattle.std.specs.Option.{option_map_or}
+use Rattle.std.proofs.lemmas.List.Sums.{sum_by-cons}
+use Rattle.safl_word.specs.Words.{no_word}
+use Rattle.safl_term.specs.declared.checked.Function.{Function}
+use Rattle.safl_term.specs.Checked.{CheckedProgram, IsChecked, program_of, first_site_of}
+use Rattle.safl_term.specs.Terms.{Const}
+use Rattle.safl_term.specs.Tree.{shown_term}
+use Rattle.safl_term.specs.Sizes.{nodes}
+use Rattle.safl_net.specs.declared.cell.Sig.{Sig}
+use Rattle.safl_net.specs.declared.cell.SigKind.{SigKind}
+use Rattle.safl_net.specs.Netlist.{Netlist, Signal, Kind, Input, Reg, Wire, width_of, width_in}
+use Rattle.safl_net.specs.Making.{kind_at, kind_in, sort_of}
+use Rattle.safl_net.specs.Growth.{maybe_width}
+use Rattle.safl_net.specs.Settled.{IsDriven, IsDrivenIn}
+use Rattle.safl_lower.specs.Sources.{IsSource, AreSources}
+use Rattle.safl_lower.proofs.Cells.{one_source}
+use Rattle.safl_lower.specs.declared.parts.SitePorts.{SitePorts}
+use Rattle.safl_lower.specs.declared.parts.Ports.{Ports}
+use Rattle.safl_lower.specs.Lowering.{Sited}
+use Rattle.safl_lower.specs.Bodies.{CanLower}
+
+-- ---- inputs may be read
+
+driven : (k : Kind) → sort_of k ≡ SigKind.Input → IsDriven k
+driven Input e = tt
+driven (Reg init next) e = tt
+driven (Wire cell) e = absurd (cc)
+
+input_at : (gs : List Signal) (s w : ℕ) → s < length gs → sort_of (kind_in (slice_get gs s)) ≡ SigKind.Input → width_in (slice_get gs s) ≡ w → (maybe_width (slice_get gs s) ≡ Some w) × IsDrivenIn (slice_get gs s)
+input_at [] s w l k e = absurd (omega (arith, l))
+input_at (g ∷ gs) zero w l k e = (ap Some e, driven g.kind k)
+input_at (g ∷ gs) (suc s) w l k e = input_at gs s w (omega (arith, l)) k e
+
+pub input_source : (n : Netlist) (s : Sig) (w : ℕ) → s.0 < length n.signals → sort_of (kind_at n s.0) ≡ SigKind.Input → width_of n s.0 ≡ w → IsSource n s w
+input_source n s w l k e = let h = input_at n.signals s.0 w l k e in record { width = h.0; steady = h.1 }
+
+-- ---- what the program is like
+
+pub one_byte : (ws : List ℕ) → length ws ≡ 1 → slice_get ws 0 ≡ Some 8 → ws ≡ 8 ∷ []
+one_byte [] e g = absurd (cc)
+one_byte (w ∷ []) e g = let q : w ≡ 8 = cc in ap (λ x. x ∷ []) q
+one_byte (w ∷ v ∷ ws) e g = absurd (omega (arith, e))
+
+abbrev size : Function → ℕ
+size x = nodes (shown_term x.body)
+
+abbrev size_at : List Function → ℕ → ℕ
+size_at fs f = nodes (option_map_or (λ (x : Function). shown_term x.body) (slice_get fs f) (Const no_word))
+
+held : (fs : List Function) (f : ℕ) → size_at fs f ≤ 1 + sum_by size fs
+held [] f = omega arith
+held (x ∷ fs) zero = let s = sum_by-cons size x fs in let h : size x ≤ 1 + sum_by size (x ∷ fs) = omega (arith, s) in h
+held (x ∷ fs) (suc f) = let s = sum_by-cons size x fs in let a = held fs f in let h : size_at fs f ≤ 1 + sum_by size (x ∷ fs) = omega (arith, s, a) in h
+
+few_nodes : (c : CheckedProgram) (f : ℕ) → IsChecked c → nodes ((program_of c).body f) ≤ 50001
+unfolding program_of
+few_nodes c f h = let a : nodes ((program_of c).body f) ≤ 1 + sum_by size c.functions = held c.functions f in let b : sum_by size c.functions ≤ 50000 = h.limits.nodes in omega (arith, a, b)
+
+-- ---- a function of one byte with two sites
+
+pub able : (c : CheckedProgram) (f : ℕ) (n : Netlist) (P : Ports) (a : Sig) (p q : SitePorts) → IsChecked c → length n.signals ≤ 1000
+    → IsSource n P.run 1 → P.args.items ≡ a ∷ [] → IsSource n a 8 → P.sites.items ≡ p ∷ q ∷ [] → Sited n p 8 → Sited n q 8
+    → (program_of c).params f ≡ 8 ∷ [] → first_site_of c f ≡ 1 → first_site_of c f + 2 ≡ first_site_of c (suc f)
+    → (program_of c).result ((program_of c).callee 1) ≡ 8 → (program_of c).result ((program_of c).callee 2) ≡ 8 → CanLower c f n P
+able c f n P a p q h small run args arg sites first second params from own one two = record {
+  run = run;
+  args = subst (λ (xs : List Sig). AreSources n xs ((program_of c).params f)) (sym args) (subst (AreSources n (a ∷ [])) (sym params) (one_source arg));
+  count = ap (λ (ps : List SitePorts). first_site_of c f + length ps) sites ∙ own;
+  sites = λ i x at. subst (λ (k : ℕ). Sited n x ((program_of c).result ((program_of c).callee (k + i)))) (sym from) (by i x (ap (λ (ps : List SitePorts). slice_get ps i) (sym sites) ∙ at));
+  room = let k = few_nodes c f h in omega (arith, k, small);
+}
+  where
+    by : (i : ℕ) (x : SitePorts) → slice_get (p ∷ q ∷ []) i ≡ Some x → Sited n x ((program_of c).result ((program_of c).callee (1 + i)))
+    by zero x e = let same : p ≡ x = cc in subst (λ (y : SitePorts). Sited n y ((program_of c).result ((program_of c).callee 1))) same (subst (Sited n p) (sym one) first)
+    by (suc zero) x e = let same : q ≡ x = cc in subst (λ (y : SitePorts). Sited n y ((program_of c).result ((program_of c).callee 2))) same (subst (Sited n q) (sym two) second)
+    by (suc (suc i)) x e = absurd (cc)

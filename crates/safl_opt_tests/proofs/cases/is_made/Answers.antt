@@ -1,4 +1,0 @@
-use Rattle.safl_opt_tests.proofs.cases.is_made.Goals as goal
-
-pub is_lean_net-requires : goal.is_lean_net-requires
-is_lean_net-requires c = c.in-Ok.ensures.smaller.acyclic

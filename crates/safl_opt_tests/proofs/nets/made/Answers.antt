@@ -1,7 +1,0 @@
-use Rattle.std.proofs.Common.{sym, subst}
-use Rattle.safl_net.specs.Names.{IsTidy}
-use Rattle.safl_opt_tests.proofs.Keeping.{tidy_none}
-use Rattle.safl_opt_tests.proofs.nets.made.Goals as goal
-
-pub lines-init : goal.lines-init
-lines-init c = subst IsTidy (sym c.new-net.ensures) tidy_none

@@ -1,6 +1,0 @@
-use Rattle.std.proofs.Common.{◌≡◌, take}
-use Rattle.safl_net.specs.Making.{numbers, widths}
-use Rattle.safl_opt_tests.proofs.nets.width_on.Given as goal
-
-abbrev pub invariant-loop-s : goal.invariant-loop-s
-invariant-loop-s l = l.widths.items ≡ widths l.net (numbers (take l.s-index l.operands))

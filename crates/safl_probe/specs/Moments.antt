@@ -1,0 +1,25 @@
+-- Moments of a run of which a probe is told.
+use Rattle.std.specs.Prelude.{◌≡◌, ◌<◌, IsSome}
+use Rattle.safl_net.specs.Netlist.{Netlist}
+use Rattle.safl_net.specs.Valuations.{Valuation}
+use Rattle.safl_probe.specs.Texts.{Text}
+use Rattle.safl_probe.specs.Probing.{ProbeState, FrameFits, begun, after_frame, begin_text, cycle_text, finish_text}
+use Rattle.safl_probe.specs.declared.moment.Moment.{Moment}
+use Rattle.safl_probe.specs.declared.moment.Moment.TheVariants.{Beginning, Frame, End}
+
+-- a probe may be told of it
+abbrev pub CanTell : Moment → Valuation → ProbeState → Type 0
+CanTell Beginning v s = Unit {0}
+CanTell (Frame t) v s = FrameFits s.shape v × (t ≡ s.turn) × (t < 0xffff_ffff_ffff_ffff)
+CanTell End v s = IsSome s.shape
+
+-- the text that it gives, and what it tells afterwards
+abbrev pub text_at : Moment → Netlist → Valuation → ProbeState → Text
+text_at Beginning n v s = begin_text n s
+text_at (Frame t) n v s = cycle_text v s
+text_at End n v s = finish_text s
+
+abbrev pub state_at : Moment → Netlist → Valuation → ProbeState → ProbeState
+state_at Beginning n v s = begun n s
+state_at (Frame t) n v s = after_frame v s
+state_at End n v s = s

@@ -1,0 +1,59 @@
+-- What is watched of a run, cycle by cycle.
+use Rattle.std.specs.Prelude.{ℕ, ◌≡◌, ◌<◌, ◌≤◌, ◌+◌, List, map, length, Option, Some, slice_get, slice_index, codes}
+use Rattle.safl_word.specs.Words.{Word}
+use Rattle.safl_io.specs.Shelf.{Files, ShelfState}
+use Rattle.safl_io.specs.Told.{TellsOn}
+use Rattle.safl_net.specs.Netlist.{Netlist}
+use Rattle.safl_net.specs.Valuations.{Valuation, read_output}
+use Rattle.safl_sim.specs.Outcomes.{IsCallRun}
+use Rattle.safl_sim.specs.Simulation.{Simulation}
+use Rattle.safl_run.specs.Calls.{Answers, cycles_of}
+use Rattle.safl_run.specs.Steps.{IsCalled}
+use Rattle.safl_run.specs.declared.harness.Harness.{Harness}
+use Rattle.safl_sim.specs.declared.done.Done.{Done}
+use Rattle.safl_probe.specs.Probing.{ProbeState, FrameFits, Tells}
+use Rattle.safl_probe.specs.Calls.{cycle_texts, after_frames}
+use Rattle.safl_probe.specs.Asked.{Asked, FileNames, IsAsked, AreApart, asked, probe_at}
+use Rattle.safl_probe.specs.Growth.{AllGrow, Longer, LongerPart}
+
+-- a probe that was begun on a net, and has seen no frame
+pub record IsReady (n : Netlist) (s : ProbeState) : Type 0 where
+  pub fits : (frame : Valuation) → length frame ≡ length n.signals → FrameFits s.shape frame
+  pub turn : s.turn ≡ 0
+
+-- each asked probe is
+abbrev pub AllReady : {P : Type 0} → Netlist → FileNames → (P → ProbeState) → List P → Type 0
+AllReady n names tell ps = (i : ℕ) (name : List ℕ) → IsAsked (asked names) i name → IsReady n (probe_at (map tell ps) i)
+
+-- the asked probes were shown these frames, and their files have the texts of these more
+pub record Shown (frames : List Valuation) (names : Asked) (ps qs : List ProbeState) (old new : Option Files) : Type 0 where
+  pub told : (i : ℕ) (name : List ℕ) → IsAsked names i name → Tells (after_frames frames (probe_at ps i)) (probe_at qs i)
+  pub files : AreApart names → TellsOn (AllGrow Longer names (λ i. cycle_texts frames (probe_at ps i))) old new
+
+-- a call was answered, and the asked probes were shown its cycles
+pub record Watches (n : Netlist) (state : ℕ → ℕ) (args : List Word) (limit : ℕ) (names : Asked) (ps qs : List ProbeState)
+    (old new : Option Files) (answer : Option Done) (after : ℕ → ℕ) : Type 0 where
+  pub answers : Answers n limit state args answer after
+  pub shown : Shown (cycles_of n limit state args answer after answers) names ps qs old new
+
+-- a call was watched up to an error, at which the files have a part of the texts of its cycles; `done` was 0 in them, perhaps but
+-- for the last one
+pub record BreaksOff (n : Netlist) (state : ℕ → ℕ) (args : List Word) (limit : ℕ) (names : Asked) (ps : List ProbeState) (old new : Option Files) : Type 0 where
+  pub frames : List Valuation
+  pub call : IsCallRun n state args frames
+  pub in_time : length frames ≤ limit
+  pub off : (c : ℕ) (v : Valuation) → c + 1 < length frames → slice_get frames c ≡ Some v → read_output n v (codes "done") ≡ 0
+  pub files : AreApart names → TellsOn (AllGrow LongerPart names (λ i. cycle_texts frames (probe_at ps i))) old new
+
+-- a call with the words of a harness was answered, and the asked probes were shown its cycles
+abbrev pub Shows : {P : Type 0} → Simulation → Simulation → Harness → ℕ → FileNames → (P → ProbeState) → List P → List P
+    → ShelfState → ShelfState → Option Done → Type 0
+Shows sim after harness limit names tell ps qs old new answer =
+    (args : List Word) → IsCalled sim.net args harness
+    → Watches sim.net (slice_index sim.state) args limit (asked names) (map tell ps) (map tell qs) old.holds new.holds answer (slice_index after.state)
+
+-- it was watched up to an error
+abbrev pub ShowsPart : {P : Type 0} → Simulation → Harness → ℕ → FileNames → (P → ProbeState) → List P → ShelfState → ShelfState → Type 0
+ShowsPart sim harness limit names tell ps old new =
+    (args : List Word) → IsCalled sim.net args harness
+    → BreaksOff sim.net (slice_index sim.state) args limit (asked names) (map tell ps) old.holds new.holds

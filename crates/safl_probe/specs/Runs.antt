@@ -1,0 +1,33 @@
+-- The cycles of a run that are shown, and their traces.
+use Rattle.std.specs.Prelude.{ℕ, ◌≡◌, List, [], ◌∷◌, map, length, ◌==◌, if◌then◌else◌, codes}
+use Rattle.safl_word.specs.Words.{Word}
+use Rattle.safl_io.specs.Shelf.{ShelfState}
+use Rattle.safl_io.specs.Told.{TellsOn}
+use Rattle.safl_net.specs.Netlist.{Netlist}
+use Rattle.safl_net.specs.Valuations.{Valuation, read_output}
+use Rattle.safl_sim.specs.Outcomes.{IsRun}
+use Rattle.safl_probe.specs.Probing.{ProbeState}
+use Rattle.safl_probe.specs.Texts.{Text, trace}
+use Rattle.safl_probe.specs.Asked.{FileNames, AreApart, asked, probe_at}
+use Rattle.safl_probe.specs.Growth.{AllGrow, Relation}
+
+-- a run of so many cycles, in which all inputs are 0 after cycle 0; a net without loops has exactly one
+pub record IsRunOf (n : Netlist) (args : List Word) (count : ℕ) (vs : List Valuation) : Type 0 where
+  pub run : IsRun n args vs
+  pub long : length vs ≡ count
+
+-- its cycles up to the first in which `done` is 1, with that one
+abbrev pub until_done : Netlist → List Valuation → List Valuation
+until_done n [] = []
+until_done n (v ∷ vs) = if read_output n v (codes "done") == 1 then v ∷ [] else v ∷ until_done n vs
+
+-- the trace of these cycles, for the probe at that place
+abbrev pub trace_at : Netlist → List Valuation → List ProbeState → ℕ → Text
+trace_at n vs ps i = trace (probe_at ps i).kind n (until_done n vs)
+
+-- of a run of so many cycles the files of the asked probes are so by their traces, where no two are asked for one file and the
+-- shelf tells
+abbrev pub TracesGrow : {P : Type 0} → Relation → Netlist → List Word → ℕ → FileNames → (P → ProbeState) → List P → ShelfState → ShelfState → Type 0
+TracesGrow R n args count names tell ps old new =
+    (vs : List Valuation) → IsRunOf n args count vs → AreApart (asked names)
+    → TellsOn (AllGrow R (asked names) (trace_at n vs (map tell ps))) old.holds new.holds

@@ -1,0 +1,100 @@
+//! A run until `done` is 1, which probes may watch.
+
+ghost use Rattle.std.specs.Prelude.{◌≡◌, map, length, IfOk, IfErr, OnOk, OnErr};
+ghost use Rattle.safl_io.specs.Shelf.{UsesNoStray};
+ghost use Rattle.safl_net.specs.Whole.{IsWhole};
+ghost use Rattle.safl_sim.specs.Places.{resets};
+ghost use Rattle.safl_net.specs.Arguments.{AreArguments};
+ghost use Rattle.safl_sim.specs.Outcomes.{IsOutcome};
+ghost use Rattle.safl_probe.specs.Asked.{SameUnasked, asked};
+ghost use Rattle.safl_probe.specs.Growth.{Made, OldOrPart};
+ghost use Rattle.safl_probe.specs.Runs.{TracesGrow};
+ghost use Rattle.safl_probe.specs.Stopping.{SameProbes, SameReads, StopsRun};
+
+use crate::drive_err::DriveErr;
+use crate::moment::Moment;
+use crate::probe::Probe;
+use crate::room::make_room;
+use crate::tell::tell_all;
+use crate::watch::watch;
+use safl_io::Shelf;
+use safl_run::harness::{Harness, take_arguments};
+use safl_sim::{Done, Sim};
+use safl_word::Word;
+use std::alloc::Global;
+
+/// Simulates a net from reset until `done` is 1, but at most `limit` cycles, and answers the first such cycle. In
+/// cycle 0 `start` is 1 and the other inputs have the arguments in order; after it all inputs are 0.
+///
+/// A probe is asked where there is the name of a file at its place. For each asked probe in order the file is made, with
+/// the text of the beginning; after each tick each asked probe's text of that cycle is appended as one piece, and at the
+/// end the texts of the end. An empty text is not appended. After an error each file holds a prefix of its text.
+pub fn drive<S: Shelf>(
+    alloc: Global,
+    sim: &mut Sim,
+    args: &[Word],
+    limit: u64,
+    probes: &mut Vec<Box<dyn Probe>>,
+    files: &[Option<String>],
+    shelf: &mut S,
+) -> Result<Option<Done>, DriveErr>
+    requires whole { IsWhole sim.old.net }
+    requires fresh { sim.old.state ≡ resets sim.old.net }
+    requires arguments { AreArguments sim.old.net args.now }
+    requires files { length files.now ≡ length probes.old.items }
+    ensures outcome { IfOk result (IsOutcome sim.old.net args.now limit) }
+    ensures net { sim.new.net ≡ sim.old.net }
+
+    // Of the run of `limit` cycles, each asked file holds the trace of the cycles up to the first with `done` at 1. After
+    // an error it is as it was, or holds a prefix of that. All other files are as they were.
+    ensures traced { OnOk result (TracesGrow Made sim.old.net args.now limit files.now (λ p. state p) probes.old.items (S.told shelf.old) (S.told shelf.new)) }
+    ensures part { OnErr result (TracesGrow OldOrPart sim.old.net args.now limit files.now (λ p. state p) probes.old.items
+        (S.told shelf.old) (S.told shelf.new)) }
+
+    // Each probe that isn't asked is as it was.
+    ensures unasked { SameUnasked (asked files.now) probes.old.items probes.new.items }
+    // There are as many probes, of the same kinds in order, and none has fewer faults.
+    ensures probes { SameProbes (map (λ p. state p) probes.old.items) (map (λ p. state p) probes.new.items) }
+    ensures stopped { IfErr result (StopsRun files.now (λ p. state p) probes.old.items probes.new.items (S.told shelf.old) (S.told shelf.new)) }
+    ensures reads { SameReads (S.told shelf.old) (S.told shelf.new) }
+
+    // A shelf that tells what it holds is asked for no stray name.
+    ensures strays { UsesNoStray (S.told shelf.old) (S.told shelf.new) }
+{
+    drive_all(alloc, sim, args, limit, probes, files, shelf)
+}
+
+// The same for the probes of a slice.
+fn drive_all<S: Shelf>(
+    alloc: Global,
+    sim: &mut Sim,
+    args: &[Word],
+    limit: u64,
+    probes: &mut [Box<dyn Probe>],
+    files: &[Option<String>],
+    shelf: &mut S,
+) -> Result<Option<Done>, DriveErr>
+    requires whole { IsWhole sim.old.net }
+    requires fresh { sim.old.state ≡ resets sim.old.net }
+    requires arguments { AreArguments sim.old.net args.now }
+    requires files { length files.now ≡ length probes.old }
+    ensures outcome { IfOk result (IsOutcome sim.old.net args.now limit) }
+    ensures net { sim.new.net ≡ sim.old.net }
+    ensures traced { OnOk result (TracesGrow Made sim.old.net args.now limit files.now (λ p. state p) probes.old (S.told shelf.old) (S.told shelf.new)) }
+    ensures part { OnErr result (TracesGrow OldOrPart sim.old.net args.now limit files.now (λ p. state p) probes.old (S.told shelf.old) (S.told shelf.new)) }
+    ensures unasked { SameUnasked (asked files.now) probes.old probes.new }
+    ensures probes { SameProbes (map (λ p. state p) probes.old) (map (λ p. state p) probes.new) }
+    ensures stopped { IfErr result (StopsRun files.now (λ p. state p) probes.old probes.new (S.told shelf.old) (S.told shelf.new)) }
+    ensures reads { SameReads (S.told shelf.old) (S.told shelf.new) }
+    ensures strays { UsesNoStray (S.told shelf.old) (S.told shelf.new) }
+{
+    let net = sim.net();
+    let _ordered = sim.ordered().net();
+    let mut harness = Harness::new(alloc, net)?;
+    take_arguments(&mut harness, net, args);
+    let mut room = make_room(alloc, sim)?;
+    tell_all(probes, files, Moment::Beginning, net, shelf, &mut room)?;
+    let done = watch(sim, &harness, limit, probes, files, shelf, &mut room)?;
+    tell_all(probes, files, Moment::End, sim.net(), shelf, &mut room)?;
+    Ok(done)
+}

@@ -1,0 +1,101 @@
+//! Telling asked probes of a moment of a run.
+
+ghost use Rattle.std.specs.Prelude.{◌≡◌, ◌≤◌, map, length, IfErr, OnOk, OnErr, IsErrOf};
+ghost use Rattle.safl_io.specs.Counts.{Rose};
+ghost use Rattle.safl_io.specs.Shelf.{UsesNoStray};
+ghost use Rattle.safl_probe.specs.Probing.{Tells};
+ghost use Rattle.safl_probe.specs.Asked.{SameUnasked, asked};
+ghost use Rattle.safl_probe.specs.Moments.{CanTell, text_at, state_at};
+ghost use Rattle.safl_probe.specs.Growth.{Grown, GrownPart, IsThere, AllThere, LeavesAllThere};
+ghost use Rattle.safl_probe.specs.Telling.{frame_in, AllCanTell, AllTell, GrowsAt, AllGrowAt};
+ghost use Rattle.safl_probe.specs.Stopping.{Blames, SameProbes, SameReads, StopsRun};
+
+use crate::drive_err::{DriveErr, unprobed, unwritten};
+use crate::files::{append, open};
+use crate::moment::Moment;
+use crate::probe::{Probe, ProbeErr};
+use crate::room::Room;
+use safl_io::Shelf;
+use safl_net::Net;
+
+/// Tells a probe of a moment. Its text stands in the room alone.
+pub(crate) fn tell(
+    probe: &mut Box<dyn Probe>,
+    moment: Moment,
+    net: &Net,
+    room: &mut Room,
+) -> Result<(), ProbeErr>
+    requires { CanTell moment (frame_in room.old) (state probe.old) }
+    ensures text { OnOk result (room.new.text.items ≡ text_at moment net.now (frame_in room.old) (state probe.old)) }
+    ensures tells { OnOk result (Tells (state_at moment net.now (frame_in room.old) (state probe.old)) (state probe.new)) }
+    ensures same_kind { (state probe.new).kind ≡ (state probe.old).kind }
+    ensures failed { IsErrOf result ProbeErr.Failed → Rose (state probe.old).faults (state probe.new).faults }
+    ensures faults_later { (state probe.old).faults ≤ (state probe.new).faults }
+    ensures same_frame { room.new.frame ≡ room.old.frame }
+{
+    room.text.clear();
+    match moment {
+        Moment::Beginning => probe.begin(net, &mut room.text),
+        Moment::Frame(t) => probe.cycle(t, &room.frame, &mut room.text),
+        Moment::End => probe.finish(&mut room.text),
+    }
+}
+
+/// Tells a probe of a moment, and appends its text to the file of a name, which is made at the beginning.
+pub(crate) fn tell_one<S: Shelf>(
+    probe: &mut Box<dyn Probe>,
+    name: &str,
+    place: usize,
+    moment: Moment,
+    net: &Net,
+    shelf: &mut S,
+    room: &mut Room,
+) -> Result<(), DriveErr>
+    requires { CanTell moment (frame_in room.old) (state probe.old) }
+    ensures grown { OnOk result (GrowsAt Grown moment net.now (frame_in room.old) name.now (state probe.old) (S.told shelf.old) (S.told shelf.new)) }
+    ensures part { OnErr result (GrowsAt GrownPart moment net.now (frame_in room.old) name.now (state probe.old) (S.told shelf.old) (S.told shelf.new)) }
+    ensures tells { OnOk result (Tells (state_at moment net.now (frame_in room.old) (state probe.old)) (state probe.new)) }
+    ensures same_kind { (state probe.new).kind ≡ (state probe.old).kind }
+    ensures faults_later { (state probe.old).faults ≤ (state probe.new).faults }
+    ensures same_frame { room.new.frame ≡ room.old.frame }
+    ensures blames { IfErr result (λ why. Blames why place (state probe.old) (state probe.new) (S.told shelf.old) (S.told shelf.new)) }
+    ensures reads { SameReads (S.told shelf.old) (S.told shelf.new) }
+    ensures strays { IsThere moment name.now (S.told shelf.old).holds → UsesNoStray (S.told shelf.old) (S.told shelf.new) }
+{
+    open(moment, name, shelf).map_err(|why| unwritten(place, why))?;
+    match tell(probe, moment, net, room) {
+        Ok(()) => append(name, &room.text, shelf).map_err(|why| unwritten(place, why)),
+        Err(why) => Err(unprobed(probe.kind(), why)),
+    }
+}
+
+/// Tells each asked probe of a moment, in order.
+pub(crate) fn tell_all<S: Shelf>(
+    probes: &mut [Box<dyn Probe>],
+    files: &[Option<String>],
+    moment: Moment,
+    net: &Net,
+    shelf: &mut S,
+    room: &mut Room,
+) -> Result<(), DriveErr>
+    requires files { length files.now ≡ length probes.old }
+    requires can { AllCanTell moment (frame_in room.old) files.now (λ p. state p) probes.old }
+    ensures grown { OnOk result (AllGrowAt Grown moment net.now (frame_in room.old) files.now (λ p. state p) probes.old (S.told shelf.old) (S.told shelf.new)) }
+    ensures part { OnErr result (AllGrowAt GrownPart moment net.now (frame_in room.old) files.now (λ p. state p) probes.old
+        (S.told shelf.old) (S.told shelf.new)) }
+    ensures tells { OnOk result (AllTell files.now (state_at moment net.now (frame_in room.old)) (λ p. state p) probes.old probes.new) }
+    ensures unasked { SameUnasked (asked files.now) probes.old probes.new }
+    ensures probes { SameProbes (map (λ p. state p) probes.old) (map (λ p. state p) probes.new) }
+    ensures same_frame { room.new.frame ≡ room.old.frame }
+    ensures stopped { IfErr result (StopsRun files.now (λ p. state p) probes.old probes.new (S.told shelf.old) (S.told shelf.new)) }
+    ensures reads { SameReads (S.told shelf.old) (S.told shelf.new) }
+    ensures strays { AllThere moment (asked files.now) (S.told shelf.old).holds → UsesNoStray (S.told shelf.old) (S.told shelf.new) }
+    ensures there { OnOk result (LeavesAllThere moment files.now (S.told shelf.old) (S.told shelf.new)) }
+{
+    'probes: for i in 0..probes.len() {
+        if let Some(name) = &files[i] {
+            tell_one(&mut probes[i], name, i, moment, net, shelf, room)?;
+        }
+    }
+    Ok(())
+}

@@ -1,0 +1,104 @@
+//! What a net is called with: the words of its inputs, the signals that are looked at, and the loop.
+
+ghost use Rattle.std.specs.Prelude.{◌≡◌, ◌<◌, List, length, IfOk, IfErr, slice_index};
+ghost use Rattle.safl_word.specs.Words.{Word};
+ghost use Rattle.safl_net.specs.Whole.{IsWhole};
+ghost use Rattle.safl_net.specs.Arguments.{AreArguments};
+ghost use Rattle.safl_sim.specs.Places.{AreInputs, HasWords};
+ghost use Rattle.safl_sim.specs.Simulation.{Ticks};
+ghost use Rattle.safl_sim.specs.Ticks.{words_of};
+ghost use Rattle.safl_run.specs.Runners.{IsHarness};
+ghost use Rattle.safl_run.specs.Steps.{IsCalled, GoesOn};
+ghost use Rattle.safl_run.specs.Calls.{Answers};
+
+use crate::room::{Room, put_arguments, signal_of};
+use safl_net::{Net, Sig};
+use safl_sim::{Done, Sim};
+use safl_word::{NoMemory, Word};
+use std::alloc::Global;
+
+/// The room for the words of the inputs, and the signals of `done` and `result`.
+#[derive(Drop)]
+pub struct Harness {
+    pub room: Room,
+    pub done: Sig,
+    pub result: Sig,
+}
+
+impl Harness {
+    /// The harness of a net. It makes the room for the words of every cycle.
+    pub fn new(alloc: Global, net: &Net) -> Result<Harness, NoMemory>
+        requires { IsWhole net.now }
+        ensures { IfOk result (λ h. IsHarness net.now h) }
+    {
+        Ok(Harness {
+            room: Room::new(alloc, net)?,
+            done: signal_of(net, "done"),
+            result: signal_of(net, "result"),
+        })
+    }
+}
+
+/// Calls a net: in cycle 0 `start` is 1 and the other inputs have the arguments in order, and later all inputs are 0. The
+/// answer is that of the first cycle in which `done` is 1; there is none where `done` is 0 in all cycles below `limit`.
+pub fn call(sim: &mut Sim, harness: &mut Harness, args: &[Word], limit: u64) -> Option<Done>
+    requires harness { IsHarness sim.old.net harness.old }
+    requires arguments { AreArguments sim.old.net args.now }
+    ensures answers { Answers sim.old.net limit (slice_index sim.old.state) args.now result (slice_index sim.new.state) }
+    ensures net { sim.new.net ≡ sim.old.net }
+    ensures harness { IsHarness sim.old.net harness.new }
+{
+    take_arguments(harness, sim.net(), args);
+    'cycles: for cycle in 0..limit {
+        let done = step(sim, harness, cycle);
+        if done.is_some() {
+            return done;
+        }
+    }
+    None
+}
+
+/// Puts the words of a call with these arguments into the harness.
+pub fn take_arguments(harness: &mut Harness, net: &Net, args: &[Word])
+    requires harness { IsHarness net.now harness.old }
+    requires arguments { AreArguments net.now args.now }
+    ensures { IsCalled net.now args.now harness.new }
+{
+    put_arguments(&mut harness.room.first, harness.room.start, args);
+}
+
+/// A cycle of the call, and the answer where `done` is 1 in it.
+#[inline(always)]
+pub fn step(sim: &mut Sim, harness: &Harness, cycle: u64) -> Option<Done>
+    requires called { (args : List Word) × IsCalled sim.old.net args harness.now }
+    requires given { 1 < cycle → HasWords sim.old.net sim.old.values harness.now.room.later.items }
+    ensures goes { GoesOn sim.old sim.new harness.now cycle result }
+    ensures given { 0 < cycle → HasWords sim.new.net sim.new.values harness.now.room.later.items }
+    ensures full { length sim.new.values ≡ length sim.new.net.signals }
+    ensures net { sim.new.net ≡ sim.old.net }
+{
+    tick(sim, cycle, &harness.room.first, &harness.room.later);
+    if sim.is_on(harness.done) {
+        Some(Done {
+            cycle,
+            result: sim.value(harness.result),
+        })
+    } else {
+        None
+    }
+}
+
+// A tick with the words of a cycle. From cycle 2 on the inputs have these already.
+#[inline(always)]
+fn tick(sim: &mut Sim, cycle: u64, first: &[Word], later: &[Word])
+    requires first { AreInputs sim.old.net first.now }
+    requires later { AreInputs sim.old.net later.now }
+    requires given { 1 < cycle → HasWords sim.old.net sim.old.values later.now }
+    ensures { Ticks sim.old sim.new (words_of cycle first.now later.now) }
+{
+    match cycle {
+        0 => sim.tick(first),
+        1 => sim.tick(later),
+        _ => sim.tick_again(),
+    }
+}

@@ -1,0 +1,12 @@
+//! Runs of a net: calls, one after another, each until `done` is 1 or a limit of cycles is reached.
+#![tactic(auto)]
+
+pub mod harness;
+pub mod laws;
+mod room;
+pub mod runner;
+pub mod until_done;
+
+pub use crate::harness::Harness;
+pub use crate::runner::Runner;
+pub use crate::until_done::run_until_done;

@@ -1,0 +1,35 @@
+-- The transcript of a session.
+use Rattle.std.specs.Prelude.{ℕ, List, [], ◌∷◌, ◌++◌, length, Bool, if◌then◌else◌, ◌==◌, codes}
+use Rattle.std.specs.Fmt.{decimal}
+use Rattle.safl_sim.specs.declared.done.Done.{Done as Reply}
+use Rattle.safl_session.specs.declared.transcript_line.Line.{Line}
+use Rattle.safl_session.specs.declared.transcript_line.Line.TheVariants as line
+
+-- the line of a reply: its word, and the cycle in which it came
+abbrev pub reply_line : Reply → List ℕ
+reply_line r = decimal r.result.bits ++ codes " " ++ decimal r.cycle ++ codes "\n"
+
+abbrev pub reply_lines : List Reply → List ℕ
+reply_lines [] = []
+reply_lines (r ∷ rs) = reply_line r ++ reply_lines rs
+
+-- this many calls were made
+abbrev pub calls_line : ℕ → List ℕ
+calls_line count = codes "calls " ++ decimal count ++ codes "\n"
+
+-- no result came within this many cycles
+abbrev pub late_line : ℕ → List ℕ
+late_line limit = codes "no result in " ++ decimal limit ++ codes " cycles\n"
+
+abbrev pub line_text : Line → List ℕ
+line_text (line.Replied reply) = reply_line reply
+line_text (line.Counted count) = calls_line count
+line_text (line.Late limit) = late_line limit
+
+-- each of this many calls has its reply
+abbrev pub are_all : ℕ → List Reply → Bool
+are_all count rs = length rs == count
+
+-- a line for each reply, and then the number of calls, or, where a call has no reply, that none came
+abbrev pub transcript : ℕ → ℕ → List Reply → List ℕ
+transcript limit count rs = reply_lines rs ++ (if are_all count rs then calls_line count else late_line limit)

@@ -1,6 +1,0 @@
-use Rattle.std.proofs.Common.{◌≡◌, ◌++◌, drop}
-use Rattle.safl_sim.specs.Arguments.{argument_widths}
-use Rattle.safl_sim.proofs.arguments.argument_widths.Given as goal
-
-abbrev pub invariant-signals : goal.invariant-signals
-invariant-signals l = l.widths.items ++ argument_widths (drop l.i l.net.signals) ≡ argument_widths l.net.signals

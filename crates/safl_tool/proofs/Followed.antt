@@ -1,0 +1,23 @@
+-- What follows of how a call ends.
+use Rattle.std.proofs.Common.{Option}
+use Rattle.safl_io.specs.Sink.{SinkState}
+use Rattle.safl_command.specs.Commands.{Command}
+use Rattle.safl_task.specs.declared.status.Status.{Status}
+use Rattle.safl_task.proofs.Following.{end_keeps, end_tells, end_left, left_others, end_completes}
+use Rattle.safl_tool.specs.Tracing.{kinds_of}
+use Rattle.safl_tool.specs.Worlds.{World, Unprobed, task_in, EndsBy, Follows, SparesFor}
+use Rattle.safl_tool.proofs.Kept.{Laws, kept}
+
+pub follows : {P : Type 0} → Laws → (m : Option Command) (old new : World P) (before after : SinkState) (s : Status) → EndsBy m old new before after s → SparesFor m old new → Follows m old new before after s
+follows l m old new before after s ends spares =
+    let left = end_left (task_in m old) (Unprobed m old new) old.outside new.outside before after s ends in
+    record {
+      keeps = end_keeps (task_in m old) (Unprobed m old new) old.outside new.outside before after s ends;
+      others = left_others (task_in m old) (Unprobed m old new) old.outside new.outside left;
+      left = left;
+      tells = end_tells (task_in m old) (Unprobed m old new) old.outside new.outside before after s ends;
+      no_stray = spares.no_stray;
+      completes = end_completes (task_in m old) (Unprobed m old new) (kept l (kinds_of old.states) m) old.outside new.outside before after s ends;
+      unasked = spares.unasked;
+      probes = spares.probes;
+    }

@@ -1,0 +1,46 @@
+-- A text is printed or a file is written, by what the shelf and the sink answer.
+use Rattle.std.proofs.Common.{◌≡◌, ℕ, List, [], ◌∷◌, Option, Some, None, Contains, refl, sym, arith}
+use Rattle.std.proofs.lemmas.List.{append-nil}
+use Rattle.std.specs.Borrow.{Bor}
+use Rattle.std.specs.declared.alloc.Global.{Global}
+use Rattle.std.specs.declared.vec.Vec.{Vec}
+use Rattle.safl_io.specs.Shelf.{ShelfState, Leaves, LeavesOldOrPart}
+use Rattle.safl_io.specs.Told.{TellsOn}
+use Rattle.safl_io.specs.Sink.{SinkState, Sends, SendsPart}
+use Rattle.safl_task.specs.Endings.{outside}
+use Rattle.safl_task.specs.Tasks.{end_of}
+use Rattle.safl_task.specs.declared.status.Status.{Status}
+use Rattle.safl_task.proofs.Ending.{same_all, same_parts, leaves_all, leaves_parts}
+use Rattle.safl_tool.specs.Answers.{IsGiven, IsGivenInPart, printed}
+use Rattle.safl_task.specs.Tasks.{only_writes}
+use Rattle.safl_tool.specs.declared.answer.Answer.TheVariants as answer
+use Rattle.safl_tool.specs.declared.answer.Lines.{Lines}
+
+nothing_sent : (sent : Option (List ℕ)) → TellsOn (Sends []) sent sent
+nothing_sent None = tt
+nothing_sent (Some x) = sym (append-nil x)
+
+pub nothing_part : (text : List ℕ) (sent : Option (List ℕ)) → TellsOn (SendsPart text) sent sent
+nothing_part text None = tt
+nothing_part text (Some a) = (0, sym (append-nil a))
+
+module _ (shelf : ShelfState) (out out' : SinkState) (l : Lines) where
+  -- a text is printed, or a part of it
+  pub lines_given : (s : Status) → s ≡ end_of (printed l) → TellsOn (Sends l.text.items) out.sent out'.sent → IsGiven (answer.Printed l) (outside shelf out) (outside shelf out') s
+  lines_given s is sent = record { given = printed l; will = refl; all = record { files = same_all shelf.holds shelf.holds refl; printed = sent }; is = is }
+
+  pub lines_begun : TellsOn (SendsPart l.text.items) out.sent out'.sent → IsGivenInPart (answer.Printed l) (outside shelf out) (outside shelf out')
+  lines_begun sent = record { whole = printed l; will = refl; part = record { files = same_parts [] shelf.holds shelf.holds refl; printed = sent } }
+
+module _ (shelf shelf' : ShelfState) (out : SinkState) (name : Bor (List ℕ)) (text : Vec ℕ Global) where
+  -- a file is written, or a part of it
+  pub file_given : (s : Status) → s ≡ end_of (only_writes text.items) → TellsOn (Leaves name.now text.items) shelf.holds shelf'.holds → IsGiven (answer.File name text) (outside shelf out) (outside shelf' out) s
+  file_given s is h =
+      record { given = only_writes text.items; will = refl; all = record { files = leaves_all name.now text.items shelf.holds shelf'.holds h; printed = nothing_sent out.sent }; is = is }
+
+  pub file_begun : TellsOn (LeavesOldOrPart name.now text.items) shelf.holds shelf'.holds → IsGivenInPart (answer.File name text) (outside shelf out) (outside shelf' out)
+  file_begun h = record { whole = only_writes text.items; will = refl; part = record { files = leaves_parts name.now text.items shelf.holds shelf'.holds h; printed = nothing_part [] out.sent } }
+
+-- the only name is among the names
+pub only_name : (name : List ℕ) → Contains (name ∷ []) name
+only_name name = (0, omega arith, refl)

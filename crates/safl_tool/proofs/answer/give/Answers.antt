@@ -1,0 +1,96 @@
+use Rattle.std.proofs.Common.{List, map, sym, subst}
+use Rattle.safl_io.specs.Shelf.{ShelfState}
+use Rattle.safl_io.specs.Sink.{SinkState}
+use Rattle.safl_probe.specs.Probing.{ProbeState}
+use Rattle.safl_probe.specs.Asked.{Asked, asked}
+use Rattle.safl_probe.proofs.Rounds.{unasked_same}
+use Rattle.safl_probe.proofs.Telling.{same_probes}
+use Rattle.safl_task.specs.Endings.{outside}
+use Rattle.safl_tool.specs.Answers.{CanBeGiven, GivesBy, traces_for}
+use Rattle.safl_tool.specs.Tracing.{AreAskedFor}
+use Rattle.safl_tool.specs.declared.answer.Answer.{Answer}
+use Rattle.safl_tool.proofs.Performed.{same_strays}
+use Rattle.safl_tool.proofs.answer.give.Goals as goal
+
+-- ---- Printed
+
+pub returns-in-Printed-clause-gives : goal.returns-in-Printed-clause-gives
+returns-in-Printed-clause-gives g c =
+    let ps : List ProbeState = map (λ p. (goal.Probe-dyn g (p.vtable, p.value)).state p.value) c.args.probes.now.items in
+    let shelf : ShelfState = g.S.Shelf.told c.args.shelf.now in
+    let out : SinkState = g.O.Sink.told c.args.out.now in
+    let out' : SinkState = g.O.Sink.told c.print.new.out in
+    let asks : Asked = asked c.args.files.now in
+    subst (λ (a : Answer). GivesBy a asks ps ps (outside shelf out) (outside shelf out') c.print.result) (sym c.in-Printed.is) (c.print.ensures shelf asks ps ps)
+
+pub returns-in-Printed-clause-same_strays : goal.returns-in-Printed-clause-same_strays
+returns-in-Printed-clause-same_strays g c = same_strays (g.S.Shelf.told c.args.shelf.now)
+
+pub returns-in-Printed-clause-unasked : goal.returns-in-Printed-clause-unasked
+returns-in-Printed-clause-unasked g c = unasked_same _ _
+
+pub returns-in-Printed-clause-probes : goal.returns-in-Printed-clause-probes
+returns-in-Printed-clause-probes g c = same_probes _ _ _
+
+-- ---- File
+
+pub returns-in-File-clause-gives : goal.returns-in-File-clause-gives
+returns-in-File-clause-gives g c =
+    let ps : List ProbeState = map (λ p. (goal.Probe-dyn g (p.vtable, p.value)).state p.value) c.args.probes.now.items in
+    let shelf : ShelfState = g.S.Shelf.told c.args.shelf.now in
+    let shelf' : ShelfState = g.S.Shelf.told c.write.new.shelf in
+    let out : SinkState = g.O.Sink.told c.args.out.now in
+    let asks : Asked = asked c.args.files.now in
+    subst (λ (a : Answer). GivesBy a asks ps ps (outside shelf out) (outside shelf' out) c.write.result) (sym c.in-File.is) (c.write.ensures.gives out asks ps ps)
+
+pub returns-in-File-clause-unasked : goal.returns-in-File-clause-unasked
+returns-in-File-clause-unasked g c = unasked_same _ _
+
+pub returns-in-File-clause-probes : goal.returns-in-File-clause-probes
+returns-in-File-clause-probes g c = same_probes _ _ _
+
+-- ---- Replies
+
+pub converse-requires-clause-ready : goal.converse-requires-clause-ready
+converse-requires-clause-ready g c = (subst (λ (a : Answer). CanBeGiven a) c.in-Replies.is c.requires.can).0
+
+pub converse-requires-clause-calls : goal.converse-requires-clause-calls
+converse-requires-clause-calls g c = (subst (λ (a : Answer). CanBeGiven a) c.in-Replies.is c.requires.can).1
+
+pub returns-in-Replies-clause-gives : goal.returns-in-Replies-clause-gives
+returns-in-Replies-clause-gives g c =
+    let ps : List ProbeState = map (λ p. (goal.Probe-dyn g (p.vtable, p.value)).state p.value) c.args.probes.now.items in
+    let shelf : ShelfState = g.S.Shelf.told c.args.shelf.now in
+    let out : SinkState = g.O.Sink.told c.args.out.now in
+    let out' : SinkState = g.O.Sink.told c.converse.new.out in
+    let asks : Asked = asked c.args.files.now in
+    subst (λ (a : Answer). GivesBy a asks ps ps (outside shelf out) (outside shelf out') c.converse.result) (sym c.in-Replies.is) (c.converse.ensures shelf asks ps ps)
+
+pub returns-in-Replies-clause-same_strays : goal.returns-in-Replies-clause-same_strays
+returns-in-Replies-clause-same_strays g c = same_strays (g.S.Shelf.told c.args.shelf.now)
+
+pub returns-in-Replies-clause-unasked : goal.returns-in-Replies-clause-unasked
+returns-in-Replies-clause-unasked g c = unasked_same _ _
+
+pub returns-in-Replies-clause-probes : goal.returns-in-Replies-clause-probes
+returns-in-Replies-clause-probes g c = same_probes _ _ _
+
+-- ---- Traced
+
+pub trace-requires-clause-can : goal.trace-requires-clause-can
+trace-requires-clause-can g c = subst (λ (a : Answer). CanBeGiven a) c.in-Traced.is c.requires.can
+
+pub trace-requires-clause-asked : goal.trace-requires-clause-asked
+trace-requires-clause-asked g c =
+    let ps : List ProbeState = map (λ p. (goal.Probe-dyn g (p.vtable, p.value)).state p.value) c.args.probes.now.items in
+    subst (λ (a : Answer). AreAskedFor (traces_for a) (asked c.args.files.now) ps) c.in-Traced.is c.requires.asked
+
+pub returns-in-Traced-clause-gives : goal.returns-in-Traced-clause-gives
+returns-in-Traced-clause-gives g c =
+    let ps : List ProbeState = map (λ p. (goal.Probe-dyn g (p.vtable, p.value)).state p.value) c.args.probes.now.items in
+    let qs : List ProbeState = map (λ p. (goal.Probe-dyn g (p.vtable, p.value)).state p.value) c.trace.new.probes.items in
+    let shelf : ShelfState = g.S.Shelf.told c.args.shelf.now in
+    let shelf' : ShelfState = g.S.Shelf.told c.trace.new.shelf in
+    let out : SinkState = g.O.Sink.told c.args.out.now in
+    let out' : SinkState = g.O.Sink.told c.trace.new.out in
+    subst (λ (a : Answer). GivesBy a (asked c.args.files.now) ps qs (outside shelf out) (outside shelf' out') c.trace.result) (sym c.in-Traced.is) c.trace.ensures.gives

@@ -1,0 +1,54 @@
+-- How a call changes a shelf, the output and the probes: the relations of worlds, by what each of them tells before and after.
+use Rattle.std.specs.Prelude.{List, map, Option, Result, Vec, string_bytes}
+use Rattle.std.specs.declared.string.String.{String}
+use Rattle.std.specs.declared.alloc.Global.{Global}
+use Rattle.safl_io.specs.Shelf.{ShelfState}
+use Rattle.safl_io.specs.Sink.{SinkState}
+use Rattle.safl_probe.specs.Probing.{ProbeState}
+use Rattle.safl_probe.specs.Asked.{FileNames, asked}
+use Rattle.safl_command.specs.Commands.{Command, command_of}
+use Rattle.safl_task.specs.Endings.{outside}
+use Rattle.safl_task.specs.declared.status.Status.{Status}
+use Rattle.safl_tool.specs.CommandTasks.{command_task}
+use Rattle.safl_tool.specs.Answers.{GivesBy}
+use Rattle.safl_tool.specs.Worlds.{Does, DoesCommand, EndsBy, Follows, Spares, SparesFor, world}
+use Rattle.safl_tool.specs.declared.answer.Answer.{Answer}
+use Rattle.safl_tool.specs.declared.refusal.Refusal.{Refusal}
+
+-- an answer was given or not, where the probes are asked for these files
+abbrev pub GivesOn : {S O P : Type 0} → Answer → FileNames → (S → ShelfState) → S → S → (O → SinkState) → O → O
+    → (P → ProbeState) → Vec P Global → Vec P Global → Result Status Refusal → Type 0
+GivesOn a names shelf s s' out o o' tell ps qs r =
+    GivesBy a (asked names) (map tell ps.items) (map tell qs.items) (outside (shelf s) (out o)) (outside (shelf s') (out o')) r
+
+-- a command was done or it stops, where the probes are asked for these files
+abbrev pub DoesAskedOn : {S O P : Type 0} → Command → FileNames → (S → ShelfState) → S → S → (O → SinkState) → O → O
+    → (P → ProbeState) → Vec P Global → Vec P Global → Result Status Refusal → Type 0
+DoesAskedOn m names shelf s s' out o o' tell ps qs r =
+    Does (command_task m) (asked names) (world (shelf s) (out o) tell ps.items) (world (shelf s') (out o') tell qs.items) r
+
+-- and what stays whatever comes
+abbrev pub SparesAskedOn : {S O P : Type 0} → Command → FileNames → (S → ShelfState) → S → S → (O → SinkState) → O → O
+    → (P → ProbeState) → Vec P Global → Vec P Global → Type 0
+SparesAskedOn m names shelf s s' out o o' tell ps qs =
+    Spares (command_task m) (asked names) (world (shelf s) (out o) tell ps.items) (world (shelf s') (out o') tell qs.items)
+
+-- what the words ask for was done or it stops, and what stays whatever comes
+abbrev pub DoesOn : {S O P : Type 0} → Option Command → (S → ShelfState) → S → S → (O → SinkState) → O → O
+    → (P → ProbeState) → Vec P Global → Vec P Global → Result Status Refusal → Type 0
+DoesOn m shelf s s' out o o' tell ps qs r = DoesCommand m (world (shelf s) (out o) tell ps.items) (world (shelf s') (out o') tell qs.items) r
+
+abbrev pub SparesOn : {S O P : Type 0} → Option Command → (S → ShelfState) → S → S → (O → SinkState) → O → O
+    → (P → ProbeState) → Vec P Global → Vec P Global → Type 0
+SparesOn m shelf s s' out o o' tell ps qs = SparesFor m (world (shelf s) (out o) tell ps.items) (world (shelf s') (out o') tell qs.items)
+
+-- how a call with these words ends, with the sink of refusals too, and what follows of it
+abbrev pub EndsOn : {S O E P : Type 0} → List (String Global) → (S → ShelfState) → S → S → (O → SinkState) → O → O
+    → (E → SinkState) → E → E → (P → ProbeState) → Vec P Global → Vec P Global → Status → Type 0
+EndsOn words shelf s s' out o o' err e e' tell ps qs status =
+    EndsBy (command_of (map string_bytes words)) (world (shelf s) (out o) tell ps.items) (world (shelf s') (out o') tell qs.items) (err e) (err e') status
+
+abbrev pub FollowsOn : {S O E P : Type 0} → List (String Global) → (S → ShelfState) → S → S → (O → SinkState) → O → O
+    → (E → SinkState) → E → E → (P → ProbeState) → Vec P Global → Vec P Global → Status → Type 0
+FollowsOn words shelf s s' out o o' err e e' tell ps qs status =
+    Follows (command_of (map string_bytes words)) (world (shelf s) (out o) tell ps.items) (world (shelf s') (out o') tell qs.items) (err e) (err e') status

@@ -1,0 +1,75 @@
+-- The world of a call: the shelf, the output and the probes; and how a call changes it.
+use Rattle.std.specs.Prelude.{ℕ, List, map, Option, Result, Ok, Err}
+use Rattle.safl_io.specs.Shelf.{ShelfState}
+use Rattle.safl_io.specs.Sink.{SinkState}
+use Rattle.safl_probe.specs.Probing.{ProbeState}
+use Rattle.safl_probe.specs.Asked.{Asked, SameUnasked}
+use Rattle.safl_probe.specs.Stopping.{SameProbes}
+use Rattle.safl_command.specs.Commands.{Command}
+use Rattle.safl_task.specs.Endings.{Outside, outside, Ended, Ends, KeepsAll, KeepsOthers, Left, Tells, SameStrays, Completes}
+use Rattle.safl_task.specs.Tasks.{Task}
+use Rattle.safl_task.specs.declared.status.Status.{Status}
+use Rattle.safl_tool.specs.CommandTasks.{task_of, asks_of}
+use Rattle.safl_tool.specs.Refusals.{StopsBy, TellsProbe}
+use Rattle.safl_tool.specs.Tracing.{kinds_of}
+use Rattle.safl_tool.specs.declared.refusal.Refusal.{Refusal}
+
+-- what the shelf and the output tell at one moment; the probes, and what they tell
+pub record World (P : Type 0) : Type 0 where
+  pub outside : Outside
+  pub probes : List P
+  pub states : List ProbeState
+
+abbrev pub world : {P : Type 0} → ShelfState → SinkState → (P → ProbeState) → List P → World P
+world shelf out tell probes = record { outside = outside shelf out; probes = probes; states = map tell probes }
+
+-- ---- a command
+
+abbrev pub task_in : {P : Type 0} → Option Command → World P → Task
+task_in m w = task_of (kinds_of w.states) m
+
+abbrev pub asks_in : {P : Type 0} → Option Command → World P → Asked
+asks_in m w = asks_of (kinds_of w.states) m
+
+-- a line that tells that a probe failed which the command asks
+abbrev pub Unprobed : {P : Type 0} → Option Command → World P → World P → List ℕ → Type 0
+Unprobed m old new = TellsProbe (asks_in m old) old.states new.states
+
+-- Whatever comes, no name is used on a shelf that tells that it holds none of it; each probe that is not asked is as it was; and there
+-- are as many probes, of the same kinds in order, and none has fewer faults.
+pub record Spares {P : Type 0} (t : Task) (asks : Asked) (old new : World P) : Type 0 where
+  pub no_stray : SameStrays t old.outside.shelf new.outside.shelf
+  pub unasked : SameUnasked asks old.probes new.probes
+  pub probes : SameProbes old.states new.states
+
+-- the task was done, or it stops
+abbrev pub Does : {P : Type 0} → Task → Asked → World P → World P → Result Status Refusal → Type 0
+Does t asks old new (Ok s) = Ended t old.outside new.outside s
+Does t asks old new (Err r) = StopsBy t (TellsProbe asks old.states new.states) old.outside new.outside r
+
+-- that of a command
+abbrev pub DoesCommand : {P : Type 0} → Option Command → World P → World P → Result Status Refusal → Type 0
+DoesCommand m old new = Does (task_in m old) (asks_in m old) old new
+
+abbrev pub SparesFor : {P : Type 0} → Option Command → World P → World P → Type 0
+SparesFor m old new = Spares (task_in m old) (asks_in m old) old new
+
+-- ---- a call, by its words, with the sink of refusals before it and after it
+
+-- how it ends
+abbrev pub EndsBy : {P : Type 0} → Option Command → World P → World P → SinkState → SinkState → Status → Type 0
+EndsBy m old new = Ends (task_in m old) (Unprobed m old new) old.outside new.outside
+
+-- What follows. At every status but Ok, NoResult, WriteFault, ProbeFault and NoMemory no file has changed, and nothing was printed
+-- (`keeps`). At every status each file that is no output is as it was (`others`); each output is as it was or holds a prefix of its
+-- text, and the output got a prefix of its text (`left`). `tells` says what the sink of refusals got. Where a result is promised,
+-- and no count rose, it came or memory ran out (`completes`).
+pub record Follows {P : Type 0} (m : Option Command) (old new : World P) (before after : SinkState) (s : Status) : Type 0 where
+  pub keeps : KeepsAll s old.outside new.outside
+  pub others : KeepsOthers (task_in m old) old.outside new.outside
+  pub left : Left (task_in m old) old.outside new.outside
+  pub tells : Tells (task_in m old) (Unprobed m old new) old.outside new.outside before after s
+  pub no_stray : SameStrays (task_in m old) old.outside.shelf new.outside.shelf
+  pub completes : Completes (task_in m old) (Unprobed m old new) old.outside new.outside s
+  pub unasked : SameUnasked (asks_in m old) old.probes new.probes
+  pub probes : SameProbes old.states new.states

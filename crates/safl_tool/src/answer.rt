@@ -1,0 +1,142 @@
+//! What a command gives, and how it is given.
+
+ghost use Rattle.std.specs.Prelude.{◌≡◌, Ok, Err, MatchResult, map};
+ghost use Rattle.safl_io.specs.Shelf.{UsesNoStray};
+ghost use Rattle.safl_probe.specs.Asked.{SameUnasked, asked};
+ghost use Rattle.safl_probe.specs.Stopping.{SameProbes};
+ghost use Rattle.safl_tool.specs.Answers.{CanBeGiven, traces_for, GivesByPrinting, GivesByWriting};
+ghost use Rattle.safl_tool.specs.Changes.{GivesOn};
+ghost use Rattle.safl_tool.specs.Tracing.{AreAskedFor};
+
+use crate::ready::Ready;
+use crate::refusal::Refusal;
+use crate::session::{Opening, converse};
+use crate::tracing::{TracedRun, trace};
+use safl_command::Traces;
+use safl_io::{OutErr, Shelf, Sink, write_file};
+use safl_probe::Probe;
+use safl_task::{Status, status_if};
+use std::alloc::Global;
+
+/// A text that is printed; `comes` says whether it is a result.
+#[derive(Drop)]
+pub struct Lines {
+    pub comes: bool,
+    pub text: Vec<u8>,
+}
+
+/// What a command gives of what it read.
+#[derive(Drop)]
+pub enum Answer<'a> {
+    /// Lines that are printed.
+    Printed(Lines),
+    /// The bytes of the file of a name.
+    File { name: &'a str, text: Vec<u8> },
+    /// The replies to calls, each in at most `limit` cycles. Each is printed as it comes.
+    Replies { opening: Opening, limit: u64 },
+    /// What a run gives, and traces of it.
+    Traced(TracedRun<'a>),
+}
+
+/// What is printed, where it was made.
+pub fn printed<'a>(lines: Result<Lines, Refusal<'a>>) -> Result<Answer<'a>, Refusal<'a>>
+    ensures { MatchResult lines.entry (λ l. result ≡ Ok (Answer.Printed l)) (λ r. result ≡ Err r) }
+{
+    match lines {
+        Ok(lines) => Ok(Answer::Printed(lines)),
+        Err(refusal) => Err(refusal),
+    }
+}
+
+/// The file of a name, where its bytes were made.
+pub fn written<'a>(
+    name: &'a str,
+    text: Result<Vec<u8>, Refusal<'a>>,
+) -> Result<Answer<'a>, Refusal<'a>>
+    ensures { MatchResult text.entry (λ t. result ≡ Ok (Answer.File name.entry t)) (λ r. result ≡ Err r) }
+{
+    match text {
+        Ok(text) => Ok(Answer::File { name, text }),
+        Err(refusal) => Err(refusal),
+    }
+}
+
+/// The replies of a session, where there is one.
+pub fn replied<'a>(
+    opening: Result<Opening, Refusal<'a>>,
+    limit: u64,
+) -> Result<Answer<'a>, Refusal<'a>>
+    ensures { MatchResult opening.entry (λ o. result ≡ Ok (Answer.Replies o limit)) (λ r. result ≡ Err r) }
+{
+    match opening {
+        Ok(opening) => Ok(Answer::Replies { opening, limit }),
+        Err(refusal) => Err(refusal),
+    }
+}
+
+/// A run with traces, where it can be made.
+pub fn traced<'a>(
+    ready: Result<Ready, Refusal<'a>>,
+    limit: u64,
+    traces: &'a Traces,
+) -> Result<Answer<'a>, Refusal<'a>>
+    ensures { MatchResult ready.entry (λ d. result ≡ Ok (Answer.Traced (record { ready = d; limit = limit; traces = traces.entry }))) (λ r. result ≡ Err r) }
+{
+    match ready {
+        Ok(ready) => Ok(Answer::Traced(TracedRun {
+            ready,
+            limit,
+            traces,
+        })),
+        Err(refusal) => Err(refusal),
+    }
+}
+
+/// Gives an answer: a text is printed, a file is written, each reply is printed as it comes, or the probes are asked for the
+/// traces of a run, each in the file at its place, and the outcome is printed. The status is Ok where a result came, and else
+/// NoResult.
+pub fn give<'a, S: Shelf, O: Sink>(
+    alloc: Global,
+    answer: Answer<'a>,
+    files: &[Option<String>],
+    shelf: &mut S,
+    out: &mut O,
+    probes: &mut Vec<Box<dyn Probe>>,
+) -> Result<Status, Refusal<'a>>
+    requires can { CanBeGiven answer }
+    requires asked { AreAskedFor (traces_for answer) (asked files.now) (map (λ p. state p) probes.old.items) }
+    ensures gives { GivesOn answer.entry files.now S.told shelf.old shelf.new O.told out.old out.new (λ p. state p) probes.old probes.new result }
+    ensures same_strays { UsesNoStray (S.told shelf.old) (S.told shelf.new) }
+    ensures unasked { SameUnasked (asked files.now) probes.old.items probes.new.items }
+    ensures probes { SameProbes (map (λ p. state p) probes.old.items) (map (λ p. state p) probes.new.items) }
+{
+    match answer {
+        Answer::Printed(lines) => print(out, lines),
+        Answer::File { name, text } => write(shelf, name, text),
+        Answer::Replies { opening, limit } => converse(alloc, opening, limit, out),
+        Answer::Traced(run) => trace(alloc, run, files, shelf, out, probes),
+    }
+}
+
+/// Prints lines.
+pub fn print<'a, O: Sink>(out: &mut O, lines: Lines) -> Result<Status, Refusal<'a>>
+    ensures { GivesByPrinting (Answer.Printed lines) (O.told out.old) (O.told out.new) result }
+{
+    match out.put(&lines.text) {
+        Ok(()) => Ok(status_if(lines.comes)),
+        Err(OutErr::Failed) => Err(Refusal::Output),
+        Err(OutErr::NoMemory) => Err(Refusal::NoMemory),
+    }
+}
+
+// Writes the file of a name.
+fn write<'a, S: Shelf>(shelf: &mut S, name: &'a str, text: Vec<u8>) -> Result<Status, Refusal<'a>>
+    ensures gives { GivesByWriting (Answer.File name.entry text) (S.told shelf.old) (S.told shelf.new) result }
+    ensures same_strays { UsesNoStray (S.told shelf.old) (S.told shelf.new) }
+{
+    match write_file(shelf, name, &text) {
+        Ok(()) => Ok(Status::Ok),
+        Err(OutErr::Failed) => Err(Refusal::Write(name)),
+        Err(OutErr::NoMemory) => Err(Refusal::NoMemory),
+    }
+}

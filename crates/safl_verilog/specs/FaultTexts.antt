@@ -1,0 +1,31 @@
+-- The texts of faults of Verilog files.
+use Rattle.std.specs.Prelude.{ℕ, List, [], ◌∷◌, ◌++◌, codes}
+use Rattle.std.specs.Fmt.{decimal}
+use Rattle.safl_verilog.specs.declared.fault.VRule.{VRule}
+use Rattle.safl_verilog.specs.declared.fault.VRule.TheVariants as rules
+use Rattle.safl_verilog.specs.declared.fault.VFault.{VFault}
+
+-- a rule's number and its text
+abbrev pub vrule_text : VRule → List ℕ
+vrule_text rules.V01 = codes "V01 foreign byte"
+vrule_text rules.V02 = codes "V02 unexpected token"
+vrule_text rules.V03 = codes "V03 name twice"
+vrule_text rules.V04 = codes "V04 unknown name"
+vrule_text rules.V05 = codes "V05 widths differ"
+vrule_text rules.V06 = codes "V06 bad literal"
+vrule_text rules.V07 = codes "V07 wire without exactly one assign"
+vrule_text rules.V08 = codes "V08 register without exactly one update"
+vrule_text rules.V10 = codes "V10 port missing"
+
+-- the width that is wanted and the one that is found
+abbrev pub both_widths : VFault → List ℕ
+both_widths f = codes ": " ++ decimal f.first ++ codes " and " ++ decimal f.second
+
+-- what a fault's text has after the rule's
+abbrev pub vdetail_text : VRule → VFault → List ℕ
+vdetail_text rules.V05 f = both_widths f
+vdetail_text _ f = []
+
+-- the text of a fault without its place
+abbrev pub vfault_text : VFault → List ℕ
+vfault_text f = vrule_text f.rule ++ vdetail_text f.rule f
